@@ -1,0 +1,421 @@
+//! The servers and the connection to one of them.
+
+ghost use Rattle.std.specs.Prelude.{◌≡◌, ◌≢◌, ◌≤◌, ◌<◌, ◌-◌, ◌+◌, ℕ, true, false, drop, take as first, length as bytes_of, vec_len, IfOk, OnOk, OnErr, IsOk, IsErrOf};
+ghost use Rattle.zk_frames.specs.Frame.{IsNegative};
+ghost use Rattle.zk_bench.specs.declared.phase.Phase.TheVariants.{Apart};
+ghost use Rattle.zk_bench.specs.declared.stop.Stop.TheVariants as stops;
+ghost use Rattle.zk_bench.specs.Front.{IsShort, IsWhole};
+ghost use Rattle.zk_bench.specs.Served.{started, linked, connected, disconnected, ended, is_open, advanced, with_requests, without_output, Continues};
+
+use crate::connection::Connection;
+use crate::connects::{accepted, expired};
+use crate::frames::{Front, first_frame, remove_front};
+use crate::notices::tell_accepted;
+use crate::payloads::{first_request, next_request};
+use crate::phase::Phase;
+use crate::reads::read;
+use crate::replies::{send_header, send_response, send_result};
+use crate::servers::{next_changes, take_all, zxid_after};
+use crate::stop::{Refusal, Stop};
+use crate::tree::Tree;
+use crate::writes::{append, created_path, deleted_path, mode_of, written_path};
+use std::alloc::{AllocError, Allocator};
+use std::marker::Model;
+use zk_history::{Change, History};
+use zk_jute::TextRef;
+use zk_records::{
+    Code, ConnectRequest, CreateRef, CreateRequest, DeleteRequest, ReplyHeader, Request,
+    SetDataRequest,
+};
+
+// The session that owns ephemeral nodes.
+const OWNER: i64 = 1;
+
+// The xid of the answer to a ping.
+const PONG: i32 = -2;
+
+/// Eight servers over one history, and the connection to one of them.
+///
+/// `AllocError` says that the allocator refused a request, and comes for no other reason. After [`take`](Bench::take)
+/// or [`process`](Bench::process) has answered it, no server is connected; a write that was refused so may have left a
+/// transaction in the history.
+#[derive(Drop)]
+pub struct Bench<A: Allocator + Copy> {
+    alloc: A,
+    history: History<A>,
+    // How many transactions each server has taken.
+    taken: [usize; 8],
+    // The server that is connected, or was last, from 0 on.
+    server: usize,
+    connection: Connection<A>,
+    // Whether clients are answered that their session has expired.
+    expired: bool,
+    // The time of accepted writes, in milliseconds.
+    time: u64,
+}
+
+impl<A: Allocator + Copy> Model for Bench<A> {
+    ghost use Rattle.std.specs.Prelude.{◌<◌};
+    ghost use Rattle.zk_bench.specs.Served.{Served};
+    ghost use Rattle.zk_bench.specs.Linked.{linked_of};
+
+    ghost Value = { Served };
+
+    ghost view = { λ b. record { history = b.history; taken = b.taken; server = b.server; connection = linked_of b.connection; expired = b.expired; time = b.time } };
+
+    ghost invariant = { λ b. b.server < 8 };
+}
+
+impl<A: Allocator + Copy> Bench<A> {
+    /// Servers over a history, each before its first transaction. None is connected, and the time is 0.
+    pub fn new(alloc: A, history: History<A>) -> Bench<A>
+        ensures { result ≡ started history }
+    {
+        Bench {
+            alloc,
+            history,
+            taken: [0; 8],
+            server: 0,
+            connection: Connection::new(alloc, Phase::Apart),
+            expired: false,
+            time: 0,
+        }
+    }
+
+    /// The history, with the accepted writes.
+    pub fn history(&self) -> &History<A>
+        ensures { result.now ≡ self.now.history }
+    {
+        &self.history
+    }
+
+    /// A new connection to a server, 1 to 8. What the one before left is dropped.
+    pub fn connect(&mut self, n: usize)
+        requires low { 1 ≤ n }
+        requires high { n ≤ 8 }
+        ensures { self.new ≡ connected self.old (n - 1) }
+    {
+        self.server = n - 1;
+        self.connection = Connection::new(self.alloc, Phase::Opening);
+    }
+
+    /// The connection is gone, with its watches and all bytes on their way.
+    pub fn disconnect(&mut self)
+        ensures { self.new ≡ disconnected self.old }
+    {
+        self.connection = Connection::new(self.alloc, Phase::Apart);
+    }
+
+    /// From now on clients are answered that their session has expired.
+    pub fn expire(&mut self)
+        ensures { self.new ≡ record self.old { expired = true } }
+    {
+        self.expired = true;
+    }
+
+    /// Sets the time of the writes that are accepted from now on, in milliseconds since the epoch. It may go back.
+    pub fn now(&mut self, ms: u64)
+        ensures { self.new ≡ record self.old { time = ms } }
+    {
+        self.time = ms;
+    }
+
+    /// Bytes from the client to the connected server; they are lost where none is, or where it has ended the connection.
+    /// A refusal changes nothing.
+    pub fn receive(&mut self, bytes: &[u8]) -> Result<(), AllocError>
+        ensures ok { OnOk result (is_open self.old.connection.phase ≡ true → self.new ≡ with_requests self.old bytes.now) }
+        ensures lost { is_open self.old.connection.phase ≡ false → self.new ≡ self.old }
+        ensures err { OnErr result (self.new ≡ self.old) }
+    {
+        if self.connection.is_open() {
+            self.connection.requests.extend_from_slice(bytes)?;
+        }
+        Ok(())
+    }
+
+    /// Takes out the first bytes that the server sent, at most so many. A refusal changes nothing.
+    pub fn output(&mut self, most: usize) -> Result<Vec<u8, A>, AllocError>
+        ensures bytes { IfOk result (λ bytes. bytes.items ≡ first most self.old.connection.output) }
+        ensures rest { OnOk result (self.new ≡ without_output self.old most) }
+        ensures err { OnErr result (self.new ≡ self.old) }
+    {
+        let count = most.min(self.connection.output.len());
+        let bytes = Vec::from_slice(self.alloc, &self.connection.output[..count])?;
+        remove_front(&mut self.connection.output, count);
+        Ok(bytes)
+    }
+
+    /// A server, 1 to 8, takes the next transaction of the history, if there is one. If it is the one that is connected,
+    /// and has accepted the client, it sends the notices of the watches that fire.
+    pub fn take(&mut self, n: usize) -> Result<(), AllocError>
+        requires low { 1 ≤ n }
+        requires high { n ≤ 8 }
+        ensures taken { self.new.taken ≡ advanced self.old (n - 1) }
+        ensures elsewhere { n - 1 ≢ self.old.server → self.new.connection ≡ self.old.connection }
+        ensures lost { OnErr result (self.new.connection ≡ linked Apart) }
+        ensures rest { self.new ≡ record self.old { taken = self.new.taken; connection = self.new.connection } }
+    {
+        let outcome = self.take_next(n - 1);
+        self.settle(outcome)
+    }
+
+    /// The connected server processes the next whole request, if there is one.
+    ///
+    /// The first is a ConnectRequest: a server that is behind its zxid ends the connection without an answer. Reads and
+    /// setWatches are answered at the server's place in the history. A write first takes all transactions that are left;
+    /// one that is accepted is appended to the history, and taken before the reply. A frame that is none of these
+    /// requests ends the connection without an answer, and so does a reply of more than 2,147,483,647 bytes.
+    #[tactic(auto, using(crate::proofs::Continuing::same_goes_on))]
+    pub fn process(&mut self) -> Result<(), AllocError>
+        ensures idle { is_open self.old.connection.phase ≡ false → self.new ≡ self.old }
+        ensures waits { IsShort self.old.connection.requests → self.new ≡ self.old }
+        ensures ends { is_open self.old.connection.phase ≡ true → IsNegative self.old.connection.requests → self.new ≡ ended self.old }
+        ensures processed { (count : ℕ) → is_open self.old.connection.phase ≡ true → IsWhole self.old.connection.requests count
+            → OnOk result (self.new.connection.requests ≡ drop (4 + count) self.old.connection.requests) }
+        ensures lost { OnErr result (self.new.connection ≡ linked Apart) }
+        ensures history { Continues self.old.history self.new.history }
+        ensures rest { self.new ≡ record self.old { history = self.new.history; taken = self.new.taken; connection = self.new.connection } }
+    {
+        if !self.connection.is_open() {
+            return Ok(());
+        }
+        let outcome = self.process_next();
+        self.settle(outcome)
+    }
+
+    // Processes the request that stands first, if it is whole.
+    #[tactic(auto, using(crate::proofs::Continuing::same_goes_on))]
+    fn process_next(&mut self) -> Result<(), Stop>
+        ensures waits { IsShort self.old.connection.requests → (self.new ≡ self.old) × IsOk result }
+        ensures ends { IsNegative self.old.connection.requests → (self.new ≡ self.old) × IsErrOf result stops.End }
+        ensures processed { (count : ℕ) → IsWhole self.old.connection.requests count
+            → self.new.connection.requests ≡ drop (4 + count) self.old.connection.requests }
+        ensures history { Continues self.old.history self.new.history }
+        ensures rest { self.new ≡ record self.old { history = self.new.history; taken = self.new.taken; connection = self.new.connection } }
+    {
+        match first_frame(self.connection.requests.as_slice()) {
+            Front::Unfinished => Ok(()),
+            Front::Negative => Err(Stop::End),
+            Front::Whole(length) => self.process_frame(length),
+        }
+    }
+
+    // The connection goes on, has ended, or is given up for want of memory.
+    fn settle(&mut self, outcome: Result<(), Stop>) -> Result<(), AllocError>
+        ensures ok { OnOk outcome (self.new ≡ self.old) }
+        ensures ended { IsErrOf outcome stops.End → self.new ≡ ended self.old }
+        ensures lost { IsErrOf outcome stops.Memory → self.new ≡ disconnected self.old }
+        ensures requests { OnOk result (self.new.connection.requests ≡ self.old.connection.requests) }
+        ensures err { OnErr result (self.new ≡ disconnected self.old) }
+    {
+        match outcome {
+            Ok(()) => Ok(()),
+            Err(Stop::End) => {
+                self.connection.phase = Phase::Ended;
+                Ok(())
+            }
+            Err(Stop::Memory) => {
+                self.disconnect();
+                Err(AllocError)
+            }
+        }
+    }
+
+    fn take_next(&mut self, server: usize) -> Result<(), Stop>
+        requires { server < 8 }
+        ensures taken { self.new.taken ≡ advanced self.old server }
+        ensures elsewhere { server ≢ self.old.server → (self.new.connection ≡ self.old.connection) × IsOk result }
+        ensures rest { self.new ≡ record self.old { taken = self.new.taken; connection = self.new.connection } }
+    {
+        let place = self.taken[server];
+        let Some(changes) = next_changes(&self.history, place) else {
+            return Ok(());
+        };
+        self.taken[server] = place + 1;
+        if self.server == server {
+            tell_accepted(self.alloc, changes, &mut self.connection)?;
+        }
+        Ok(())
+    }
+
+    // The zxid of the connected server.
+    fn zxid(&self) -> i64 {
+        zxid_after(&self.history, self.taken[self.server])
+    }
+
+    // Processes the frame that stands first, with so many bytes of payload.
+    #[tactic(auto, using(crate::proofs::Continuing::same_goes_on))]
+    fn process_frame(&mut self, length: usize) -> Result<(), Stop>
+        requires { 4 + length ≤ bytes_of self.old.connection.requests }
+        ensures processed { self.new.connection.requests ≡ drop (4 + length) self.old.connection.requests }
+        ensures history { Continues self.old.history self.new.history }
+        ensures rest { self.new ≡ record self.old { history = self.new.history; taken = self.new.taken; connection = self.new.connection } }
+    {
+        if self.connection.phase == Phase::Opening {
+            let first = first_request(self.alloc, &self.connection.requests, length);
+            remove_front(&mut self.connection.requests, 4 + length);
+            let request = first?;
+            return self.admit(&request);
+        }
+        let next = next_request(self.alloc, &self.connection.requests, length);
+        remove_front(&mut self.connection.requests, 4 + length);
+        let (xid, request) = next?;
+        match self.answer(xid, request) {
+            Ok(()) => Ok(()),
+            Err(Refusal::Stop(stop)) => Err(stop),
+            Err(Refusal::Code(code)) => self.send_err(xid, code.number()),
+        }
+    }
+
+    fn send_err(&mut self, xid: i32, err: i32) -> Result<(), Stop>
+        ensures requests { self.new.connection.requests ≡ self.old.connection.requests }
+        ensures rest { self.new ≡ record self.old { taken = self.new.taken; connection = self.new.connection } }
+    {
+        let zxid = self.zxid();
+        let header = ReplyHeader { xid, zxid, err };
+        send_header(self.alloc, header, &mut self.connection.output)
+    }
+
+    // Answers the first request of a connection.
+    fn admit(&mut self, request: &ConnectRequest<A>) -> Result<(), Stop>
+        ensures requests { self.new.connection.requests ≡ self.old.connection.requests }
+        ensures rest { self.new ≡ record self.old { taken = self.new.taken; connection = self.new.connection } }
+    {
+        if self.zxid() < request.last_zxid_seen {
+            return Err(Stop::End);
+        }
+        let (response, phase) = if self.expired {
+            (expired(self.alloc)?, Phase::Ended)
+        } else {
+            (accepted(self.alloc, request.time_out)?, Phase::Accepted)
+        };
+        send_response(self.alloc, &response, &mut self.connection.output)?;
+        self.connection.phase = phase;
+        Ok(())
+    }
+
+    // Answers a request with its result, or says why it has none.
+    #[tactic(auto, using(crate::proofs::Continuing::same_goes_on))]
+    fn answer(&mut self, xid: i32, request: Request<A>) -> Result<(), Refusal>
+        ensures requests { self.new.connection.requests ≡ self.old.connection.requests }
+        ensures history { Continues self.old.history self.new.history }
+        ensures rest { self.new ≡ record self.old { history = self.new.history; taken = self.new.taken; connection = self.new.connection } }
+    {
+        match request {
+            Request::Create(r) => self.create(xid, r),
+            Request::SetData(r) => self.set_data(xid, r),
+            Request::Delete(r) => self.delete(xid, r),
+            Request::Ping => self.finish(PONG),
+            Request::CloseSession => {
+                self.finish(xid)?;
+                self.connection.phase = Phase::Ended;
+                Ok(())
+            }
+            other => self.read(xid, other),
+        }
+    }
+
+    // Answers a request that leaves the history as it is.
+    fn read(&mut self, xid: i32, request: Request<A>) -> Result<(), Refusal>
+        ensures requests { self.new.connection.requests ≡ self.old.connection.requests }
+        ensures rest { self.new ≡ record self.old { taken = self.new.taken; connection = self.new.connection } }
+    {
+        let tree = Tree {
+            alloc: self.alloc,
+            history: &self.history,
+            zxid: zxid_after(&self.history, self.taken[self.server]),
+        };
+        read(&tree, xid, &request, &mut self.connection)
+    }
+
+    // Answers with a header alone.
+    fn finish(&mut self, xid: i32) -> Result<(), Refusal>
+        ensures requests { self.new.connection.requests ≡ self.old.connection.requests }
+        ensures rest { self.new ≡ record self.old { taken = self.new.taken; connection = self.new.connection } }
+    {
+        self.send_err(xid, 0)?;
+        Ok(())
+    }
+
+    // The connected server takes all transactions that are left.
+    fn catch_up(&mut self) -> Result<(), Stop>
+        ensures requests { self.new.connection.requests ≡ self.old.connection.requests }
+        ensures rest { self.new ≡ record self.old { taken = self.new.taken; connection = self.new.connection } }
+    {
+        let server = self.server;
+        take_all(
+            self.alloc,
+            &self.history,
+            &mut self.taken[server],
+            &mut self.connection,
+        )
+    }
+
+    // The tree at the end of the history.
+    fn newest(&self) -> Tree<'_, A> {
+        Tree {
+            alloc: self.alloc,
+            history: &self.history,
+            zxid: self.history.last_zxid(),
+        }
+    }
+
+    #[tactic(auto, using(crate::proofs::Continuing::same_goes_on))]
+    fn create(&mut self, xid: i32, request: CreateRequest<A>) -> Result<(), Refusal>
+        ensures requests { self.new.connection.requests ≡ self.old.connection.requests }
+        ensures history { Continues self.old.history self.new.history }
+        ensures rest { self.new ≡ record self.old { history = self.new.history; taken = self.new.taken; connection = self.new.connection } }
+    {
+        let Some(mode) = mode_of(request.flags) else {
+            return Err(Refusal::Stop(Stop::End));
+        };
+        self.catch_up()?;
+        let path = created_path(&self.newest(), mode, &request)?;
+        let text = String::from_str(self.alloc, path.as_str())?;
+        let owner = if mode.ephemeral { OWNER } else { 0 };
+        let change = Change::Create(path, request.bytes.into_inner(), owner);
+        append(&mut self.history, self.time, change)?;
+        self.catch_up()?;
+        let zxid = self.zxid();
+        let record = CreateRef {
+            path: TextRef {
+                text: Some(text.as_str()),
+            },
+        };
+        send_result(self.alloc, xid, zxid, record, &mut self.connection.output)?;
+        Ok(())
+    }
+
+    #[tactic(auto, using(crate::proofs::Continuing::same_goes_on))]
+    fn set_data(&mut self, xid: i32, request: SetDataRequest<A>) -> Result<(), Refusal>
+        ensures requests { self.new.connection.requests ≡ self.old.connection.requests }
+        ensures history { Continues self.old.history self.new.history }
+        ensures rest { self.new ≡ record self.old { history = self.new.history; taken = self.new.taken; connection = self.new.connection } }
+    {
+        self.catch_up()?;
+        let path = written_path(&self.newest(), &request)?;
+        let text = String::from_str(self.alloc, path.as_str())?;
+        let change = Change::Set(path, request.bytes.into_inner());
+        append(&mut self.history, self.time, change)?;
+        self.catch_up()?;
+        let zxid = self.zxid();
+        let Some(stat) = self.newest().stat(text.as_str())? else {
+            return Err(Refusal::Code(Code::NoNode));
+        };
+        send_result(self.alloc, xid, zxid, stat, &mut self.connection.output)?;
+        Ok(())
+    }
+
+    #[tactic(auto, using(crate::proofs::Continuing::same_goes_on))]
+    fn delete(&mut self, xid: i32, request: DeleteRequest<A>) -> Result<(), Refusal>
+        ensures requests { self.new.connection.requests ≡ self.old.connection.requests }
+        ensures history { Continues self.old.history self.new.history }
+        ensures rest { self.new ≡ record self.old { history = self.new.history; taken = self.new.taken; connection = self.new.connection } }
+    {
+        self.catch_up()?;
+        let path = deleted_path(&self.newest(), &request)?;
+        append(&mut self.history, self.time, Change::Delete(path))?;
+        self.catch_up()?;
+        self.finish(xid)
+    }
+}

@@ -1,0 +1,63 @@
+//! Frames: a payload behind its length, which `byteorder` reads and writes.
+
+ghost use Rattle.std.specs.Prelude.{◌≡◌, ◌≤◌, drop, vec_len, ◌-◌, OnOk, ◌++◌};
+ghost use Rattle.zk_frames.specs.Frame.{frame};
+ghost use Rattle.zk_bench.specs.Front.{IsFront};
+
+use crate::stop::Stop;
+use byteorder::{BigEndian, ByteOrder};
+use std::alloc::Allocator;
+
+/// What stands at the front of the bytes that a server was sent.
+#[derive(Clone, Copy, Debug, PartialEq, Eq)]
+pub(crate) enum Front {
+    /// Less than a frame.
+    Unfinished,
+    /// A length below 0.
+    Negative,
+    /// A frame whose payload has so many bytes.
+    Whole(usize),
+}
+
+/// What stands at the front of some bytes.
+pub(crate) fn first_frame(bytes: &[u8]) -> Front
+    ensures { IsFront bytes.now result }
+{
+    if bytes.len() < 4 {
+        return Front::Unfinished;
+    }
+    let length = BigEndian::read_i32(bytes);
+    if length < 0 {
+        return Front::Negative;
+    }
+    let length = length as usize;
+    if bytes.len() - 4 < length {
+        return Front::Unfinished;
+    }
+    Front::Whole(length)
+}
+
+/// Appends the frame of a payload. One of more than 2,147,483,647 bytes has no length, so the connection ends.
+pub(crate) fn push_frame<A: Allocator>(payload: &[u8], out: &mut Vec<u8, A>) -> Result<(), Stop>
+    ensures { OnOk result (out.new.items ≡ out.old.items ++ frame payload.now) }
+{
+    if payload.len() > i32::MAX as usize {
+        return Err(Stop::End);
+    }
+    let mut field = [0u8; 4];
+    BigEndian::write_i32(&mut field, payload.len() as i32);
+    out.extend_from_slice(&field)?;
+    out.extend_from_slice(payload)?;
+    Ok(())
+}
+
+/// Takes away the first bytes. The others move to the front.
+pub(crate) fn remove_front<A: Allocator>(bytes: &mut Vec<u8, A>, n: usize)
+    requires { n ≤ vec_len bytes.old }
+    ensures items { bytes.new.items ≡ drop n bytes.old.items }
+    ensures len { vec_len bytes.new ≡ vec_len bytes.old - n }
+{
+    let len = bytes.len();
+    bytes.as_mut_slice().copy_within(n..len, 0);
+    bytes.truncate(len - n);
+}

@@ -1,0 +1,105 @@
+//! Why a request gets no result.
+
+ghost use Rattle.std.specs.Prelude.{◌≡◌};
+ghost use Rattle.zk_bench.specs.declared.stop.Stop.TheVariants as stops;
+ghost use Rattle.zk_bench.specs.declared.stop.Refusal.TheVariants as refusals;
+ghost use Rattle.zk_bench.specs.Refusals.{stop_of};
+
+use std::alloc::{AllocError, AllocFailed};
+use zk_history::{HistoryFault, PathFault};
+use zk_jute::{PutError, TakeError};
+use zk_records::{Code, RequestFault};
+
+/// Why a connection goes no further.
+#[derive(Clone, Copy, Debug, PartialEq, Eq)]
+pub(crate) enum Stop {
+    /// The server ends it without an answer.
+    End,
+    /// The allocator refused a request.
+    Memory,
+}
+
+/// Why a request gets no result.
+#[derive(Clone, Copy, Debug, PartialEq, Eq)]
+pub(crate) enum Refusal {
+    /// It is answered by a header with this code.
+    Code(Code),
+    /// It is not answered.
+    Stop(Stop),
+}
+
+impl From<AllocError> for Stop {
+    fn from(_e: AllocError) -> Stop {
+        Stop::Memory
+    }
+}
+
+impl From<PutError> for Stop {
+    fn from(e: PutError) -> Stop {
+        match e {
+            PutError::TooLong => Stop::End,
+            PutError::Memory => Stop::Memory,
+        }
+    }
+}
+
+impl From<TakeError> for Stop {
+    fn from(e: TakeError) -> Stop {
+        match e {
+            TakeError::Memory => Stop::Memory,
+            _ => Stop::End,
+        }
+    }
+}
+
+impl From<RequestFault> for Stop {
+    fn from(e: RequestFault) -> Stop {
+        match e {
+            RequestFault::Unknown(_) => Stop::End,
+            RequestFault::Unread(fault) => Stop::from(fault),
+        }
+    }
+}
+
+impl From<Stop> for Refusal {
+    ghost from_gives = { λ stop refusal. refusal ≡ refusals.Stop stop };
+
+    fn from(stop: Stop) -> Refusal {
+        Refusal::Stop(stop)
+    }
+}
+
+impl From<AllocError> for Refusal {
+    fn from(_e: AllocError) -> Refusal {
+        Refusal::Stop(Stop::Memory)
+    }
+}
+
+impl From<Code> for Refusal {
+    fn from(code: Code) -> Refusal {
+        Refusal::Code(code)
+    }
+}
+
+/// A history refuses what its own look-ups have admitted for want of memory alone.
+impl From<HistoryFault> for Refusal {
+    ghost from_gives = { λ fault refusal. refusal ≡ refusals.Stop (stop_of fault) };
+
+    fn from(fault: HistoryFault) -> Refusal {
+        match fault {
+            HistoryFault::Memory => Refusal::Stop(Stop::Memory),
+            HistoryFault::Place | HistoryFault::Order | HistoryFault::Illegal => {
+                Refusal::Stop(Stop::End)
+            }
+        }
+    }
+}
+
+impl From<PathFault> for Refusal {
+    fn from(fault: PathFault) -> Refusal {
+        match fault {
+            PathFault::Memory => Refusal::Stop(Stop::Memory),
+            _ => Refusal::Code(Code::BadArguments),
+        }
+    }
+}

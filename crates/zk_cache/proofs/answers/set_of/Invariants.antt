@@ -1,0 +1,7 @@
+use Rattle.std.proofs.Common.{◌≡◌, take}
+use Rattle.zk_history.specs.NamesKept.{names_of}
+use Rattle.zk_cache.specs.Contents.{set_of}
+use Rattle.zk_cache.proofs.answers.set_of.Given as goal
+
+abbrev pub invariant-loop-name : goal.invariant-loop-name
+invariant-loop-name g l = names_of l.set ≡ set_of (take l.name-index l.names)

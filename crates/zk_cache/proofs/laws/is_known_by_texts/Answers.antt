@@ -1,0 +1,5 @@
+use Rattle.zk_cache.proofs.CallerLemmas.{same_answers}
+use Rattle.zk_cache.proofs.laws.is_known_by_texts.Goals as goal
+
+pub returns : goal.returns
+returns c = same_answers

@@ -1,0 +1,122 @@
+//! The cache: an answer at each path, a side at a time.
+ghost use Rattle.std.specs.Prelude.{◌≡◌, option_map, is_some, true, IsOk, OnOk, OnErr};
+ghost use Rattle.zk_cache.specs.Cache.{no_answers, data_kept, names_kept, with_data, with_names, with_stale, with_good};
+ghost use Rattle.zk_cache.specs.Contents.{answer_of, names_in, set_of};
+
+use crate::answers::{DataAnswer, is_covered, set_of};
+use crate::held::{Held, Mark, keep_good, mark_stale, put};
+use indexmap::IndexMap;
+use std::alloc::{AllocError, Allocator};
+use std::marker::Model;
+use zk_history::{Names, Path, Side};
+use zk_jute::TextRef;
+
+/// The answers that a client keeps, seen as a finite map from texts a side.
+#[derive(Drop)]
+pub struct Cache<A: Allocator + Copy> {
+    alloc: A,
+    data_answers: Held<DataAnswer<A>, A>,
+    child_answers: Held<Names<A>, A>,
+}
+
+impl<A: Allocator + Copy> Model for Cache<A> {
+    ghost use Rattle.zk_cache.specs.Cache.{Answers};
+    ghost use Rattle.zk_cache.specs.Contents.{answer_of, names_in, seen_by};
+    ghost use Rattle.zk_cache.specs.Look.{as_map};
+    ghost use Rattle.zk_cache.specs.Code.{answers_code};
+
+    ghost Value = { Answers };
+
+    ghost coded = { answers_code };
+
+    ghost view = { λ c. record { data_answers = as_map (seen_by answer_of) c.data_answers; child_answers = as_map (seen_by names_in) c.child_answers } };
+}
+
+impl<A: Allocator + Copy> Cache<A> {
+    /// A cache that keeps nothing.
+    pub fn new(alloc: A) -> Self
+        ensures { result ≡ no_answers }
+    {
+        Cache {
+            alloc,
+            data_answers: IndexMap::new(alloc),
+            child_answers: IndexMap::new(alloc),
+        }
+    }
+
+    /// Keeps the answer, marked good. Where a good `Full` is kept, a `Known` with equal fields leaves it. An error is want of
+    /// memory for a path that is new to the side; then nothing has changed.
+    pub fn keep_data(&mut self, path: &Path<A>, answer: DataAnswer<A>) -> Result<(), AllocError>
+        ensures ok { OnOk result (self.new ≡ with_data self.old path.now (answer_of answer)) }
+        ensures there { is_some (data_kept self.old path.now) ≡ true → IsOk result }
+        ensures err { OnErr result (self.new ≡ self.old) }
+    {
+        let text = path.as_str();
+        if is_covered(&self.data_answers, text, &answer) {
+            return Ok(());
+        }
+        put(self.alloc, &mut self.data_answers, text, answer)
+    }
+
+    /// Keeps the names as a set, with the zxid of the set's last change, marked good. A null name is the empty one. An error is
+    /// want of memory; then nothing has changed.
+    pub fn keep_children(
+        &mut self,
+        path: &Path<A>,
+        names: &[TextRef<'_>],
+        pzxid: i64,
+    ) -> Result<(), AllocError>
+        ensures ok { OnOk result (self.new ≡ with_names self.old path.now (record { names = set_of names.now; pzxid = pzxid })) }
+        ensures err { OnErr result (self.new ≡ self.old) }
+    {
+        let names = set_of(self.alloc, names)?;
+        put(
+            self.alloc,
+            &mut self.child_answers,
+            path.as_str(),
+            Names { names, pzxid },
+        )
+    }
+
+    /// Marks the answer of the side stale, if there is one. It takes no memory.
+    pub fn stale(&mut self, side: Side, path: &str)
+        ensures { self.new ≡ with_stale self.old side path.now }
+    {
+        match side {
+            Side::Data => mark_stale(&mut self.data_answers, path),
+            Side::Child => mark_stale(&mut self.child_answers, path),
+        }
+    }
+
+    /// Takes all answers out.
+    pub fn clear(&mut self)
+        ensures { self.new ≡ no_answers }
+    {
+        self.data_answers.clear();
+        self.child_answers.clear();
+    }
+
+    /// Takes the stale answers out.
+    pub fn forget_stale(&mut self)
+        ensures { self.new ≡ with_good self.old }
+    {
+        keep_good(&mut self.data_answers);
+        keep_good(&mut self.child_answers);
+    }
+
+    /// What is kept about the data of a path.
+    pub fn peek_data(&self, path: &str) -> Option<(&DataAnswer<A>, Mark)>
+        ensures { option_map (λ kept. record { answer = answer_of kept.0.now; mark = kept.1 }) result ≡ data_kept self.now path.now }
+    {
+        let kept = self.data_answers.get(path)?;
+        Some((&kept.answer, kept.mark))
+    }
+
+    /// What is kept about the children of a path.
+    pub fn peek_children(&self, path: &str) -> Option<(&Names<A>, Mark)>
+        ensures { option_map (λ kept. record { answer = names_in kept.0.now; mark = kept.1 }) result ≡ names_kept self.now path.now }
+    {
+        let kept = self.child_answers.get(path)?;
+        Some((&kept.answer, kept.mark))
+    }
+}

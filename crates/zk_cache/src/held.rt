@@ -1,0 +1,72 @@
+//! Maps from paths to answers with a mark.
+ghost use Rattle.std.specs.Prelude.{◌≡◌, ℕ, List, Some, OnOk, OnErr, IsOk, true, is_some, bytes_eq, if◌then◌else◌};
+ghost use Rattle.indexmap.specs.IndexMap.{get_by_text, IsUnchanged};
+ghost use Rattle.zk_cache.specs.Kept.{good, stale, without_stale, is_good};
+
+use indexmap::IndexMap;
+use std::alloc::{AllocError, Allocator};
+use std::hash::{BuildHasherDefault, FoldHasher};
+
+/// Whether an answer still stands.
+#[derive(Clone, Copy, Debug, PartialEq, Eq)]
+pub enum Mark {
+    /// Nothing was told since that ends it.
+    Good,
+    /// A change was told, and the answer was not read again.
+    Stale,
+}
+
+/// An answer with its mark.
+#[derive(Debug, Drop)]
+pub struct Kept<T> {
+    pub answer: T,
+    pub mark: Mark,
+}
+
+/// What is kept at each path.
+pub(crate) type Held<T, A> = IndexMap<String<A>, Kept<T>, BuildHasherDefault<FoldHasher>, A>;
+
+/// Keeps the answer, marked good. Only a path that is new to the map takes memory.
+pub(crate) fn put<T: Drop, A: Allocator + Copy>(
+    alloc: A,
+    map: &mut Held<T, A>,
+    path: &str,
+    answer: T,
+) -> Result<(), AllocError>
+    ensures ok { OnOk result ((other : List ℕ) → get_by_text map.new other ≡ (if bytes_eq path.now other then good answer else get_by_text map.old other)) }
+    ensures there { is_some (get_by_text map.old path.now) ≡ true → IsOk result }
+    ensures err { OnErr result (IsUnchanged map.old map.new) }
+{
+    let held = Kept {
+        answer,
+        mark: Mark::Good,
+    };
+    if let Some(kept) = map.get_mut(path) {
+        *kept = held;
+        return Ok(());
+    }
+    map.insert(String::from_str(alloc, path)?, held)?;
+    Ok(())
+}
+
+/// Marks the answer stale, if there is one.
+pub(crate) fn mark_stale<T, A: Allocator + Copy>(map: &mut Held<T, A>, path: &str)
+    ensures { (other : List ℕ) → get_by_text map.new other ≡ (if bytes_eq path.now other then stale (get_by_text map.old path.now) else get_by_text map.old other) }
+{
+    if let Some(kept) = map.get_mut(path) {
+        kept.mark = Mark::Stale;
+    }
+}
+
+/// Takes the stale answers out.
+pub(crate) fn keep_good<T: Drop, A: Allocator + Copy>(map: &mut Held<T, A>)
+    ensures { (path : List ℕ) → get_by_text map.new path ≡ without_stale (get_by_text map.old path) }
+{
+    // `len` is called for its clause that no key stands twice, which the proof cites.
+    let _ = map.len();
+    map.retain(
+        |_path: &String<A>, held: &mut Kept<T>| -> bool
+            ensures { (result ≡ is_good held.old.mark) × (held.new ≡ held.old) }
+        { held.mark == Mark::Good },
+    );
+}

@@ -1,0 +1,188 @@
+//! Rows of the cache, and refused memory.
+use crate::{Cache, DataAnswer};
+use refusing::Refusing;
+use std::alloc::{AllocError, Allocator};
+use std::process::Abort;
+use std::test::Fail;
+use zk_history::{DataStat, Path, Side};
+use zk_jute::TextRef;
+
+fn stat(mzxid: i64) -> DataStat {
+    DataStat {
+        czxid: 3,
+        mzxid,
+        ctime: 1_000,
+        mtime: 2_000,
+        version: 1,
+        ephemeral_owner: 0,
+        data_length: 2,
+    }
+}
+
+fn full<A: Allocator + Copy>(alloc: A, mzxid: i64) -> Result<DataAnswer<A>, AllocError> {
+    Ok(DataAnswer::Full(Some(Vec::from_slice(alloc, b"hi")?), stat(mzxid)))
+}
+
+// What is kept of a path, as text.
+fn shown<A: Allocator + Copy>(
+    alloc: A,
+    cache: &Cache<A>,
+    path: &str,
+) -> Result<String<A>, AllocError> {
+    match cache.peek_data(path) {
+        None => String::from_str(alloc, "none"),
+        Some((DataAnswer::Absent, mark)) => format!(in alloc; "absent {mark:?}"),
+        Some((DataAnswer::Known(stat), mark)) => format!(in alloc; "known {} {mark:?}", stat.mzxid),
+        Some((DataAnswer::Full(bytes, stat), mark)) => {
+            format!(in alloc; "full {bytes:?} {} {mark:?}", stat.mzxid)
+        }
+    }
+}
+
+// What happens to a path.
+#[derive(Clone, Copy)]
+enum Step {
+    Absent,
+    Known(i64),
+    Full(i64),
+    Spoil(Side),
+    Forget,
+    Clear,
+}
+
+// Each step at `/a`, and what is kept of it then.
+const ROWS: [(Step, &str); 17] = [
+    (Step::Forget, "none"),
+    (Step::Full(5), "full Some([104, 105]) 5 Good"),
+    (Step::Known(5), "full Some([104, 105]) 5 Good"),
+    (Step::Known(6), "known 6 Good"),
+    (Step::Full(6), "full Some([104, 105]) 6 Good"),
+    (Step::Spoil(Side::Child), "full Some([104, 105]) 6 Good"),
+    (Step::Spoil(Side::Data), "full Some([104, 105]) 6 Stale"),
+    (Step::Known(6), "known 6 Good"),
+    (Step::Full(6), "full Some([104, 105]) 6 Good"),
+    (Step::Absent, "absent Good"),
+    (Step::Full(7), "full Some([104, 105]) 7 Good"),
+    (Step::Forget, "full Some([104, 105]) 7 Good"),
+    (Step::Spoil(Side::Data), "full Some([104, 105]) 7 Stale"),
+    (Step::Forget, "none"),
+    (Step::Known(8), "known 8 Good"),
+    (Step::Clear, "none"),
+    (Step::Spoil(Side::Data), "none"),
+];
+
+fn take<A: Allocator + Copy>(
+    alloc: A,
+    cache: &mut Cache<A>,
+    path: &Path<A>,
+    step: Step,
+) -> Result<(), AllocError> {
+    match step {
+        Step::Absent => cache.keep_data(path, DataAnswer::Absent)?,
+        Step::Known(mzxid) => cache.keep_data(path, DataAnswer::Known(stat(mzxid)))?,
+        Step::Full(mzxid) => cache.keep_data(path, full(alloc, mzxid)?)?,
+        Step::Spoil(side) => cache.stale(side, path.as_str()),
+        Step::Forget => cache.forget_stale(),
+        Step::Clear => cache.clear(),
+    }
+    Ok(())
+}
+
+// Takes the step, and says what is kept then.
+fn told<A: Allocator + Copy>(
+    alloc: A,
+    cache: &mut Cache<A>,
+    path: &Path<A>,
+    step: Step,
+) -> Result<String<A>, AllocError> {
+    take(alloc, cache, path, step)?;
+    shown(alloc, cache, path.as_str())
+}
+
+#[test]
+fn data_answers_follow_their_rows(rt: HostRuntime) -> Result<(), Fail> {
+    let path = Path::new(rt.alloc(), "/a")?;
+    let mut cache = Cache::new(rt.alloc());
+    for (step, want) in &ROWS {
+        let text = told(rt.alloc(), &mut cache, &path, *step)?;
+        assert!(rt; text.as_str() == *want, "{want}");
+    }
+    Ok(())
+}
+
+// Names in no order, with one twice and null for the empty one.
+const LISTING: [TextRef<'static>; 4] = [
+    TextRef { text: Some("b") },
+    TextRef { text: Some("a") },
+    TextRef { text: Some("b") },
+    TextRef { text: None },
+];
+
+// The zxid of the names that are kept of `/a`, or -1.
+fn pzxid_of<A: Allocator + Copy>(cache: &Cache<A>) -> i64 {
+    match cache.peek_children("/a") {
+        None => -1,
+        Some((kept, _mark)) => kept.pzxid,
+    }
+}
+
+// Keeps names of this zxid. Where that is refused, those of the zxid before stay, and it is tried again.
+fn keep_names<A: Allocator + Copy>(
+    rt: &impl Abort,
+    cache: &mut Cache<A>,
+    path: &Path<A>,
+    before: i64,
+    pzxid: i64,
+) -> Result<u32, AllocError> {
+    if cache.keep_children(path, &LISTING, pzxid).is_ok() {
+        return Ok(0);
+    }
+    assert_eq!(rt; pzxid_of(cache), before);
+    cache.keep_children(path, &LISTING, pzxid)?;
+    Ok(1)
+}
+
+// Keeps an answer. Where that is refused, nothing is kept, and it is tried again.
+fn keep_answer<A: Allocator + Copy>(
+    rt: &impl Abort,
+    cache: &mut Cache<A>,
+    path: &Path<A>,
+) -> Result<u32, AllocError> {
+    if cache.keep_data(path, DataAnswer::Known(stat(5))).is_ok() {
+        return Ok(0);
+    }
+    assert!(rt; cache.peek_data("/a").is_none());
+    cache.keep_data(path, DataAnswer::Absent)?;
+    Ok(1)
+}
+
+// Keeps an answer, and names twice. It says how often it was refused.
+fn course<A: Allocator + Copy>(
+    rt: &impl Abort,
+    alloc: A,
+    path: &Path<A>,
+) -> Result<u32, AllocError> {
+    let mut cache = Cache::new(alloc);
+    let answers = keep_answer(rt, &mut cache, path)?;
+    let first = keep_names(rt, &mut cache, path, -1, 5)?;
+    let second = keep_names(rt, &mut cache, path, 5, 6)?;
+    assert_eq!(rt; pzxid_of(&cache), 6);
+    Ok(answers.saturating_add(first).saturating_add(second))
+}
+
+#[test]
+fn tells_each_refusal_and_goes_on(rt: HostRuntime) -> Result<(), Fail> {
+    // The path takes the first request.
+    for passed in 1..100u32 {
+        let heap = Refusing::after(passed, rt.alloc());
+        let path = Path::new(&heap, "/a")?;
+        let refusals = course(&rt, &heap, &path)?;
+        assert_eq!(rt; refusals == 1, heap.has_refused(), "after {passed}");
+        if refusals == 0 {
+            assert!(rt; passed > 4);
+            return Ok(());
+        }
+    }
+    assert!(rt; false, "no run without a refusal");
+    Ok(())
+}

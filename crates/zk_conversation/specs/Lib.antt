@@ -1,0 +1,11 @@
+pub mod Calls
+pub mod Questions
+pub mod Results
+pub mod Pending
+pub mod Arriving
+pub mod Views
+pub mod Counted
+pub mod Lent
+pub mod Arrives
+pub mod FaultText
+pub mod Laws

@@ -1,0 +1,5 @@
+pub mod Frame
+pub mod FaultText
+pub mod Held
+pub mod Next
+pub mod Stream

@@ -1,0 +1,50 @@
+-- What a reader answers when it is asked for the next frame.
+use Rattle.std.specs.Prelude.{◌≡◌, ℕ, ◌+◌, ◌<◌, ◌≤◌, List, ◌++◌, length, take, drop, Option, None, Some, Result, Ok, Err, MatchOption}
+use denote.Ref.{Bor}
+use Rattle.zk_frames.specs.declared.fault.FrameFault.{FrameFault}
+use Rattle.zk_frames.specs.declared.fault.FrameFault.TheVariants.{Negative, TooLong, Memory}
+use Rattle.zk_frames.specs.declared.reader.TheConstants.{LONGEST_INCOMING}
+use Rattle.zk_frames.specs.Frame.{frame, IsNegative, IsTooLong, IsUnfinished}
+use Rattle.zk_frames.specs.Held.{Held, failed}
+
+-- The frame of the payload stood first, and is taken. Its bytes stay in memory, since they are lent.
+pub record GivesFrame (old : Held) (payload : List ℕ) (new : Held) : Type 0 where
+  pub was : old.bytes ≡ frame payload ++ new.bytes
+  pub spent : new.spent ≡ old.spent + (4 + length payload)
+  pub read : old.fault ≡ None
+  pub reads : new.fault ≡ None
+  pub admitted : length payload ≤ LONGEST_INCOMING
+
+-- No whole frame is there, and nothing changes.
+pub record GivesNothing (old new : Held) : Type 0 where
+  pub unfinished : IsUnfinished old.bytes
+  pub bounded : length old.bytes < 4 + LONGEST_INCOMING
+  pub reads : old.fault ≡ None
+  pub same : new ≡ old
+
+-- It has failed by this fault: before, or since such a length stands next.
+pub record Fails (old : Held) (Stands : List ℕ → Type 0) (f : FrameFault) (new : Held) : Type 0 where
+  pub now : new ≡ failed f
+  pub why : MatchOption old.fault (Stands old.bytes) (λ g. old ≡ failed f)
+
+-- the answer, and what is held after it
+abbrev pub AnswersNext : Held → Result (Option (Bor (List ℕ))) FrameFault → Held → Type 0
+AnswersNext old (Ok (Some payload)) new = GivesFrame old payload.now new
+AnswersNext old (Ok None) new = GivesNothing old new
+AnswersNext old (Err Negative) new = Fails old IsNegative Negative new
+AnswersNext old (Err TooLong) new = Fails old IsTooLong TooLong new
+AnswersNext old (Err Memory) new = ⊥
+
+-- A whole frame stands first, and its payload has this length.
+pub record IsWhole (bytes : List ℕ) (n : ℕ) : Type 0 where
+  pub is : bytes ≡ frame (take n (drop 4 bytes)) ++ drop (4 + n) bytes
+  pub there : 4 + n ≤ length bytes
+  pub admitted : n ≤ LONGEST_INCOMING
+
+-- what is read of the first length
+abbrev pub ReadsLength : List ℕ → Result (Option ℕ) FrameFault → Type 0
+ReadsLength bytes (Ok (Some n)) = IsWhole bytes n
+ReadsLength bytes (Ok None) = IsUnfinished bytes
+ReadsLength bytes (Err Negative) = IsNegative bytes
+ReadsLength bytes (Err TooLong) = IsTooLong bytes
+ReadsLength bytes (Err Memory) = ⊥

@@ -1,0 +1,17 @@
+//! Frames of a byte stream, as the client protocol has them in both directions: a length in four big-endian bytes, and
+//! then that many bytes of payload.
+//!
+//! [`FrameReader`] cuts a stream that comes in any pieces. [`put_frame`] and [`seal_frame`] write frames. [`laws`] says
+//! what holds of any calls of a reader, one after the other. What a payload means is none of this crate's business.
+#![tactic(auto)]
+
+mod fault;
+pub mod laws;
+mod put;
+mod reader;
+#[cfg(test)]
+mod tests;
+
+pub use fault::{FrameFault, PutFault};
+pub use put::{LONGEST_OUTGOING, put_frame, seal_frame};
+pub use reader::{FrameReader, LONGEST_INCOMING};

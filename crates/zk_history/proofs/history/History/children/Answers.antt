@@ -1,0 +1,9 @@
+use Rattle.zk_history.specs.History.{path_of}
+use Rattle.zk_history.specs.Replay.{children_at}
+use Rattle.zk_history.proofs.KeptLemmas.{names_first, names_later-children}
+use Rattle.zk_history.proofs.history.History.children.Goals as goal
+
+pub returns : goal.returns
+returns g c =
+    let p = path_of c.args.at.now in
+    c.counted.ensures.counted (children_at 9223372036854775808 p c.args.self.now.transactions (names_first c.args.self.now p)) (names_later-children c.args.self.now 9223372036854775808 p c.counted.ensures.sound)

@@ -1,0 +1,13 @@
+pub mod History
+pub mod Path
+pub mod PathFault
+pub mod Replay
+pub mod Kept
+pub mod Made
+pub mod NamesKept
+pub mod Accepting
+pub mod Shown
+pub mod Refused
+pub mod StatLayout
+pub mod DataStats
+pub mod Laws

@@ -1,0 +1,34 @@
+-- When a history refuses what it is given: the first fault that applies, and want of memory where none does.
+use Rattle.std.specs.Prelude.{ℕ, ℤ, pos, ◌≡◌, ◌≢◌, ◌≤ℤ◌, ◌<ℤ◌, List, [], Option, codes}
+use Rattle.zk_history.specs.History.{Text, NodePath, Change, Creates, newest}
+use Rattle.zk_history.specs.Kept.{Kept, IsAccepted, newest_tree}
+use Rattle.zk_history.specs.declared.history_fault.HistoryFault.{HistoryFault}
+use Rattle.zk_history.specs.declared.history_fault.HistoryFault.TheVariants.{Place, Order, Illegal, Memory}
+
+-- a change stands only behind the beginning of a transaction
+abbrev pub ChangeRefused : Kept → Change → HistoryFault → Type 0
+ChangeRefused kept change Place = kept.transactions ≡ []
+ChangeRefused kept change Order = ⊥
+ChangeRefused kept change Illegal = (kept.transactions ≢ []) × ¬ IsAccepted change (newest_tree kept)
+ChangeRefused kept change Memory = (kept.transactions ≢ []) × IsAccepted change (newest_tree kept)
+
+-- a node of the first tree stands only before the first transaction
+abbrev pub NodeRefused : Kept → NodePath → Option (List ℕ) → HistoryFault → Type 0
+NodeRefused kept path content Place = kept.transactions ≢ []
+NodeRefused kept path content Order = ⊥
+NodeRefused kept path content Illegal = (kept.transactions ≡ []) × ¬ IsAccepted (Creates path content (pos 0)) (newest_tree kept)
+NodeRefused kept path content Memory = (kept.transactions ≡ []) × IsAccepted (Creates path content (pos 0)) (newest_tree kept)
+
+-- zxids rise, from 1 on
+abbrev pub BeginRefused : Kept → ℤ → HistoryFault → Type 0
+BeginRefused kept zxid Place = ⊥
+BeginRefused kept zxid Order = zxid ≤ℤ pos (newest 0 kept.transactions)
+BeginRefused kept zxid Illegal = ⊥
+BeginRefused kept zxid Memory = pos (newest 0 kept.transactions) <ℤ zxid
+
+-- how a fault is shown
+abbrev pub history_fault_text : HistoryFault → Text
+history_fault_text Place = codes "H1"
+history_fault_text Order = codes "H2"
+history_fault_text Illegal = codes "H3"
+history_fault_text Memory = codes "H4"

@@ -1,0 +1,321 @@
+//! The history of a data tree, and what each path held at each zxid.
+
+ghost use Rattle.std.specs.Prelude.{◌≡◌, ◌≢◌, ◌≤◌, ◌<◌, ◌<ℤ◌, ◌^◌, IfErr, pos, [], ◌∷◌, map, IfOk, OnOk, OnErr, MatchOption, Some, None, is_some, ℤ};
+ghost use Rattle.std.specs.Option.{option_map};
+ghost use Rattle.zk_history.specs.History.{path_of, view as view_of, tree_at, IsHistory, newest, nth, Name, Creates};
+ghost use Rattle.zk_history.specs.declared.side.Side.TheVariants.{Data as OnData, Child};
+ghost use Rattle.zk_history.specs.PathFault.{IsPath};
+ghost use Rattle.zk_history.specs.Replay.{Names as NameSet};
+ghost use Rattle.zk_history.specs.Kept.{history_of, empty_kept, newest_tree, newest_count, IsAccepted, with_change, with_transaction, with_node, natural, root_tree, HasChildren, IsSound};
+ghost use Rattle.zk_history.specs.Accepting.{accepts, can_rise};
+ghost use Rattle.zk_history.specs.Refused.{ChangeRefused, NodeRefused, BeginRefused};
+ghost use Rattle.zk_history.specs.Made.{change_of, transaction_of, node_of, transaction_told};
+ghost use Rattle.std.specs.FinSet as set;
+ghost use Rattle.std.specs.BTreeSet.{contains_text};
+ghost use Rattle.zk_history.specs.Shown.{data_told, names_told, stat_of, IsStat};
+
+use crate::answer::{Data, Names};
+use crate::change::{Change, Transaction};
+use crate::found::Found;
+use crate::history_fault::HistoryFault;
+use crate::names::{counted_after_transactions, names_after_transactions};
+use crate::path::Path;
+use crate::replay::after_transactions;
+use crate::stat::Stat;
+use crate::told::{data_stat, full_stat, has_length, owned};
+use crate::transactions::{push_change, push_empty, push_node};
+use std::alloc::{AllocError, Allocator};
+use std::collections::BTreeSet;
+use std::marker::Model;
+
+// Above every zxid.
+const NEWEST: u64 = 9223372036854775808;
+
+// The most children whose number a Stat can tell.
+const MOST_CHILDREN: u32 = 2147483647;
+
+// The last version that a node can have.
+const LAST_VERSION: u32 = 2147483647;
+
+/// A first tree and the transactions after it, with look-ups at every zxid. The first tree has `/` with empty data,
+/// and all its other fields 0, and the nodes that are added to it.
+///
+/// Zxids run from 1 to 2^63 - 1 and rise (Programmer's Guide, "Time in ZooKeeper"); times are milliseconds since the
+/// epoch. A look-up replays the changes of one path from the beginning.
+#[derive(Drop)]
+pub struct History<A: Allocator + Copy> {
+    alloc: A,
+    // The nodes of the first tree: a creation at zxid 0 each.
+    nodes: Vec<Transaction<A>, A>,
+    transactions: Vec<Transaction<A>, A>,
+}
+
+impl<A: Allocator + Copy> Model for History<A> {
+    ghost use Rattle.std.specs.Prelude.{map};
+    ghost use Rattle.zk_history.specs.Kept.{Kept, IsSound};
+    ghost use Rattle.zk_history.specs.Made.{transaction_of};
+
+    ghost Value = { Kept };
+
+    ghost view = { λ h. record { nodes = map transaction_of h.nodes.items; transactions = map transaction_of h.transactions.items } };
+
+    ghost invariant = { λ h. IsSound (record { nodes = map transaction_of h.nodes.items; transactions = map transaction_of h.transactions.items }) };
+}
+
+fn natural(z: i64) -> u64
+    ensures value { result ≡ natural z }
+    ensures small { result < 2 ^ 63 }
+{
+    if z < 0 { 0 } else { z as u64 }
+}
+
+fn root_found(at: &str) -> Option<Found<'static>>
+    requires { IsPath at.now }
+    ensures { option_map node_of result ≡ root_tree (path_of at.now) }
+{
+    if "/" == at {
+        Some(Found {
+            bytes: Some(&[]),
+            czxid: 0,
+            mzxid: 0,
+            pzxid: 0,
+            ctime: 0,
+            mtime: 0,
+            version: 0,
+            owner: 0,
+        })
+    } else {
+        None
+    }
+}
+
+impl<A: Allocator + Copy> History<A> {
+    /// A history with the root alone, and no transaction.
+    pub fn new(alloc: A) -> History<A>
+        ensures { result ≡ empty_kept }
+    {
+        History {
+            alloc,
+            nodes: Vec::new(alloc),
+            transactions: Vec::new(alloc),
+        }
+    }
+
+    /// Adds a node to the first tree, with its data, null or bytes, and its time; its other fields are 0. Before the
+    /// first transaction alone (`Place`); `Illegal` where the node is there or its parent is not, where the parent
+    /// has 2,147,483,647 children, and for more than 2,147,483,647 bytes. A refusal leaves the history as it was.
+    pub fn node(
+        &mut self,
+        path: Path<A>,
+        bytes: Option<Vec<u8, A>>,
+        time: i64,
+    ) -> Result<(), HistoryFault>
+        ensures ok { OnOk result (self.new ≡ with_node self.old (path_of path) (option_map (λ v. v.items) bytes) time) }
+        ensures placed { OnOk result (self.old.transactions ≡ []) }
+        ensures accepted { OnOk result (IsAccepted (Creates (path_of path) (option_map (λ v. v.items) bytes) (pos 0)) (newest_tree self.old)) }
+        ensures refused { IfErr result (NodeRefused self.old (path_of path) (option_map (λ v. v.items) bytes)) }
+        ensures err { OnErr result (self.new ≡ self.old) }
+    {
+        if !self.transactions.is_empty() {
+            return Err(HistoryFault::Place);
+        }
+        if !self.takes_create(&path, &bytes) {
+            return Err(HistoryFault::Illegal);
+        }
+        push_node(self.alloc, &mut self.nodes, path, bytes, time)?;
+        Ok(())
+    }
+
+    /// Begins a transaction; its zxid is above the one before, and above 0 (`Order`). A refusal leaves the history as
+    /// it was.
+    pub fn begin(&mut self, zxid: i64, time: i64) -> Result<(), HistoryFault>
+        ensures ok { OnOk result (self.new ≡ with_transaction self.old (natural zxid) time) }
+        ensures rising { OnOk result (pos (newest 0 self.old.transactions) <ℤ zxid) }
+        ensures refused { IfErr result (BeginRefused self.old zxid) }
+        ensures err { OnErr result (self.new ≡ self.old) }
+    {
+        if zxid <= self.last_zxid() {
+            return Err(HistoryFault::Order);
+        }
+        push_empty(self.alloc, &mut self.transactions, natural(zxid), time)?;
+        Ok(())
+    }
+
+    /// Adds a change to the last transaction; `Place` where none was begun. A node is made where it is absent and its
+    /// parent is there, written where it is there with a version below 2,147,483,647, and deleted where it is there,
+    /// has no children and is not the root. Else it is `Illegal`, and so are more than 2,147,483,647 bytes or
+    /// children. A refusal leaves the history as it was.
+    pub fn change(&mut self, change: Change<A>) -> Result<(), HistoryFault>
+        ensures ok { OnOk result (self.new ≡ with_change self.old (change_of change)) }
+        ensures placed { OnOk result (self.old.transactions ≢ []) }
+        ensures accepted { OnOk result (IsAccepted (change_of change) (newest_tree self.old)) }
+        ensures refused { IfErr result (ChangeRefused self.old (change_of change)) }
+        ensures err { OnErr result (self.new ≡ self.old) }
+    {
+        if self.transactions.is_empty() {
+            return Err(HistoryFault::Place);
+        }
+        if !self.takes(&change) {
+            return Err(HistoryFault::Illegal);
+        }
+        push_change(&mut self.transactions, change)?;
+        Ok(())
+    }
+
+    // The node at a path, after the transactions up to a zxid.
+    fn found(&self, z: u64, at: &str) -> Option<Found<'_>>
+        requires { IsPath at.now }
+        ensures node { option_map node_of result ≡ tree_at (history_of self.now) z (path_of at.now) }
+        ensures sound { IsSound self.now }
+    {
+        let first = after_transactions(0, self.nodes.as_slice(), at, root_found(at));
+        after_transactions(z, self.transactions.as_slice(), at, first)
+    }
+
+    // How many children a path has after the transactions up to a zxid.
+    fn counted(&self, z: u64, at: &str) -> u32
+        requires { IsPath at.now }
+        ensures counted { (names : NameSet) → HasChildren (tree_at (history_of self.now) z) (path_of at.now) names → result ≡ set.len names }
+        ensures few { result ≤ 2147483647 }
+        ensures sound { IsSound self.now }
+    {
+        let first = counted_after_transactions(0, self.nodes.as_slice(), at, 0);
+        counted_after_transactions(z, self.transactions.as_slice(), at, first)
+    }
+
+    // The names of a path's children after the transactions up to a zxid.
+    fn names(&self, z: u64, at: &str) -> Result<BTreeSet<String<A>, A>, AllocError>
+        requires { IsPath at.now }
+        ensures { IfOk result (λ names. (name : Name) → contains_text names name ≡ is_some (tree_at (history_of self.now) z (name ∷ path_of at.now))) }
+    {
+        let mut names = BTreeSet::new(self.alloc);
+        names_after_transactions(self.alloc, 0, self.nodes.as_slice(), at, &mut names)?;
+        names_after_transactions(self.alloc, z, self.transactions.as_slice(), at, &mut names)?;
+        Ok(names)
+    }
+
+    /// The zxid of the last transaction, or 0.
+    pub fn last_zxid(&self) -> i64
+        ensures value { result ≡ pos (newest 0 self.now.transactions) }
+
+        // What is kept is a history: rising zxids, legal changes, and a first tree closed under parents.
+        ensures history { IsHistory (history_of self.now) }
+    {
+        if self.transactions.is_empty() {
+            return 0;
+        }
+        self.transactions[self.transactions.len() - 1].zxid as i64
+    }
+
+    /// The n-th transaction, from 0 on: its zxid, its time and its changes.
+    pub fn transaction(&self, n: usize) -> Option<(i64, i64, &[Change<A>])>
+        ensures { MatchOption result (nth n self.now.transactions ≡ None) (λ t. nth n self.now.transactions ≡ Some (transaction_told t.0 t.1 t.2.now)) }
+    {
+        if n < self.transactions.len() {
+            let transaction = &self.transactions[n];
+            Some((
+                transaction.zxid as i64,
+                transaction.time,
+                transaction.changes.as_slice(),
+            ))
+        } else {
+            None
+        }
+    }
+
+    /// The data at a path after the transactions up to a zxid, and none where no node is there.
+    pub fn data_at(&self, z: i64, path: &Path<A>) -> Result<Option<Data<A>>, AllocError>
+        ensures { IfOk result (λ told. data_told told ≡ view_of OnData (tree_at (history_of self.now) (natural z)) (path_of path.now)) }
+    {
+        match self.found(natural(z), path.as_str()) {
+            Some(found) => Ok(Some(Data {
+                bytes: owned(self.alloc, found.bytes)?,
+                stat: data_stat(&found),
+            })),
+            None => Ok(None),
+        }
+    }
+
+    /// The names of a path's children after the transactions up to a zxid, with the node's pzxid, and none where no
+    /// node is there.
+    pub fn names_at(&self, z: i64, path: &Path<A>) -> Result<Option<Names<A>>, AllocError>
+        ensures { IfOk result (λ told. names_told told ≡ view_of Child (tree_at (history_of self.now) (natural z)) (path_of path.now)) }
+    {
+        match self.found(natural(z), path.as_str()) {
+            Some(found) => Ok(Some(Names {
+                names: self.names(natural(z), path.as_str())?,
+                pzxid: found.pzxid as i64,
+            })),
+            None => Ok(None),
+        }
+    }
+
+    /// The `Stat` of the node at a path after the transactions up to a zxid, and none where no node is there. The
+    /// number of children is that of the names that are there; cversion and aversion, which a history does not tell,
+    /// are 0.
+    pub fn stat_at(&self, z: i64, path: &Path<A>) -> Option<Stat>
+        ensures told { IsStat (tree_at (history_of self.now) (natural z)) (path_of path.now) result }
+        ensures counted { (names : NameSet) → HasChildren (tree_at (history_of self.now) (natural z)) (path_of path.now) names
+            → result ≡ option_map (stat_of (set.len names)) (tree_at (history_of self.now) (natural z) (path_of path.now)) }
+    {
+        match self.found(natural(z), path.as_str()) {
+            Some(found) => Some(full_stat(&found, self.counted(natural(z), path.as_str()))),
+            None => None,
+        }
+    }
+
+    // Whether a node is at a path after all transactions.
+    fn is_there(&self, at: &str) -> bool
+        requires { IsPath at.now }
+        ensures { result ≡ is_some (newest_tree self.now (path_of at.now)) }
+    {
+        self.found(NEWEST, at).is_some()
+    }
+
+    // Whether the node at a path can be set once more.
+    fn can_rise(&self, at: &str) -> bool
+        requires { IsPath at.now }
+        ensures { result ≡ can_rise (newest_tree self.now (path_of at.now)) }
+    {
+        match self.found(NEWEST, at) {
+            Some(found) => found.version < LAST_VERSION,
+            None => false,
+        }
+    }
+
+    // How many children a path has after all transactions.
+    fn children(&self, at: &str) -> u32
+        requires { IsPath at.now }
+        ensures { result ≡ newest_count self.now (path_of at.now) }
+    {
+        self.counted(NEWEST, at)
+    }
+
+    // Whether a node may be made.
+    fn takes_create(&self, path: &Path<A>, bytes: &Option<Vec<u8, A>>) -> bool
+        ensures { (owner : ℤ) → result ≡ accepts (newest_tree self.now) (newest_count self.now) (Creates (path_of path.now) (option_map (λ v. v.items) bytes.now) owner) }
+    {
+        match path.parent() {
+            Some(parent) => {
+                has_length(bytes)
+                    & !self.is_there(path.as_str())
+                    & self.is_there(parent)
+                    & (self.children(parent) < MOST_CHILDREN)
+            }
+            None => false,
+        }
+    }
+
+    // Whether a change may be made after all transactions.
+    fn takes(&self, change: &Change<A>) -> bool
+        ensures { result ≡ accepts (newest_tree self.now) (newest_count self.now) (change_of change.now) }
+    {
+        match change {
+            Change::Create(path, bytes, _) => self.takes_create(path, bytes),
+            Change::Set(path, bytes) => has_length(bytes) & self.can_rise(path.as_str()),
+            Change::Delete(path) => {
+                !path.is_root() & self.is_there(path.as_str()) & (self.children(path.as_str()) == 0)
+            }
+        }
+    }
+}

@@ -1,0 +1,79 @@
+//! What is told of a node that was found.
+
+ghost use Rattle.std.specs.Prelude.{◌≡◌, ◌≤◌, pos, IfOk, nat_le};
+ghost use Rattle.std.specs.Option.{option_map, option_copied};
+ghost use Rattle.zk_history.specs.History.{size_of, node_fields};
+ghost use Rattle.zk_history.specs.Made.{node_of};
+ghost use Rattle.zk_history.specs.Shown.{stat_of};
+
+use crate::data_stat::DataStat;
+use crate::found::Found;
+use crate::stat::Stat;
+use std::alloc::{AllocError, Allocator};
+
+/// The longest data whose length a `Stat` can tell.
+const LONGEST_DATA: usize = 2147483647;
+
+pub(crate) fn owned<A: Allocator>(
+    alloc: A,
+    bytes: Option<&[u8]>,
+) -> Result<Option<Vec<u8, A>>, AllocError>
+    ensures { IfOk result (λ copy. option_map (λ v. v.items) copy ≡ option_copied bytes.entry) }
+{
+    match bytes {
+        Some(bytes) => Ok(Some(Vec::from_slice(alloc, bytes)?)),
+        None => Ok(None),
+    }
+}
+
+// Whether a Stat can tell the length of some data.
+pub(crate) fn has_length<A: Allocator>(bytes: &Option<Vec<u8, A>>) -> bool
+    ensures { result ≡ nat_le (size_of (option_map (λ v. v.items) bytes.now)) 2147483647 }
+{
+    match bytes {
+        Some(bytes) => bytes.len() <= LONGEST_DATA,
+        None => true,
+    }
+}
+
+fn data_length(found: &Found<'_>) -> i32
+    ensures { result ≡ pos (size_of (option_copied found.now.bytes)) }
+{
+    match found.bytes {
+        Some(bytes) => bytes.len() as i32,
+        None => 0,
+    }
+}
+
+pub(crate) fn data_stat(found: &Found<'_>) -> DataStat
+    ensures { result ≡ node_fields (node_of found.now) }
+{
+    DataStat {
+        czxid: found.czxid as i64,
+        mzxid: found.mzxid as i64,
+        ctime: found.ctime,
+        mtime: found.mtime,
+        version: found.version as i32,
+        ephemeral_owner: found.owner,
+        data_length: data_length(found),
+    }
+}
+
+pub(crate) fn full_stat(found: &Found<'_>, children: u32) -> Stat
+    requires { children ≤ 2147483647 }
+    ensures { result ≡ stat_of children (node_of found.now) }
+{
+    Stat {
+        czxid: found.czxid as i64,
+        mzxid: found.mzxid as i64,
+        ctime: found.ctime,
+        mtime: found.mtime,
+        version: found.version as i32,
+        cversion: 0,
+        aversion: 0,
+        ephemeral_owner: found.owner,
+        data_length: data_length(found),
+        num_children: children as i32,
+        pzxid: found.pzxid as i64,
+    }
+}

@@ -1,0 +1,8 @@
+use Rattle.std.proofs.lemmas.Str.{is_utf8-from_IsUtf8}
+use Rattle.zk_jute.proofs.lent.RefStrRecord.write.Goals as goal
+
+pub returns-clause-fits : goal.returns-clause-fits
+returns-clause-fits g c =
+    let len = rw c.as_bytes.ensures.value at c.in_ok-write_contents.ensures.fits in
+    let utf8 = rw c.as_bytes.ensures.value at c.as_bytes.ensures.utf8 in
+    (len, is_utf8-from_IsUtf8 _ utf8)

@@ -1,0 +1,324 @@
+-- Each happening of a client that is served is a move of a run.
+use Rattle.zk_laws.specs.Headline.{AnswersFirst, IsDue}
+use Rattle.zk_laws.proofs.Flight.{awaited_less, awaited_more, owes_append, owes_one, unread_more}
+use Rattle.zk_conversation.specs.Calls.{Call, call_payload, ping_payload}
+use Rattle.zk_turns.specs.Kept.{Asking, For_call, For_part, awaited, pending_for, Past, Began, Came, Dropped, Asked, Denied, Pinged, Ticked, Forgot, is_talking, state_of, held_of, xid_of, answered, questions, Took as Takes_in, Lost as Loses_it, Halted as Halts_now, Replies as Answers_call, Watches_set as Sets_watches, Notifies as Tells, Pong as Echo}
+use Rattle.std.proofs.Common.{◌≡◌, ℕ, ◌≤◌, ◌<◌, ℤ, pos, negsuc, Bool, true, false, cond, ◌&&◌, List, [], ◌∷◌, ◌++◌, map, drop, length, refl, sym, ap, subst, ◌∙◌, arith, append_assoc, inl}
+use Rattle.std.specs.Prelude.{if◌then◌else◌}
+use Rattle.std.proofs.lemmas.List.{length-append, append-nil, map-append}
+use Rattle.zk_turns.specs.Turns.{Start, Outcome, Fault, IsAskable}
+use Rattle.zk_conversation.specs.Questions.{Question, Close}
+use Rattle.zk_conversation.specs.Results.{Result}
+use Rattle.zk_turns.proofs.Stepped.{Counted, counted_next, Waits, waits}
+use Rattle.zk_history.specs.History.{History}
+use Rattle.zk_laws.specs.Server.{Notice}
+use Rattle.zk_laws.specs.Messages.{Message, Replies, Watches_set, Notifies, Pong, Request, Ask, Ping}
+use Rattle.zk_laws.specs.Log.{Lost, Took, last}
+use Rattle.zk_laws.specs.Steps.{Connection, Link, Up, Down, World, Asks, Pings, Takes, is_behind, ends}
+use Rattle.zk_laws.specs.Run.{Opens, Loses, Halts, Forgets_stale, Goes, opened}
+use Rattle.zk_laws.specs.Seen.{from_zero, seen}
+use Rattle.zk_laws.specs.Served.{Sent, requests, unread, Line, new_line, is_open, is_going}
+use Rattle.zk_laws.proofs.Seeing.{last_is}
+use Rattle.zk_laws.specs.Flight.{IsCalm, Reached, Letter, frames, messages, answers, Owes, connection, Going, Matches}
+use Rattle.zk_laws.proofs.Reaching.{reach, reach_as}
+
+module _ (h : History) (start : Start) (Was : List ℕ → Type 0) where
+  -- ---- happenings that leave no item
+
+  pub ticked : (moment : ℕ) (past : Past) (line : Line) → Matches h start Was past line → Matches h start Was (Ticked moment ∷ past) line
+  ticked moment past line s = record {
+    link = s.link;
+    reached = s.reached;
+    calm = s.calm;
+    counted = s.counted;
+    going = λ e. let g = s.going e in (g.0, record { up = g.1.up; enough = g.1.enough; are = g.1.are; bytes = g.1.bytes; owed = g.1.owed; owes = g.1.owes; pending = g.1.pending; later = g.1.later });
+  }
+
+  pub denied : (ticket : ℕ) (why : Outcome) (past : Past) (line : Line) → Matches h start Was past line → Matches h start Was (Denied ticket why ∷ past) line
+  denied ticket why past line s = record {
+    link = s.link;
+    reached = s.reached;
+    calm = s.calm;
+    counted = s.counted;
+    going = λ e. let g = s.going e in (g.0, record { up = g.1.up; enough = g.1.enough; are = g.1.are; bytes = g.1.bytes; owed = g.1.owed; owes = g.1.owes; pending = g.1.pending; later = g.1.later });
+  }
+
+  pub came : (byte : ℕ) (rest : List ℕ) (past : Past) (line : Line) → line.coming ≡ byte ∷ rest → Matches h start Was past line → Matches h start Was (Came byte ∷ past) (record line { coming = rest })
+  came byte rest past line c s = record {
+    link = s.link;
+    reached = s.reached;
+    calm = s.calm;
+    counted = s.counted;
+    going = λ e. let g = s.going e in (
+      g.0,
+      record {
+        up = g.1.up;
+        enough = g.1.enough;
+        are = g.1.are;
+        owed = g.1.owed;
+        owes = g.1.owes;
+        pending = g.1.pending;
+        later = g.1.later;
+        bytes = append_assoc (held_of past) (byte ∷ []) rest ∙ ap (λ l. held_of past ++ l) (sym c) ∙ g.1.bytes;
+      },
+    );
+  }
+
+  -- ---- ends
+
+  pub lost : (past : Past) (line : Line) → Matches h start Was past line → Matches h start Was (Loses_it ∷ past) line
+  lost past line s = record {
+    link = Down;
+    reached = reach h (from_zero start.last) (record { log = seen start past; link = s.link }) Loses s.reached tt;
+    calm = s.calm;
+    counted = s.counted;
+    going = λ e. absurd cc;
+  }
+
+  pub dropped : (fault : Fault) (past : Past) (line : Line) → IsDue Was fault past → Matches h start Was past line → Matches h start Was (Dropped fault ∷ past) line
+  dropped fault past line why s = record {
+    link = Down;
+    reached = reach h (from_zero start.last) (record { log = seen start past; link = s.link }) Loses s.reached tt;
+    calm = ((why, s.calm.0), s.calm.1, s.calm.2);
+    counted = s.counted;
+    going = λ e. absurd cc;
+  }
+
+  pub and_false : (b : Bool) → (b && false) ≡ false
+  and_false true = refl
+  and_false false = refl
+
+  pub halted : (past : Past) (line : Line) → Matches h start Was past line → Matches h start Was (Halts_now ∷ past) line
+  halted past line s = record {
+    link = Down;
+    reached = reach h (from_zero start.last) (record { log = seen start past; link = s.link }) Halts s.reached tt;
+    calm = s.calm;
+    counted = s.counted;
+    going = λ e. absurd (let f = and_false (is_open (state_of past)) in cc);
+  }
+
+  pub forgot : (past : Past) (line : Line) → Matches h start Was past line → Matches h start Was (Forgot ∷ past) line
+  forgot past line s = record {
+    link = s.link;
+    reached = reach h (from_zero start.last) (record { log = seen start past; link = s.link }) Forgets_stale s.reached tt;
+    calm = s.calm;
+    counted = s.counted;
+    going = λ e. let g = s.going e in (g.0, record { up = g.1.up; enough = g.1.enough; are = g.1.are; bytes = g.1.bytes; owed = g.1.owed; owes = g.1.owes; pending = g.1.pending; later = g.1.later });
+  }
+
+  -- ---- a connection begins
+
+  pub began : (place : ℕ) (past : Past) (line : Line) → place ≤ length h.transactions → Matches h start Was past line → Matches h start Was (Began ∷ past) (new_line place)
+  began place past line may s = record {
+    link = Up (opened (last (seen start past)) place);
+    reached = reach h (from_zero start.last) (record { log = seen start past; link = s.link }) (Opens place) s.reached may;
+    calm = s.calm;
+    counted = omega arith;
+    going = λ e. (
+      [],
+      record {
+        up = ap (λ z. Up (opened z place)) (last_is start past);
+        enough = omega arith;
+        are = tt;
+        bytes = refl;
+        owed = [];
+        owes = ([], [], refl, refl, refl);
+        pending = refl;
+        later = λ t. absurd cc;
+      },
+    );
+  }
+
+  -- ---- on an open connection
+
+  pub up_reached : (past : Past) (line : Line) (link : Link) (letters : List Letter) → Going h start Was past line link letters → Reached h (from_zero start.last) (record { log = seen start past; link = link })
+      → Reached h (from_zero start.last) (record { log = seen start past; link = Up (connection start past line letters) })
+  up_reached past line link letters g r = reach_as h (from_zero start.last) (record { log = seen start past; link = link }) (record { log = seen start past; link = Up (connection start past line letters) }) (ap (λ l. record { log = seen start past; link = l }) g.up) r
+
+  abbrev pub with_requests : Past → Line → List Letter → List Request → Link
+  with_requests past line letters rs = Up (record { requests = rs; messages = messages letters; place = line.place; watches = line.watches; stage = line.stage; talking = is_talking (state_of past) })
+
+  asked_requests : (past : Past) (line : Line) (s : Sent) → line.processed ≤ length (requests start past)
+      → map (λ s. s.request) (unread start past line) ++ s.request ∷ [] ≡ map (λ s. s.request) (drop line.processed (requests start past ++ s ∷ []))
+  asked_requests past line s le =
+      sym (map-append (λ s. s.request) (unread start past line) (s ∷ [])) ∙ ap (λ l. map (λ s. s.request) l) (sym (unread_more line.processed (requests start past) (s ∷ []) le))
+
+  pub asked : (ticket : ℕ) (question : Call) (past : Past) (line : Line) → is_going past ≡ true → is_talking (state_of past) ≡ true → IsAskable question → Matches h start Was past line → Matches h start Was (Asked ticket question ∷ past) line
+  asked ticket question past line on talks may s =
+      let g = s.going on in
+      let sent : Sent = record { payload = call_payload (pos (xid_of past)) question; xid = pos (xid_of past); request = Ask question } in
+      let waiting : Asking = For_call (xid_of past) ticket question in
+      let r = reach h (from_zero start.last) (record { log = seen start past; link = Up (connection start past line g.0) }) (Goes (Asks question)) (up_reached past line s.link g.0 g.1 s.reached) (talks, may) in
+      let same = asked_requests past line sent g.1.enough in
+      let n = length-append (requests start past) (sent ∷ []) in
+      let le = g.1.enough in
+      record {
+        link = with_requests past line g.0 (map (λ s. s.request) (unread start past line) ++ Ask question ∷ []);
+        reached = r;
+        calm = s.calm;
+        counted = counted_next (Asked ticket question) past (talks, s.counted) s.counted;
+        going = λ e. (
+          g.0,
+          record {
+            up = ap (with_requests past line g.0) same;
+            enough = omega arith;
+            are = g.1.are;
+            bytes = g.1.bytes;
+            owed = g.1.owed ++ waiting ∷ [];
+            owes = subst (λ l. Owes l (g.1.owed ++ waiting ∷ [])) (sym (unread_more line.processed (requests start past) (sent ∷ []) le))
+                (owes_append (unread start past line) (sent ∷ []) g.1.owed (waiting ∷ []) g.1.owes (owes_one sent (waiting ∷ []) (ticket, xid_of past, refl, refl)));
+            pending = awaited_more (is_talking (state_of past)) (answered past) (questions past) waiting talks s.counted ∙ ap (λ l. l ++ waiting ∷ []) g.1.pending ∙ append_assoc (answers g.0) g.1.owed (waiting ∷ []);
+            later = g.1.later;
+          },
+        );
+      }
+
+  pub pinged : (past : Past) (line : Line) → is_going past ≡ true → is_talking (state_of past) ≡ true → Matches h start Was past line → Matches h start Was (Pinged ∷ past) line
+  pinged past line on talks s =
+      let g = s.going on in
+      let sent : Sent = record { payload = ping_payload; xid = negsuc 1; request = Ping } in
+      let r = reach h (from_zero start.last) (record { log = seen start past; link = Up (connection start past line g.0) }) (Goes Pings) (up_reached past line s.link g.0 g.1 s.reached) talks in
+      let same = asked_requests past line sent g.1.enough in
+      let n = length-append (requests start past) (sent ∷ []) in
+      let le = g.1.enough in
+      record {
+        link = with_requests past line g.0 (map (λ s. s.request) (unread start past line) ++ Ping ∷ []);
+        reached = r;
+        calm = s.calm;
+        counted = s.counted;
+        going = λ e. (
+          g.0,
+          record {
+            up = ap (with_requests past line g.0) same;
+            enough = omega arith;
+            are = g.1.are;
+            bytes = g.1.bytes;
+            owed = g.1.owed;
+            owes = subst (λ l. Owes l g.1.owed) (sym (unread_more line.processed (requests start past) (sent ∷ []) le))
+                (subst (λ l. Owes (unread start past line ++ sent ∷ []) l) (append-nil g.1.owed) (owes_append (unread start past line) (sent ∷ []) g.1.owed [] g.1.owes (owes_one sent [] refl)));
+            pending = g.1.pending;
+            later = g.1.later;
+          },
+        );
+      }
+
+  -- ---- messages that are taken
+
+  -- what is taken: the first letter is gone, and the bytes since it are none
+  took_world : (past : Past) (line : Line) (link : Link) (m : Message) (xid : ℤ) (p : List ℕ) (ps : List Asking) (ls : List Letter) → is_talking (state_of past) ≡ true
+      → Going h start Was past line link (record { message = m; payload = p; xid = xid; asked = ps } ∷ ls) → Reached h (from_zero start.last) (record { log = seen start past; link = link })
+      → is_behind (seen start past) m ≡ false
+      → Reached h (from_zero start.last) (record { log = Took m ∷ seen start past; link = if ends m then Down else Up (connection start past line ls) })
+  took_world past line link m xid p ps ls talks g r behind =
+      let c : Connection = connection start past line (record { message = m; payload = p; xid = xid; asked = ps } ∷ ls) in
+      let w : World = record { log = seen start past; link = Up c } in
+      reach_as h (from_zero start.last) _ (record { log = Took m ∷ seen start past; link = if ends m then Down else Up (connection start past line ls) })
+      (ap (λ b. cond b (record { log = Lost ∷ seen start past; link = Down }) (record { log = Took m ∷ seen start past; link = if ends m then Down else Up (connection start past line ls) })) behind)
+      (reach h (from_zero start.last) w (Goes (Takes m)) (up_reached past line link (record { message = m; payload = p; xid = xid; asked = ps } ∷ ls) g r) (refl, inl talks))
+
+  waits_there : (past : Past) (p : Asking) (more : List Asking) → awaited past ≡ p ∷ more → answered past < length (questions past)
+  waits_there past p more e = subst (λ l. Waits (map pending_for l) past) e (waits past)
+
+  pub took_notice : (past : Past) (line : Line) (link : Link) (n : Notice) (xid : ℤ) (p : List ℕ) (ps : List Asking) (ls : List Letter) → is_talking (state_of past) ≡ true
+      → Going h start Was past line link (record { message = Notifies n; payload = p; xid = xid; asked = ps } ∷ ls) → Reached h (from_zero start.last) (record { log = seen start past; link = link })
+      → IsCalm h Was past → Counted past → line.coming ≡ frames ls → Matches h start Was (Takes_in (Tells n.event n.path) ∷ past) line
+  took_notice past line link n xid p ps ls talks g r calm counted coming = record {
+    link = Up (connection start past line ls);
+    reached = took_world past line link (Notifies n) xid p ps ls talks g r refl;
+    calm = calm;
+    counted = counted;
+    going = λ e. (
+      ls,
+      record {
+        up = refl;
+        enough = g.enough;
+        are = g.are.1;
+        bytes = coming;
+        owed = g.owed;
+        owes = g.owes;
+        pending = g.pending ∙ ap (λ l. l ++ answers ls ++ g.owed) g.are.0.is_for;
+        later = g.later;
+      },
+    );
+  }
+
+  pub took_pong : (past : Past) (line : Line) (link : Link) (xid : ℤ) (p : List ℕ) (ps : List Asking) (ls : List Letter) → is_talking (state_of past) ≡ true
+      → Going h start Was past line link (record { message = Pong; payload = p; xid = xid; asked = ps } ∷ ls) → Reached h (from_zero start.last) (record { log = seen start past; link = link })
+      → IsCalm h Was past → Counted past → line.coming ≡ frames ls → Matches h start Was (Takes_in Echo ∷ past) line
+  took_pong past line link xid p ps ls talks g r calm counted coming = record {
+    link = Up (connection start past line ls);
+    reached = took_world past line link Pong xid p ps ls talks g r refl;
+    calm = calm;
+    counted = counted;
+    going = λ e. (
+      ls,
+      record {
+        up = refl;
+        enough = g.enough;
+        are = g.are.1;
+        bytes = coming;
+        owed = g.owed;
+        owes = g.owes;
+        pending = g.pending ∙ ap (λ l. l ++ answers ls ++ g.owed) g.are.0.is_for;
+        later = g.later;
+      },
+    );
+  }
+
+  pub took_part : (past : Past) (line : Line) (link : Link) (b : Bool) (z : ℕ) (xid : ℤ) (p : List ℕ) (ps : List Asking) (ls : List Letter) → is_talking (state_of past) ≡ true
+      → Going h start Was past line link (record { message = Watches_set b z; payload = p; xid = xid; asked = ps } ∷ ls) → Reached h (from_zero start.last) (record { log = seen start past; link = link })
+      → IsCalm h Was past → Counted past → line.coming ≡ frames ls → Matches h start Was (Takes_in (Sets_watches b (pos z)) ∷ past) line
+  took_part past line link b z xid p ps ls talks g r calm counted coming =
+      let x : Asking = For_part b in
+      let first : awaited past ≡ x ∷ (answers ls ++ g.owed) = g.pending ∙ ap (λ l. l ++ answers ls ++ g.owed) g.are.0.is_for.1 in
+      record {
+        link = Up (connection start past line ls);
+        reached = took_world past line link (Watches_set b z) xid p ps ls talks g r refl;
+        calm = calm;
+        counted = counted_next (Takes_in (Sets_watches b (pos z))) past (waits_there past x (answers ls ++ g.owed) first) counted;
+        going = λ e. (
+          ls,
+          record {
+            up = refl;
+            enough = g.enough;
+            are = g.are.1;
+            bytes = coming;
+            owed = g.owed;
+            owes = g.owes;
+            pending = awaited_less (is_talking (state_of past)) (answered past) (questions past) x (answers ls ++ g.owed) first;
+            later = g.later;
+          },
+        );
+      }
+
+  pub took_reply : (past : Past) (line : Line) (link : Link) (q : Question) (z : ℕ) (res : Result) (xid : ℤ) (p : List ℕ) (ps : List Asking) (ls : List Letter) → is_talking (state_of past) ≡ true
+      → (g : Going h start Was past line link (record { message = Replies q z res; payload = p; xid = xid; asked = ps } ∷ ls)) → Reached h (from_zero start.last) (record { log = seen start past; link = link })
+      → is_behind (seen start past) (Replies q z res) ≡ false
+      → IsCalm h Was past → Counted past → line.coming ≡ frames ls → (ticket : ℕ) (x : Asking) → awaited past ≡ x ∷ (answers ls ++ g.owed) → AnswersFirst h ticket q z res (x ∷ (answers ls ++ g.owed))
+      → Matches h start Was (Takes_in (Answers_call ticket q (pos z) res) ∷ past) line
+  took_reply past line link Close z res xid p ps ls talks g r behind calm counted coming ticket x first holds = record {
+    link = Down;
+    reached = took_world past line link (Replies Close z res) xid p ps ls talks g r behind;
+    calm = (calm.0, (refl, calm.1), (subst (λ l. AnswersFirst h ticket Close z res l) (sym first) holds, calm.2));
+    counted = counted_next (Takes_in (Answers_call ticket Close (pos z) res)) past (waits_there past x (answers ls ++ g.owed) first) counted;
+    going = λ e. absurd cc;
+  }
+  took_reply past line link q z res xid p ps ls talks g r behind calm counted coming ticket x first holds = record {
+    link = Up (connection start past line ls);
+    reached = took_world past line link (Replies q z res) xid p ps ls talks g r behind;
+    calm = (calm.0, (refl, calm.1), (subst (λ l. AnswersFirst h ticket q z res l) (sym first) holds, calm.2));
+    counted = counted_next (Takes_in (Answers_call ticket q (pos z) res)) past (waits_there past x (answers ls ++ g.owed) first) counted;
+    going = λ e. (
+      ls,
+      record {
+        up = refl;
+        enough = g.enough;
+        are = g.are.1;
+        bytes = coming;
+        owed = g.owed;
+        owes = g.owes;
+        pending = awaited_less (is_talking (state_of past)) (answered past) (questions past) x (answers ls ++ g.owed) first;
+        later = g.later;
+      },
+    );
+  }

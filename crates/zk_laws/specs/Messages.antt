@@ -1,0 +1,25 @@
+-- What servers send and what clients send.
+use Rattle.std.specs.FinSet as set
+use Rattle.zk_conversation.specs.Questions.{Question}
+use Rattle.zk_conversation.specs.Calls.{Call}
+use Rattle.zk_watches.specs.Lists.{Lists}
+use Rattle.std.specs.Prelude.{ℕ, Bool, if◌then◌else◌, []}
+use Rattle.zk_conversation.specs.Results.{Result}
+use Rattle.zk_laws.specs.Server.{Notice}
+
+-- What a server sends: the two answers to a ConnectRequest, the reply to a question with its zxid, the reply to a
+-- setWatches request, a notice, the reply to a ping.
+pub data Message : Type 0 where
+  Accepted : Message
+  Expired : Message
+  Replies : Question → ℕ → Result → Message
+  Watches_set : (is_last : Bool) → ℕ → Message
+  Notifies : Notice → Message
+  Pong : Message
+
+-- What a client sends: the ConnectRequest with the last seen zxid, a setWatches request with its relative zxid, a call, a ping.
+pub data Request : Type 0 where
+  Connect : ℕ → Request
+  Restore : (is_last : Bool) → ℕ → Lists → Request
+  Ask : Call → Request
+  Ping : Request

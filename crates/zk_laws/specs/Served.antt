@@ -1,0 +1,228 @@
+-- Servers that meet the bytes of a client: what their messages look like on the wire, which requests they process, and
+-- schedules of their moves between the turns of a client.
+use Rattle.zk_turns.specs.Spelled.{IsHeaded, HasRecord, HasResult}
+use Rattle.zk_conversation.specs.Results.{response_timeout, Result, NoNode, Refused}
+use Rattle.zk_jute.specs.Lenient.{or_empty}
+use Rattle.zk_conversation.specs.Calls.{part_xid, ping_xid, call_payload, connect_payload, part_payload, ping_payload}
+use Rattle.zk_records.specs.Events.{event_number}
+use Rattle.zk_records.specs.Response.{Response, IsPayload as IsResponse}
+use Rattle.zk_records.specs.Layouts.{watcher_event}
+use Rattle.std.specs.Prelude.{Option, ℕ, ℤ, pos, negsuc, ◌≡◌, ◌<◌, ◌≤◌, ◌+◌, ◌^◌, int_lt, Bool, true, false, not, ◌&&◌, List, [], ◌∷◌, ◌++◌, map, drop, length, ⊤, ◌⊎◌}
+use Rattle.std.specs.List.{flat_map}
+use Rattle.zk_turns.specs.Turns.{Start, Item, Turned, Input, Bytes, Opened as Opening}
+use Rattle.zk_session.specs.declared.states.State.{State}
+use Rattle.zk_session.specs.declared.states.State.TheVariants.{Connecting, Connected}
+use Rattle.zk_frames.specs.Frame.{frame}
+use Rattle.zk_turns.specs.Kept.{Past, Began, Asked, Pinged, last_of, session_of, lists_of, xid_of, state_of, has_halted, Took as Takes_in, Accepted as Accepts}
+use Rattle.zk_watches.specs.Lists.{Lists}
+use Rattle.zk_watches.specs.Parts.{parts}
+use Rattle.zk_turns.specs.Taken.{past_of}
+use Rattle.zk_history.specs.History.{History}
+use Rattle.zk_turns.specs.Meaning.{Among}
+use Rattle.zk_laws.specs.Server.{Watches, no_watches}
+use Rattle.zk_laws.specs.Messages.{Message, Accepted, Expired, Replies, Watches_set, Notifies, Pong, Request, Connect, Restore, Ask, Ping}
+use Rattle.zk_laws.specs.Steps.{Stage, Waiting, Ended, Connection, Link, Down, Up, Step, Advances, Admits, Refuses, Answers, Restores, Pongs, MayStep, stepped}
+use Rattle.zk_laws.specs.Seen.{from_zero}
+
+-- What a client asked, as it stands in the bytes that it sent
+
+-- a request with its payload and its xid
+pub record Sent : Type 0 where
+  pub payload : List ℕ
+  pub xid : ℤ
+  pub request : Request
+
+-- the parts of setWatches
+abbrev pub part_requests : ℤ → List Lists → List Sent
+part_requests relative [] = []
+part_requests relative (part ∷ []) =
+    record { payload = part_payload relative part.data_watches part.exist_watches part.child_watches; xid = part_xid; request = Restore true (from_zero relative) part } ∷ []
+part_requests relative (part ∷ next ∷ more) =
+    record { payload = part_payload relative part.data_watches part.exist_watches part.child_watches; xid = part_xid; request = Restore false (from_zero relative) part } ∷ part_requests relative (next ∷ more)
+
+module _ (start : Start) where
+  -- The requests of the newest connection, in the order in which they were sent. Their frames, joined, are the bytes sent.
+  abbrev pub requests : Past → List Sent
+  requests [] = []
+  requests (Began ∷ past) =
+      record { payload = connect_payload (last_of start past) (pos start.timeout) (session_of start past).session (session_of start past).password; xid = pos 0; request = Connect (from_zero (last_of start past)) } ∷ []
+  requests (Takes_in (Accepts welcome) ∷ past) = requests past ++ part_requests (last_of start past) (parts (lists_of past))
+  requests (Asked ticket call ∷ past) = requests past ++ record { payload = call_payload (pos (xid_of past)) call; xid = pos (xid_of past); request = Ask call } ∷ []
+  requests (Pinged ∷ past) = requests past ++ record { payload = ping_payload; xid = ping_xid; request = Ping } ∷ []
+  requests (_ ∷ past) = requests past
+
+-- What a message looks like on the wire
+
+-- the error code of a reply
+abbrev pub code_of : Result → ℤ
+code_of NoNode = negsuc 100
+code_of (Refused code) = code
+code_of _ = pos 0
+
+-- The payload is the message's: the spelling of its header and of its record, and behind it any bytes. A reply has the xid of
+-- its request; the zxid and the code of a notice or a pong may be any. An accepted response has a timeout above 0.
+abbrev pub IsPayload : ℤ → Message → List ℕ → Type 0
+IsPayload xid Accepted payload = (response : Response) × (ignored : List ℕ) × IsResponse payload response ignored × (int_lt (pos 0) (response_timeout response) ≡ true)
+IsPayload xid Expired payload = (response : Response) × (ignored : List ℕ) × IsResponse payload response ignored × (int_lt (pos 0) (response_timeout response) ≡ false)
+IsPayload xid (Replies question zxid result) payload = (behind : List ℕ) × IsHeaded xid (pos zxid) (code_of result) payload behind × HasResult question result behind
+IsPayload xid (Watches_set is_last zxid) payload = (behind : List ℕ) × IsHeaded xid (pos zxid) (pos 0) payload behind
+IsPayload xid (Notifies notice) payload =
+    (zxid : ℤ) × (err : ℤ) × (behind : List ℕ) × IsHeaded (negsuc 0) zxid err payload behind
+    × (state : ℤ) × (path : Option (List ℕ)) × HasRecord watcher_event (event_number notice.event, (state, path)) behind × (or_empty path ≡ notice.path)
+IsPayload xid Pong payload = (zxid : ℤ) × (err : ℤ) × (behind : List ℕ) × IsHeaded ping_xid zxid err payload behind
+
+-- The payloads are those of the messages, each of a length that a frame can tell.
+abbrev pub ArePayloads : ℤ → List Message → List (List ℕ) → Type 0
+ArePayloads xid [] [] = ⊤
+ArePayloads xid [] (payload ∷ payloads) = ⊥
+ArePayloads xid (message ∷ messages) [] = ⊥
+ArePayloads xid (message ∷ messages) (payload ∷ payloads) = (length payload < 2 ^ 31) × IsPayload xid message payload × ArePayloads xid messages payloads
+
+-- A server on the open connection
+
+-- where it stands, its watches and its stage; how many requests of the connection it has processed; what it has sent and
+-- the client has not received yet
+pub record Line : Type 0 where
+  pub place : ℕ
+  pub watches : Watches
+  pub stage : Stage
+  pub processed : ℕ
+  pub coming : List ℕ
+
+-- as a connection begins, at a place
+abbrev pub new_line : ℕ → Line
+new_line place = record { place = place; watches = no_watches; stage = Waiting; processed = 0; coming = [] }
+
+-- before any connection
+abbrev pub no_line : Line
+no_line = record { place = 0; watches = no_watches; stage = Ended; processed = 0; coming = [] }
+
+-- a client that takes bytes
+abbrev pub is_open : State → Bool
+is_open Connecting = true
+is_open Connected = true
+is_open _ = false
+
+-- there is an open connection
+abbrev pub is_going : Past → Bool
+is_going past = is_open (state_of past) && not (has_halted past)
+
+-- the requests that stand whole in the bytes sent and are not processed yet
+abbrev pub unread : Start → Past → Line → List Sent
+unread start past line = drop line.processed (requests start past)
+
+-- the server with these requests to process
+abbrev pub server_at : Start → Past → Line → Connection
+server_at start past line = record {
+  requests = map (λ sent. sent.request) (unread start past line);
+  messages = [];
+  place = line.place;
+  watches = line.watches;
+  stage = line.stage;
+  talking = true;
+}
+
+-- the xid of the first request
+abbrev pub first_xid : List Sent → ℤ
+first_xid [] = pos 0
+first_xid (sent ∷ more) = sent.xid
+
+-- the messages that are on a link
+abbrev pub messages_on : Link → List Message
+messages_on Down = []
+messages_on (Up c) = c.messages
+
+-- the steps of a server
+abbrev pub IsServers : Step → Type 0
+IsServers (Advances sent) = ⊤
+IsServers (Admits seen) = ⊤
+IsServers (Refuses seen) = ⊤
+IsServers (Answers question result) = ⊤
+IsServers (Restores is_last relative part sent) = ⊤
+IsServers Pongs = ⊤
+IsServers _ = ⊥
+
+-- all steps of a server but the next transaction process a request
+abbrev pub processes : Step → ℕ
+processes (Advances sent) = 0
+processes _ = 1
+
+-- A server's move on the open connection: a step of a server with the requests that stand whole in the bytes sent, whose
+-- messages have these payloads.
+pub record MayServe (h : History) (start : Start) (step : Step) (payloads : List (List ℕ)) (past : Past) (line : Line) : Type 0 where
+  pub going : is_going past ≡ true
+  pub servers : IsServers step
+  pub may : MayStep h step (server_at start past line) []
+  pub told : ArePayloads (first_xid (unread start past line)) (messages_on (stepped h step (server_at start past line) []).link) payloads
+
+-- the server afterwards
+abbrev pub line_on : Step → List (List ℕ) → Line → Link → Line
+line_on step payloads line Down = line
+line_on step payloads line (Up c) = record {
+  place = c.place;
+  watches = c.watches;
+  stage = c.stage;
+  processed = line.processed + processes step;
+  coming = line.coming ++ flat_map frame payloads;
+}
+
+-- What a turn asks of the servers: a connection begins at any place, what is received is a beginning of what was sent.
+abbrev pub MayTurn : History → ℕ → Input → Past → Line → Type 0
+MayTurn h place Opening past line = place ≤ length h.transactions
+MayTurn h place (Bytes bytes) past line = is_going past ≡ true → (rest : List ℕ) × (line.coming ≡ bytes ++ rest)
+MayTurn h place _ past line = ⊤
+
+-- the server after a turn
+abbrev pub line_after : ℕ → Input → Line → Line
+line_after place Opening line = new_line place
+line_after place (Bytes bytes) line = record line { coming = drop (length bytes) line.coming }
+line_after place _ line = line
+
+-- Schedules
+
+-- An entry of a schedule: an item of the client, with the place of the server to which a connection would begin; or a
+-- server's move, with the payloads of what it sends.
+pub data Entry : Type 0 where
+  Goes_on : (place : ℕ) → Item → Entry
+  Serves : Step → (payloads : List (List ℕ)) → Entry
+
+-- the items among the entries, the newest first
+abbrev pub items_in : List Entry → List Item
+items_in [] = []
+items_in (Goes_on place item ∷ earlier) = item ∷ items_in earlier
+items_in (Serves step payloads ∷ earlier) = items_in earlier
+
+-- the server after an item
+abbrev pub line_past : ℕ → Item → Line → Line
+line_past place (Turned turn) line = line_after place turn.input line
+line_past place _ line = line
+
+-- the server after these entries
+abbrev pub line_of : History → Start → List Entry → Line
+line_of h start [] = no_line
+line_of h start (Goes_on place item ∷ earlier) = line_past place item (line_of h start earlier)
+line_of h start (Serves step payloads ∷ earlier) =
+    line_on step payloads (line_of h start earlier) (stepped h step (server_at start (past_of start (items_in earlier)) (line_of h start earlier)) []).link
+
+-- the payload is one of those that the servers have sent
+abbrev pub WasSent : List Entry → List ℕ → Type 0
+WasSent [] payload = ⊥
+WasSent (Goes_on place item ∷ earlier) payload = WasSent earlier payload
+WasSent (Serves step payloads ∷ earlier) payload = Among payload payloads ⊎ WasSent earlier payload
+
+-- what may come in a schedule
+abbrev pub MayEnter : History → Start → Entry → Past → Line → Type 0
+MayEnter h start (Goes_on place (Turned turn)) past line = MayTurn h place turn.input past line
+MayEnter h start (Goes_on place _) past line = ⊤
+MayEnter h start (Serves step payloads) past line = MayServe h start step payloads past line
+
+-- A schedule has the newest entry first, as items have.
+abbrev pub IsServing : History → Start → List Entry → Type 0
+IsServing h start [] = ⊤
+IsServing h start (entry ∷ earlier) = MayEnter h start entry (past_of start (items_in earlier)) (line_of h start earlier) × IsServing h start earlier
+
+-- The client was served by servers that hold beginnings of the history: there is a schedule of its items.
+pub record Served (h : History) (start : Start) (items : List Item) : Type 0 where
+  pub entries : List Entry
+  pub whole : items_in entries ≡ items
+  pub may : IsServing h start entries

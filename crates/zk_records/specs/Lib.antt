@@ -1,0 +1,13 @@
+pub mod Asked
+pub mod Codes
+pub mod Events
+pub mod FaultText
+pub mod Layouts
+pub mod OpenAcl
+pub mod Operations
+pub mod Reply
+pub mod ReplyLaws
+pub mod Request
+pub mod Response
+pub mod ResponseLaws
+pub mod Views

@@ -1,0 +1,2 @@
+mod PiecesLemmas
+pub mod NamesLemmas

@@ -1,0 +1,10 @@
+pub mod Words
+pub mod Lines
+pub mod Pieces
+pub mod Numbers
+pub mod Texts
+pub mod ScriptFaults
+pub mod Reads
+pub mod HistoryLines
+pub mod Answers
+pub mod Stories

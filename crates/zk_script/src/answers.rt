@@ -1,0 +1,149 @@
+//! The lines that answer look-ups.
+
+ghost use Rattle.std.specs.Prelude.{◌≡◌, ◌++◌, ◌∷◌, [], List, ℕ, map, OnOk, IsSome, unwrap_or, string_bytes};
+ghost use Rattle.std.specs.BTreeSet.{IsOrdered};
+ghost use Rattle.std.specs.Option.{option_map};
+ghost use Rattle.std.specs.String.{string_cmp};
+ghost use Rattle.zk_script.specs.Words.{bytes_word};
+ghost use Rattle.zk_script.specs.Answers.{stat_words, spaced, data_text, name_text, names_text, names_line, TellsNames};
+ghost use Rattle.zk_history.specs.Shown.{data_told, names_told};
+
+use crate::words::{NULL, bytes_to_word, text_to_word};
+use std::alloc::{AllocError, Allocator};
+use std::collections::BTreeSet;
+use std::fmt::Display;
+use zk_history::{Data, DataStat, Names};
+
+/// Adds a space and a number.
+#[tactic(auto, unfolding(crate::specs::Answers::spaced))]
+fn push_number<A: Allocator + Copy, D: Display>(
+    text: &mut String<A>,
+    alloc: A,
+    number: &D,
+) -> Result<(), AllocError>
+    requires { IsSome (D.output number.now) }
+    ensures { OnOk result (string_bytes text.new ≡ string_bytes text.old ++ spaced (unwrap_or (D.output number.now) [])) }
+{
+    let word = number.to_string(alloc)?;
+    text.push_str(" ")?;
+    text.push_str(word.as_str())?;
+    Ok(())
+}
+
+/// Adds the seven numbers, a space before each.
+fn push_stat<A: Allocator + Copy>(
+    text: &mut String<A>,
+    alloc: A,
+    stat: &DataStat,
+) -> Result<(), AllocError>
+    ensures { OnOk result (string_bytes text.new ≡ string_bytes text.old ++ stat_words stat.now) }
+{
+    push_number(text, alloc, &stat.czxid)?;
+    push_number(text, alloc, &stat.mzxid)?;
+    push_number(text, alloc, &stat.ctime)?;
+    push_number(text, alloc, &stat.mtime)?;
+    push_number(text, alloc, &stat.version)?;
+    push_number(text, alloc, &stat.ephemeral_owner)?;
+    push_number(text, alloc, &stat.data_length)?;
+    Ok(())
+}
+
+/// Adds the word for bytes, which may be null.
+fn push_data_word<A: Allocator + Copy>(
+    text: &mut String<A>,
+    alloc: A,
+    bytes: &Option<Vec<u8, A>>,
+) -> Result<(), AllocError>
+    ensures { OnOk result (string_bytes text.new ≡ string_bytes text.old ++ bytes_word (option_map (λ v. v.items) bytes.now)) }
+{
+    match bytes {
+        None => text.push_str(NULL)?,
+        Some(bytes) => {
+            let word = bytes_to_word(alloc, bytes.as_slice())?;
+            text.push_str(word.as_str())?;
+        }
+    }
+    Ok(())
+}
+
+/// Adds the line that answers a look-up of data.
+#[tactic(auto, unfolding(crate::specs::Answers::data_text))]
+pub fn push_data<A: Allocator + Copy>(
+    text: &mut String<A>,
+    alloc: A,
+    told: &Option<Data<A>>,
+) -> Result<(), AllocError>
+    ensures { OnOk result (string_bytes text.new ≡ string_bytes text.old ++ data_text (data_told told.now)) }
+{
+    match told {
+        None => text.push_str("data absent\n")?,
+        Some(told) => {
+            text.push_str("data ")?;
+            push_data_word(text, alloc, &told.bytes)?;
+            push_stat(text, alloc, &told.stat)?;
+            text.push_str("\n")?;
+        }
+    }
+    Ok(())
+}
+
+/// Adds a space and the word for a name.
+#[tactic(auto, unfolding(crate::specs::Answers::spaced))]
+fn push_name<A: Allocator + Copy>(
+    text: &mut String<A>,
+    alloc: A,
+    name: &[u8],
+) -> Result<(), AllocError>
+    ensures { OnOk result (string_bytes text.new ≡ string_bytes text.old ++ name_text name.now) }
+{
+    let word = text_to_word(alloc, name)?;
+    text.push_str(" ")?;
+    text.push_str(word.as_str())?;
+    Ok(())
+}
+
+/// Adds the names in byte order, a space before each.
+fn push_all<A: Allocator + Copy>(
+    text: &mut String<A>,
+    alloc: A,
+    names: &BTreeSet<String<A>, A>,
+) -> Result<(), AllocError>
+    ensures { OnOk result (string_bytes text.new ≡ string_bytes text.old ++ names_text (map string_bytes names.now.keys)) }
+{
+    for name in names {
+        push_name(text, alloc, name.as_bytes())?;
+    }
+    Ok(())
+}
+
+/// Adds the line of names that were found: how many there are, each in byte order, and the pzxid.
+fn push_found<A: Allocator + Copy>(
+    text: &mut String<A>,
+    alloc: A,
+    found: &Names<A>,
+) -> Result<(), AllocError>
+    ensures line { OnOk result (string_bytes text.new ≡ string_bytes text.old ++ names_line (map string_bytes found.now.names.keys) found.now.pzxid) }
+    ensures ordered { OnOk result (IsOrdered string_cmp found.now.names) }
+{
+    text.push_str("names")?;
+    push_number(text, alloc, &found.names.len())?;
+    push_all(text, alloc, &found.names)?;
+    push_number(text, alloc, &found.pzxid)?;
+    text.push_str("\n")?;
+    Ok(())
+}
+
+/// Adds the line that answers a look-up of names.
+pub fn push_names<A: Allocator + Copy>(
+    text: &mut String<A>,
+    alloc: A,
+    told: &Option<Names<A>>,
+) -> Result<(), AllocError>
+    ensures { OnOk result ((line : List ℕ) × TellsNames (names_told told.now) line × (string_bytes text.new ≡ string_bytes text.old ++ line)) }
+{
+    match told {
+        None => text.push_str("names absent\n")?,
+        Some(found) => push_found(text, alloc, found)?,
+    }
+    Ok(())
+}

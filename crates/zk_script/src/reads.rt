@@ -1,0 +1,120 @@
+//! What the words of a script stand for.
+
+ghost use Rattle.std.specs.Prelude.{◌≡◌, string_bytes, map, true, false, MatchOption};
+ghost use Rattle.std.specs.Str.{is_utf8};
+ghost use Rattle.std.specs.List.{list_all};
+ghost use Rattle.std.specs.Option.{option_map};
+ghost use Rattle.zk_script.specs.Reads.{Reads, time_at, zxid_at, data_at, text_at, path_at, is_printed};
+
+use crate::numbers::natural_of;
+use crate::script_fault::ScriptFault;
+use crate::texts::unescaped;
+use crate::words::{EMPTY, NULL};
+use hex::FromHexError;
+use std::alloc::Allocator;
+use zk_history::{Path, PathFault};
+
+/// The greatest number of 64 bits with a sign.
+const GREATEST: u64 = 9_223_372_036_854_775_807;
+
+/// The number from 0 to 2^63 - 1 that a word stands for.
+pub fn time_at(word: &[u8]) -> Result<i64, ScriptFault>
+    ensures { Reads (λ n. n) result (time_at word.now) }
+{
+    match natural_of(word, GREATEST) {
+        Some(number) => Ok(number as i64),
+        None => Err(ScriptFault::Number),
+    }
+}
+
+/// The number from 1 to 2^63 - 1 that a word stands for.
+pub fn zxid_at(word: &[u8]) -> Result<i64, ScriptFault>
+    ensures { Reads (λ n. n) result (zxid_at word.now) }
+{
+    match natural_of(word, GREATEST) {
+        Some(0) => Err(ScriptFault::Number),
+        Some(number) => Ok(number as i64),
+        None => Err(ScriptFault::Number),
+    }
+}
+
+/// The bytes that a word stands for, or null.
+pub fn data_at<A: Allocator + Copy>(
+    alloc: A,
+    word: &[u8],
+) -> Result<Option<Vec<u8, A>>, ScriptFault>
+    ensures { Reads (option_map (λ v. v.items)) result (data_at word.now) }
+{
+    if word == NULL.as_bytes() {
+        return Ok(None);
+    }
+    if word == EMPTY.as_bytes() {
+        return Ok(Some(Vec::new(alloc)));
+    }
+    match hex::decode(alloc, word) {
+        Ok(bytes) => Ok(Some(bytes)),
+        Err(FromHexError::OutOfMemory) => Err(ScriptFault::Memory),
+        Err(_) => Err(ScriptFault::Hex),
+    }
+}
+
+/// The bytes as text, if they are UTF-8.
+fn as_text(bytes: &[u8]) -> Option<&str>
+    ensures { MatchOption result (is_utf8 bytes.now ≡ false) (λ text. (text.now ≡ bytes.now) × (is_utf8 bytes.now ≡ true)) }
+{
+    match str::from_utf8(bytes) {
+        Ok(text) => Some(text),
+        Err(_) => None,
+    }
+}
+
+/// The text that a word stands for. Null is none.
+pub fn text_at<A: Allocator + Copy>(alloc: A, word: &[u8]) -> Result<String<A>, ScriptFault>
+    ensures { Reads string_bytes result (text_at word.now) }
+{
+    if word == EMPTY.as_bytes() {
+        return Ok(String::new(alloc));
+    }
+    let Some(bytes) = unescaped(alloc, word)? else {
+        return Err(ScriptFault::Words);
+    };
+    match as_text(bytes.as_slice()) {
+        Some(text) => Ok(String::from_str(alloc, text)?),
+        None => Err(ScriptFault::Words),
+    }
+}
+
+/// The path that a text is.
+pub fn path_at<A: Allocator + Copy>(alloc: A, text: &str) -> Result<Path<A>, ScriptFault>
+    ensures { Reads (λ path. path) result (path_at text.now) }
+{
+    match Path::new(alloc, text) {
+        Ok(path) => Ok(path),
+        Err(PathFault::Memory) => Err(ScriptFault::Memory),
+        Err(fault) => Err(ScriptFault::Path(fault)),
+    }
+}
+
+/// Whether the bytes of a word are printable.
+fn is_printed(word: &[u8]) -> bool
+    ensures { result ≡ is_printed word.now }
+{
+    for byte in word {
+        if *byte < 33 || *byte > 126 {
+            return false;
+        }
+    }
+    true
+}
+
+/// Whether the bytes of all words are printable.
+pub fn are_printed(words: &[&[u8]]) -> bool
+    ensures { result ≡ list_all is_printed (map (λ w. w.now) words.now) }
+{
+    for word in words {
+        if !is_printed(word) {
+            return false;
+        }
+    }
+    true
+}

@@ -1,0 +1,15 @@
+//! A session of a client: its state, its moments, and what is kept over reconnects.
+//!
+//! It reads no clock and sends nothing: it is told what happened, with the moment, and says what is due.
+#![tactic(auto)]
+
+mod fields;
+mod kept;
+pub mod laws;
+mod states;
+#[cfg(test)]
+mod tests;
+
+pub use fields::{ConnectFields, LONGEST_PASSWORD, Response, Saved};
+pub use kept::Session;
+pub use states::{Accepted, Due, State};

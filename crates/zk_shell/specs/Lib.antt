@@ -1,0 +1,6 @@
+pub mod Print
+pub mod Names
+pub mod Frame
+pub mod Kinds
+pub mod CommandLine
+pub mod Show

@@ -1,0 +1,45 @@
+//! Shows frames of the protocol, and answers histories of a data tree.
+#![tactic(auto)]
+
+mod asked;
+mod command;
+mod fault;
+mod fields;
+mod frame;
+mod history;
+mod kind;
+mod printed;
+#[cfg(test)]
+mod refusals;
+mod run;
+mod show;
+mod shown;
+mod status;
+#[cfg(test)]
+mod tests;
+
+use run::run;
+use status::Status;
+use std::io;
+use std::process::ExitCode;
+
+/// Runs the command that the process's arguments ask for.
+fn run_arguments(rt: &HostRuntime) -> io::Result<Status> {
+    let alloc = rt.alloc();
+    let words: Vec<String> = std::env::args(rt)?.collect(alloc)?;
+    let mut texts = Vec::new(alloc);
+    for word in &words {
+        texts.push(word.as_str())?;
+    }
+    let mut out = io::writer(rt);
+    let mut errors = rt.stderr();
+    let mut input = rt.stdin();
+    Ok(run(alloc, &mut input, &mut out, &mut errors, texts.as_slice()))
+}
+
+fn main(rt: HostRuntime) -> ExitCode {
+    match run_arguments(&rt) {
+        Ok(status) => ExitCode::from(status as u8),
+        Err(_) => ExitCode::from(Status::Memory as u8),
+    }
+}

@@ -1,0 +1,16 @@
+//! How a command ended.
+
+/// How a command ended; its number is the program's exit status.
+#[derive(Clone, Copy, Debug, PartialEq, Eq)]
+pub enum Status {
+    /// It is done.
+    Done = 0,
+    /// The input has a fault, which was told.
+    Fault = 1,
+    /// The command line has a fault, which was told.
+    Usage = 2,
+    /// Memory ran out.
+    Memory = 3,
+    /// Standard input or output failed.
+    Stream = 4,
+}

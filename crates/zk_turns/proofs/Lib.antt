@@ -1,0 +1,19 @@
+mod Rows
+pub mod Lists
+pub mod Registered
+pub mod Cached
+pub mod Happened
+pub mod Arriving
+pub mod Stepped
+pub mod Pieces
+pub mod Marks
+pub mod Over
+pub mod Tickets
+pub mod Stream
+pub mod Sending
+pub mod Reporting
+pub mod Placed
+pub mod Meant
+pub mod Refusing
+pub mod Ending
+pub mod Spelt

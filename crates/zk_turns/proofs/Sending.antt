@@ -1,0 +1,215 @@
+-- What the outputs send is what was to be sent.
+use Rattle.zk_watches.specs.Lists.{fires, Lists}
+use Rattle.zk_turns.specs.Turns.{Framed, Start, Outcome, Signal, Opens, Comes, Cuts, Ticks, Calls, Forget, Halt, Output, Report, Enters, Drop, Item, Turned, Forgets, Halts, signals_of}
+use Rattle.zk_conversation.specs.Calls.{Call, call_payload, ping_payload}
+use Rattle.zk_history.specs.History.{Text}
+use Rattle.std.proofs.Common.{◌≡◌, ℕ, ℤ, pos, Bool, true, false, cond, List, [], ◌∷◌, ◌++◌, map, Option, Some, None, refl, sym, ap, subst, ◌∙◌, append_assoc}
+use Rattle.std.specs.Prelude.{if◌then◌else◌, nat_le, ◌*◌, ◌-◌}
+use Rattle.std.specs.List.{flat_map}
+use Rattle.std.proofs.lemmas.List.{append-nil}
+use Rattle.zk_history.specs.declared.side.Side.{Side}
+use Rattle.zk_history.specs.declared.side.Side.TheVariants.{Data, Child}
+use Rattle.zk_records.specs.declared.event.Event.{Event}
+use Rattle.zk_conversation.specs.Questions.{Close}
+use Rattle.zk_session.specs.declared.states.State.{State}
+use Rattle.zk_session.specs.declared.states.State.TheVariants.{Idle, Connecting, Connected}
+use Rattle.zk_frames.specs.Frame.{frame}
+use Rattle.zk_turns.specs.Kept.{xid_of, Past, Happening, Began, Came, Took, Dropped, Lost, Asked, Denied, Pinged, Ticked, Message, Accepted, Expiry, Replies, Watches_set, Notifies, Pong, Skipped, state_of, held_of, has_halted, lists_of, last_of}
+use Rattle.zk_watches.specs.Parts.{parts}
+use Rattle.zk_turns.specs.View.{View, view_at}
+use Rattle.zk_turns.specs.Taken.{reading, caused, happenings, calls, opens, of_cutting, cut, Cutting, Unfinished, Bad, Payload, due, timeout_of, refusal, joined, past_after, past_of, comes, if_open}
+use Rattle.zk_turns.specs.Rule.{IsOpen, says, part_frame, loss, losses, report, due_happenings, due_signals, AllSaid, Stands}
+use Rattle.zk_turns.specs.Sent.{onto, outputs_of, told_state, sends, part_of, sent}
+use Rattle.zk_turns.proofs.Stream.{of_reading}
+
+pub onto-append : (xs ys outs : List Output) → onto (xs ++ ys) outs ≡ onto ys (onto xs outs)
+onto-append [] ys outs = refl
+onto-append (x ∷ xs) ys outs = onto-append xs ys (x ∷ outs)
+
+sends_parts : (relative : ℤ) (ps : List Lists) (outs : List Output) → sends (onto (map (part_frame relative) ps) outs) ≡ sends outs ++ map (part_of relative) ps
+sends_parts relative [] outs = sym (append-nil (sends outs))
+sends_parts relative (p ∷ ps) outs =
+    sends_parts relative ps (part_frame relative p ∷ outs) ∙ append_assoc (sends outs) (part_of relative p ∷ []) (map (part_of relative) ps)
+
+sends_report : (view : View) (event : Event) (path : Text) (side : Side) (outs : List Output) → sends (onto (report view event path side) outs) ≡ sends outs
+sends_report view event path side outs = by (fires view.lists event side path)
+  where
+    by : (b : Bool) → sends (onto (cond b (Report path side event ∷ []) []) outs) ≡ sends outs
+    by true = refl
+    by false = refl
+
+module _ (start : Start) where
+  abbrev Sent : Past → List Output → Type 0
+  Sent past outs = IsOpen (state_of past) → sends outs ≡ sent start past
+
+  -- after a happening
+  abbrev Sends : Past → List Output → Happening → Type 0
+  Sends past outs happening = Sent (happening ∷ past) (onto (says (view_at start past) happening) outs)
+
+  message_sends : (message : Message) (past : Past) (outs : List Output) → IsOpen (state_of past) → Sent past outs → Sends past outs (Took message)
+  message_sends (Accepted welcome) past outs up s o =
+      sends_parts (last_of start past) (parts (lists_of past)) (Enters Connected ∷ outs)
+      ∙ ap (λ t. t ++ map (part_of (last_of start past)) (parts (lists_of past))) (s up)
+  message_sends Expiry past outs up s o = elim o [ ]
+  message_sends (Replies ticket Close zxid result) past outs up s o = elim o [ ]
+  message_sends (Replies ticket question zxid result) past outs up s o = s up
+  message_sends (Watches_set last zxid) past outs up s o = s up
+  message_sends (Notifies event path) past outs up s o =
+      ap sends (onto-append (report (view_at start past) event path Data) (report (view_at start past) event path Child) outs)
+      ∙ sends_report (view_at start past) event path Child (onto (report (view_at start past) event path Data) outs)
+      ∙ sends_report (view_at start past) event path Data outs
+      ∙ s up
+  message_sends Pong past outs up s o = s up
+  message_sends Skipped past outs up s o = s up
+
+  -- the outputs of happenings, one after another
+  abbrev After : List Happening → Past → List Output → Type 0
+  After more past outs = Sent (joined past more) (onto (due_happenings start past more) outs)
+
+  after_two : (first second : Happening) (past : Past) (outs : List Output)
+      → Sends (first ∷ past) (onto (says (view_at start past) first) outs) second → After (first ∷ second ∷ []) past outs
+  after_two first second past outs s o =
+      ap (λ t. sends (onto (says (view_at start past) first ++ t) outs)) (append-nil (says (view_at start (first ∷ past)) second))
+      ∙ ap sends (onto-append (says (view_at start past) first) (says (view_at start (first ∷ past)) second) outs)
+      ∙ s o
+
+  after_one : (happening : Happening) (past : Past) (outs : List Output) → Sends past outs happening → After (happening ∷ []) past outs
+  after_one happening past outs s o = ap (λ t. sends (onto t outs)) (append-nil (says (view_at start past) happening)) ∙ s o
+
+  cutting_sends : (cutting : Cutting) (byte : ℕ) (past : Past) (outs : List Output) → IsOpen (state_of past) → Sent past outs → After (Came byte ∷ of_cutting (view_at start past) cutting) past outs
+  cutting_sends Unfinished byte past outs up s = after_one (Came byte) past outs s
+  cutting_sends (Bad fault) byte past outs up s = after_two (Came byte) (Dropped (Framed fault)) past outs (λ o. elim o [ ])
+  cutting_sends (Payload payload) byte past outs up s =
+      after_two (Came byte) (reading (state_of past) (view_at start past).pending (view_at start past).saved.last payload) past outs
+      (of_reading (λ h. Sends (Came byte ∷ past) outs h) (λ message. message_sends message (Came byte ∷ past) outs up s) (λ fault o. elim o [ ]) (state_of past) (view_at start past).pending (view_at start past).saved.last payload)
+
+  byte_sends : (state : State) (byte : ℕ) (past : Past) (outs : List Output) → (IsOpen state → IsOpen (state_of past)) → Sent past outs → After (if_open state (comes (view_at start past) byte)) past outs
+  byte_sends Connecting byte past outs up s o = cutting_sends (cut (held_of past ++ byte ∷ [])) byte past outs (up tt) s o
+  byte_sends Connected byte past outs up s o = cutting_sends (cut (held_of past ++ byte ∷ [])) byte past outs (up tt) s o
+  byte_sends _ byte past outs up s o = s o
+
+  lost_sends : (state : State) (past : Past) (outs : List Output) → Sent past outs → After (if_open state (Lost ∷ [])) past outs
+  lost_sends Connecting past outs s o = elim o [ ]
+  lost_sends Connected past outs s o = elim o [ ]
+  lost_sends _ past outs s o = s o
+
+  opens_sends : (state : State) (past : Past) (outs : List Output) → Sent past outs → After (opens state) past outs
+  opens_sends Idle past outs s o = refl
+  opens_sends Connecting past outs s o = after_two Lost Began past outs (λ u. refl) o
+  opens_sends Connected past outs s o = after_two Lost Began past outs (λ u. refl) o
+  opens_sends _ past outs s o = s o
+
+  cond_sends : (b : Bool) (x y : List Happening) (past : Past) (outs : List Output) → After x past outs → After y past outs → After (cond b x y) past outs
+  cond_sends true x y past outs p q = p
+  cond_sends false x y past outs p q = q
+
+  due_sends : (view : View) (now : ℕ) (past : Past) (outs : List Output) → Sent past outs → After (due view now) past outs
+  due_sends view now past outs s =
+      cond_sends (nat_le (2 * timeout_of view) (3 * (now - view.moments.heard))) _ _ past outs (λ o. elim o [ ]) (by view.standing.state)
+    where
+      by : (state : State) → After (elim state [ Connected ↦ if nat_le (timeout_of view) (3 * (now - view.moments.sent)) then Pinged ∷ [] else [] | _ ↦ [] ]) past outs
+      by Connected = cond_sends (nat_le (timeout_of view) (3 * (now - view.moments.sent))) (Pinged ∷ []) [] past outs (after_one Pinged past outs (λ o. ap (λ t. t ++ frame ping_payload ∷ []) (s o))) s
+      by _ = s
+
+  due_open_sends : (state : State) (view : View) (now : ℕ) (past : Past) (outs : List Output) → Sent past outs → After (if_open state (due view now)) past outs
+  due_open_sends Connecting view now past outs s = due_sends view now past outs s
+  due_open_sends Connected view now past outs s = due_sends view now past outs s
+  due_open_sends _ view now past outs s = s
+
+  call_sends : (ticket : ℕ) (question : Call) (why : Option Outcome) (past : Past) (outs : List Output) → Sent past outs → After (calls ticket question why) past outs
+  call_sends ticket question None past outs s = after_one (Asked ticket question) past outs (λ o. ap (λ t. t ++ frame (call_payload (pos (xid_of past)) question) ∷ []) (s o))
+  call_sends ticket question (Some why) past outs s = after_one (Denied ticket why) past outs s
+
+  caused_sends : (signal : Signal) (past : Past) (outs : List Output) → Sent past outs → After (caused (view_at start past) signal) past outs
+  caused_sends Opens past outs s = opens_sends (state_of past) past outs s
+  caused_sends (Comes byte) past outs s = byte_sends (state_of past) byte past outs (λ up. up) s
+  caused_sends Cuts past outs s = lost_sends (state_of past) past outs s
+  caused_sends (Ticks moment) past outs s = due_open_sends (state_of past) (view_at start past) _ (Ticked moment ∷ past) outs s
+  caused_sends (Calls ticket question) past outs s = call_sends ticket question (refusal (view_at start past) question) past outs s
+  caused_sends Forget past outs s = s
+  caused_sends Halt past outs s = s
+
+  signal_sends : (signal : Signal) (past : Past) (outs : List Output) → Sent past outs → After (happenings (view_at start past) signal) past outs
+  signal_sends Forget past outs s = s
+  signal_sends Halt past outs s = s
+  signal_sends signal past outs s = cond_sends (has_halted past) [] (caused (view_at start past) signal) past outs s (caused_sends signal past outs s)
+
+  signals_send : (more : List Signal) (past : Past) (outs : List Output) → Sent past outs → Sent (past_after start past more) (onto (due_signals start past more) outs)
+  signals_send [] past outs s o = s o
+  signals_send (signal ∷ more) past outs s o =
+      let now = joined past (happenings (view_at start past) signal) in
+      ap sends (onto-append (due_happenings start past (happenings (view_at start past) signal)) (due_signals start now more) outs)
+      ∙ signals_send more now (onto (due_happenings start past (happenings (view_at start past) signal)) outs) (signal_sends signal past outs s) o
+
+  items_send : (items : List Item) → AllSaid start items → Sent (past_of start items) (outputs_of items)
+  items_send [] said o = elim o [ ]
+  items_send (Turned turn ∷ items) said o =
+      ap (λ t. sends (onto t (outputs_of items))) said.0
+      ∙ signals_send (signals_of turn.input) (past_of start items) (outputs_of items) (items_send items said.1) o
+  items_send (Forgets ∷ items) said o = items_send items said o
+  items_send (Halts ∷ items) said o = items_send items said o
+
+  pub sent_is : (items : List Item) (view : View) → Stands start items view → IsOpen view.standing.state → sends (outputs_of items) ≡ sent start (past_of start items)
+  sent_is items view s up = items_send items s.said (subst IsOpen (ap (λ t. t.state) s.standing) up)
+
+-- ---- the state that was told last
+
+told_parts : (relative : ℤ) (ps : List Lists) (outs : List Output) → told_state (onto (map (part_frame relative) ps) outs) ≡ told_state outs
+told_parts relative [] outs = refl
+told_parts relative (p ∷ ps) outs = told_parts relative ps (part_frame relative p ∷ outs)
+
+told_report : (view : View) (event : Event) (path : Text) (side : Side) (outs : List Output) → told_state (onto (report view event path side) outs) ≡ told_state outs
+told_report view event path side outs = by (fires view.lists event side path)
+  where
+    by : (b : Bool) → told_state (onto (cond b (Report path side event ∷ []) []) outs) ≡ told_state outs
+    by true = refl
+    by false = refl
+
+module _ (start : Start) where
+  told_losses : (view : View) (outs : List Output) → told_state (onto (losses view) outs) ≡ Idle
+  told_losses view outs = ap told_state (onto-append (flat_map loss view.pending) (Enters Idle ∷ []) outs)
+
+  told_message : (message : Message) (past : Past) (outs : List Output) → told_state outs ≡ state_of past → told_state (onto (says (view_at start past) (Took message)) outs) ≡ state_of (Took message ∷ past)
+  told_message (Accepted welcome) past outs s = told_parts (last_of start past) (parts (lists_of past)) (Enters Connected ∷ outs)
+  told_message Expiry past outs s = refl
+  told_message (Replies ticket Close zxid result) past outs s = refl
+  told_message (Replies ticket question zxid result) past outs s = s
+  told_message (Watches_set last zxid) past outs s = s
+  told_message (Notifies event path) past outs s =
+      ap told_state (onto-append (report (view_at start past) event path Data) (report (view_at start past) event path Child) outs)
+      ∙ told_report (view_at start past) event path Child (onto (report (view_at start past) event path Data) outs)
+      ∙ told_report (view_at start past) event path Data outs
+      ∙ s
+  told_message Pong past outs s = s
+  told_message Skipped past outs s = s
+
+  told_step : (happening : Happening) (past : Past) (outs : List Output) → told_state outs ≡ state_of past → told_state (onto (says (view_at start past) happening) outs) ≡ state_of (happening ∷ past)
+  told_step (Took message) past outs s = told_message message past outs s
+  told_step Began past outs s = refl
+  told_step (Dropped fault) past outs s = told_losses (view_at start past) (Drop fault ∷ outs)
+  told_step Lost past outs s = told_losses (view_at start past) outs
+  told_step _ past outs s = s
+
+  told_all : (more : List Happening) (past : Past) (outs : List Output) → told_state outs ≡ state_of past → told_state (onto (due_happenings start past more) outs) ≡ state_of (joined past more)
+  told_all [] past outs s = s
+  told_all (happening ∷ more) past outs s =
+      ap told_state (onto-append (says (view_at start past) happening) (due_happenings start (happening ∷ past) more) outs)
+      ∙ told_all more (happening ∷ past) (onto (says (view_at start past) happening) outs) (told_step happening past outs s)
+
+  told_signals : (more : List Signal) (past : Past) (outs : List Output) → told_state outs ≡ state_of past → told_state (onto (due_signals start past more) outs) ≡ state_of (past_after start past more)
+  told_signals [] past outs s = s
+  told_signals (signal ∷ more) past outs s =
+      let now = joined past (happenings (view_at start past) signal) in
+      ap told_state (onto-append (due_happenings start past (happenings (view_at start past) signal)) (due_signals start now more) outs)
+      ∙ told_signals more now (onto (due_happenings start past (happenings (view_at start past) signal)) outs) (told_all (happenings (view_at start past) signal) past outs s)
+
+  told_items : (items : List Item) → AllSaid start items → told_state (outputs_of items) ≡ state_of (past_of start items)
+  told_items [] said = refl
+  told_items (Turned turn ∷ items) said =
+      ap (λ t. told_state (onto t (outputs_of items))) said.0
+      ∙ told_signals (signals_of turn.input) (past_of start items) (outputs_of items) (told_items items said.1)
+  told_items (Forgets ∷ items) said = told_items items said
+  told_items (Halts ∷ items) said = told_items items said
+
+  pub told_is : (items : List Item) (view : View) → Stands start items view → told_state (outputs_of items) ≡ view.standing.state
+  told_is items view s = told_items items s.said ∙ sym (ap (λ t. t.state) s.standing)

@@ -1,0 +1,170 @@
+-- The bytes that came are whole frames, and then less than one.
+use Rattle.zk_conversation.specs.Calls.{Call}
+use Rattle.zk_turns.specs.Taken.{phase_of, taken_of, happening_of}
+use Rattle.zk_conversation.specs.Arriving.{Arrived, Connected as Welcomed, Replied, Watches_set as Part_set, Notice, Pong as Ponged, Skipped as Passed, arriving}
+use Rattle.zk_conversation.specs.declared.fault.TalkFault.{TalkFault}
+use Rattle.std.proofs.Common.{◌≡◌, ◌≢◌, ℕ, ◌+◌, ◌^◌, ℤ, pos, Bool, true, false, cond, ◌&&◌, List, [], ◌∷◌, ◌++◌, drop, length, Option, Some, None, Ok, Err, refl, sym, ap, ◌∙◌, append_assoc}
+use Rattle.std.specs.Prelude.{if◌then◌else◌, int_lt, nat_lt, nat_le, ◌==◌, ◌*◌, ◌-◌, Result as Reading}
+use Rattle.std.specs.List.{flat_map, AllByRecursion}
+use Rattle.std.specs.Ordering.{int_eq}
+use Rattle.std.proofs.lemmas.List.{append-nil}
+use Rattle.zk_turns.specs.Turns.{Start, Outcome, Fault, Behind, WatchesRefused, Signal, Opens, Comes, Cuts, Ticks, Calls, Forget, Halt, Item, signals}
+use Rattle.zk_frames.specs.declared.fault.FrameFault.TheVariants.{Negative, TooLong}
+use Rattle.zk_session.specs.declared.states.State.{State}
+use Rattle.zk_session.specs.declared.states.State.TheVariants.{Idle, Connecting, Connected}
+use Rattle.zk_turns.specs.Kept.{Past, Happening, Began, Came, Took, Dropped, Lost, Pinged, Ticked, Message, Replies, Watches_set, state_of, held_of, has_halted}
+use Rattle.zk_conversation.specs.Pending.{Pending}
+use Rattle.zk_turns.specs.View.{View, view_at}
+use Rattle.zk_turns.specs.Taken.{reading, leaves_watch, refusal, caused, happenings, calls, opens, of_cutting, cut, Cutting, Unfinished, Bad, Payload, due, timeout_of, joined, past_after, past_of, comes, if_open, cut_at, received, frames_of, IsFrame, IsStream}
+use Rattle.zk_frames.specs.Frame.{length_field}
+use Rattle.zk_frames.specs.declared.reader.TheConstants.{LONGEST_INCOMING}
+use Rattle.zk_turns.specs.Rule.{IsOpen}
+
+-- ---- a payload is taken, or the connection is dropped
+
+module _ (P : Happening → Type 0) (takes : (message : Message) → P (Took message)) (drops : (fault : Fault) → P (Dropped fault)) where
+  either : (b : Bool) (x y : Happening) → P x → P y → P (cond b x y)
+  either true x y p q = p
+  either false x y p q = q
+
+  of_arrived : (last : ℤ) (arrived : Arrived) → P (taken_of last arrived)
+  of_arrived last (Welcomed response) = takes _
+  of_arrived last (Replied ticket question zxid result) = either (leaves_watch question result && int_lt zxid last) (Dropped (Behind last zxid)) (Took (Replies ticket question zxid result)) (drops _) (takes _)
+  of_arrived last (Part_set final zxid err) = either (int_eq err (pos 0)) (Took (Watches_set final zxid)) (Dropped (WatchesRefused err)) (takes _) (drops _)
+  of_arrived last (Notice event path) = takes _
+  of_arrived last Ponged = takes _
+  of_arrived last Passed = takes _
+
+  of_result : (last : ℤ) (r : Reading Arrived TalkFault) → P (happening_of last r)
+  of_result last (Ok arrived) = of_arrived last arrived
+  of_result last (Err fault) = drops _
+
+  pub of_reading : (state : State) (ps : List Pending) (last : ℤ) (payload : List ℕ) → P (reading state ps last payload)
+  of_reading state ps last payload = of_result last (arriving (phase_of state) ps payload)
+
+-- ---- the stream
+
+abbrev StreamIfOpen : Past → Type 0
+StreamIfOpen past = IsOpen (state_of past) → IsStream past
+
+joined_frames : (frames : List (List ℕ)) (held : List ℕ) → flat_map (λ f. f) (frames ++ held ∷ []) ≡ flat_map (λ f. f) frames ++ held
+joined_frames [] held = append-nil held
+joined_frames (f ∷ frames) held = ap (λ t. f ++ t) (joined_frames frames held) ∙ sym (append_assoc f (flat_map (λ t. t) frames) held)
+
+all_push : (frames : List (List ℕ)) (frame : List ℕ) → AllByRecursion IsFrame frames → IsFrame frame → AllByRecursion IsFrame (frames ++ frame ∷ [])
+all_push [] frame a f = (f, tt)
+all_push (g ∷ frames) frame a f = (a.0, all_push frames frame a.1 f)
+
+nothing_yet : cut [] ≡ Unfinished
+unfolding cut
+nothing_yet = refl
+
+byte_stream : (byte : ℕ) (past : Past) → IsStream past → received (Came byte ∷ past) ≡ flat_map (λ f. f) (frames_of past) ++ (held_of past ++ byte ∷ [])
+byte_stream byte past s = ap (λ t. t ++ byte ∷ []) s.whole ∙ append_assoc (flat_map (λ f. f) (frames_of past)) (held_of past) (byte ∷ [])
+
+payload_at : (a b c : Bool) (bytes payload : List ℕ) (x y z : Cutting) → x ≢ Payload payload → y ≢ Payload payload → z ≢ Payload payload
+    → cond a x (cond b y (cond c (Payload (drop 4 bytes)) z)) ≡ Payload payload → payload ≡ drop 4 bytes
+payload_at true b c bytes payload x y z p q r e = absurd (p e)
+payload_at false true c bytes payload x y z p q r e = absurd (q e)
+payload_at false false true bytes payload x y z p q r e = cc
+payload_at false false false bytes payload x y z p q r e = absurd (r e)
+
+payload_or : (a : Bool) (bytes payload : List ℕ) (rest : Cutting) → (rest ≡ Payload payload → payload ≡ drop 4 bytes) → cond a Unfinished rest ≡ Payload payload → payload ≡ drop 4 bytes
+payload_or true bytes payload rest h e = absurd cc
+payload_or false bytes payload rest h e = h e
+
+payload_is : (bytes payload : List ℕ) → cut bytes ≡ Payload payload → payload ≡ drop 4 bytes
+unfolding cut
+payload_is bytes payload e =
+    payload_or (nat_lt (length bytes) 4) bytes payload (cut_at (length_field bytes) bytes)
+    (payload_at (nat_le (2 ^ 31) (length_field bytes)) (nat_lt LONGEST_INCOMING (length_field bytes)) (length bytes == 4 + length_field bytes) bytes payload (Bad Negative) (Bad TooLong) Unfinished
+    (λ f. cc) (λ f. cc) (λ f. cc))
+    e
+
+unfinished_stream : (byte : ℕ) (past : Past) → IsStream past → cut (held_of past ++ byte ∷ []) ≡ Unfinished → IsStream (Came byte ∷ past)
+unfinished_stream byte past s e = record { whole = byte_stream byte past s; each = s.each; rest = e }
+
+taken_stream : (message : Message) (byte : ℕ) (past : Past) (payload : List ℕ) → IsStream past → cut (held_of past ++ byte ∷ []) ≡ Payload payload → IsStream (Took message ∷ Came byte ∷ past)
+taken_stream message byte past payload s e = record {
+  whole =
+      byte_stream byte past s
+      ∙ sym (joined_frames (frames_of past) (held_of past ++ byte ∷ []))
+      ∙ sym (append-nil (flat_map (λ f. f) (frames_of past ++ (held_of past ++ byte ∷ []) ∷ [])));
+  each = all_push (frames_of past) (held_of past ++ byte ∷ []) s.each (e ∙ ap Payload (payload_is (held_of past ++ byte ∷ []) payload e));
+  rest = nothing_yet;
+}
+
+begun_stream : (past : Past) → IsStream (Began ∷ past)
+begun_stream past = record { whole = refl; each = tt; rest = nothing_yet }
+
+module _ (start : Start) where
+  cutting_stream : (cutting : Cutting) (byte : ℕ) (past : Past) → IsStream past → cut (held_of past ++ byte ∷ []) ≡ cutting → StreamIfOpen (joined (Came byte ∷ past) (of_cutting (view_at start past) cutting))
+  cutting_stream Unfinished byte past s e up = unfinished_stream byte past s e
+  cutting_stream (Bad fault) byte past s e up = elim up [ ]
+  cutting_stream (Payload payload) byte past s e up =
+      of_reading (λ h. StreamIfOpen (h ∷ Came byte ∷ past)) (λ message o. taken_stream message byte past payload s e) (λ fault o. elim o [ ]) (state_of past) (view_at start past).pending (view_at start past).saved.last payload up
+
+  byte_open : (state : State) (byte : ℕ) (past : Past) → (IsOpen state → IsStream past) → StreamIfOpen past → StreamIfOpen (joined past (if_open state (comes (view_at start past) byte)))
+  byte_open Connecting byte past s whole = cutting_stream (cut (held_of past ++ byte ∷ [])) byte past (s tt) refl
+  byte_open Connected byte past s whole = cutting_stream (cut (held_of past ++ byte ∷ [])) byte past (s tt) refl
+  byte_open _ byte past s whole = whole
+
+  lost_open : (state : State) (past : Past) → StreamIfOpen past → StreamIfOpen (joined past (if_open state (Lost ∷ [])))
+  lost_open Connecting past s up = elim up [ ]
+  lost_open Connected past s up = elim up [ ]
+  lost_open _ past s up = s up
+
+  stream_cond : (b : Bool) (x y : List Happening) (past : Past) → StreamIfOpen (joined past x) → StreamIfOpen (joined past y) → StreamIfOpen (joined past (cond b x y))
+  stream_cond true x y past p q = p
+  stream_cond false x y past p q = q
+
+  due_stream : (view : View) (now : ℕ) (past : Past) → StreamIfOpen past → StreamIfOpen (joined past (due view now))
+  due_stream view now past s =
+      stream_cond (nat_le (2 * timeout_of view) (3 * (now - view.moments.heard))) _ _ past (λ up. elim up [ ]) (by view.standing.state)
+    where
+      pinged : StreamIfOpen (Pinged ∷ past)
+      pinged up = record { whole = (s up).whole; each = (s up).each; rest = (s up).rest }
+
+      by : (state : State) → StreamIfOpen (joined past (elim state [ Connected ↦ if nat_le (timeout_of view) (3 * (now - view.moments.sent)) then Pinged ∷ [] else [] | _ ↦ [] ]))
+      by Connected = stream_cond (nat_le (timeout_of view) (3 * (now - view.moments.sent))) (Pinged ∷ []) [] past pinged s
+      by _ = s
+
+  due_open : (state : State) (view : View) (now : ℕ) (past : Past) → StreamIfOpen past → StreamIfOpen (joined past (if_open state (due view now)))
+  due_open Connecting view now past s = due_stream view now past s
+  due_open Connected view now past s = due_stream view now past s
+  due_open _ view now past s = s
+
+  opened_stream : (state : State) (past : Past) → StreamIfOpen past → StreamIfOpen (joined past (opens state))
+  opened_stream Idle past s up = begun_stream past
+  opened_stream Connecting past s up = begun_stream (Lost ∷ past)
+  opened_stream Connected past s up = begun_stream (Lost ∷ past)
+  opened_stream _ past s up = s up
+
+  called_stream : (ticket : ℕ) (question : Call) (why : Option Outcome) (past : Past) → StreamIfOpen past → StreamIfOpen (joined past (calls ticket question why))
+  called_stream ticket question None past s up = record { whole = (s up).whole; each = (s up).each; rest = (s up).rest }
+  called_stream ticket question (Some why) past s up = record { whole = (s up).whole; each = (s up).each; rest = (s up).rest }
+
+  ticked : (moment : ℕ) (past : Past) → StreamIfOpen past → StreamIfOpen (Ticked moment ∷ past)
+  ticked moment past s up = record { whole = (s up).whole; each = (s up).each; rest = (s up).rest }
+
+  caused_stream : (signal : Signal) (past : Past) → StreamIfOpen past → StreamIfOpen (joined past (caused (view_at start past) signal))
+  caused_stream Opens past s = opened_stream (state_of past) past s
+  caused_stream (Comes byte) past s = byte_open (state_of past) byte past s s
+  caused_stream Cuts past s = lost_open (state_of past) past s
+  caused_stream (Ticks moment) past s = due_open (state_of past) (view_at start past) _ (Ticked moment ∷ past) (ticked moment past s)
+  caused_stream (Calls ticket question) past s = called_stream ticket question (refusal (view_at start past) question) past s
+  caused_stream Forget past s = λ up. record { whole = (s up).whole; each = (s up).each; rest = (s up).rest }
+  caused_stream Halt past s = λ up. record { whole = (s up).whole; each = (s up).each; rest = (s up).rest }
+
+  signal_stream : (signal : Signal) (past : Past) → StreamIfOpen past → StreamIfOpen (joined past (happenings (view_at start past) signal))
+  signal_stream Forget past s = caused_stream Forget past s
+  signal_stream Halt past s = caused_stream Halt past s
+  signal_stream signal past s = stream_cond (has_halted past) [] (caused (view_at start past) signal) past s (caused_stream signal past s)
+
+  signals_stream : (more : List Signal) (past : Past) → StreamIfOpen past → StreamIfOpen (past_after start past more)
+  signals_stream [] past s = s
+  signals_stream (signal ∷ more) past s = signals_stream more (joined past (happenings (view_at start past) signal)) (signal_stream signal past s)
+
+  pub stream : (items : List Item) → IsOpen (state_of (past_of start items)) → IsStream (past_of start items)
+  stream [] up = elim up [ ]
+  stream (item ∷ items) up = signals_stream (signals item) (past_of start items) (stream items) up

@@ -1,0 +1,5 @@
+use Rattle.zk_turns.proofs.Ending
+use Rattle.zk_turns.proofs.given_up.Goals as goal
+
+pub returns : goal.returns
+returns c view signal fault live = Ending.given_up view signal fault live

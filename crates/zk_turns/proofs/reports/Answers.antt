@@ -1,0 +1,18 @@
+use Rattle.zk_turns.proofs.reports.Goals as goal
+use Rattle.zk_turns.proofs.Marks.{report_is, ended_is}
+use Rattle.std.proofs.Common.{refl}
+use Rattle.zk_turns.specs.Kept.{Took, Notifies}
+use Rattle.zk_turns.proofs.Meant.{read_again}
+use Rattle.zk_turns.proofs.Reporting.{reports_are}
+
+pub returns-clause-report : goal.returns-clause-report
+returns-clause-report c = report_is
+
+pub returns-clause-ended : goal.returns-clause-ended
+returns-clause-ended c = ended_is
+
+pub returns-clause-all : goal.returns-clause-all
+returns-clause-all c = reports_are
+
+pub returns-clause-once : goal.returns-clause-once
+returns-clause-once c event path side since before about g = read_again side path since (Took (Notifies event path)) before (about, refl) g

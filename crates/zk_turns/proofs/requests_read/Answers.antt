@@ -1,0 +1,8 @@
+use Rattle.zk_turns.proofs.Spelt.{call_read, part_read}
+use Rattle.zk_turns.proofs.requests_read.Goals as goal
+
+pub returns-clause-call : goal.returns-clause-call
+returns-clause-call c xid call end rest fits = call_read xid call end rest fits
+
+pub returns-clause-part : goal.returns-clause-part
+returns-clause-part c relative known missing parents end rest fits = part_read relative known missing parents end rest fits

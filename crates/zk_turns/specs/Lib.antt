@@ -1,0 +1,11 @@
+pub mod Turns
+pub mod Kept
+pub mod View
+pub mod Taken
+pub mod Rule
+pub mod Tickets
+pub mod Sent
+pub mod Reported
+pub mod Meaning
+pub mod Spelled
+pub mod Causes

@@ -1,0 +1,285 @@
+-- One step of a client: what each happening makes it say, and what it changes. And what it is for a client to stand
+-- where all its turns have led.
+use Rattle.zk_cache.specs.Kept.{merged, Absent, Known, Full, Names, good, stale, without_stale, Answer as Kept_answer}
+use Rattle.zk_cache.specs.declared.held.Kept.{Kept}
+use Rattle.zk_watches.specs.Lists.{Lists, registered, fired, fires, no_lists}
+use Rattle.zk_turns.specs.Turns.{IsAsked, Replied, ConnectionLoss, Output, Send, Answer, Report, Enters, Drop, Turn, Item, Turned, Start, Signal, signals_of}
+use Rattle.zk_records.specs.Events.{concerns}
+use Rattle.zk_turns.specs.Kept.{pending_for, Happening, Began, Came, Took, Dropped, Lost, Asked, Denied, Pinged, Ticked, Forgot, Halted, Past, Message, Accepted, Expiry, Replies, Watches_set, Notifies, Pong, Skipped, Left, leaves_data, leaves_child, parts_asked, if_any, later, has_halted, pending_of, held_of, xid_of, lists_of}
+use Rattle.zk_watches.specs.Parts.{parts}
+use Rattle.zk_conversation.specs.Pending.{next_xid, call_waits, Pending, Part_waits, Call_waits}
+use Rattle.std.specs.Prelude.{◌≡◌, ℕ, ℤ, pos, max, Bool, true, false, ◌&&◌, List, [], ◌∷◌, ◌++◌, map, drop, Option, Some, None, bytes_eq, if◌then◌else◌}
+use Rattle.std.specs.List.{flat_map}
+use Rattle.zk_history.specs.History.{Text}
+use Rattle.zk_conversation.specs.Calls.{connect_payload, call_payload, ping_payload, part_payload}
+use Rattle.zk_history.specs.declared.side.Side.{Side}
+use Rattle.zk_history.specs.declared.side.Side.TheVariants.{Data, Child}
+use Rattle.zk_records.specs.declared.event.Event.{Event}
+use Rattle.zk_conversation.specs.Questions.{Question, Close}
+use Rattle.zk_conversation.specs.Results.{Result}
+use Rattle.zk_session.specs.declared.states.State.{State}
+use Rattle.zk_session.specs.declared.states.State.TheVariants.{Idle, Connecting, Connected, Expired, Closed}
+use Rattle.zk_frames.specs.Frame.{frame}
+use Rattle.zk_turns.specs.View.{View, Standing, Cache, view_at, standing_at, saved_at, moments_at, cache_at}
+use Rattle.zk_session.specs.Kept.{Saved, Moments}
+use Rattle.zk_turns.specs.Taken.{reading, happenings, past_of, past_after}
+
+-- Lists
+
+-- whether an answer says that the node is there
+abbrev pub says_there : Kept_answer → Bool
+says_there Absent = false
+says_there (Known fields) = true
+says_there (Full bytes fields) = true
+
+abbrev pub with_node : Option (Left Kept_answer) → Lists → Lists
+with_node None lists = lists
+with_node (Some left) lists = registered lists Data (says_there left.says) left.path
+
+abbrev pub with_children : Option (Left Names) → Lists → Lists
+with_children None lists = lists
+with_children (Some left) lists = registered lists Child true left.path
+
+-- the lists after a reply
+abbrev pub after_reply : Question → Result → Lists → Lists
+after_reply question result lists = with_children (leaves_child question result) (with_node (leaves_data question result) lists)
+
+-- Answers
+
+abbrev pub keep_node : Option (Left Kept_answer) → Text → Option (Kept Kept_answer) → Option (Kept Kept_answer)
+keep_node None path kept = kept
+keep_node (Some left) path kept = if bytes_eq left.path path then good (merged kept left.says) else kept
+
+abbrev pub keep_children : Option (Left Names) → Text → Option (Kept Names) → Option (Kept Names)
+keep_children None path kept = kept
+keep_children (Some left) path kept = if bytes_eq left.path path then good left.says else kept
+
+-- the cache after a reply
+abbrev pub kept_after : Question → Result → Cache → Cache
+kept_after question result cache = record {
+  nodes = λ path. keep_node (leaves_data question result) path (cache.nodes path);
+  children = λ path. keep_children (leaves_child question result) path (cache.children path);
+}
+
+-- the cache after an event at a path
+abbrev pub spoilt : Event → Text → Cache → Cache
+spoilt event at cache = record {
+  nodes = λ path. if concerns event Data && bytes_eq at path then stale (cache.nodes path) else cache.nodes path;
+  children = λ path. if concerns event Child && bytes_eq at path then stale (cache.children path) else cache.children path;
+}
+
+abbrev pub forgotten : Cache → Cache
+forgotten cache = record { nodes = λ path. without_stale (cache.nodes path); children = λ path. without_stale (cache.children path) }
+
+abbrev pub empty_cache : Cache
+empty_cache = record { nodes = λ path. None; children = λ path. None }
+
+-- What is said
+
+-- each pending call is answered that its connection was lost
+abbrev pub loss : Pending → List Output
+loss pending = elim pending.waiting [ Part_waits last ↦ [] | Call_waits ticket question ↦ Answer ticket ConnectionLoss ∷ [] ]
+
+abbrev pub losses : View → List Output
+losses view = flat_map loss view.pending ++ Enters Idle ∷ []
+
+abbrev pub part_frame : ℤ → Lists → Output
+part_frame relative part = Send (frame (part_payload relative part.data_watches part.exist_watches part.child_watches))
+
+-- each side that is watched and that the event is about gets a report
+abbrev pub report : View → Event → Text → Side → List Output
+report view event path side = if fires view.lists event side path then Report path side event ∷ [] else []
+
+abbrev pub closing : Question → List Output
+closing Close = Enters Closed ∷ []
+closing _ = []
+
+abbrev pub says_message : View → Message → List Output
+says_message view (Accepted welcome) = Enters Connected ∷ map (part_frame view.saved.last) (parts view.lists)
+says_message view Expiry = Enters Expired ∷ []
+says_message view (Replies ticket question zxid result) = Answer ticket (Replied zxid result) ∷ closing question
+says_message view (Watches_set last zxid) = []
+says_message view (Notifies event path) = report view event path Data ++ report view event path Child
+says_message view Pong = []
+says_message view Skipped = []
+
+-- the outputs of one happening
+abbrev pub says : View → Happening → List Output
+says view Began = Send (frame (connect_payload view.saved.last (pos view.saved.asked) view.saved.session.session view.saved.session.password)) ∷ Enters Connecting ∷ []
+says view (Came byte) = []
+says view (Took message) = says_message view message
+says view (Dropped fault) = Drop fault ∷ losses view
+says view Lost = losses view
+says view (Asked ticket call) = Send (frame (call_payload (pos view.xid) call)) ∷ []
+says view (Denied ticket why) = Answer ticket why ∷ []
+says view Pinged = Send (frame ping_payload) ∷ []
+says view (Ticked moment) = []
+says view Forgot = []
+says view Halted = []
+
+-- What is changed
+
+abbrev pub enters : State → View → Standing
+enters state view = record { halted = view.standing.halted; state = state }
+
+abbrev pub seen : ℤ → View → Saved
+seen zxid view = record { asked = view.saved.asked; session = view.saved.session; last = later zxid view.saved.last }
+
+abbrev pub heard_now : View → Moments
+heard_now view = record { now = view.moments.now; heard = view.moments.now; sent = view.moments.sent }
+
+abbrev pub sent_now : View → Moments
+sent_now view = record { now = view.moments.now; heard = view.moments.heard; sent = view.moments.now }
+
+-- the connection is over: what was unfinished is dropped, marks and lists are kept
+abbrev pub cut_off : View → View
+cut_off view = record view { standing = enters Idle view; pending = []; held = [] }
+
+-- a reply to a call
+abbrev pub next_reply : View → Question → ℤ → Result → View
+next_reply view Close zxid result = record view { standing = enters Closed view; saved = seen zxid view; pending = []; held = []; lists = no_lists; cache = empty_cache }
+next_reply view question zxid result = record view {
+  saved = seen zxid view;
+  pending = drop 1 view.pending;
+  held = [];
+  lists = after_reply question result view.lists;
+  cache = kept_after question result view.cache;
+}
+
+abbrev pub next_message : View → Message → View
+next_message view (Accepted welcome) = record view {
+  standing = enters Connected view;
+  saved = record { asked = view.saved.asked; session = welcome; last = view.saved.last };
+  moments = if_any (parts view.lists) view.moments (sent_now view);
+  pending = map pending_for (parts_asked (parts view.lists));
+  held = [];
+}
+next_message view Expiry = record view { standing = enters Expired view; pending = []; held = []; lists = no_lists; cache = empty_cache }
+next_message view (Replies ticket question zxid result) = next_reply view question zxid result
+next_message view (Watches_set true zxid) = record view { saved = seen zxid view; pending = drop 1 view.pending; held = [] }
+next_message view (Watches_set false zxid) = record view { pending = drop 1 view.pending; held = [] }
+next_message view (Notifies event path) = record view { held = []; lists = fired view.lists event path; cache = spoilt event path view.cache }
+next_message view Pong = record view { held = [] }
+next_message view Skipped = record view { held = [] }
+
+-- the view after one happening
+abbrev pub next : View → Happening → View
+next view Began = record view {
+  standing = enters Connecting view;
+  pending = [];
+  held = [];
+  moments = record { now = view.moments.now; heard = view.moments.now; sent = view.moments.now };
+}
+next view (Came byte) = record view { moments = heard_now view; held = view.held ++ byte ∷ [] }
+next view (Took message) = next_message view message
+next view (Dropped fault) = cut_off view
+next view Lost = cut_off view
+next view (Asked ticket call) = record view {
+  moments = sent_now view;
+  xid = next_xid view.xid;
+  pending = view.pending ++ call_waits view.xid ticket call ∷ [];
+}
+next view (Denied ticket why) = view
+next view Pinged = record view { moments = sent_now view }
+next view (Ticked moment) = record view { moments = record { now = max moment view.moments.now; heard = view.moments.heard; sent = view.moments.sent } }
+next view Forgot = record view { cache = forgotten view.cache }
+next view Halted = record view { standing = record { halted = true; state = view.standing.state }; lists = no_lists; cache = empty_cache }
+
+-- Steps
+
+abbrev pub after_all : View → List Happening → View
+after_all view [] = view
+after_all view (happening ∷ more) = after_all (next view happening) more
+
+abbrev pub says_all : View → List Happening → List Output
+says_all view [] = []
+says_all view (happening ∷ more) = says view happening ++ says_all (next view happening) more
+
+-- the view after signals, and what they made the client say
+abbrev pub after_signals : View → List Signal → View
+after_signals view [] = view
+after_signals view (signal ∷ more) = after_signals (after_all view (happenings view signal)) more
+
+abbrev pub says_signals : View → List Signal → List Output
+says_signals view [] = []
+says_signals view (signal ∷ more) = says_all view (happenings view signal) ++ says_signals (after_all view (happenings view signal)) more
+
+-- the view after bytes that make no frame whole
+abbrev pub fed : View → List ℕ → View
+fed view [] = view
+fed view (byte ∷ bytes) = record view { moments = heard_now view; held = view.held ++ byte ∷ bytes }
+
+-- a client that takes bytes
+abbrev pub IsOpen : State → Type 0
+IsOpen Connecting = Unit {0}
+IsOpen Connected = Unit {0}
+IsOpen _ = ⊥
+
+pub record Hears (view : View) : Type 0 where
+  pub up : IsOpen view.standing.state
+  pub goes_on : view.standing.halted ≡ false
+
+-- the view, where something is heard
+abbrev pub heard : View → View
+heard view = record view { moments = heard_now view }
+
+-- what a payload makes happen
+abbrev pub arrival : View → List ℕ → Happening
+arrival view payload = reading view.standing.state view.pending view.saved.last payload
+
+-- One turn of a client that has not halted. What a caller asks about are paths.
+pub record Rule (view : View) (turn : Turn) (after : View) : Type 0 where
+  pub asked : IsAsked turn.input
+  pub goes_on : view.standing.halted ≡ false
+  pub outputs : turn.outputs ≡ says_signals view (signals_of turn.input)
+  pub next : after ≡ after_signals view (signals_of turn.input)
+
+-- All turns
+
+-- each caller asked about paths
+abbrev pub AllAsked : List Item → Type 0
+AllAsked [] = Unit {0}
+AllAsked (Turned turn ∷ items) = IsAsked turn.input × AllAsked items
+AllAsked (_ ∷ items) = AllAsked items
+
+module _ (start : Start) where
+  -- what is said while a past grows by signals, by the definitions alone
+  abbrev pub due_happenings : Past → List Happening → List Output
+  due_happenings past [] = []
+  due_happenings past (happening ∷ more) = says (view_at start past) happening ++ due_happenings (happening ∷ past) more
+
+  abbrev pub due_signals : Past → List Signal → List Output
+  due_signals past [] = []
+  due_signals past (signal ∷ more) =
+      due_happenings past (happenings (view_at start past) signal) ++ due_signals (past_after start past (signal ∷ [])) more
+
+  -- each turn gave what was due
+  abbrev pub AllSaid : List Item → Type 0
+  AllSaid [] = Unit {0}
+  AllSaid (Turned turn ∷ items) = (turn.outputs ≡ due_signals (past_of start items) (signals_of turn.input)) × AllSaid items
+  AllSaid (_ ∷ items) = AllSaid items
+
+  -- what a client that goes on knows of its connection
+  pub record IsGoing (past : Past) (view : View) : Type 0 where
+    pub moments : view.moments ≡ moments_at start past
+    pub pending : view.pending ≡ pending_of past
+    pub held : view.held ≡ held_of past
+    pub xid : view.xid ≡ xid_of past
+
+  -- A client has come through these items, the newest first: each field is what the definitions give, and each turn
+  -- gave what was due. Of a client that has halted nothing is known of its connection.
+  pub record Stands (items : List Item) (view : View) : Type 0 where
+    pub standing : view.standing ≡ standing_at start (past_of start items)
+    pub saved : view.saved ≡ saved_at start (past_of start items)
+    pub lists : view.lists ≡ lists_of (past_of start items)
+    pub cache : view.cache ≡ cache_at start (past_of start items)
+    pub going : has_halted (past_of start items) ≡ false → IsGoing (past_of start items) view
+    pub said : AllSaid items
+    pub asked : AllAsked items
+
+-- what a halt leaves of a view: of its connection nothing is said
+pub record HaltsAs (view after : View) : Type 0 where
+  pub standing : after.standing ≡ record { halted = true; state = view.standing.state }
+  pub saved : after.saved ≡ view.saved
+  pub lists : after.lists ≡ no_lists
+  pub cache : after.cache ≡ empty_cache

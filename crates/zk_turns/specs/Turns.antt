@@ -1,0 +1,101 @@
+-- What goes into a client and what comes out of it, turn after turn.
+use Rattle.zk_history.specs.History.{IsPathText, Text}
+use Rattle.zk_conversation.specs.Results.{Result}
+use Rattle.zk_conversation.specs.declared.fault.TalkFault.{TalkFault}
+use Rattle.zk_frames.specs.declared.fault.FrameFault.{FrameFault}
+use Rattle.zk_history.specs.declared.side.Side.{Side}
+use Rattle.zk_records.specs.declared.event.Event.{Event}
+use Rattle.zk_session.specs.declared.states.State.{State}
+use Rattle.std.specs.Prelude.{⊤, ℕ, ℤ, List, [], ◌∷◌, map, replicate}
+use Rattle.zk_conversation.specs.Calls as call
+
+-- What a call is answered: its reply, with the zxid of the reply, or why there is none.
+pub data Outcome : Type 0 where
+  Replied : ℤ → Result → Outcome
+  ConnectionLoss : Outcome
+  SessionExpired : Outcome
+  SessionClosed : Outcome
+  NotConnected : Outcome
+  TooManyWatches : Outcome
+  TooLarge : Outcome
+  TooManyPending : Outcome
+
+-- Why a client gives its connection up: a length that is not admitted, a payload that does not read, silence, a reply that is
+-- behind what was seen, or setWatches refused.
+pub data Fault : Type 0 where
+  Framed : FrameFault → Fault
+  Talked : TalkFault → Fault
+  Silent : Fault
+  Behind : (seen came : ℤ) → Fault
+  WatchesRefused : (code : ℤ) → Fault
+
+pub data Input : Type 0 where
+  Opened : Input
+  Bytes : List ℕ → Input
+  Cut : Input
+  Now : ℕ → Input
+  Call : (ticket : ℕ) → call.Call → Input
+
+-- a caller asks about paths
+abbrev pub IsAskable : call.Call → Type 0
+IsAskable (call.Exists path watch) = IsPathText path
+IsAskable (call.GetData path watch) = IsPathText path
+IsAskable (call.GetChildren path watch) = IsPathText path
+IsAskable (call.SetData path bytes version) = IsPathText path
+IsAskable (call.Create path bytes mode) = IsPathText path
+IsAskable (call.Delete path version) = IsPathText path
+IsAskable call.Close = ⊤
+
+abbrev pub IsAsked : Input → Type 0
+IsAsked (Call ticket asked) = IsAskable asked
+IsAsked _ = ⊤
+
+pub data Output : Type 0 where
+  Send : List ℕ → Output
+  Answer : (ticket : ℕ) → Outcome → Output
+  Report : Text → Side → Event → Output
+  Enters : State → Output
+  Drop : Fault → Output
+
+-- an input with the outputs that it gave
+pub record Turn : Type 0 where
+  pub input : Input
+  pub outputs : List Output
+
+-- What a client has gone through: turns, calls of forget_stale, and a halt.
+pub data Item : Type 0 where
+  Turned : Turn → Item
+  Forgets : Item
+  Halts : Item
+
+-- What a client begins with: the timeout to ask for, and a saved session, or 0, sixteen zero bytes and 0 for a new one.
+pub record Start : Type 0 where
+  pub timeout : ℕ
+  pub session : ℤ
+  pub password : List ℕ
+  pub last : ℤ
+
+abbrev pub new_start : ℕ → Start
+new_start timeout = record { timeout = timeout; session = ℤ.pos 0; password = replicate 16 0; last = ℤ.pos 0 }
+
+-- What happens to a client, one thing at a time: bytes come one by one.
+pub data Signal : Type 0 where
+  Opens : Signal
+  Comes : ℕ → Signal
+  Cuts : Signal
+  Ticks : ℕ → Signal
+  Calls : (ticket : ℕ) → call.Call → Signal
+  Forget : Signal
+  Halt : Signal
+
+abbrev pub signals_of : Input → List Signal
+signals_of Opened = Opens ∷ []
+signals_of (Bytes bytes) = map Comes bytes
+signals_of Cut = Cuts ∷ []
+signals_of (Now moment) = Ticks moment ∷ []
+signals_of (Call ticket asked) = Calls ticket asked ∷ []
+
+abbrev pub signals : Item → List Signal
+signals (Turned turn) = signals_of turn.input
+signals Forgets = Forget ∷ []
+signals Halts = Halt ∷ []

@@ -1,0 +1,57 @@
+-- What a client shows of itself, in eight fields, and what each field is by all that happened.
+use Rattle.zk_session.specs.Kept.{Saved, Moments}
+use Rattle.std.specs.Prelude.{ℕ, Bool, List, Option}
+use Rattle.zk_history.specs.History.{Text}
+use Rattle.zk_session.specs.declared.states.State.{State}
+use Rattle.zk_turns.specs.Turns.{Start}
+use Rattle.zk_turns.specs.Kept.{Past, state_of, has_halted, session_of, last_of, now_of, heard_of, sent_of, pending_of, held_of, xid_of, lists_of, kept_data, kept_names}
+use Rattle.zk_cache.specs.Kept.{Answer, Names}
+use Rattle.zk_cache.specs.declared.held.Kept.{Kept}
+use Rattle.zk_watches.specs.Lists.{Lists}
+use Rattle.zk_conversation.specs.Pending.{Pending}
+
+-- the state, and whether the client has halted
+pub record Standing : Type 0 where
+  pub halted : Bool
+  pub state : State
+
+-- what is kept for each path, on both sides
+pub record Cache : Type 0 where
+  pub nodes : Text → Option (Kept Answer)
+  pub children : Text → Option (Kept Names)
+
+pub record View : Type 0 where
+  pub standing : Standing
+  pub saved : Saved
+  pub moments : Moments
+  pub pending : List Pending
+  pub held : List ℕ
+  pub xid : ℕ
+  pub lists : Lists
+  pub cache : Cache
+
+module _ (start : Start) where
+  abbrev pub standing_at : Past → Standing
+  standing_at past = record { halted = has_halted past; state = state_of past }
+
+  abbrev pub saved_at : Past → Saved
+  saved_at past = record { asked = start.timeout; session = session_of start past; last = last_of start past }
+
+  abbrev pub moments_at : Past → Moments
+  moments_at past = record { now = now_of past; heard = heard_of past; sent = sent_of past }
+
+  abbrev pub cache_at : Past → Cache
+  cache_at past = record { nodes = λ path. kept_data path past; children = λ path. kept_names path past }
+
+  -- what the definitions give
+  abbrev pub view_at : Past → View
+  view_at past = record {
+    standing = standing_at past;
+    saved = saved_at past;
+    moments = moments_at past;
+    pending = pending_of past;
+    held = held_of past;
+    xid = xid_of past;
+    lists = lists_of past;
+    cache = cache_at past;
+  }

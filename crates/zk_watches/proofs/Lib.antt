@@ -1,0 +1,7 @@
+pub mod RowLemmas
+pub mod OrderLemmas
+pub mod CallerLemmas
+pub mod SoundLemmas
+pub mod CutLemmas
+pub mod GreedyLemmas
+pub mod PartsLemmas

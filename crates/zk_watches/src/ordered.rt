@@ -1,0 +1,88 @@
+//! A list of texts without repeats, in the order in which they came.
+ghost use Rattle.std.specs.Prelude.{◌≡◌, [], length, true, IsOk, OnOk, OnErr, IfOk, map};
+ghost use Rattle.zk_watches.specs.Lists.{has, with_path, without};
+
+use crate::numbered::{Numbers, count, is_in, list, next_number, put_last, take_out};
+use indexmap::IndexMap;
+use std::alloc::{AllocError, Allocator};
+use std::marker::Model;
+
+/// Texts in the order in which they came. Each has a number, and a text that comes takes a greater one.
+#[derive(Drop)]
+pub(crate) struct Ordered<A: Allocator + Copy> {
+    alloc: A,
+    numbers: Numbers<A>,
+    next: u64,
+}
+
+impl<A: Allocator + Copy> Model for Ordered<A> {
+    ghost use Rattle.std.specs.Prelude.{ℕ, List};
+    ghost use Rattle.zk_watches.specs.Numbered.{in_order, rows_of, IsNumbered};
+
+    ghost Value = { List (List ℕ) };
+
+    ghost view = { λ o. in_order o.numbers };
+
+    ghost invariant = { λ o. IsNumbered (rows_of o.numbers) o.next };
+}
+
+impl<A: Allocator + Copy> Ordered<A> {
+    pub(crate) fn new(alloc: A) -> Self
+        ensures { result ≡ [] }
+    {
+        Ordered {
+            alloc,
+            numbers: IndexMap::new(alloc),
+            next: 0,
+        }
+    }
+
+    pub(crate) fn len(&self) -> usize
+        ensures { result ≡ length self.now }
+    {
+        count(&self.numbers)
+    }
+
+    pub(crate) fn contains(&self, text: &str) -> bool
+        ensures { result ≡ has self.now text.now }
+    {
+        is_in(&self.numbers, text)
+    }
+
+    /// Puts the text last, unless it is there already, which takes no memory.
+    pub(crate) fn add(&mut self, text: &str) -> Result<(), AllocError>
+        ensures ok { OnOk result (self.new ≡ with_path self.old text.now) }
+        ensures there { has self.old text.now ≡ true → IsOk result }
+        ensures err { OnErr result (self.new ≡ self.old) }
+    {
+        if self.contains(text) {
+            return Ok(());
+        }
+        self.next = next_number(self.alloc, &mut self.numbers, self.next)?;
+        put_last(self.alloc, &mut self.numbers, text, self.next)?;
+        self.next += 1;
+        Ok(())
+    }
+
+    /// Takes the text out, in constant time and no memory.
+    pub(crate) fn take_out(&mut self, text: &str) -> bool
+        ensures found { result ≡ has self.old text.now }
+        ensures rest { self.new ≡ without self.old text.now }
+    {
+        take_out(&mut self.numbers, text)
+    }
+
+    pub(crate) fn clear(&mut self)
+        ensures { self.new ≡ [] }
+    {
+        self.numbers.clear();
+        self.next = 0;
+    }
+
+    /// The texts in order.
+    pub(crate) fn list(&self) -> Result<Vec<&str, A>, AllocError>
+        ensures { IfOk result (λ texts. map (λ text. text.now) texts.items ≡ self.now) }
+    {
+        list(self.alloc, &self.numbers)
+    }
+}

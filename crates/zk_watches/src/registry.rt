@@ -1,0 +1,191 @@
+//! The registry: three lists of paths.
+ghost use Rattle.std.specs.Prelude.{◌≡◌, ◌<◌, ◌≤◌, length, true, false, ◌↔◌, IsOk, OnOk, OnErr, IsErrOf, IfOk};
+ghost use Rattle.zk_watches.specs.Lists.{no_lists, has, list_has, side_has, count_of, registered, fires, fired, without, IsSound};
+
+use crate::in_order::InOrder;
+use crate::ordered::Ordered;
+use crate::register_fault::RegisterFault;
+use std::alloc::{AllocError, Allocator};
+use std::marker::Model;
+use zk_history::{Path, Side};
+use zk_records::Event;
+
+/// The most paths on a side.
+const MOST_PATHS: usize = 65_536;
+
+/// The paths that a client watches, seen as three lists of texts: those whose data it watches, those whose making it waits
+/// for, and those whose children it watches. Each is in the order in which its paths last came into it. The first two are the
+/// data side; a path is in at most one of them. A side holds at most 65,536 paths.
+#[derive(Drop)]
+pub struct Registry<A: Allocator + Copy> {
+    alloc: A,
+    data_watches: Ordered<A>,
+    exist_watches: Ordered<A>,
+    child_watches: Ordered<A>,
+}
+
+impl<A: Allocator + Copy> Model for Registry<A> {
+    ghost use Rattle.zk_watches.specs.Lists.{Lists, IsSound};
+
+    ghost Value = { Lists };
+
+    ghost view = { λ r. record { data_watches = r.data_watches; exist_watches = r.exist_watches; child_watches = r.child_watches } };
+
+    ghost invariant = { λ r. IsSound (record { data_watches = r.data_watches; exist_watches = r.exist_watches; child_watches = r.child_watches }) };
+}
+
+/// The sides on which an event ended a watch. A watch is one-time (ZooKeeper Programmer's Guide, "ZooKeeper Watches").
+#[derive(Clone, Copy, Debug, PartialEq, Eq)]
+pub struct Fired {
+    pub on_data: bool,
+    pub on_child: bool,
+}
+
+impl<A: Allocator + Copy> Registry<A> {
+    /// A registry with no paths.
+    pub fn new(alloc: A) -> Self
+        ensures { result ≡ no_lists }
+    {
+        Registry {
+            alloc,
+            data_watches: Ordered::new(alloc),
+            exist_watches: Ordered::new(alloc),
+            child_watches: Ordered::new(alloc),
+        }
+    }
+
+    /// How many paths are on the side.
+    pub fn len(&self, side: Side) -> usize
+        ensures len { result ≡ count_of self.now side }
+        ensures sound { IsSound self.now }
+    {
+        match side {
+            Side::Data => self.data_watches.len() + self.exist_watches.len(),
+            Side::Child => self.child_watches.len(),
+        }
+    }
+
+    /// Whether the path is on the side.
+    pub fn contains(&self, side: Side, path: &str) -> bool
+        ensures { result ≡ side_has self.now side path.now }
+    {
+        match side {
+            Side::Data => self.data_watches.contains(path) || self.exist_watches.contains(path),
+            Side::Child => self.child_watches.contains(path),
+        }
+    }
+
+    /// Puts the path on the side, where a watched read found the node there (`present`) or absent; on the child side that makes
+    /// no difference. A path of the same list keeps its place, one of the side's other list moves, and another goes last.
+    /// `Full` is for a path that is new to a side with 65,536 paths, and comes before `Memory`. After an error nothing has
+    /// changed.
+    pub fn register(
+        &mut self,
+        side: Side,
+        path: &Path<A>,
+        present: bool,
+    ) -> Result<(), RegisterFault>
+        ensures ok { OnOk result (self.new ≡ registered self.old side present path.now) }
+        ensures there { list_has self.old side present path.now ≡ true → IsOk result }
+        ensures full { IsErrOf result RegisterFault.Full ↔ ((side_has self.old side path.now ≡ false) × (count_of self.old side ≡ 65536)) }
+        ensures err { OnErr result (self.new ≡ self.old) }
+    {
+        let text = path.as_str();
+        if self.len(side) == MOST_PATHS && !self.contains(side, text) {
+            return Err(RegisterFault::Full);
+        }
+        match side {
+            Side::Data => self.add_to_data(text, present)?,
+            Side::Child => self.add_to_child(text)?,
+        }
+        Ok(())
+    }
+
+    fn add_to_data(&mut self, text: &str, present: bool) -> Result<(), AllocError>
+        requires room { side_has self.old Side.Data text.now ≡ false → count_of self.old Side.Data < 65536 }
+        requires short { length text.now ≤ 4096 }
+        ensures ok { OnOk result (self.new ≡ registered self.old Side.Data present text.now) }
+        ensures there { list_has self.old Side.Data present text.now ≡ true → IsOk result }
+        ensures err { OnErr result (self.new ≡ self.old) }
+    {
+        if present {
+            self.data_watches.add(text)?;
+            self.exist_watches.take_out(text);
+        } else {
+            self.exist_watches.add(text)?;
+            self.data_watches.take_out(text);
+        }
+        Ok(())
+    }
+
+    fn add_to_child(&mut self, text: &str) -> Result<(), AllocError>
+        requires room { side_has self.old Side.Child text.now ≡ false → count_of self.old Side.Child < 65536 }
+        requires short { length text.now ≤ 4096 }
+        ensures ok { OnOk result (self.new ≡ registered self.old Side.Child false text.now) }
+        ensures there { has self.old.child_watches text.now ≡ true → IsOk result }
+        ensures err { OnErr result (self.new ≡ self.old) }
+    {
+        self.child_watches.add(text)?;
+        Ok(())
+    }
+
+    /// Takes the path off each side that the event concerns, in constant time and with no memory. The text may be any: a server
+    /// may tell of a path that is not watched.
+    pub fn fire(&mut self, event: Event, path: &str) -> Fired
+        ensures on_data { result.on_data ≡ fires self.old event Side.Data path.now }
+        ensures on_child { result.on_child ≡ fires self.old event Side.Child path.now }
+        ensures lists { self.new ≡ fired self.old event path.now }
+    {
+        match event {
+            Event::Created | Event::DataChanged => Fired {
+                on_data: self.fire_data(path),
+                on_child: false,
+            },
+            Event::ChildrenChanged => Fired {
+                on_data: false,
+                on_child: self.fire_child(path),
+            },
+            Event::Deleted => Fired {
+                on_data: self.fire_data(path),
+                on_child: self.fire_child(path),
+            },
+        }
+    }
+
+    fn fire_data(&mut self, path: &str) -> bool
+        ensures was { result ≡ side_has self.old Side.Data path.now }
+        ensures lists { self.new ≡ record { data_watches = without self.old.data_watches path.now; exist_watches = without self.old.exist_watches path.now; child_watches = self.old.child_watches } }
+    {
+        let was_there = self.data_watches.take_out(path);
+        let was_absent = self.exist_watches.take_out(path);
+        was_there || was_absent
+    }
+
+    fn fire_child(&mut self, path: &str) -> bool
+        ensures was { result ≡ side_has self.old Side.Child path.now }
+        ensures lists { self.new ≡ record { data_watches = self.old.data_watches; exist_watches = self.old.exist_watches; child_watches = without self.old.child_watches path.now } }
+    {
+        self.child_watches.take_out(path)
+    }
+
+    /// Takes all paths out.
+    pub fn clear(&mut self)
+        ensures { self.new ≡ no_lists }
+    {
+        self.data_watches.clear();
+        self.exist_watches.clear();
+        self.child_watches.clear();
+    }
+
+    /// The lists in their order, to be cut into parts. It takes memory for the order alone; the texts are lent.
+    pub fn in_order(&self) -> Result<InOrder<'_, A>, AllocError>
+        ensures { IfOk result (λ lists. lists ≡ self.now) }
+    {
+        Ok(InOrder {
+            alloc: self.alloc,
+            data_watches: self.data_watches.list()?,
+            exist_watches: self.exist_watches.list()?,
+            child_watches: self.child_watches.list()?,
+        })
+    }
+}
