@@ -75,7 +75,7 @@ cut_bad bytes fault e = elim (cases_lt (length bytes) 4) [
 
 -- ---- frames
 
-field_of : (payload : List ℕ) → length payload < 2 ^ 31 → length_field (frame payload) ≡ length payload
+pub field_of : (payload : List ℕ) → length payload < 2 ^ 31 → length_field (frame payload) ≡ length payload
 field_of payload le = from_be_bytes-to_be_bytes_4 (length payload) (omega arith)
 
 first_field : (held coming payload more : List ℕ) → length payload < 2 ^ 31 → 4 ≤ length held → held ++ coming ≡ frame payload ++ more → length_field held ≡ length payload
@@ -83,7 +83,7 @@ first_field held coming payload more low there e =
     let n = length-frame payload in
     sym (same_field held coming there) ∙ ap length_field e ∙ same_field (frame payload) more (omega arith) ∙ field_of payload low
 
-split_at : (a b c d : List ℕ) → a ++ b ≡ c ++ d → length a ≡ length c → (a ≡ c) × (b ≡ d)
+pub split_at : (a b c d : List ℕ) → a ++ b ≡ c ++ d → length a ≡ length c → (a ≡ c) × (b ≡ d)
 split_at [] b [] d e l = (refl, e)
 split_at [] b (x ∷ c) d e l = absurd (omega arith)
 split_at (x ∷ a) b [] d e l = absurd (omega arith)

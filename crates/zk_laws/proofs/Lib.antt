@@ -16,6 +16,7 @@ pub mod Taking
 pub mod Meeting
 pub mod Moving
 pub mod Headlines
+pub mod Parsed
 pub mod Meeting_shown
 pub mod Resumed
 pub mod Outputs

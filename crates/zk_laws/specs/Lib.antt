@@ -8,6 +8,7 @@ pub mod Laws
 pub mod Example
 pub mod Seen
 pub mod Served
+pub mod Parsed
 pub mod Headline
 pub mod Meeting_example
 pub mod Flight

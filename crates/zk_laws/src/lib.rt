@@ -33,7 +33,8 @@ ghost use Rattle.std.specs.List.{flat_map};
 ghost use Rattle.zk_laws.specs.Meeting_example.{new_client, until_cut};
 ghost use Rattle.zk_turns.specs.Rule.{AllAsked, Stands, IsOpen};
 ghost use Rattle.zk_turns.specs.Sent.{sends, outputs_of};
-ghost use Rattle.zk_frames.specs.Frame.{frame};
+ghost use Rattle.zk_frames.specs.Frame.{frame, joined};
+ghost use Rattle.zk_laws.specs.Parsed.{AreTold, IsCutInto, stream_of, payloads_of};
 ghost use Rattle.zk_laws.specs.Seen.{seen, from_zero, node_answer, names_answer, if_good};
 ghost use Rattle.zk_laws.specs.Headline.{Headline, IsCoherentWith, ReadsAreTrue, WritesAreTrue, RepliesAreAbove, DropsAreDue, IsQuietAt, IsTrueOf, tree_of};
 
@@ -122,6 +123,15 @@ pub fn given_answers()
 pub fn sent_requests()
     ensures { (start : Start) (items : List Client_item) (view : View) → Stands start items view → IsOpen view.standing.state
         → sends (outputs_of items) ≡ map (λ sent. frame sent.payload) (requests start (past_of start items)) }
+{}
+
+/// A server that cuts the bytes that a connection was sent into frames finds the payloads of its requests, in order, and nothing
+/// else; of a beginning of these bytes, those of the first requests.
+pub fn parsed_requests()
+    ensures beginning { (start : Start) (items : List Client_item) (view : View) (found : List (List ℕ)) (rest : List ℕ) → Stands start items view → IsOpen view.standing.state
+        → AreTold (payloads_of start items) → AreTold found → joined found ++ rest ≡ stream_of items → (more : List (List ℕ)) × (payloads_of start items ≡ found ++ more) × (rest ≡ joined more) }
+    ensures whole { (start : Start) (items : List Client_item) (view : View) (found : List (List ℕ)) (rest : List ℕ) → Stands start items view → IsOpen view.standing.state
+        → AreTold (payloads_of start items) → IsCutInto found rest (stream_of items) → (found ≡ payloads_of start items) × (rest ≡ []) }
 {}
 
 /// The premises can be met: a schedule in bytes, whose client stands at its items, with an answer kept over a cut in the
