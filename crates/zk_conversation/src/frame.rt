@@ -11,18 +11,18 @@ use zk_frames::seal_frame;
 use zk_jute::Record;
 use zk_records::{Operation, RequestHeader, RequestPayload};
 
-/// The frame whose payload is the record's spelling. `room` is how many bytes the frame is thought to have.
+/// The frame whose payload is the message's spelling. `room` is how many bytes the frame is thought to have.
 pub(crate) fn framed<A: Allocator + Copy, R: Record<A>>(
     alloc: A,
     room: usize,
-    record: &R,
+    message: &R,
 ) -> Result<Vec<u8, A>, AllocError>
-    requires { length (spelling R.layout (R.view record.now)) < 2 ^ 30 }
-    ensures { IfOk result (λ out. out.items ≡ frame (spelling R.layout (R.view record.now))) }
+    requires { length (spelling R.layout (R.view message.now)) < 2 ^ 30 }
+    ensures { IfOk result (λ out. out.items ≡ frame (spelling R.layout (R.view message.now))) }
 {
     let mut out = Vec::with_capacity(alloc, room)?;
     out.extend_from_slice(&[0; 4])?;
-    if record.put(&mut out).is_err() {
+    if message.put(&mut out).is_err() {
         return Err(AllocError);
     }
     seal_frame(&mut out);
