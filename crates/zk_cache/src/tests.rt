@@ -118,6 +118,76 @@ const LISTING: [TextRef<'static>; 4] = [
     TextRef { text: None },
 ];
 
+// Some of them.
+const FEW: [TextRef<'static>; 3] = [
+    TextRef { text: Some("b") },
+    TextRef { text: Some("a") },
+    TextRef { text: Some("b") },
+];
+
+// The names that are kept of `/a`, their zxid and their mark.
+fn shown_names<A: Allocator + Copy>(alloc: A, cache: &Cache<A>) -> Result<String<A>, AllocError> {
+    let Some((kept, mark)) = cache.peek_children("/a") else {
+        return String::from_str(alloc, "none");
+    };
+    let mut text = String::new(alloc);
+    for name in &kept.names {
+        text.push_str(name.as_str())?;
+        text.push_str(",")?;
+    }
+    format!(in alloc; "{text} {} {mark:?}", kept.pzxid)
+}
+
+// What happens to the names of a path.
+#[derive(Clone, Copy)]
+enum NamesStep {
+    Few(i64),
+    Listing(i64),
+    Spoil(Side),
+    Forget,
+    Clear,
+}
+
+// Each step at `/a`, and what is kept of its children then.
+const NAMES_ROWS: [(NamesStep, &str); 9] = [
+    (NamesStep::Forget, "none"),
+    (NamesStep::Few(5), "a,b, 5 Good"),
+    (NamesStep::Spoil(Side::Data), "a,b, 5 Good"),
+    (NamesStep::Spoil(Side::Child), "a,b, 5 Stale"),
+    (NamesStep::Few(7), "a,b, 7 Good"),
+    (NamesStep::Listing(6), ",a,b, 6 Good"),
+    (NamesStep::Forget, ",a,b, 6 Good"),
+    (NamesStep::Clear, "none"),
+    (NamesStep::Spoil(Side::Child), "none"),
+];
+
+fn told_names<A: Allocator + Copy>(
+    alloc: A,
+    cache: &mut Cache<A>,
+    path: &Path<A>,
+    step: NamesStep,
+) -> Result<String<A>, AllocError> {
+    match step {
+        NamesStep::Few(pzxid) => cache.keep_children(path, &FEW, pzxid)?,
+        NamesStep::Listing(pzxid) => cache.keep_children(path, &LISTING, pzxid)?,
+        NamesStep::Spoil(side) => cache.stale(side, path.as_str()),
+        NamesStep::Forget => cache.forget_stale(),
+        NamesStep::Clear => cache.clear(),
+    }
+    shown_names(alloc, cache)
+}
+
+#[test]
+fn names_follow_their_rows(rt: HostRuntime) -> Result<(), Fail> {
+    let path = Path::new(rt.alloc(), "/a")?;
+    let mut cache = Cache::new(rt.alloc());
+    for (step, want) in &NAMES_ROWS {
+        let text = told_names(rt.alloc(), &mut cache, &path, *step)?;
+        assert!(rt; text.as_str() == *want, "{want}");
+    }
+    Ok(())
+}
+
 // The zxid of the names that are kept of `/a`, or -1.
 fn pzxid_of<A: Allocator + Copy>(cache: &Cache<A>) -> i64 {
     match cache.peek_children("/a") {
