@@ -1,2 +1,3 @@
 mod PiecesLemmas
 pub mod NamesLemmas
+pub mod StoryLemmas

@@ -8,3 +8,4 @@ pub mod Reads
 pub mod HistoryLines
 pub mod Answers
 pub mod Stories
+pub mod Scripts

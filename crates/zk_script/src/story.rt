@@ -1,12 +1,14 @@
 //! A history, as the lines of a script make it and ask it.
 
-ghost use Rattle.std.specs.Prelude.{◌≡◌, ◌≢◌, ◌++◌, List, ℕ, false, OnOk, OnErr, IfErr, string_bytes};
+ghost use Rattle.std.specs.Prelude.{◌≡◌, ◌≢◌, ◌++◌, List, ℕ, OnOk, OnErr, IfOk, IfErr, map, string_bytes};
+ghost use Rattle.std.specs.Option.{option_map};
 ghost use Rattle.zk_history.specs.History.{path_of, view, tree_at};
-ghost use Rattle.zk_history.specs.Kept.{history_of, natural, empty_kept};
+ghost use Rattle.zk_history.specs.Kept.{history_of, natural};
 ghost use Rattle.zk_history.specs.declared.side.Side.TheVariants.{Data, Child};
 ghost use Rattle.zk_script.specs.Answers.{data_text, TellsNames};
 ghost use Rattle.zk_script.specs.HistoryLines.{value_of};
-ghost use Rattle.zk_script.specs.Stories.{may_stand, reason_of, Does, IsRefused, begun_after, asked_after};
+ghost use Rattle.zk_script.specs.Reads.{Reads};
+ghost use Rattle.zk_script.specs.Stories.{first_standing, is_remark, may_stand, reason_of, said, standing_of, IsAnswer, IsRefused, RefusesLine, Takes, TakesLine};
 
 use crate::answers::{push_data, push_names};
 use crate::history_line::{HistoryLine, Keyword, line_at};
@@ -36,11 +38,17 @@ impl From<HistoryFault> for ScriptFault {
     }
 }
 
+/// Whether a line is a remark, by its first word.
+fn is_remark(word: &[u8]) -> bool
+    ensures { result ≡ is_remark word.now }
+{
+    matches!(word, [b'#', ..])
+}
+
 impl<A: Allocator + Copy> Story<A> {
     /// A history with the root alone.
     pub fn new(alloc: A) -> Story<A>
-        ensures kept { result.history ≡ empty_kept }
-        ensures unmarked { (result.begun ≡ false) × (result.asked ≡ false) }
+        ensures { standing_of result ≡ first_standing }
     {
         Story {
             history: History::new(alloc),
@@ -92,18 +100,29 @@ impl<A: Allocator + Copy> Story<A> {
         Ok(())
     }
 
-    /// Does what a line says. What it answers is added to the text.
-    fn take(
-        &mut self,
+    /// The line that answers a look-up.
+    fn answer(
+        &self,
         alloc: A,
-        line: HistoryLine<A>,
-        text: &mut String<A>,
-    ) -> Result<(), ScriptFault>
-        ensures ok { OnOk result (Does (value_of line) self.old.history self.new.history (string_bytes text.old) (string_bytes text.new)) }
+        side: Side,
+        zxid: i64,
+        path: &Path<A>,
+    ) -> Result<String<A>, AllocError>
+        ensures { IfOk result (λ text. IsAnswer side self.now.history (natural zxid) path.now (string_bytes text)) }
+    {
+        let mut text = String::new(alloc);
+        match side {
+            Side::Data => self.tell_data(alloc, zxid, path, &mut text)?,
+            Side::Child => self.tell_names(alloc, zxid, path, &mut text)?,
+        }
+        Ok(text)
+    }
+
+    /// Does what a line says, and answers it: a look-up by a line, all else by nothing.
+    fn take(&mut self, alloc: A, line: HistoryLine<A>) -> Result<String<A>, ScriptFault>
+        ensures ok { IfOk result (λ answer. Takes (value_of line) (standing_of self.old) (standing_of self.new) (string_bytes answer)) }
         ensures refused { IfErr result (IsRefused (value_of line) self.old.history) }
-        ensures marks { OnOk result ((self.new.begun ≡ begun_after (value_of line) self.old.begun) × (self.new.asked ≡ asked_after (value_of line) self.old.asked)) }
-        ensures err { OnErr result (self.new.history ≡ self.old.history) }
-        ensures silent { IfErr result (λ f. f ≢ ScriptFault.Memory → string_bytes text.new ≡ string_bytes text.old) }
+        ensures err { OnErr result (self.new ≡ self.old) }
     {
         match line {
             HistoryLine::Node(path, bytes, time) => self.history.node(path, bytes, time)?,
@@ -112,32 +131,44 @@ impl<A: Allocator + Copy> Story<A> {
                 self.begun = true;
             }
             HistoryLine::Change(change) => self.history.change(change)?,
-            HistoryLine::Ask(Side::Data, zxid, path) => {
+            HistoryLine::Ask(side, zxid, path) => {
+                let answer = self.answer(alloc, side, zxid, &path)?;
                 self.asked = true;
-                self.tell_data(alloc, zxid, &path, text)?;
-            }
-            HistoryLine::Ask(Side::Child, zxid, path) => {
-                self.asked = true;
-                self.tell_names(alloc, zxid, &path, text)?;
+                return Ok(answer);
             }
         }
-        Ok(())
+        Ok(String::new(alloc))
     }
 
-    /// Reads a line and does what it says. An empty line and one that begins with `#` say nothing.
-    pub fn read(&mut self, alloc: A, line: &[u8], text: &mut String<A>) -> Result<(), ScriptFault> {
-        let words = words_of(alloc, line)?;
-        let Some((first, behind)) = words.as_slice().split_first() else {
-            return Ok(());
+    /// What the words of a line say. An empty line and one that begins with `#` say nothing.
+    fn said(&self, alloc: A, words: &[&[u8]]) -> Result<Option<HistoryLine<A>>, ScriptFault>
+        ensures { Reads (option_map value_of) result (said (map (λ w. w.now) words.now) self.now.begun self.now.asked) }
+    {
+        let Some((first, behind)) = words.split_first() else {
+            return Ok(None);
         };
-        if first.first() == Some(&b'#') {
-            return Ok(());
+        if is_remark(first) {
+            return Ok(None);
         }
         let keyword = Keyword::named(first).ok_or(ScriptFault::Unknown)?;
         if !self.takes(keyword) {
             return Err(ScriptFault::Place);
         }
         let line = line_at(alloc, keyword, behind)?;
-        self.take(alloc, line, text)
+        Ok(Some(line))
+    }
+
+    /// Reads a line and does what it says, and gives what it answers: the whole line that answers a look-up, and for another
+    /// nothing. The first reason that applies refuses it, and then the story is as it was.
+    pub fn read(&mut self, alloc: A, line: &[u8]) -> Result<String<A>, ScriptFault>
+        ensures ok { IfOk result (λ answer. TakesLine line.now (standing_of self.old) (standing_of self.new) (string_bytes answer)) }
+        ensures refused { IfErr result (λ fault. fault ≢ ScriptFault.Memory → RefusesLine line.now (standing_of self.old) fault) }
+        ensures err { OnErr result (self.new ≡ self.old) }
+    {
+        let words = words_of(alloc, line)?;
+        match self.said(alloc, words.as_slice())? {
+            Some(line) => self.take(alloc, line),
+            None => Ok(String::new(alloc)),
+        }
     }
 }

@@ -4,3 +4,5 @@ pub mod Frame
 pub mod Kinds
 pub mod CommandLine
 pub mod Show
+pub mod History
+pub mod Run

@@ -1,11 +1,11 @@
 -- What is printed of a record: a line for each field, in wire order.
-use Rattle.std.specs.Prelude.{ℕ, pos, zero, suc, ◌+◌, List, [], ◌∷◌, ◌++◌, length, codes, Option, Some, None}
+use Rattle.std.specs.Prelude.{ℕ, pos, ◌+◌, List, [], ◌∷◌, ◌++◌, length, codes, Option, Some, None}
 use Rattle.std.specs.List.{flat_map}
 use Rattle.std.specs.Fmt.{decimal, signed_decimal}
 use Rattle.hex.specs.Hex.{encode_lower}
-use Rattle.zk_jute.specs.Layout.{Layout, nothing, int, long, boolean, buffer, ustring, vector, ◌⨾◌, Value}
+use Rattle.zk_jute.specs.Layout.{Layout, int, long, boolean, buffer, ustring, vector, ◌⨾◌, Value}
 use Rattle.zk_jute.specs.Spelling.{int_bytes}
-use Rattle.zk_script.specs.Words.{text_word, bytes_word, boolean_word, optional_boolean_word}
+use Rattle.zk_script.specs.Words.{text_word, bytes_word, boolean_word}
 use Rattle.zk_script.specs.Lines.{line}
 
 infixr 5 ◌&◌

@@ -166,6 +166,31 @@ fn stops_where_the_writer_fails(rt: HostRuntime) -> Result<(), Fail> {
     Ok(())
 }
 
+/// Answers a history to a writer that fails once.
+fn answer_to(alloc: Global, before: usize) -> Result<String, Fail> {
+    let mut out = FailsOnce {
+        bytes: Vec::new(alloc),
+        before,
+        has_failed: false,
+    };
+    let mut errors = Vec::new(alloc);
+    let mut input = SCRIPT.as_bytes();
+    let status = history(alloc, &mut input, &mut out, &mut errors);
+    printed(alloc, out.bytes, errors, status)
+}
+
+#[test]
+fn answers_stop_where_the_writer_fails(rt: HostRuntime) -> Result<(), Fail> {
+    let mut begun = String::new(rt.alloc());
+    for (before, character) in ANSWERED.char_indices() {
+        let got = answer_to(rt.alloc(), before)?;
+        let want = format!(in rt.alloc(); "{begun}||4")?;
+        assert_eq!(rt; got.as_str(), want.as_str(), "after {before}");
+        begun.push(character)?;
+    }
+    Ok(())
+}
+
 /// Answers a history from a reader that fails.
 fn answer_from(alloc: Global, before: usize) -> Result<String, Fail> {
     let mut input = Failing {

@@ -84,6 +84,7 @@ pub fn show<A: Allocator + Copy, O: Write, E: Write>(
     // What is told is the first fault.
     ensures fault { result ≡ Status.Fault → (f : ShowFault) × IsFault kind hex.now f × Appends (E.contents errors.old) (E.contents errors.new) (fault_text f ++ 10 ∷ []) }
     ensures quiet { result ≡ Status.Fault → out.new ≡ out.old }
+    ensures memory { result ≡ Status.Memory → (out.new ≡ out.old) × (errors.new ≡ errors.old) }
     ensures usage { result ≢ Status.Usage }
 {
     match print_frame(alloc, kind, hex) {

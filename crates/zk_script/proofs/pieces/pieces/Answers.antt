@@ -1,6 +1,5 @@
 use Rattle.std.proofs.Common.{arith, ◌++◌, ◌∙◌, ap, map, eq-eqb, ne_eqb}
 use Rattle.std.proofs.lemmas.List.{map_push}
-use Rattle.zk_script.specs.Pieces.{with_front, pieces_at}
 use Rattle.zk_script.proofs.PiecesLemmas.{front_nil, separator_step, other_step}
 use Rattle.zk_script.proofs.pieces.pieces.Goals as goal
 use Rattle.zk_script.proofs.pieces.pieces.Goals.{then-byte-separator+in_ok-push, else-byte-separator}

@@ -1,4 +1,4 @@
-use Rattle.std.proofs.Common.{◌≡◌, ◌≤◌, ◌++◌, ◌-◌, drop, take, map}
+use Rattle.std.proofs.Common.{◌≡◌, ◌≤◌, ◌++◌, drop, take, map}
 use Rattle.zk_script.specs.Pieces.{pieces_at, with_front}
 use Rattle.zk_script.proofs.pieces.pieces.Given as goal
 

@@ -1,6 +1,6 @@
 use Rattle.std.proofs.Common.{rules, arith, ◌≡◌, ◌∙◌, ℕ, List, [], sym, subst, ap, codes, slice_index, Some, None, Option, IfSome}
 use Rattle.std.specs.Prelude.{IfNone, MatchOption}
-use Rattle.clap.specs.Words.{found_of, first_value, first_of, rows_of, subcommand_rows_of, Text, Row}
+use Rattle.clap.specs.Words.{found_of, first_of, rows_of, subcommand_rows_of, Text, Row}
 use Rattle.clap.proofs.WalkLemmas.{first_value-rows}
 use Rattle.zk_shell.specs.declared.command.Command.{Command}
 use Rattle.zk_shell.specs.declared.command.Command.TheVariants.{Show, History}

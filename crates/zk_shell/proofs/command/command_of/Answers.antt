@@ -1,11 +1,11 @@
-use Rattle.std.proofs.Common.{rules, ◌≡◌, ◌≢◌, ◌⊎◌, ◌∙◌, ap, sym, subst, inl, inr, refl, List, ℕ, map, true}
+use Rattle.std.proofs.Common.{◌≡◌, ◌≢◌, ◌⊎◌, ◌∙◌, ap, sym, subst, inl, inr, refl, List, map, true}
 use Rattle.std.specs.Borrow.{Bor}
 use Rattle.clap.specs.Words.{App, IsAmong, Text, fault_of, kind_of, is_simple_and_free, is_simple, subcommand_of}
 use Rattle.clap.specs.declared.error.kind.ErrorKind.{ErrorKind}
 use Rattle.clap.specs.declared.error.kind.ErrorKind.TheVariants as kinds
 use Rattle.zk_shell.specs.declared.command.LineFault.{LineFault}
 use Rattle.zk_shell.specs.declared.command.LineFault.TheVariants.{Help, Refused, Memory}
-use Rattle.zk_shell.specs.CommandLine.{AreKinds, AsksForNone, IsDue, IsFound, Tells, shell_app}
+use Rattle.zk_shell.specs.CommandLine.{AreKinds, AsksForNone, IsDue, Tells, shell_app}
 use Rattle.zk_shell.proofs.command.command_of.Goals as goal
 
 -- the program's form is one of which `clap` gives the matches and the faults

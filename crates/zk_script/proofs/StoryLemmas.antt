@@ -1,0 +1,23 @@
+-- What a line does, by what its words say.
+use Rattle.std.proofs.Common.{◌≡◌, ◌≢◌, IfOk, IfErr}
+use Rattle.std.specs.Prelude.{String, string_bytes, Result, Ok, Err, Some}
+use Rattle.zk_history.specs.History.{Text}
+use Rattle.zk_script.specs.declared.script_fault.ScriptFault.{ScriptFault}
+use Rattle.zk_script.specs.declared.script_fault.ScriptFault.TheVariants.{Memory}
+use Rattle.zk_script.specs.HistoryLines.{LineValue}
+use Rattle.zk_script.specs.Pieces.{words_of}
+use Rattle.zk_script.specs.Stories.{Standing, said, IsRefused, RefusesLine, by_history, Takes, TakesLine}
+
+-- a line is taken where the history takes what its words say
+pub taken : {Y : Type 0} (line : Text) (old new : Standing) (value : LineValue) (r : Result (String Y) ScriptFault)
+    → said (words_of line) old.begun old.asked ≡ Ok (Some value)
+    → IfOk r (λ answer. Takes value old new (string_bytes answer)) → IfOk r (λ answer. TakesLine line old new (string_bytes answer))
+taken line old new value (Ok answer) says takes = record { what = Some value; says = says; takes = takes }
+taken line old new value (Err fault) says takes = tt
+
+-- and refused where the history refuses it
+pub refused : {Y : Type 0} (line : Text) (old : Standing) (value : LineValue) (r : Result (String Y) ScriptFault)
+    → said (words_of line) old.begun old.asked ≡ Ok (Some value)
+    → IfErr r (IsRefused value old.history) → IfErr r (λ fault. fault ≢ Memory → RefusesLine line old fault)
+refused line old value (Ok answer) says why = tt
+refused line old value (Err fault) says why = λ _. by_history value says why
