@@ -192,6 +192,22 @@ fn tells_where_a_cut_payload_ends(rt: HostRuntime) -> Result<(), Fail> {
     Ok(())
 }
 
+#[test]
+fn many_notices_come_in_any_pieces(rt: HostRuntime) -> Result<(), Fail> {
+    let alloc = rt.alloc();
+    let mut stream = Vec::new(alloc);
+    for _ in 0..1000 {
+        put_frame(&NOTICE, &mut stream)?;
+    }
+    let whole = streamed(alloc, &stream, stream.len())?;
+    // Each is told as `notice /a`, and its frame has 34 bytes.
+    assert_eq!(rt; whole.len(), 9000);
+    assert!(rt; whole.starts_with("notice /a"));
+    let single = streamed(alloc, &stream, 34)?;
+    assert_eq!(rt; single, whole);
+    Ok(())
+}
+
 // Payloads that break the protocol, or say nothing, by what was asked before.
 const HOSTILE: [(Before, &[u8], &str); 12] = [
     // a reply to nothing, and the first answer once more
