@@ -1,5 +1,5 @@
 -- Payloads that arrive.
-use Rattle.std.proofs.Common.{◌≡◌, ◌≢◌, ℕ, ℤ, negsuc, List, [], ◌∷◌, Bool, true, false, length, drop, Option, Some, None, Result, Ok, Err, refl, ap, sym, subst, ◌∙◌, arith}
+use Rattle.std.proofs.Common.{◌≡◌, ◌≢◌, ℕ, ℤ, negsuc, List, [], ◌∷◌, Bool, true, false, length, drop, Option, Some, None, Result, Ok, Err, refl, ap, sym, ◌∙◌}
 use Rattle.std.specs.Ordering.{int_eq}
 use Rattle.std.proofs.lemmas.Bool.Decides.{Decides-int_eq}
 use Rattle.zk_jute.specs.declared.fault.TakeError.{TakeError}
@@ -13,12 +13,11 @@ use Rattle.zk_records.specs.Layouts.{reply_header, watcher_event}
 use Rattle.zk_records.specs.Response.{Response, response_at}
 use Rattle.zk_conversation.specs.declared.arrival.Arrival.{Arrival}
 use Rattle.zk_conversation.specs.declared.fault.TalkFault.{TalkFault}
-use Rattle.zk_conversation.specs.declared.fault.TalkFault.TheVariants.{BadHeader, Memory}
 use Rattle.zk_conversation.specs.declared.phase.Phase.{Phase}
 use Rattle.zk_conversation.specs.declared.phase.Phase.TheVariants.{Closed, Opening, Talking}
 use Rattle.zk_conversation.specs.Pending.{Pending, Talk}
 use Rattle.zk_conversation.specs.Arriving.{Arrived, Connected, Pong, Skipped, first_arriving, noticed, notice_arriving, oldest_arriving, header_arriving, later_arriving, arriving, pending_after, talk_after}
-use Rattle.zk_conversation.specs.Lent.{awaits_names, is_reserved, names_behind, names_arrive}
+use Rattle.zk_conversation.specs.Lent.{names_arrive}
 use Rattle.zk_conversation.specs.Arrives.{Arrives, Answers, RepliesTo, names_next}
 use Rattle.zk_conversation.specs.Views.{arrival_view}
 

@@ -1,5 +1,5 @@
 -- The laws of conversations.
-use Rattle.std.proofs.Common.{◌≡◌, ℕ, ℤ, negsuc, List, [], ◌∷◌, ◌++◌, Bool, true, false, length, Option, Some, None, Result, Ok, Err, refl, ap, sym, ◌∙◌}
+use Rattle.std.proofs.Common.{◌≡◌, ℕ, ℤ, negsuc, List, [], ◌∷◌, ◌++◌, Bool, true, false, length, Option, Some, None, Result, Ok, Err, refl, ap, ◌∙◌}
 use Rattle.std.specs.Prelude.{MatchOption, is_some, option_to_list, if◌then◌else◌}
 use Rattle.std.specs.Ordering.{int_eq}
 use Rattle.std.proofs.lemmas.Bool.Decides.{Decides-int_eq}
@@ -12,13 +12,12 @@ use Rattle.zk_records.specs.declared.header.ReplyHeader.{ReplyHeader}
 use Rattle.zk_records.specs.Events.{event_of}
 use Rattle.zk_records.specs.Layouts.{reply_header, watcher_event}
 use Rattle.zk_conversation.specs.declared.fault.TalkFault.{TalkFault}
-use Rattle.zk_conversation.specs.declared.fault.TalkFault.TheVariants.{NobodyAsked, OtherXid, BadHeader}
-use Rattle.zk_conversation.specs.declared.phase.Phase.TheVariants.{Talking}
+use Rattle.zk_conversation.specs.declared.fault.TalkFault.TheVariants.{OtherXid}
 use Rattle.zk_conversation.specs.Questions.{Question}
 use Rattle.zk_conversation.specs.Results.{result_of}
 use Rattle.zk_conversation.specs.Results.{Result as Found}
 use Rattle.zk_conversation.specs.Pending.{Pending, Waiting, Part_waits, Call_waits, ticket_of, or_else, tickets, first_ticket, after_ticket}
-use Rattle.zk_conversation.specs.Arriving.{Arrived, Replied, Notice, Pong, Skipped, Watches_set, header_of, noticed, notice_arriving, call_arriving, reply_arriving, oldest_arriving, header_arriving, later_arriving, arriving}
+use Rattle.zk_conversation.specs.Arriving.{Arrived, Replied, Pong, Skipped, header_of, noticed, notice_arriving, call_arriving, reply_arriving, oldest_arriving, later_arriving, arriving}
 use Rattle.zk_conversation.specs.Laws.{TicketsComeInOrder, GoesToTheOldest, RepliesGoToTheOldest}
 
 one-more : (ticket : Option ℕ) (more : List Pending) → MatchOption (first_ticket more) (tickets more ≡ []) (λ t. tickets more ≡ t ∷ tickets (after_ticket more))

@@ -1,11 +1,11 @@
 -- How long requests are.
-use Rattle.std.proofs.Common.{◌≡◌, ℕ, ◌+◌, ℤ, Bool, true, false, List, ◌++◌, length, Option, Some, None, refl, arith, length-append}
+use Rattle.std.proofs.Common.{◌≡◌, ℕ, ◌+◌, ℤ, Bool, true, false, List, length, Option, Some, None, refl, arith, length-append}
 use Rattle.zk_jute.specs.Lenient.{or_empty}
-use Rattle.zk_jute.specs.Layout.{Layout, vector, Value}
+use Rattle.zk_jute.specs.Layout.{vector}
 use Rattle.zk_jute.specs.Spelling.{int_bytes, long_bytes, boolean_bytes, counted_bytes, spelling}
 use Rattle.zk_records.specs.Layouts.{acl}
 use Rattle.zk_records.specs.OpenAcl.{open_acl}
-use Rattle.zk_conversation.specs.Calls.{Call, Exists, GetData, GetChildren, SetData, Create, Delete, Close, call_payload, connect_payload, ping_payload}
+use Rattle.zk_conversation.specs.Calls.{Exists, GetData, GetChildren, SetData, Create, Delete, Close, call_payload, connect_payload, ping_payload}
 
 length-int : (z : ℤ) → length (int_bytes z) ≡ 4
 unfolding int_bytes

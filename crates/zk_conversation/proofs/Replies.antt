@@ -1,5 +1,5 @@
 -- Replies to what waits.
-use Rattle.std.proofs.Common.{◌≡◌, ◌<◌, ◌≤◌, ◌-◌, ℕ, ℤ, zero, suc, List, [], ◌∷◌, Bool, true, false, length, drop, map, get_or, Result, Ok, Err, refl, ap, sym, ◌∙◌, arith}
+use Rattle.std.proofs.Common.{◌≡◌, ◌<◌, ◌≤◌, ℕ, List, [], ◌∷◌, true, length, drop, map, get_or, Ok, refl, ap, sym, arith}
 use Rattle.std.specs.Ordering.{int_eq}
 use Rattle.std.proofs.lemmas.Bool.Decides.{Decides-int_eq}
 use Rattle.zk_records.specs.declared.header.ReplyHeader.{ReplyHeader}

@@ -1,5 +1,5 @@
 -- Requests that are sent, and what is pending then.
-use Rattle.std.proofs.Common.{◌≡◌, ◌≢◌, ◌<◌, ◌≤◌, ◌^◌, ◌+◌, ◌==◌, Bool, true, false, cond, ℕ, ℤ, pos, negsuc, List, [], ◌∷◌, ◌++◌, Option, Some, None, length, map, refl, ap, sym, ◌∙◌, arith}
+use Rattle.std.proofs.Common.{◌≡◌, ◌≢◌, ◌<◌, ◌≤◌, ◌^◌, ◌+◌, ◌==◌, Bool, true, false, cond, ℕ, ℤ, pos, List, [], ◌∷◌, ◌++◌, Some, None, length, map, refl, ap, ◌∙◌, arith}
 use Rattle.std.proofs.lemmas.Simd.{map-map}
 use Rattle.std.proofs.lemmas.List.{map-append}
 use Rattle.std.proofs.lemmas.Bool.Decides.{Decides-eqb}
@@ -11,7 +11,7 @@ use Rattle.zk_conversation.specs.Calls.{Call, part_xid, request_payload, connect
 use Rattle.zk_conversation.specs.Counted.{counts_of}
 use Rattle.zk_conversation.specs.Pending.{Pending, Talk, Call_waits, next_xid, taken_ticket, talk_taken, talk_asked}
 use Rattle.zk_conversation.specs.Questions.{Question, question_of}
-use Rattle.zk_conversation.proofs.Counting.{AreCalls, are_calls}
+use Rattle.zk_conversation.proofs.Counting.{are_calls}
 use Rattle.zk_conversation.proofs.Lengths.{length-connect, length-ping}
 
 pub connect-small : (last timeout session : ℤ) (password : List ℕ) → length password ≤ 4194284 → length (connect_payload last timeout session password) < 2 ^ 30

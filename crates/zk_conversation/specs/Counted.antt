@@ -3,7 +3,7 @@ use Rattle.std.specs.Prelude.{ℕ, ◌+◌, ◌-◌, ◌≤◌, ◌<◌, ◌^◌
 use Rattle.zk_history.specs.declared.side.Side.TheVariants.{Data, Child}
 use Rattle.zk_conversation.specs.declared.counts.Counts.{Counts}
 use Rattle.zk_conversation.specs.Questions.{Question, watched_side}
-use Rattle.zk_conversation.specs.Pending.{Pending, Waiting, Part_waits, Call_waits, most_pending, is_call, is_close, closes, is_on, calls_pending, watches_pending}
+use Rattle.zk_conversation.specs.Pending.{Pending, Waiting, Part_waits, Call_waits, most_pending, is_close, closes, is_on, calls_pending, watches_pending}
 
 abbrev pub one_if : Bool → ℕ
 one_if b = if b then 1 else 0

@@ -1,5 +1,5 @@
 -- Reading what a reply lends.
-use Rattle.std.specs.Prelude.{◌≡◌, ◌≢◌, ℕ, ℤ, pos, negsuc, Bool, true, false, not, ◌&&◌, ◌||◌, List, [], ◌∷◌, length, Option, Ok, Err, if◌then◌else◌}
+use Rattle.std.specs.Prelude.{◌≡◌, ◌≢◌, ℕ, ℤ, pos, negsuc, Bool, false, not, ◌&&◌, ◌||◌, List, ◌∷◌, length, Ok, Err}
 use Rattle.std.specs.Prelude.{Result as Reading}
 use Rattle.std.specs.Ordering.{int_eq}
 use Rattle.zk_jute.specs.declared.fault.TakeError.{TakeError}

@@ -1,6 +1,6 @@
 -- What a reply holds, and how it is read: leniently, so that a null text is the empty text and a null list the empty
 -- list. Null data stay null.
-use Rattle.std.specs.Prelude.{ℕ, ℤ, pos, negsuc, List, [], map, Option, Some, None, Ok, if◌then◌else◌}
+use Rattle.std.specs.Prelude.{ℕ, ℤ, pos, negsuc, List, map, Option, Ok, if◌then◌else◌}
 use Rattle.std.specs.Prelude.{Result as Reading}
 use Rattle.std.specs.Ordering.{int_eq}
 use Rattle.zk_jute.specs.declared.fault.TakeError.{TakeError}

@@ -1,5 +1,5 @@
 -- What calls, questions and replies are, without where they lie in memory.
-use Rattle.std.specs.Prelude.{ℕ, ℤ, pos, negsuc, List, map, Option, if◌then◌else◌}
+use Rattle.std.specs.Prelude.{ℕ, ℤ, negsuc, List, map, if◌then◌else◌}
 use Rattle.std.specs.Option.{option_map}
 use Rattle.std.specs.Ordering.{int_eq}
 use Rattle.zk_conversation.specs.declared.call.Call.{Call as RustCall}
@@ -18,7 +18,6 @@ use Rattle.zk_conversation.specs.Arriving.{Arrived, Connected, Replied, Watches_
 use Rattle.zk_records.specs.Views.{lent_response_of}
 use Rattle.zk_conversation.specs.declared.result.ReplyResult.{ReplyResult}
 use Rattle.zk_conversation.specs.declared.result.ReplyResult.TheVariants as reply
-use Rattle.zk_records.specs.declared.code.Code.{Code}
 use Rattle.zk_jute.specs.Lenient.{or_empty}
 use Rattle.zk_records.specs.Codes.{code_number}
 use Rattle.zk_conversation.specs.Results.{Result, NoNode, Refused, Found, Read, Listing, Made, Done}

@@ -1,4 +1,4 @@
-use Rattle.std.proofs.Common.{Result, ℕ, List, Option, Ok, ap}
+use Rattle.std.proofs.Common.{Result, ℕ, List, Ok, ap}
 use Rattle.std.specs.Option.{option_map}
 use Rattle.zk_jute.specs.declared.fault.TakeError.{TakeError}
 use Rattle.zk_jute.specs.Layout.{Value}

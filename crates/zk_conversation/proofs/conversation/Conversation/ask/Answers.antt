@@ -1,10 +1,8 @@
-use Rattle.std.proofs.Common.{◌≡◌, ◌≤◌, ◌<◌, ◌^◌, ℕ, ℤ, pos, w32, List, [], ◌∷◌, ◌++◌, map, refl, ap, sym, ◌∙◌, arith}
-use mir.Val.{to_z, of_z}
+use Rattle.std.proofs.Common.{map, ap, sym, ◌∙◌, arith}
 use Rattle.std.proofs.lemmas.Int.{ints}
 use Rattle.zk_conversation.specs.declared.counts.Counts.{Counts}
 use Rattle.zk_conversation.specs.Counted.{counts_of, counts_with}
-use Rattle.zk_conversation.specs.Pending.{Talk, Pending, Call_waits, next_xid}
-use Rattle.zk_conversation.specs.Questions.{Question, question_of}
+use Rattle.zk_conversation.specs.Pending.{Talk}
 use Rattle.zk_conversation.specs.Views.{call_view, question_view, pending_view}
 use Rattle.zk_conversation.proofs.Counting.{counts-push_call}
 use Rattle.zk_conversation.proofs.Requests.{counts-small, viewed-push, next-is, asked-talk}

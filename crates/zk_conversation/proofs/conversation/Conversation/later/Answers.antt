@@ -1,4 +1,4 @@
-use Rattle.std.proofs.Common.{◌≡◌, ℤ, negsuc, length, refl, ◌∙◌, arith}
+use Rattle.std.proofs.Common.{◌≡◌, negsuc, length, refl, ◌∙◌, arith}
 use Rattle.std.proofs.lemmas.Int.{ints}
 use Rattle.std.proofs.lemmas.Result.{err_from_is_err_and}
 use Rattle.zk_jute.specs.Cursor.{bytes_left}

@@ -1,4 +1,4 @@
-use Rattle.std.proofs.Common.{◌≡◌, ℕ, w32, List, [], ◌∷◌, Ok, Err, map, drop, refl, ap, sym, ◌∙◌, arith}
+use Rattle.std.proofs.Common.{◌≡◌, w32, List, ◌∷◌, Ok, Err, map, drop, refl, ap, sym, ◌∙◌, arith}
 use mir.Val.{to_z, of_z}
 use Rattle.std.proofs.lemmas.Int.{ints}
 use Rattle.std.proofs.lemmas.List.{drop-map}
@@ -7,7 +7,7 @@ use Rattle.zk_conversation.specs.declared.counts.Counts.{Counts}
 use Rattle.zk_conversation.specs.declared.fault.TalkFault.TheVariants.{Memory}
 use Rattle.zk_conversation.specs.Arrives.{arrival_for}
 use Rattle.zk_conversation.specs.Counted.{counts_of, counts_without}
-use Rattle.zk_conversation.specs.Pending.{Talk, Pending}
+use Rattle.zk_conversation.specs.Pending.{Pending}
 use Rattle.zk_conversation.specs.Views.{pending_view, waiting_view, result_view}
 use Rattle.zk_conversation.proofs.Counting.{counts-pop}
 use Rattle.zk_conversation.proofs.Replies.{viewed-first, none-left, fewer, answer-takes}
