@@ -188,27 +188,28 @@ fn names_follow_their_rows(rt: HostRuntime) -> Result<(), Fail> {
     Ok(())
 }
 
-// The zxid of the names that are kept of `/a`, or -1.
-fn pzxid_of<A: Allocator + Copy>(cache: &Cache<A>) -> i64 {
+// The zxid of the names that are kept of `/a`, or -1, and how many there are.
+fn figures<A: Allocator + Copy>(cache: &Cache<A>) -> (i64, usize) {
     match cache.peek_children("/a") {
-        None => -1,
-        Some((kept, _mark)) => kept.pzxid,
+        None => (-1, 0),
+        Some((kept, _mark)) => (kept.pzxid, kept.names.len()),
     }
 }
 
-// Keeps names of this zxid. Where that is refused, those of the zxid before stay, and it is tried again.
+// Keeps names. Where that is refused, those before stay, and it is tried again.
 fn keep_names<A: Allocator + Copy>(
     rt: &impl Abort,
     cache: &mut Cache<A>,
     path: &Path<A>,
-    before: i64,
+    names: &[TextRef<'_>],
     pzxid: i64,
 ) -> Result<u32, AllocError> {
-    if cache.keep_children(path, &LISTING, pzxid).is_ok() {
+    let before = figures(cache);
+    if cache.keep_children(path, names, pzxid).is_ok() {
         return Ok(0);
     }
-    assert_eq!(rt; pzxid_of(cache), before);
-    cache.keep_children(path, &LISTING, pzxid)?;
+    assert_eq!(rt; figures(cache), before);
+    cache.keep_children(path, names, pzxid)?;
     Ok(1)
 }
 
@@ -234,9 +235,10 @@ fn course<A: Allocator + Copy>(
 ) -> Result<u32, AllocError> {
     let mut cache = Cache::new(alloc);
     let answers = keep_answer(rt, &mut cache, path)?;
-    let first = keep_names(rt, &mut cache, path, -1, 5)?;
-    let second = keep_names(rt, &mut cache, path, 5, 6)?;
-    assert_eq!(rt; pzxid_of(&cache), 6);
+    let first = keep_names(rt, &mut cache, path, &LISTING, 5)?;
+    assert_eq!(rt; figures(&cache), (5, 3));
+    let second = keep_names(rt, &mut cache, path, &FEW, 6)?;
+    assert_eq!(rt; figures(&cache), (6, 2));
     Ok(answers.saturating_add(first).saturating_add(second))
 }
 
