@@ -1,6 +1,6 @@
 -- Each call keeps the lists of a registry sound.
-use Rattle.std.proofs.Common.{◌≡◌, ℕ, suc, ◌+◌, ◌<◌, ◌≤◌, Bool, true, false, not, cond, ◌||◌, List, [], ◌∷◌, ◌++◌, length, filter, All, ◌⊎◌, inl, inr, bytes_eq, refl, sym, ap, subst, ◌∙◌, if◌then◌else◌, true≢false, arith, length-append}
-use Rattle.std.specs.List.{list_any, IsDistinct, AllByRecursion}
+use Rattle.std.proofs.Common.{◌≡◌, ℕ, ◌+◌, ◌<◌, ◌≤◌, Bool, true, false, not, cond, ◌||◌, List, [], ◌∷◌, ◌++◌, length, filter, All, ◌⊎◌, inl, inr, bytes_eq, refl, sym, ap, subst, ◌∙◌, if◌then◌else◌, true≢false, arith, length-append}
+use Rattle.std.specs.List.{IsDistinct, AllByRecursion}
 use Rattle.std.proofs.lemmas.Slice.Eq.{bytes_eq-Decides}
 use Rattle.std.proofs.lemmas.Map.Keys.{IsDistinct-head, IsDistinct-tail, IsDistinct-cons, IsDistinct-push}
 use Rattle.std.proofs.lemmas.Map.Views.{any-filter_same}
@@ -8,7 +8,7 @@ use Rattle.std.proofs.lemmas.List.Folds.{list_any-append}
 use Rattle.std.proofs.lemmas.List.Elements.{All-filter, All-push}
 use Rattle.std.proofs.lemmas.Cmp.{nat_list_eq_equiv}
 use Rattle.zk_history.specs.declared.side.Side.TheVariants.{Data, Child}
-use Rattle.zk_watches.specs.Lists.{Lists, has, with_path, without, side_has, count_of, registered, fired, IsSound}
+use Rattle.zk_watches.specs.Lists.{Lists, has, with_path, without, side_has, count_of, registered, IsSound}
 
 -- a filter keeps what each element is apart from
 apart-filter : (R : List ℕ → Type 0) (test : List ℕ → Bool) (xs : List (List ℕ)) → AllByRecursion R xs → AllByRecursion R (filter test xs)

@@ -1,9 +1,8 @@
-use Rattle.std.proofs.Common.{◌≡◌, ◌<◌, ◌≤◌, ◌+◌, ◌++◌, ◌∷◌, [], take, drop, ℕ, length, map, All, arith, sym, ◌∙◌, ap, refl, subst, w64, to_z, of_z, length-append}
+use Rattle.std.proofs.Common.{◌≡◌, ◌<◌, ◌++◌, ◌∷◌, [], take, drop, length, All, arith, ◌∙◌, ap, refl, subst, w64, to_z, of_z}
 use Rattle.std.proofs.lemmas.Int.{to_z-of_z}
-use Rattle.std.proofs.lemmas.List.{length-map, map-append}
+use Rattle.std.proofs.lemmas.List.{map-append}
 use Rattle.std.proofs.lemmas.List.Elements.{All-push}
-use Rattle.zk_watches.specs.Lists.{Lists}
-use Rattle.zk_watches.specs.Parts.{OnData, OnExist, OnChild, watches_of}
+use Rattle.zk_watches.specs.Parts.{watches_of}
 use Rattle.zk_watches.specs.Lent.{lists_of}
 use Rattle.zk_watches.proofs.GreedyLemmas.{parts_are_one}
 use Rattle.zk_watches.proofs.PartsLemmas.{so_far-fits, so_far-cut, so_far-last, so_far-all}
