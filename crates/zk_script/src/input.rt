@@ -2,6 +2,7 @@
 
 ghost use Rattle.std.specs.Prelude.{◌≡◌, ◌<◌, OnOk, IfOk, IfSome, vec_len};
 ghost use Rattle.std.specs.Io.KnownBytes.{Consumes, IsAtEnd};
+ghost use Rattle.zk_script.specs.declared.input.InputFault.TheVariants as faults;
 
 use std::alloc::{AllocError, Allocator};
 use std::io::Read;
@@ -22,6 +23,8 @@ pub enum InputFault {
 }
 
 impl From<AllocError> for InputFault {
+    ghost from_gives = { λ _ f. f ≡ faults.Memory };
+
     fn from(_e: AllocError) -> InputFault {
         InputFault::Memory
     }
