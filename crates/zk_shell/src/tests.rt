@@ -180,7 +180,7 @@ fn shows_frames(rt: HostRuntime) -> Result<(), Fail> {
     Ok(())
 }
 
-const SCRIPTS: [(&str, &str); 24] = [
+const SCRIPTS: [(&str, &str); 33] = [
     (
         "tx 3 1000\ncreate /a 68 0\ntx 5 2000\nset /a 6869\nask 4 data /a\nask 5 data /a\nask 2 data /a\nask 9 names /\n",
         "data 68 3 3 1000 1000 0 0 1\ndata 6869 3 5 1000 2000 1 0 2\ndata absent\nnames 1 a 3\n||0",
@@ -216,6 +216,18 @@ const SCRIPTS: [(&str, &str); 24] = [
     ("node //a 61 0\n", "|line 1: path P5\n|1"),
     ("ask 0 names /a/./b\n", "|line 1: path P6\n|1"),
     ("ask 0 data /\\xff\n", "|line 1: words\n|1"),
+    ("ask 0 data /\u{e9}\n", "|line 1: words\n|1"),
+    ("\u{e9} 0 data /\n", "|line 1: unknown\n|1"),
+    ("create / x\n", "|line 1: place\n|1"),
+    ("tx x\n", "|line 1: words\n|1"),
+    ("node a 6 x\n", "|line 1: number\n|1"),
+    ("node a 6 1\n", "|line 1: hex\n|1"),
+    ("node /a 61 1\nnode /a 61 1\n", "|line 2: illegal\n|1"),
+    ("tx 2 5\ndelete /\n", "|line 2: illegal\n|1"),
+    (
+        "node /a 61 1\nnode /a/b 61 1\ntx 2 5\nset /a 61\ndelete /a\n",
+        "|line 5: illegal\n|1",
+    ),
     (
         "tx 2 5\nset / \\0\nask 2 data /\n",
         "data \\0 0 2 0 5 1 0 0\n||0",
