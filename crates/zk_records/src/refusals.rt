@@ -1,9 +1,9 @@
+use crate::tests::bytes;
 use crate::{
     GetChildren2Ref, GetChildrenResponse, GetDataRef, Request, RequestFault, Stat, take_reply,
 };
-use hex::FromHexError;
 use refusing::Refusing;
-use std::alloc::{Allocator, Global};
+use std::alloc::Allocator;
 use std::test::Fail;
 use zk_jute::{Cursor, PutError, Readable, TakeError};
 
@@ -13,10 +13,6 @@ const CREATE: &str =
 
 // The reply to getChildren whose count is the greatest, with nothing behind it.
 const COUNT: &str = "000000010000000000000005000000007fffffff";
-
-fn bytes(alloc: Global, text: &str) -> Result<Vec<u8>, FromHexError> {
-    hex::decode(alloc, text)
-}
 
 // Reads a request and writes it, and tells which of the two was refused. What a refusal leaves is counted.
 fn refused<A: Allocator + Copy>(

@@ -58,7 +58,8 @@ const ABSENT: &str = "000000010000000000000005ffffff9b";
 // A notice that the data of `/a` changed, behind its header.
 const NOTICE: &str = "0000000300000003000000022f61";
 
-fn bytes(alloc: Global, text: &str) -> Result<Vec<u8>, FromHexError> {
+// The bytes that a text in hex stands for.
+pub(crate) fn bytes(alloc: Global, text: &str) -> Result<Vec<u8>, FromHexError> {
     hex::decode(alloc, text)
 }
 
