@@ -3,6 +3,7 @@ ghost use Rattle.std.specs.Prelude.{◌≡◌, pos, ◌+◌, ◌*◌, ◌^◌, �
 ghost use Rattle.zk_session.specs.Kept.{new_start};
 ghost use Rattle.zk_session.specs.Table.{next, due, Opens, Hears, Sends, Ticks, Sees, Cuts, Closes};
 ghost use Rattle.zk_session.specs.Fields.{event_of, answer_of, start_of, Asks, Saves};
+ghost use Rattle.zk_session.specs.Taken_back.{put_back};
 
 use crate::{Accepted, ConnectFields, Due, LONGEST_PASSWORD, Response, Saved, State};
 use std::alloc::{AllocError, Allocator};
@@ -219,6 +220,33 @@ impl<A: Allocator> Session<A> {
         if self.state == State::Connected {
             self.state = State::Closed;
         }
+    }
+
+    /// A session that stands in the same place, with memory of its own for the password. An error is want of that memory.
+    pub fn copied(&self, alloc: A) -> Result<Self, AllocError>
+        ensures { IfOk result (λ copy. copy ≡ self.now) }
+    {
+        Ok(Session {
+            state: self.state,
+            asked: self.asked,
+            timeout: self.timeout,
+            session: self.session,
+            has_password: self.has_password,
+            password: Vec::from_slice(alloc, &self.password)?,
+            last: self.last,
+            latest: self.latest,
+            heard: self.heard,
+            sent: self.sent,
+        })
+    }
+
+    /// Takes a change back: the state and the greatest zxid seen are these again.
+    pub fn put_back(&mut self, state: State, last_zxid: i64)
+        requires { pos 0 ≤ℤ last_zxid }
+        ensures { self.new ≡ put_back state last_zxid self.old }
+    {
+        self.state = state;
+        self.last = last_zxid;
     }
 
     /// Where the session stands.

@@ -1,0 +1,91 @@
+-- What a reply leaves.
+use Rattle.std.proofs.Common.{◌≡◌, ℕ, ℤ, Bool, true, false, List, [], ◌∷◌, ◌++◌, length, drop, refl, ap, sym, ◌∙◌, cond}
+use Rattle.std.specs.Int.{int_max}
+use Rattle.zk_history.specs.History.{Text}
+use Rattle.zk_session.specs.declared.states.State.{State}
+use Rattle.zk_session.specs.declared.states.State.TheVariants.{Idle, Connecting, Connected, Expired, Closed}
+use Rattle.zk_session.specs.Kept.{Kept, Saved, Moments}
+use Rattle.zk_session.specs.Table as session
+use Rattle.zk_conversation.specs.Pending.{Talk, Pending, Call_waits, closes}
+use Rattle.zk_conversation.specs.Questions.{Question, Exists, GetData, GetChildren, SetData, Create, Delete, Close}
+use Rattle.zk_conversation.specs.Results.{Result}
+use Rattle.zk_watches.specs.Lists.{Lists, no_lists}
+use Rattle.zk_cache.specs.Cache.{Answers, data_kept, names_kept, no_answers}
+use Rattle.zk_turns.specs.Kept.{Took, Replies, leaves_data, leaves_child}
+use Rattle.zk_turns.specs.Turns.{Output, Answer, Enters, Outcome, Replied}
+use Rattle.zk_turns.specs.View.{View, Cache}
+use Rattle.zk_turns.specs.Rule.{next, next_reply, seen, after_reply, kept_after, keep_node, keep_children, closing, empty_cache}
+use Rattle.zk_turns.proofs.Happened.{view_ext}
+use Rattle.zk_client.specs.Seen.{shown, while_pending, cache_of}
+use Rattle.zk_client.proofs.Kept.{cache-ext, nothing-kept}
+
+pub is-close : (question : Question) → closes question ≡ true → question ≡ Close
+is-close Close e = refl
+is-close (Exists path watch) e = absurd cc
+is-close (GetData path watch) e = absurd cc
+is-close (GetChildren path watch) e = absurd cc
+is-close (SetData path) e = absurd cc
+is-close (Create path) e = absurd cc
+is-close (Delete path) e = absurd cc
+
+pub not-closing : (question : Question) → closes question ≡ false → closing question ≡ []
+not-closing Close e = absurd cc
+not-closing (Exists path watch) e = refl
+not-closing (GetData path watch) e = refl
+not-closing (GetChildren path watch) e = refl
+not-closing (SetData path) e = refl
+not-closing (Create path) e = refl
+not-closing (Delete path) e = refl
+
+-- the view after a reply to another question
+abbrev other_reply : View → Question → ℤ → Result → View
+other_reply view question zxid result = record view {
+  saved = seen zxid view;
+  pending = drop 1 view.pending;
+  held = [];
+  lists = after_reply question result view.lists;
+  cache = kept_after question result view.cache;
+}
+
+reply-next : (view : View) (question : Question) (zxid : ℤ) (result : Result) → closes question ≡ false → next_reply view question zxid result ≡ other_reply view question zxid result
+reply-next view Close zxid result e = absurd cc
+reply-next view (Exists path watch) zxid result e = refl
+reply-next view (GetData path watch) zxid result e = refl
+reply-next view (GetChildren path watch) zxid result e = refl
+reply-next view (SetData path) zxid result e = refl
+reply-next view (Create path) zxid result e = refl
+reply-next view (Delete path) zxid result e = refl
+
+pub answered-view : (held : List ℕ) (halted : Bool) (kept : Kept) (talk : Talk) (lists : Lists) (answers : Answers) (pending : List Pending) (xid : ℤ) (ticket : ℕ) (question : Question) (zxid : ℤ) (result : Result)
+    (new : Kept) (after : Lists) (then_kept : Answers) → closes question ≡ false → pending ≡ record { xid = xid; waiting = Call_waits ticket question } ∷ talk.pending
+    → new ≡ session.next (session.Sees zxid) kept → after ≡ after_reply question result lists
+    → ((text : Text) → data_kept then_kept text ≡ keep_node (leaves_data question result) text (data_kept answers text))
+    → ((text : Text) → names_kept then_kept text ≡ keep_children (leaves_child question result) text (names_kept answers text))
+    → shown [] halted new talk after then_kept ≡ next (while_pending pending (shown held halted kept talk lists answers)) (Took (Replies ticket question zxid result))
+answered-view held halted kept talk lists answers pending xid ticket question zxid result new after then_kept other left e f nodes children =
+    let before = while_pending pending (shown held halted kept talk lists answers) in
+    view_ext (shown [] halted new talk after then_kept) (other_reply before question zxid result)
+    (ap (λ (k : Kept). record { halted = halted; state = k.state }) e) (ap (λ (k : Kept). k.saved) e) (ap (λ (k : Kept). k.moments) e)
+    (ap (λ (p : List Pending). drop 1 p) (sym left)) refl refl f (cache-ext (cache_of then_kept) (kept_after question result (cache_of answers)) nodes children)
+    ∙ sym (reply-next before question zxid result other)
+
+closed-state : (state : State) (saved : Saved) (moments : Moments) (zxid : ℤ) → state ≡ Connected
+    → session.next session.Closes (session.next (session.Sees zxid) (record { state = state; saved = saved; moments = moments }))
+    ≡ record { state = Closed; saved = record { asked = saved.asked; session = saved.session; last = int_max zxid saved.last }; moments = moments }
+closed-state Connected saved moments zxid e = refl
+closed-state Idle saved moments zxid e = absurd cc
+closed-state Connecting saved moments zxid e = absurd cc
+closed-state Expired saved moments zxid e = absurd cc
+closed-state Closed saved moments zxid e = refl
+
+pub closed-view : (held : List ℕ) (halted : Bool) (kept : Kept) (talk : Talk) (lists : Lists) (answers : Answers) (pending : List Pending) (ticket : ℕ) (question : Question) (zxid : ℤ) (result : Result)
+    (still : Bool) (saw new : Kept) (after : Talk) (gone : Lists) (nothing : Answers) → still ≡ halted → closes question ≡ true → kept.state ≡ Connected
+    → saw ≡ session.next (session.Sees zxid) kept → new ≡ session.next session.Closes saw → after.pending ≡ [] → after.xid ≡ talk.xid → gone ≡ no_lists → nothing ≡ no_answers
+    → shown [] still new after gone nothing ≡ next (while_pending pending (shown held halted kept talk lists answers)) (Took (Replies ticket question zxid result))
+closed-view held halted kept talk lists answers pending ticket question zxid result still saw new after gone nothing same close at e f quiet xid g h =
+    let before = while_pending pending (shown held halted kept talk lists answers) in
+    let is = f ∙ ap (λ (k : Kept). session.next session.Closes k) e ∙ closed-state kept.state kept.saved kept.moments zxid at in
+    view_ext (shown [] still new after gone nothing) (next_reply before Close zxid result)
+    (ap (λ (h : Bool). record { halted = h; state = new.state }) same ∙ ap (λ (k : Kept). record { halted = halted; state = k.state }) is) (ap (λ (k : Kept). k.saved) is) (ap (λ (k : Kept). k.moments) is)
+    quiet refl xid g (nothing-kept nothing h)
+    ∙ ap (λ (q : Question). next_reply before q zxid result) (sym (is-close question close))

@@ -1,0 +1,15 @@
+pub mod Pendings
+pub mod Kept
+pub mod Ends
+pub mod Rooms
+pub mod Asked
+pub mod Tests
+pub mod Parts
+pub mod Welcomes
+pub mod Answered
+pub mod Came
+pub mod Heard
+pub mod Turning
+pub mod Whole
+pub mod Holding
+pub mod Copying

@@ -1,0 +1,84 @@
+use Rattle.std.proofs.Common.{◌≡◌, ℕ, refl, List, [], ◌++◌, ap, sym, subst, ◌∙◌, map, None, append_assoc, arith}
+use Rattle.std.proofs.lemmas.List.{append-nil}
+use Rattle.zk_frames.specs.Held.{Held}
+use Rattle.zk_frames.specs.Next.{AnswersNext, GivesFrame, GivesNothing}
+use Rattle.zk_session.specs.declared.states.State.{State}
+use Rattle.zk_turns.specs.Turns.{Output, Comes}
+use Rattle.zk_turns.specs.View.{View}
+use Rattle.zk_turns.specs.Rule.{IsOpen, after_signals, says_signals, says, next, arrival}
+use Rattle.zk_client.specs.Views.{said}
+use Rattle.zk_client.specs.Seen.{view_with}
+use Rattle.zk_turns.proofs.Pieces.{unheard_view, unheard_says}
+use Rattle.zk_client.proofs.Heard.{stands-there, stays, frame-view, frame-says, bad-view, bad-says, rest-view, rest-says}
+use Rattle.zk_client.proofs.frames.take_frames.Goals as goal
+
+pub loop-reader-preserved : goal.loop-reader-preserved
+loop-reader-preserved g c =
+    let gives = rw (c.in-Ok-Some.is, c.in-Ok-Some.field-0-is) at c.next_frame.follows.holds-at-none in
+    let view = view_with [] c.loop-reader.core in
+    let payload = c.in-Ok-Some.payload.now in
+    let rest = c.next_frame.follows.lender-at-none.bytes in
+    let up : IsOpen c.loop-reader.core.session.state = subst IsOpen c.state.ensures (c.loop-reader-test.ensures.yes refl) in
+    let is = c.in_ok-take-in-Ok-Some.ensures.next [] in
+    let keeps = stays view payload in
+    record {
+      sound = c.in_ok-take-in-Ok-Some.ensures.sound;
+      clean = gives.reads;
+      goes_on = ap (λ (v : View). v.standing.halted) is ∙ keeps.halted ∙ c.loop-reader.invariant.goes_on;
+      heard = ap (λ (v : View). v.moments.heard) is ∙ keeps.heard ∙ c.loop-reader.invariant.heard ∙ sym (ap (λ (v : View). v.moments.now) is ∙ keeps.now);
+      next = ap (λ (v : View). after_signals v (map Comes rest)) is ∙ sym (frame-view view up c.loop-reader.invariant.goes_on c.loop-reader.invariant.heard refl c.loop-reader.reader.bytes payload rest gives.admitted gives.was) ∙ c.loop-reader.invariant.next;
+      says =
+          ap (λ (l : List Output). l ++ says_signals (view_with [] c.take.new.self) (map Comes rest)) (c.in_ok-take-in-Ok-Some.ensures.says [])
+          ∙ ap (λ (v : View). (said c.loop-reader.outputs.items ++ says view (arrival view payload)) ++ says_signals v (map Comes rest)) is
+          ∙ append_assoc (said c.loop-reader.outputs.items) (says view (arrival view payload)) (says_signals (next view (arrival view payload)) (map Comes rest))
+          ∙ ap (λ (l : List Output). said c.loop-reader.outputs.items ++ l) (sym (frame-says view up c.loop-reader.invariant.goes_on c.loop-reader.invariant.heard refl c.loop-reader.reader.bytes payload rest gives.admitted gives.was))
+          ∙ c.loop-reader.invariant.says;
+      origin = c.take.ensures.origin ∙ c.loop-reader.invariant.origin;
+    }
+
+pub returns-in-Ok-None-clause-next : goal.returns-in-Ok-None-clause-next
+returns-in-Ok-None-clause-next g c =
+    let nothing = rw (c.in-Ok-None.is, c.in-Ok-None.field-0-is) at c.next_frame.follows.holds-at-none in
+    let view = view_with [] c.loop-reader.core in
+    let up : IsOpen c.loop-reader.core.session.state = subst IsOpen c.state.ensures (c.loop-reader-test.ensures.yes refl) in
+    ap (λ (h : Held). view_with h.bytes c.loop-reader.core) nothing.same
+    ∙ sym (rest-view view up c.loop-reader.invariant.goes_on c.loop-reader.invariant.heard refl c.loop-reader.reader.bytes nothing.unfinished) ∙ c.loop-reader.invariant.next
+
+pub returns-in-Ok-None-clause-says : goal.returns-in-Ok-None-clause-says
+returns-in-Ok-None-clause-says g c =
+    let nothing = rw (c.in-Ok-None.is, c.in-Ok-None.field-0-is) at c.next_frame.follows.holds-at-none in
+    let view = view_with [] c.loop-reader.core in
+    let up : IsOpen c.loop-reader.core.session.state = subst IsOpen c.state.ensures (c.loop-reader-test.ensures.yes refl) in
+    sym (append-nil (said c.loop-reader.outputs.items))
+    ∙ ap (λ (l : List Output). said c.loop-reader.outputs.items ++ l) (sym (rest-says view up c.loop-reader.invariant.goes_on c.loop-reader.invariant.heard refl c.loop-reader.reader.bytes nothing.unfinished)) ∙ c.loop-reader.invariant.says
+
+pub returns-in-Err-clause-next : goal.returns-in-Err-clause-next
+returns-in-Err-clause-next g c =
+    let fails = rw c.in-Err.is at c.next_frame.follows.holds-at-none in
+    let bad = stands-there c.loop-reader.reader c.in-Err.fault c.next_frame.follows.lender-at-none c.loop-reader.invariant.clean fails in
+    let view = view_with [] c.loop-reader.core in
+    let up : IsOpen c.loop-reader.core.session.state = subst IsOpen c.state.ensures (c.loop-reader-test.ensures.yes refl) in
+    ap (λ (h : Held). view_with h.bytes c.give_up.new.self) c.reset.ensures ∙ c.in_ok-give_up-in-Err.ensures.next []
+    ∙ sym (bad-view view up c.loop-reader.invariant.goes_on c.loop-reader.invariant.heard refl c.loop-reader.reader.bytes c.in-Err.fault bad) ∙ c.loop-reader.invariant.next
+
+pub returns-in-Err-clause-says : goal.returns-in-Err-clause-says
+returns-in-Err-clause-says g c =
+    let fails = rw c.in-Err.is at c.next_frame.follows.holds-at-none in
+    let bad = stands-there c.loop-reader.reader c.in-Err.fault c.next_frame.follows.lender-at-none c.loop-reader.invariant.clean fails in
+    let view = view_with [] c.loop-reader.core in
+    let up : IsOpen c.loop-reader.core.session.state = subst IsOpen c.state.ensures (c.loop-reader-test.ensures.yes refl) in
+    c.in_ok-give_up-in-Err.ensures.says []
+    ∙ ap (λ (l : List Output). said c.loop-reader.outputs.items ++ l) (sym (bad-says view up c.loop-reader.invariant.goes_on c.loop-reader.invariant.heard refl c.loop-reader.reader.bytes c.in-Err.fault bad)) ∙ c.loop-reader.invariant.says
+
+pub returns-clause-next : goal.returns-clause-next
+returns-clause-next g c =
+    let view = view_with [] c.loop-reader.core in
+    let down : IsOpen c.loop-reader.core.session.state → ⊥ = λ up. c.loop-reader-test.ensures.no refl (subst IsOpen (sym c.state.ensures) up) in
+    ap (λ (h : Held). view_with h.bytes c.loop-reader.core) c.reset-2.ensures ∙ sym (unheard_view c.loop-reader.reader.bytes view down) ∙ c.loop-reader.invariant.next
+
+pub returns-clause-says : goal.returns-clause-says
+returns-clause-says g c =
+    let view = view_with [] c.loop-reader.core in
+    let down : IsOpen c.loop-reader.core.session.state → ⊥ = λ up. c.loop-reader-test.ensures.no refl (subst IsOpen (sym c.state.ensures) up) in
+    sym (append-nil (said c.loop-reader.outputs.items))
+    ∙ ap (λ (l : List Output). said c.loop-reader.outputs.items ++ l) (sym (unheard_says c.loop-reader.reader.bytes view down)) ∙ c.loop-reader.invariant.says

@@ -1,0 +1,7 @@
+use Rattle.std.proofs.Common.{◌≡◌, map, take}
+use Rattle.zk_client.specs.Views.{input_view}
+use Rattle.zk_client.proofs.input_copies.copied_inputs.Given as goal
+
+-- the inputs so far are copied
+abbrev pub invariant-loop-input : goal.invariant-loop-input
+invariant-loop-input g l = map (λ copies. input_view copies.handed) l.all.items ≡ map input_view (take l.input-index l.inputs)

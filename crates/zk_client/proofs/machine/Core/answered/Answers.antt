@@ -1,0 +1,21 @@
+use Rattle.std.proofs.Common.{◌≡◌, ap, ◌∙◌, ℤ, List, pos, ◌≤ℤ◌, ◌<ℤ◌, arith, subst, w32, w64}
+use mir.Val.{to_z, of_z}
+use Rattle.std.proofs.lemmas.Int.{ints}
+use Rattle.zk_records.specs.Views.{lent_response_of}
+use Rattle.zk_conversation.specs.Results.{response_password}
+use Rattle.zk_client.proofs.Welcomes.{takes-expiry, takes-welcome}
+use Rattle.zk_client.proofs.machine.Core.answered.Goals as goal
+
+pub returns-then-taken-le0-clause-next : goal.returns-then-taken-le0-clause-next
+returns-then-taken-le0-clause-next g c = λ held pending left.
+    let response = lent_response_of c.args.response.now in
+    let over : c.args.response.now.time_out ≤ℤ pos 0 = omega (arith, ints) in
+    rw (takes-expiry response over) (c.in_ok-expire.ensures.next held pending)
+
+pub returns-clause-next : goal.returns-clause-next
+returns-clause-next g c = λ held pending left.
+    let response = lent_response_of c.args.response.now in
+    let lt : pos 0 <ℤ c.args.response.now.time_out = omega (arith, ints) in
+    let timeout : to_z w32 (of_z w32 c.args.response.now.time_out) ≡ c.args.response.now.time_out = omega (arith, ints) in
+    let session : to_z w64 (of_z w64 c.args.response.now.session_id) ≡ c.args.response.now.session_id = omega (arith, ints) in
+    rw (takes-welcome response lt) (rw (timeout, session, c.or_empty.ensures) at (c.in_ok-welcome.ensures.next held pending))

@@ -1,0 +1,38 @@
+use Rattle.std.proofs.Common.{◌≡◌, sym, ◌∙◌, subst, true, false, w64, arith}
+use mir.Val.{to_z, of_z}
+use Rattle.std.proofs.lemmas.Int.{ints}
+use Rattle.zk_conversation.specs.Pending.{closes, Pending}
+use Rattle.zk_conversation.specs.Views.{question_view, result_view}
+use Rattle.zk_session.specs.Table as session
+use Rattle.zk_client.specs.Sound.{HasRoom}
+use Rattle.zk_client.proofs.Answered.{answered-view, closed-view}
+use Rattle.zk_client.proofs.Rooms.{room-for, reply-room, tied-talking}
+use Rattle.zk_client.proofs.machine.Core.take_reply.Goals as goal
+
+pub keep-requires : goal.keep-requires
+keep-requires g c = record {
+  room = room-for c.requires.left.0 c.args.ticket (question_view c.args.question.now) c.args.self.now.registry c.args.self.now.conversation.pending (subst (HasRoom c.args.self.now.registry) c.requires.left.1 c.requires.room);
+}
+
+pub returns-then-closes-clause-next : goal.returns-then-closes-clause-next
+returns-then-closes-clause-next g c = λ held pending left.
+    let core = c.args.self.now in
+    let zxid : to_z w64 (of_z w64 c.args.zxid) ≡ c.args.zxid = omega (arith, ints) in
+    closed-view held core.halted core.session core.conversation core.registry core.cache pending c.args.ticket (question_view c.args.question.now) c.args.zxid (result_view c.args.found.now)
+    c.close.new.self.halted c.saw.new.self c.close.new.self.session c.close.new.self.conversation c.close.new.self.registry c.close.new.self.cache
+    c.close.ensures.halted (sym c.closes.ensures ∙ c.if-closes.true) c.requires.comes (rw zxid at c.saw.ensures) c.in_ok-close.ensures.session c.in_ok-close.ensures.pending c.in_ok-close.ensures.xid c.in_ok-close.ensures.lists c.in_ok-close.ensures.answers
+
+pub returns-clause-sound : goal.returns-clause-sound
+returns-clause-sound g c =
+    let core = c.args.self.now in
+    record {
+      tied = rw c.saw.ensures (tied-talking (session.next (session.Sees _) core.session) core.conversation c.requires.phase c.requires.comes c.requires.short);
+      room = rw c.in_ok-keep.ensures.lists (reply-room c.requires.left.0 c.args.ticket (question_view c.args.question.now) (result_view c.args.found.now) core.registry core.conversation.pending (subst (HasRoom core.registry) c.requires.left.1 c.requires.room));
+    }
+
+pub returns-clause-next : goal.returns-clause-next
+returns-clause-next g c = λ held pending left.
+    let core = c.args.self.now in
+    let zxid : to_z w64 (of_z w64 c.args.zxid) ≡ c.args.zxid = omega (arith, ints) in
+    answered-view held core.halted core.session core.conversation core.registry core.cache pending left.0 c.args.ticket (question_view c.args.question.now) c.args.zxid (result_view c.args.found.now)
+    c.saw.new.self c.keep.new.registry c.keep.new.cache (sym c.closes.ensures ∙ c.if-closes.false) left.1 (rw zxid at c.saw.ensures) c.in_ok-keep.ensures.lists c.in_ok-keep.ensures.nodes c.in_ok-keep.ensures.children

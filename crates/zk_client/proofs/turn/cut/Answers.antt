@@ -1,0 +1,25 @@
+use Rattle.std.proofs.Common.{◌≡◌, List, [], ◌∷◌, ap, sym, subst, ◌∙◌}
+use Rattle.zk_frames.specs.Held.{Held}
+use Rattle.zk_turns.specs.Kept.{Lost}
+use Rattle.zk_turns.specs.Taken.{if_open}
+use Rattle.zk_turns.specs.Rule.{IsOpen}
+use Rattle.zk_client.specs.Views.{said}
+use Rattle.zk_client.specs.Seen.{view_with}
+use Rattle.zk_client.proofs.Turning.{turns-view, turns-says, one-says, open-causes}
+use Rattle.zk_client.proofs.turn.cut.Goals as goal
+
+pub returns-clause-next : goal.returns-clause-next
+returns-clause-next g c =
+    let core = c.args.core.now in
+    let view = view_with c.args.reader.now.bytes core in
+    let up : IsOpen core.session.state = subst IsOpen c.state.ensures (c.is_open.ensures.yes c.if-not-is_open.false) in
+    turns-view view _ core.halted (if_open core.session.state (Lost ∷ [])) (Lost ∷ []) c.requires.goes_on (open-causes core.session.state (Lost ∷ []) up)
+    (ap (λ (h : Held). view_with h.bytes c.lose.new.self) c.reset.ensures ∙ c.in_ok-lose.ensures.next c.args.reader.now.bytes)
+
+pub returns-clause-says : goal.returns-clause-says
+returns-clause-says g c =
+    let core = c.args.core.now in
+    let view = view_with c.args.reader.now.bytes core in
+    let up : IsOpen core.session.state = subst IsOpen c.state.ensures (c.is_open.ensures.yes c.if-not-is_open.false) in
+    turns-says view (said c.args.outputs.now.items) _ core.halted (if_open core.session.state (Lost ∷ [])) (Lost ∷ []) c.requires.goes_on (open-causes core.session.state (Lost ∷ []) up)
+    (one-says view (said c.args.outputs.now.items) _ Lost (c.in_ok-lose.ensures.says c.args.reader.now.bytes))

@@ -1,0 +1,22 @@
+-- What a client shows.
+use Rattle.std.specs.Prelude.{◌≡◌, ℤ, unsigned_abs}
+use Rattle.zk_session.specs.Kept.{Saved as Kept_saved}
+use Rattle.zk_session.specs.declared.fields.Saved.{Saved}
+use Rattle.zk_turns.specs.Turns.{Start}
+use Rattle.zk_turns.specs.View.{View}
+use Rattle.zk_client.specs.declared.client.Client.{Client}
+use Rattle.zk_client.specs.Seen.{view_with}
+
+-- THE view of a client, in eight fields
+abbrev pub view_of : {A : Type 0} → Client A → View
+view_of client = view_with client.reader.bytes client.core
+
+-- a saved session to begin with
+abbrev pub saved_start : (timeout : ℤ) → Saved → Start
+saved_start timeout saved = record { timeout = unsigned_abs timeout; session = saved.session; password = saved.password.now; last = saved.last_zxid }
+
+-- what is told of a saved session
+pub record Tells (kept : Kept_saved) (saved : Saved) : Type 0 where
+  pub session : saved.session ≡ kept.session.session
+  pub password : saved.password.now ≡ kept.session.password
+  pub last : saved.last_zxid ≡ kept.last

@@ -1,0 +1,58 @@
+-- What holds of a client after a run.
+use Rattle.std.specs.Prelude.{◌≡◌, ◌≤ℤ◌, ◌↔◌, List, [], ◌∷◌, ◌++◌, map, Option, Some, None, true}
+use Rattle.zk_history.specs.History.{Text, History, IsHistory}
+use Rattle.zk_history.specs.declared.side.Side.TheVariants.{Data, Child}
+use Rattle.zk_cache.specs.Kept.{is_marked_good}
+use Rattle.zk_turns.specs.Turns.{Start, Item, Turned, Halts, Turn}
+use Rattle.zk_turns.specs.View.{View}
+use Rattle.zk_turns.specs.Kept.{is_over}
+use Rattle.zk_turns.specs.Taken.{past_of}
+use Rattle.zk_turns.specs.Rule.{Stands}
+use Rattle.zk_turns.specs.Sent.{outputs_of}
+use Rattle.zk_turns.specs.Reported.{reports_in, reports_of}
+use Rattle.zk_turns.specs.Meaning.{IsGoodSince, IsLastSeen}
+use Rattle.zk_laws.specs.Served.{Served, Entry, items_in, IsServing}
+use Rattle.zk_laws.specs.Headline.{Headline, IsQuietAt, IsTrueOf, tree_of}
+use Rattle.zk_client.specs.Outsides.{Told, TellsAll, TellsAllButOne, NoneIsLeft}
+
+-- Whatever transactions a history holds, and however turns and moves of servers that hold its beginnings fall: the good answers are
+-- the history's at the last seen zxid, what was answered is true, and no connection was given up but for silence or a message that is
+-- too long. And where all that the server sent was taken, each good answer is what it would answer.
+pub record IsTrueToServers (start : Start) (items : List Item) (view : View) : Type 0 where
+  pub coherent : (h : History) → IsHistory h → (served : Served h start items) → Headline h start items view served.entries
+  pub quiet : (h : History) → IsHistory h → (entries : List Entry) → IsServing h start entries → items_in entries ≡ items → IsQuietAt h start entries → IsTrueOf (tree_of h start entries) view.cache
+
+-- Whatever came: an answer is marked good exactly where a reply left its watch and nothing has ended it since; the last seen zxid is
+-- the greatest of those that count; each notice that ended what was good was reported once, and nothing else; after an expiry, a
+-- close or a halt nothing is kept.
+pub record IsExact (start : Start) (items : List Item) (view : View) : Type 0 where
+  pub nodes : (path : Text) → is_marked_good (view.cache.nodes path) ≡ true ↔ IsGoodSince Data path (past_of start items)
+  pub children : (path : Text) → is_marked_good (view.cache.children path) ≡ true ↔ IsGoodSince Child path (past_of start items)
+  pub last : IsLastSeen start (past_of start items) view.saved.last
+  pub reports : reports_in (outputs_of items) ≡ reports_of (past_of start items)
+  pub emptied_nodes : is_over (past_of start items) ≡ true → (path : Text) → view.cache.nodes path ≡ None
+  pub emptied_children : is_over (past_of start items) ≡ true → (path : Text) → view.cache.children path ≡ None
+
+-- all of it, of a client that stands after these items
+pub record Holds (start : Start) (items : List Item) (view : View) : Type 0 where
+  pub stands : Stands start items view
+  pub exact : IsExact start items view
+  pub served : IsTrueToServers start items view
+
+-- These turns, and then these marks, lead from the one view to the other.
+pub record LeadsTo (before : View) (turns : List Turn) (marks : List Item) (after : View) : Type 0 where
+  pub holds : (start : Start) (items : List Item) → Stands start items before → Holds start (marks ++ (map Turned turns ++ items)) after
+  pub rising : (start : Start) (items : List Item) → Stands start items before → before.saved.last ≤ℤ after.saved.last
+
+-- A run that went to the end of its inputs.
+pub record RanWhole (before : View) (told : Option Told) (after : View) (told_after : Option Told) : Type 0 where
+  pub turns : List Turn
+  pub leads : LeadsTo before turns [] after
+  pub tells : TellsAll told turns told_after
+  pub ended : NoneIsLeft told_after
+
+-- A run that halted.
+pub record RanUntilHalt (before : View) (told : Option Told) (after : View) (told_after : Option Told) : Type 0 where
+  pub turns : List Turn
+  pub leads : LeadsTo before turns (Halts ∷ []) after
+  pub tells : TellsAllButOne told turns told_after

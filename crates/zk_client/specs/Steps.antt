@@ -1,0 +1,55 @@
+-- Parts of one step.
+use Rattle.std.specs.Prelude.{◌≡◌, ℕ, Bool, negsuc, ◌+◌, ◌<◌, pos, nat_lt, List, [], ◌∷◌, length, Option, Some, None, ◌≤◌, unsigned_abs, max, true, false, if◌then◌else◌}
+use Rattle.std.specs.Ordering.{int_eq}
+use Rattle.zk_history.specs.declared.side.Side.{Side}
+use Rattle.zk_records.specs.declared.code.Code.{Code}
+use Rattle.zk_records.specs.Codes.{code_number}
+use Rattle.zk_frames.specs.declared.put.TheConstants.{LONGEST_OUTGOING}
+use Rattle.zk_conversation.specs.Calls.{Call, call_payload}
+use Rattle.zk_conversation.specs.Questions.{question_of, watched_side}
+use Rattle.zk_conversation.specs.Pending.{calls_pending, watches_pending}
+use Rattle.zk_session.specs.declared.states.State.TheVariants.{Connected}
+use Rattle.zk_watches.specs.Lists.{count_of}
+use Rattle.zk_turns.specs.Turns.{Outcome, TooLarge, Input, Opened, Bytes, Cut, Now, Call as Asks}
+use Rattle.zk_turns.specs.Kept.{is_final}
+use Rattle.zk_turns.specs.Taken.{due, if_open}
+use Rattle.zk_turns.specs.Rule.{IsOpen}
+use Rattle.zk_session.specs.Kept.{Welcome}
+use Rattle.zk_session.specs.declared.fields.Response.{Response}
+use Rattle.zk_turns.specs.View.{View}
+
+-- why a call is refused that nothing else keeps from being sent
+abbrev pub refusal_by_length : (xid : ℕ) → Call → Option Outcome
+refusal_by_length xid call = if nat_lt LONGEST_OUTGOING (length (call_payload (pos xid) call)) then Some TooLarge else None
+
+-- nothing but its length keeps a call from being sent
+pub record IsSendable (view : View) (call : Call) : Type 0 where
+  pub talks : view.standing.state ≡ Connected
+  pub few : calls_pending view.pending < 1024
+  pub room : (side : Side) → watched_side (question_of call) ≡ Some side → count_of view.lists side + watches_pending side view.pending < 65536
+
+abbrev pub is_no_node : Code → Bool
+is_no_node code = int_eq (code_number code) (negsuc 100)
+
+-- the session that an accepted response gives
+abbrev pub welcome_of : Response → Welcome
+welcome_of response = record { timeout = unsigned_abs response.time_out; session = response.session_id; password = response.password.now }
+
+-- nothing is due at a moment
+abbrev pub NothingIsDue : View → (moment : ℕ) → Type 0
+NothingIsDue view moment = if_open view.standing.state (due view (max moment view.moments.now)) ≡ []
+
+-- The inputs of which nothing comes: where there is no connection, and none may begin, and a moment at which nothing is due.
+abbrev pub ComesToNothing : View → Input → Type 0
+ComesToNothing view Opened = is_final view.standing.state ≡ true
+ComesToNothing view (Bytes bytes) = ¬ (IsOpen view.standing.state)
+ComesToNothing view Cut = ¬ (IsOpen view.standing.state)
+ComesToNothing view (Now moment) = NothingIsDue view moment
+ComesToNothing view (Asks ticket asked) = ⊥
+
+abbrev pub IsQuiet : View → Input → Type 0
+IsQuiet view input = (view.standing.halted ≡ false) × ComesToNothing view input
+
+abbrev pub has_any : {A : Type 0} → List A → Bool
+has_any [] = false
+has_any (x ∷ xs) = true

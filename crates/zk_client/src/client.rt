@@ -1,0 +1,162 @@
+//! The client.
+
+ghost use Rattle.std.specs.Prelude.{◌≡◌, false};
+ghost use Rattle.std.proofs.Props.{props};
+ghost use Rattle.zk_client.specs.Sound.{CoreIsSound, IsReading};
+
+use crate::fault::Halt;
+use crate::input::Input;
+use crate::machine::Core;
+use crate::output::Output;
+use crate::turn::{asked_length, turn};
+use std::alloc::{AllocError, Allocator};
+use zk_cache::{Cache, DataAnswer, Mark};
+use zk_conversation::Conversation;
+use zk_frames::FrameReader;
+use zk_history::{Names, Path};
+use zk_session::{Saved, Session, State};
+use zk_turns::{first_view, one_forget, one_turn};
+use zk_watches::Registry;
+
+/// A client of one session: what it is told by [`Client::step`] moves it from connection to connection. It shows a view of eight
+/// fields: its state, the saved session, the moments, what is pending, the bytes that are held, the next xid, the three lists of
+/// watched paths and what is kept of each path.
+#[derive(Drop)]
+pub struct Client<A: Allocator + Copy> {
+    core: Core<A>,
+    reader: FrameReader<A>,
+    ghost sound: { core.halted ≡ false → CoreIsSound core } by { Prim.hlevel props },
+    ghost reading: { core.halted ≡ false → IsReading reader } by { Prim.hlevel props },
+}
+
+impl<A: Allocator + Copy> Client<A> {
+    ghost use Rattle.std.specs.Prelude.{◌≡◌, ◌≤◌, ◌<ℤ◌, ◌≤ℤ◌, pos, unsigned_abs, length, List, [], ◌∷◌, IfOk, OnErr, IsOk, IsErr, true, false, option_map};
+    ghost use Rattle.zk_session.specs.Fields.{Saves};
+    ghost use Rattle.zk_session.specs.declared.fields.TheConstants.{LONGEST_PASSWORD};
+    ghost use Rattle.zk_cache.specs.Contents.{answer_of, names_in};
+    ghost use Rattle.zk_turns.specs.Turns.{Start, Item, Turned, Forgets, new_start};
+    ghost use Rattle.zk_turns.specs.View.{view_at};
+    ghost use Rattle.zk_turns.specs.Rule.{Rule, Stands, HaltsAs, forgotten};
+    ghost use Rattle.zk_client.specs.Views.{input_view, turn_of};
+    ghost use Rattle.zk_client.specs.Steps.{IsQuiet};
+    ghost use Rattle.zk_client.specs.Clients.{view_of, saved_start, Tells};
+
+    /// A client of no session yet, which asks for this timeout in milliseconds. It takes no memory.
+    pub fn new(alloc: A, timeout_ms: i32) -> Client<A>
+        requires { pos 0 <ℤ timeout_ms }
+        ensures view { view_of result ≡ view_at (new_start (unsigned_abs timeout_ms)) [] }
+        ensures stands { Stands (new_start (unsigned_abs timeout_ms)) [] (view_of result) }
+    {
+        first_view();
+        Client {
+            core: Core {
+                alloc,
+                halted: false,
+                session: Session::new(alloc, timeout_ms),
+                earlier: None,
+                conversation: Conversation::new(alloc),
+                registry: Registry::new(alloc),
+                cache: Cache::new(alloc),
+            },
+            reader: FrameReader::new(alloc),
+        }
+    }
+
+    /// A client that takes up a saved session, with this timeout in milliseconds. It keeps no answers and watches nothing. An
+    /// error is want of memory for the password.
+    pub fn resume(alloc: A, timeout_ms: i32, saved: &Saved<'_>) -> Result<Client<A>, AllocError>
+        requires timeout { pos 0 <ℤ timeout_ms }
+        requires last { pos 0 ≤ℤ saved.now.last_zxid }
+        requires password { length saved.now.password.now ≤ LONGEST_PASSWORD }
+        ensures view { IfOk result (λ client. view_of client ≡ view_at (saved_start timeout_ms saved.now) []) }
+        ensures stands { IfOk result (λ client. Stands (saved_start timeout_ms saved.now) [] (view_of client)) }
+    {
+        first_view();
+        Ok(Client {
+            core: Core {
+                alloc,
+                halted: false,
+                session: Session::resume(alloc, timeout_ms, saved)?,
+                earlier: None,
+                conversation: Conversation::new(alloc),
+                registry: Registry::new(alloc),
+                cache: Cache::new(alloc),
+            },
+            reader: FrameReader::new(alloc),
+        })
+    }
+
+    /// Takes an input, and gives the outputs that it makes due, in order. A turn is by the rule, so that the client stands where
+    /// all its turns have led.
+    ///
+    /// An error is want of memory. The input is no turn then: nothing is kept and nothing is watched any more, the state, the
+    /// saved session and the last seen zxid are those before the step, and each later step answers the same. An input of which
+    /// nothing comes takes no memory.
+    pub fn step(&mut self, input: Input<A>) -> Result<Vec<Output<A>, A>, Halt>
+        ensures rule { IfOk result (λ outputs. Rule (view_of self.old) (turn_of input outputs.items) (view_of self.new)) }
+        ensures stands { IfOk result (λ outputs. (start : Start) (items : List Item) → Stands start items (view_of self.old) → Stands start (Turned (turn_of input outputs.items) ∷ items) (view_of self.new)) }
+        ensures quiet { IsQuiet (view_of self.old) (input_view input) → IsOk result }
+        ensures halt { OnErr result (HaltsAs (view_of self.old) (view_of self.new)) }
+        ensures halted { (view_of self.old).standing.halted ≡ true → IsErr result }
+    {
+        one_turn();
+        let mut outputs = Vec::new(self.core.alloc);
+        let state = self.core.session.state();
+        let last = self.core.session.last_zxid();
+        asked_length(&input);
+        self.core.earlier = None;
+        if self.core.halted {
+            self.core.halt(state, last);
+            return Err(Halt);
+        }
+        let Ok(()) = turn(&mut self.core, &mut self.reader, input, &mut outputs) else {
+            self.core.halt(state, last);
+            return Err(Halt);
+        };
+        Ok(outputs)
+    }
+
+    /// What is kept about the data of a path. It takes no memory.
+    pub fn peek_data(&self, path: &Path<A>) -> Option<(&DataAnswer<A>, Mark)>
+        ensures { option_map (λ kept. record { answer = answer_of kept.0.now; mark = kept.1 }) result ≡ (view_of self.now).cache.nodes path.now }
+    {
+        self.core.cache.peek_data(path.as_str())
+    }
+
+    /// What is kept about the children of a path. It takes no memory.
+    pub fn peek_children(&self, path: &Path<A>) -> Option<(&Names<A>, Mark)>
+        ensures { option_map (λ kept. record { answer = names_in kept.0.now; mark = kept.1 }) result ≡ (view_of self.now).cache.children path.now }
+    {
+        self.core.cache.peek_children(path.as_str())
+    }
+
+    /// The greatest zxid seen: of the replies, and of the saved session.
+    pub fn last_zxid(&self) -> i64
+        ensures { result ≡ (view_of self.now).saved.last }
+    {
+        self.core.session.last_zxid()
+    }
+
+    /// Where the client stands.
+    pub fn state(&self) -> State
+        ensures { result ≡ (view_of self.now).standing.state }
+    {
+        self.core.session.state()
+    }
+
+    /// What another client can be resumed from.
+    pub fn saved(&self) -> Saved<'_>
+        ensures { Tells (view_of self.now).saved result }
+    {
+        self.core.session.saved()
+    }
+
+    /// Takes the stale answers out. It takes no memory.
+    pub fn forget_stale(&mut self)
+        ensures view { view_of self.new ≡ record (view_of self.old) { cache = forgotten (view_of self.old).cache } }
+        ensures stands { (start : Start) (items : List Item) → Stands start items (view_of self.old) → Stands start (Forgets ∷ items) (view_of self.new) }
+    {
+        one_forget();
+        self.core.forget_stale();
+    }
+}

@@ -1,0 +1,89 @@
+//! Bytes of a connection, frame by frame.
+
+ghost use Rattle.std.specs.Prelude.{◌≡◌, List, [], ◌++◌, OnOk, IsOk, None, map, true, false};
+ghost use Rattle.zk_turns.specs.Turns.{Comes};
+ghost use Rattle.zk_turns.specs.Rule.{IsOpen, after_signals, says_signals};
+ghost use Rattle.zk_client.specs.Views.{said};
+ghost use Rattle.zk_client.specs.Seen.{view_with, origin};
+ghost use Rattle.zk_client.specs.Sound.{CoreIsSound, IsReading};
+
+use crate::fault::Fault;
+use crate::machine::Core;
+use crate::output::Output;
+use std::alloc::{AllocError, Allocator};
+use zk_frames::FrameReader;
+use zk_session::State;
+
+/// Whether there is a connection.
+pub(crate) fn is_open(state: State) -> bool
+    ensures yes { result ≡ true → IsOpen state }
+    ensures no { result ≡ false → ¬ (IsOpen state) }
+{
+    match state {
+        State::Connecting | State::Connected => true,
+        State::Idle | State::Expired | State::Closed => false,
+    }
+}
+
+/// Bytes came. Each payload that is whole has its effect, up to the end of the connection.
+pub(crate) fn hear<A: Allocator + Copy>(
+    core: &mut Core<A>,
+    reader: &mut FrameReader<A>,
+    bytes: &[u8],
+    outputs: &mut Vec<Output<A>, A>,
+) -> Result<(), AllocError>
+    requires sound { CoreIsSound core.old }
+    requires reading { IsReading reader.old }
+    requires goes_on { core.old.halted ≡ false }
+    ensures sound { OnOk result (CoreIsSound core.new) }
+    ensures reading { OnOk result (IsReading reader.new) }
+    ensures next { OnOk result (view_with reader.new.bytes core.new ≡ after_signals (view_with reader.old.bytes core.old) (map Comes bytes.now)) }
+    ensures says { OnOk result (said outputs.new.items ≡ said outputs.old.items ++ says_signals (view_with reader.old.bytes core.old) (map Comes bytes.now)) }
+    ensures quiet { ¬ (IsOpen core.old.session.state) → IsOk result }
+    ensures origin { origin core.new ≡ origin core.old }
+{
+    if !is_open(core.session.state()) {
+        return Ok(());
+    }
+    if bytes.is_empty() {
+        return Ok(());
+    }
+    core.session.heard(0);
+    let Ok(()) = reader.feed(bytes) else {
+        return Err(AllocError);
+    };
+    take_frames(core, reader, outputs)?;
+    Ok(())
+}
+
+// Takes what is held, a whole frame at a time.
+fn take_frames<A: Allocator + Copy>(
+    core: &mut Core<A>,
+    reader: &mut FrameReader<A>,
+    outputs: &mut Vec<Output<A>, A>,
+) -> Result<(), AllocError>
+    requires sound { CoreIsSound core.old }
+    requires clean { reader.old.fault ≡ None }
+    requires goes_on { core.old.halted ≡ false }
+    requires up { IsOpen core.old.session.state }
+    requires heard { core.old.session.moments.heard ≡ core.old.session.moments.now }
+    ensures sound { OnOk result (CoreIsSound core.new) }
+    ensures reading { OnOk result (IsReading reader.new) }
+    ensures next { OnOk result (view_with reader.new.bytes core.new ≡ after_signals (view_with [] core.old) (map Comes reader.old.bytes)) }
+    ensures says { OnOk result (said outputs.new.items ≡ said outputs.old.items ++ says_signals (view_with [] core.old) (map Comes reader.old.bytes)) }
+    ensures origin { origin core.new ≡ origin core.old }
+{
+    while is_open(core.session.state()) {
+        match reader.next_frame() {
+            Ok(Some(payload)) => core.take(payload, outputs)?,
+            Ok(None) => return Ok(()),
+            Err(fault) => {
+                core.give_up(Fault::Framed(fault), outputs)?;
+                reader.reset();
+                return Ok(());
+            }
+        }
+    }
+    reader.reset();
+    Ok(())
+}

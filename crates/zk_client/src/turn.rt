@@ -1,0 +1,145 @@
+//! One turn: an input and what it gives.
+
+ghost use Rattle.std.specs.Prelude.{◌≡◌, List, [], ◌∷◌, ◌++◌, OnOk, IsOk, true, false};
+ghost use Rattle.zk_conversation.specs.Views.{call_view};
+ghost use Rattle.zk_turns.specs.Turns.{signals_of, IsAsked, Opens, Cuts, Ticks};
+ghost use Rattle.zk_turns.specs.Kept.{is_final};
+ghost use Rattle.zk_turns.specs.Rule.{IsOpen, after_signals, says_signals};
+ghost use Rattle.zk_client.specs.Views.{said, input_view};
+ghost use Rattle.zk_client.specs.Seen.{view_with, origin};
+ghost use Rattle.zk_client.specs.Sound.{CoreIsSound, IsReading};
+ghost use Rattle.zk_client.specs.Steps.{IsQuiet, NothingIsDue};
+
+use crate::calls::path_length;
+use crate::fault::Fault;
+use crate::frames::{hear, is_open};
+use crate::input::Input;
+use crate::machine::Core;
+use crate::output::Output;
+use std::alloc::{AllocError, Allocator};
+use zk_frames::FrameReader;
+use zk_session::{Due, State};
+
+/// How long the path is that a caller asks about, if one does. It is read for what is known of its text.
+pub(crate) fn asked_length<A: Allocator + Copy>(input: &Input<A>) -> usize
+    ensures { IsAsked (input_view input.now) }
+{
+    match input {
+        Input::Call(_, call) => path_length(call),
+        _ => 0,
+    }
+}
+
+/// Takes an input.
+pub(crate) fn turn<A: Allocator + Copy>(
+    core: &mut Core<A>,
+    reader: &mut FrameReader<A>,
+    input: Input<A>,
+    outputs: &mut Vec<Output<A>, A>,
+) -> Result<(), AllocError>
+    requires sound { CoreIsSound core.old }
+    requires reading { IsReading reader.old }
+    requires goes_on { core.old.halted ≡ false }
+    ensures sound { OnOk result (CoreIsSound core.new) }
+    ensures reading { OnOk result (IsReading reader.new) }
+    ensures next { OnOk result (view_with reader.new.bytes core.new ≡ after_signals (view_with reader.old.bytes core.old) (signals_of (input_view input))) }
+    ensures says { OnOk result (said outputs.new.items ≡ said outputs.old.items ++ says_signals (view_with reader.old.bytes core.old) (signals_of (input_view input))) }
+    ensures quiet { IsQuiet (view_with reader.old.bytes core.old) (input_view input) → IsOk result }
+    ensures origin { origin core.new ≡ origin core.old }
+{
+    match input {
+        Input::Opened => opened(core, reader, outputs)?,
+        Input::Bytes(bytes) => hear(core, reader, &bytes, outputs)?,
+        Input::Cut => cut(core, reader, outputs)?,
+        Input::Now(moment) => now(core, reader, moment, outputs)?,
+        Input::Call(ticket, call) => core.ask(ticket, call, outputs)?,
+    }
+    Ok(())
+}
+
+// A connection begins. One that is open ends first.
+fn opened<A: Allocator + Copy>(
+    core: &mut Core<A>,
+    reader: &mut FrameReader<A>,
+    outputs: &mut Vec<Output<A>, A>,
+) -> Result<(), AllocError>
+    requires sound { CoreIsSound core.old }
+    requires reading { IsReading reader.old }
+    requires goes_on { core.old.halted ≡ false }
+    ensures sound { OnOk result (CoreIsSound core.new) }
+    ensures reading { OnOk result (IsReading reader.new) }
+    ensures next { OnOk result (view_with reader.new.bytes core.new ≡ after_signals (view_with reader.old.bytes core.old) (Opens ∷ [])) }
+    ensures says { OnOk result (said outputs.new.items ≡ said outputs.old.items ++ says_signals (view_with reader.old.bytes core.old) (Opens ∷ [])) }
+    ensures quiet { is_final core.old.session.state ≡ true → IsOk result }
+    ensures origin { origin core.new ≡ origin core.old }
+{
+    match core.session.state() {
+        State::Expired | State::Closed => Ok(()),
+        State::Idle => {
+            reader.reset();
+            core.begin(outputs)?;
+            Ok(())
+        }
+        State::Connecting | State::Connected => {
+            reader.reset();
+            core.lose(outputs)?;
+            core.begin(outputs)?;
+            Ok(())
+        }
+    }
+}
+
+// The connection is over.
+fn cut<A: Allocator + Copy>(
+    core: &mut Core<A>,
+    reader: &mut FrameReader<A>,
+    outputs: &mut Vec<Output<A>, A>,
+) -> Result<(), AllocError>
+    requires sound { CoreIsSound core.old }
+    requires reading { IsReading reader.old }
+    requires goes_on { core.old.halted ≡ false }
+    ensures sound { OnOk result (CoreIsSound core.new) }
+    ensures reading { OnOk result (IsReading reader.new) }
+    ensures next { OnOk result (view_with reader.new.bytes core.new ≡ after_signals (view_with reader.old.bytes core.old) (Cuts ∷ [])) }
+    ensures says { OnOk result (said outputs.new.items ≡ said outputs.old.items ++ says_signals (view_with reader.old.bytes core.old) (Cuts ∷ [])) }
+    ensures quiet { ¬ (IsOpen core.old.session.state) → IsOk result }
+    ensures origin { origin core.new ≡ origin core.old }
+{
+    if !is_open(core.session.state()) {
+        return Ok(());
+    }
+    reader.reset();
+    core.lose(outputs)?;
+    Ok(())
+}
+
+// The moment is told. Where nothing is due, no memory is taken.
+fn now<A: Allocator + Copy>(
+    core: &mut Core<A>,
+    reader: &mut FrameReader<A>,
+    moment: u64,
+    outputs: &mut Vec<Output<A>, A>,
+) -> Result<(), AllocError>
+    requires sound { CoreIsSound core.old }
+    requires reading { IsReading reader.old }
+    requires goes_on { core.old.halted ≡ false }
+    ensures sound { OnOk result (CoreIsSound core.new) }
+    ensures reading { OnOk result (IsReading reader.new) }
+    ensures next { OnOk result (view_with reader.new.bytes core.new ≡ after_signals (view_with reader.old.bytes core.old) (Ticks moment ∷ [])) }
+    ensures says { OnOk result (said outputs.new.items ≡ said outputs.old.items ++ says_signals (view_with reader.old.bytes core.old) (Ticks moment ∷ [])) }
+    ensures quiet { NothingIsDue (view_with reader.old.bytes core.old) moment → IsOk result }
+    ensures origin { origin core.new ≡ origin core.old }
+{
+    match core.session.moment(moment) {
+        Due::Nothing => Ok(()),
+        Due::Ping => {
+            core.ping(outputs)?;
+            Ok(())
+        }
+        Due::Silent => {
+            reader.reset();
+            core.give_up(Fault::Silent, outputs)?;
+            Ok(())
+        }
+    }
+}
