@@ -14,42 +14,42 @@ use std::collections::BTreeSet;
 use std::fmt::Display;
 use zk_history::{Data, DataStat, Names};
 
-/// Adds a space and a number.
+/// Adds a space and the word that a value is shown as.
 #[tactic(auto, unfolding(crate::specs::Answers::spaced))]
-fn push_number<A: Allocator + Copy, D: Display>(
+pub fn push_word<A: Allocator + Copy, D: Display>(
     text: &mut String<A>,
     alloc: A,
-    number: &D,
+    value: &D,
 ) -> Result<(), AllocError>
-    requires { IsSome (D.output number.now) }
-    ensures { OnOk result (string_bytes text.new ≡ string_bytes text.old ++ spaced (unwrap_or (D.output number.now) [])) }
+    requires { IsSome (D.output value.now) }
+    ensures { OnOk result (string_bytes text.new ≡ string_bytes text.old ++ spaced (unwrap_or (D.output value.now) [])) }
 {
-    let word = number.to_string(alloc)?;
+    let word = value.to_string(alloc)?;
     text.push_str(" ")?;
     text.push_str(word.as_str())?;
     Ok(())
 }
 
 /// Adds the seven numbers, a space before each.
-fn push_stat<A: Allocator + Copy>(
+pub fn push_stat<A: Allocator + Copy>(
     text: &mut String<A>,
     alloc: A,
     stat: &DataStat,
 ) -> Result<(), AllocError>
     ensures { OnOk result (string_bytes text.new ≡ string_bytes text.old ++ stat_words stat.now) }
 {
-    push_number(text, alloc, &stat.czxid)?;
-    push_number(text, alloc, &stat.mzxid)?;
-    push_number(text, alloc, &stat.ctime)?;
-    push_number(text, alloc, &stat.mtime)?;
-    push_number(text, alloc, &stat.version)?;
-    push_number(text, alloc, &stat.ephemeral_owner)?;
-    push_number(text, alloc, &stat.data_length)?;
+    push_word(text, alloc, &stat.czxid)?;
+    push_word(text, alloc, &stat.mzxid)?;
+    push_word(text, alloc, &stat.ctime)?;
+    push_word(text, alloc, &stat.mtime)?;
+    push_word(text, alloc, &stat.version)?;
+    push_word(text, alloc, &stat.ephemeral_owner)?;
+    push_word(text, alloc, &stat.data_length)?;
     Ok(())
 }
 
 /// Adds the word for bytes, which may be null.
-fn push_data_word<A: Allocator + Copy>(
+pub fn push_data_word<A: Allocator + Copy>(
     text: &mut String<A>,
     alloc: A,
     bytes: &Option<Vec<u8, A>>,
@@ -89,7 +89,7 @@ pub fn push_data<A: Allocator + Copy>(
 
 /// Adds a space and the word for a name.
 #[tactic(auto, unfolding(crate::specs::Answers::spaced))]
-fn push_name<A: Allocator + Copy>(
+pub fn push_name<A: Allocator + Copy>(
     text: &mut String<A>,
     alloc: A,
     name: &[u8],
@@ -103,7 +103,7 @@ fn push_name<A: Allocator + Copy>(
 }
 
 /// Adds the names in byte order, a space before each.
-fn push_all<A: Allocator + Copy>(
+pub fn push_all<A: Allocator + Copy>(
     text: &mut String<A>,
     alloc: A,
     names: &BTreeSet<String<A>, A>,
@@ -126,9 +126,9 @@ fn push_found<A: Allocator + Copy>(
     ensures ordered { OnOk result (IsOrdered string_cmp found.now.names) }
 {
     text.push_str("names")?;
-    push_number(text, alloc, &found.names.len())?;
+    push_word(text, alloc, &found.names.len())?;
     push_all(text, alloc, &found.names)?;
-    push_number(text, alloc, &found.pzxid)?;
+    push_word(text, alloc, &found.pzxid)?;
     text.push_str("\n")?;
     Ok(())
 }

@@ -57,7 +57,7 @@ pub enum HistoryLine<A: Allocator> {
 }
 
 /// The side that a word names.
-fn side_at(word: &[u8]) -> Result<Side, ScriptFault>
+pub fn side_at(word: &[u8]) -> Result<Side, ScriptFault>
     ensures { Reads (λ s. s) result (side_read word.now) }
 {
     match word {

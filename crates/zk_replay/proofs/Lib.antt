@@ -1,0 +1,4 @@
+pub mod SetLemmas
+pub mod TellLemmas
+pub mod PlayLemmas
+pub mod ScriptLemmas

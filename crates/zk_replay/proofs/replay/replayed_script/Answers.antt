@@ -1,0 +1,6 @@
+use Rattle.zk_replay.specs.Replays.{lines_of}
+use Rattle.zk_replay.proofs.ScriptLemmas.{none_yet}
+use Rattle.zk_replay.proofs.replay.replayed_script.Goals as goal
+
+pub returns-in-Err : goal.returns-in-Err
+returns-in-Err g c = rw c.new.ensures.bytes (none_yet (lines_of c.args.script.now))

@@ -1,0 +1,68 @@
+-- The lines that drive a client, whatever is at the other end of its connection.
+use Rattle.std.specs.Prelude.{ℕ, ℤ, if◌then◌else◌, List, [], ◌∷◌, codes, Option, Some, None, Result, Ok, Err, bytes_eq}
+use Rattle.std.specs.List.{list_all}
+use Rattle.zk_history.specs.History.{Text}
+use Rattle.zk_history.specs.declared.side.Side.{Side}
+use Rattle.zk_script.specs.declared.script_fault.ScriptFault.{ScriptFault}
+use Rattle.zk_script.specs.declared.script_fault.ScriptFault.TheVariants.{Words}
+use Rattle.zk_script.specs.HistoryLines.{side_read}
+use Rattle.zk_script.specs.Reads.{◌>>=◌, text_at, path_at, is_printed}
+use Rattle.zk_replay.specs.declared.client_line.ClientKeyword.{ClientKeyword}
+use Rattle.zk_replay.specs.declared.client_line.ClientKeyword.TheVariants as keyword
+use Rattle.zk_replay.specs.CallLines.{Asked, call_at}
+use Rattle.zk_replay.specs.Reads.{natural_at}
+
+abbrev pub client_keyword_of : Text → Option ClientKeyword
+client_keyword_of word =
+    if bytes_eq word (codes "cut") then Some keyword.Cut
+    else (if bytes_eq word (codes "now") then Some keyword.Now
+    else (if bytes_eq word (codes "call") then Some keyword.Call
+    else (if bytes_eq word (codes "peek") then Some keyword.Peek
+    else (if bytes_eq word (codes "last") then Some keyword.Last
+    else (if bytes_eq word (codes "forget") then Some keyword.Forget
+    else (if bytes_eq word (codes "saved") then Some keyword.Saved
+    else None))))))
+
+-- The connection ends, a moment comes, a call is asked; a look-up of a path, of the last seen zxid or of the session; or the stale
+-- answers are taken out.
+pub data ClientValue : Type 0 where
+  CutLine : ClientValue
+  NowLine : ℕ → ClientValue
+  CallLine : Asked → ClientValue
+  PeekLine : Side → Text → ClientValue
+  LastLine : ClientValue
+  ForgetLine : ClientValue
+  SavedLine : ClientValue
+
+abbrev pub now_at : List Text → Result ClientValue ScriptFault
+now_at (moment ∷ []) = do
+  number ← natural_at moment
+  Ok (NowLine number)
+now_at words = Err Words
+
+abbrev pub peek_at : List Text → Result ClientValue ScriptFault
+peek_at (side ∷ path ∷ []) = do
+  which ← side_read side
+  text ← text_at path
+  place ← path_at text
+  Ok (PeekLine which place)
+peek_at words = Err Words
+
+-- a line of its first word alone
+abbrev pub alone : {X : Type 0} → X → List Text → Result X ScriptFault
+alone value [] = Ok value
+alone value words = Err Words
+
+-- what the words behind a keyword say
+abbrev pub client_words_at : ClientKeyword → List Text → Result ClientValue ScriptFault
+client_words_at keyword.Cut words = alone CutLine words
+client_words_at keyword.Now words = now_at words
+client_words_at keyword.Call words = call_at words >>= λ asked. Ok (CallLine asked)
+client_words_at keyword.Peek words = peek_at words
+client_words_at keyword.Last words = alone LastLine words
+client_words_at keyword.Forget words = alone ForgetLine words
+client_words_at keyword.Saved words = alone SavedLine words
+
+-- the same, where each word is printable
+abbrev pub client_line_at : ClientKeyword → List Text → Result ClientValue ScriptFault
+client_line_at word words = if list_all is_printed words then client_words_at word words else Err Words

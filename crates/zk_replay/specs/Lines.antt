@@ -1,0 +1,37 @@
+-- What the lines say that are read.
+use Rattle.zk_conversation.specs.Views.{call_view}
+use Rattle.zk_replay.specs.declared.call_line.Asked.{Asked as RustAsked}
+use Rattle.zk_replay.specs.declared.call_line.Watched.{Watched as RustWatched}
+use Rattle.zk_replay.specs.declared.client_line.ClientLine.{ClientLine}
+use Rattle.zk_replay.specs.declared.client_line.ClientLine.TheVariants as client
+use Rattle.zk_replay.specs.declared.begin_line.BeginLine.{BeginLine}
+use Rattle.zk_replay.specs.declared.begin_line.BeginLine.TheVariants as begin
+use Rattle.zk_replay.specs.declared.drive_line.DriveLine.{DriveLine}
+use Rattle.zk_replay.specs.declared.drive_line.DriveLine.TheVariants as drive
+use Rattle.zk_replay.specs.CallLines.{Asked, Watched}
+use Rattle.zk_replay.specs.ClientLines.{ClientValue, CutLine, NowLine, CallLine, PeekLine, LastLine, ForgetLine, SavedLine}
+use Rattle.zk_replay.specs.ReplayLines.{BeginValue, TimeoutLine, ResumeLine, DriveValue, OpenedLine, BytesLine, ClientValueLine}
+
+abbrev pub asked_of : {A : Type 0} → RustAsked A → Asked
+asked_of asked = record { ticket = asked.ticket; call = call_view asked.call }
+
+abbrev pub watched_of : {A : Type 0} → RustWatched A → Watched
+watched_of watched = record { ticket = watched.ticket; path = watched.path; watch = watched.watch }
+
+abbrev pub client_value_of : {A : Type 0} → ClientLine A → ClientValue
+client_value_of client.Cut = CutLine
+client_value_of (client.Now moment) = NowLine moment
+client_value_of (client.Call asked) = CallLine (asked_of asked)
+client_value_of (client.Peek side path) = PeekLine side path
+client_value_of client.Last = LastLine
+client_value_of client.Forget = ForgetLine
+client_value_of client.Saved = SavedLine
+
+abbrev pub begin_value_of : {A : Type 0} → BeginLine A → BeginValue
+begin_value_of (begin.Timeout timeout) = TimeoutLine timeout
+begin_value_of (begin.Resume timeout session password last) = ResumeLine timeout session password.items last
+
+abbrev pub drive_value_of : {A : Type 0} → DriveLine A → DriveValue
+drive_value_of drive.Opened = OpenedLine
+drive_value_of (drive.Bytes bytes) = BytesLine bytes.items
+drive_value_of (drive.Client line) = ClientValueLine (client_value_of line)

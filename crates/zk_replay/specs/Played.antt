@@ -1,0 +1,101 @@
+-- What the lines of a replay make of a client, and what they print.
+use Rattle.std.specs.Prelude.{◌≡◌, ⊤, unsigned_abs, is_some, ℕ, Bool, List, [], ◌∷◌, Option, Some, None, Result, Ok, Err}
+use Rattle.std.specs.Option.{option_map}
+use Rattle.zk_history.specs.History.{Text}
+use Rattle.zk_history.specs.declared.side.Side.TheVariants.{Data, Child}
+use Rattle.zk_turns.specs.Turns.{Input, Opened, Bytes, Cut, Now, Call, Output, Start, new_start}
+use Rattle.zk_turns.specs.View.{View, view_at}
+use Rattle.zk_turns.specs.Rule.{Rule, forgotten}
+use Rattle.zk_client.specs.Clients.{view_of}
+use Rattle.zk_script.specs.Pieces.{words_of}
+use Rattle.zk_script.specs.declared.script_fault.ScriptFault.{ScriptFault}
+use Rattle.zk_script.specs.declared.script_fault.ScriptFault.TheVariants as refused
+use Rattle.zk_replay.specs.declared.player.Player.{Player}
+use Rattle.zk_replay.specs.declared.stop.Stop.{Stop}
+use Rattle.zk_replay.specs.declared.stop.Stop.TheVariants.{Refused, Halted, Memory}
+use Rattle.zk_replay.specs.ClientLines.{ClientValue, CutLine, NowLine, CallLine, PeekLine, LastLine, ForgetLine, SavedLine}
+use Rattle.zk_replay.specs.ReplayLines.{BeginValue, TimeoutLine, ResumeLine, DriveValue, OpenedLine, BytesLine, ClientValueLine, ReplayValue, Begins, Drives, says_at}
+use Rattle.zk_replay.specs.Shown.{TellsAll, TellsKept, kept_line, last_line, saved_line}
+
+-- the client that a player has, by its view
+abbrev pub standing_of : {A : Type 0} → Player A → Option View
+standing_of player = option_map view_of player.client
+
+-- what a client begins with
+abbrev pub start_of : BeginValue → Start
+start_of (TimeoutLine timeout) = new_start (unsigned_abs timeout)
+start_of (ResumeLine timeout session password last) = record { timeout = unsigned_abs timeout; session = session; password = password; last = last }
+
+-- A client takes an input by the rule, and the text is its outputs.
+pub record TakesTurn (input : Input) (old new : View) (text : List ℕ) : Type 0 where
+  pub outputs : List Output
+  pub rule : Rule old (record { input = input; outputs = outputs }) new
+  pub told : TellsAll outputs text
+
+-- What a line makes of a client, and what it prints: an input is a turn, and a look-up changes nothing.
+abbrev pub DoesClient : ClientValue → View → View → List ℕ → Type 0
+DoesClient CutLine old new text = TakesTurn Cut old new text
+DoesClient (NowLine moment) old new text = TakesTurn (Now moment) old new text
+DoesClient (CallLine asked) old new text = TakesTurn (Call asked.ticket asked.call) old new text
+DoesClient (PeekLine Data path) old new text = (new ≡ old) × (text ≡ kept_line (old.cache.nodes path))
+DoesClient (PeekLine Child path) old new text = (new ≡ old) × TellsKept (old.cache.children path) text
+DoesClient LastLine old new text = (new ≡ old) × (text ≡ last_line old.saved.last)
+DoesClient SavedLine old new text = (new ≡ old) × (text ≡ saved_line old.saved.session.session old.saved.session.password old.saved.last)
+DoesClient ForgetLine old new text = (new ≡ record old { cache = forgotten old.cache }) × (text ≡ [])
+
+abbrev pub DoesDrive : DriveValue → View → View → List ℕ → Type 0
+DoesDrive OpenedLine old new text = TakesTurn Opened old new text
+DoesDrive (BytesLine bytes) old new text = TakesTurn (Bytes bytes) old new text
+DoesDrive (ClientValueLine value) old new text = DoesClient value old new text
+
+-- A client that was there goes on.
+pub record GoesOn (value : DriveValue) (old new : Option View) (text : List ℕ) : Type 0 where
+  pub before : View
+  pub after : View
+  pub was : old ≡ Some before
+  pub is : new ≡ Some after
+  pub does : DoesDrive value before after text
+
+abbrev pub Does : ReplayValue → Option View → Option View → List ℕ → Type 0
+Does (Begins value) old new text = (old ≡ None) × (new ≡ Some (view_at (start_of value) [])) × (text ≡ [])
+Does (Drives value) old new text = GoesOn value old new text
+
+-- What was said is done.
+pub record DoesSaid (said : Result ReplayValue ScriptFault) (old new : Option View) (text : List ℕ) : Type 0 where
+  pub value : ReplayValue
+  pub says : said ≡ Ok value
+  pub does : Does value old new text
+
+-- nothing changes nothing and prints nothing
+abbrev pub DoesSome : Option ReplayValue → Option View → Option View → List ℕ → Type 0
+DoesSome None old new text = (new ≡ old) × (text ≡ [])
+DoesSome (Some value) old new text = Does value old new text
+
+-- What the words of a line make of a player, and what it prints.
+pub record TakesWords (words : List Text) (old new : Option View) (text : List ℕ) : Type 0 where
+  pub what : Option ReplayValue
+  pub says : says_at words (is_some old) ≡ Ok what
+  pub does : DoesSome what old new text
+
+abbrev pub TakesLine : Text → Option View → Option View → List ℕ → Type 0
+TakesLine line old new text = TakesWords (words_of line) old new text
+
+-- A line is refused by its words.
+abbrev pub RefusesLine : Text → Option View → ScriptFault → Type 0
+RefusesLine line old fault = says_at (words_of line) (is_some old) ≡ Err fault
+
+-- why a line is not done, if memory did not run out
+abbrev pub IsDue : {X : Type 0} → Result X ScriptFault → Stop → Type 0
+IsDue said (Refused fault) = said ≡ Err fault
+IsDue said Halted = ⊤
+IsDue said Memory = ⊤
+
+-- memory ran out, in a step of the client or elsewhere
+abbrev pub IsWant : Stop → Type 0
+IsWant (Refused fault) = ⊥
+IsWant Halted = ⊤
+IsWant Memory = ⊤
+
+abbrev pub stop_of : ScriptFault → Stop
+stop_of refused.Memory = Memory
+stop_of fault = Refused fault

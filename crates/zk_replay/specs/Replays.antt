@@ -1,0 +1,73 @@
+-- What a whole script prints, line by line.
+use Rattle.std.specs.Prelude.{◌≡◌, ℕ, ◌+◌, List, [], ◌∷◌, ◌++◌, length, codes, Option, None}
+use Rattle.std.specs.Fmt.{decimal}
+use Rattle.std.specs.List.{FoldsTo}
+use Rattle.zk_history.specs.History.{Text}
+use Rattle.zk_turns.specs.View.{View}
+use Rattle.zk_script.specs.declared.script_fault.ScriptFault.{ScriptFault}
+use Rattle.zk_script.specs.Pieces.{pieces_at}
+use Rattle.zk_script.specs.ScriptFaults.{script_fault_text}
+use Rattle.zk_replay.specs.declared.replay.End.{End}
+use Rattle.zk_replay.specs.declared.replay.End.TheVariants.{Taken, Refused, Halted, Memory}
+use Rattle.zk_replay.specs.declared.stop.Stop.{Stop}
+use Rattle.zk_replay.specs.declared.stop.Stop.TheVariants as stops
+use Rattle.zk_replay.specs.Played.{TakesLine, RefusesLine}
+
+-- how far a script has come: the client, once there is one, and what was printed
+pub record Progress : Type 0 where
+  pub standing : Option View
+  pub printed : List ℕ
+
+abbrev pub progress : Option View → List ℕ → Progress
+progress standing printed = record { standing = standing; printed = printed }
+
+abbrev pub beginning : Progress
+beginning = progress None []
+
+-- one line further: what it prints stands behind what was printed
+abbrev pub Goes : Progress → Text → Progress → Type 0
+Goes old line new = (text : List ℕ) × TakesLine line old.standing new.standing text × (new.printed ≡ old.printed ++ text)
+
+-- Each of these lines is taken, in order, and the text is what they print, one behind the other.
+pub record Prints (lines : List Text) (text : List ℕ) : Type 0 where
+  pub end : Option View
+  pub taken : FoldsTo Goes beginning lines (progress end text)
+
+-- The line of this number, counted from 1, is refused for this reason, and the text is what the lines before it print.
+pub record StopsAt (lines : List Text) (number : ℕ) (fault : ScriptFault) (text : List ℕ) : Type 0 where
+  pub before : List Text
+  pub line : Text
+  pub behind : List Text
+  pub are : lines ≡ before ++ line ∷ behind
+  pub counted : number ≡ length before + 1
+  pub end : Option View
+  pub taken : FoldsTo Goes beginning before (progress end text)
+  pub refused : RefusesLine line end fault
+
+-- The text is what the first of these lines print: of no line a part.
+pub record PrintsFirst (lines : List Text) (text : List ℕ) : Type 0 where
+  pub before : List Text
+  pub behind : List Text
+  pub are : lines ≡ before ++ behind
+  pub prints : Prints before text
+
+-- the lines of a script, which end with newlines
+abbrev pub lines_of : Text → List Text
+lines_of script = pieces_at 10 script
+
+-- how a refusal is told
+abbrev pub refusal_text : ℕ → ScriptFault → List ℕ
+refusal_text number fault = codes "line " ++ (decimal number ++ (codes ": " ++ (script_fault_text fault ++ 10 ∷ [])))
+
+-- what lines printed, by how they ended
+abbrev pub IsOutcome : List Text → List ℕ → End → Type 0
+IsOutcome lines text Taken = Prints lines text
+IsOutcome lines text (Refused number why) = StopsAt lines number why text
+IsOutcome lines text Halted = PrintsFirst lines text
+IsOutcome lines text Memory = PrintsFirst lines text
+
+-- how lines end at the line of this number, which is not done
+abbrev pub end_at : ℕ → Stop → End
+end_at number (stops.Refused why) = Refused number why
+end_at number stops.Halted = Halted
+end_at number stops.Memory = Memory

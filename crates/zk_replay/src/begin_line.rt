@@ -1,0 +1,112 @@
+//! The lines that make a client.
+
+ghost use Rattle.std.specs.Prelude.{◌≡◌, IfOk, map};
+ghost use Rattle.zk_script.specs.Reads.{Reads};
+ghost use Rattle.zk_replay.specs.Lines.{begin_value_of};
+ghost use Rattle.zk_replay.specs.ReplayLines.{begin_keyword_of, new_at, taken_up_at, resume_at, begin_line_at, CanBegin};
+
+use crate::reads::{last_at, password_at, session_at, timeout_at};
+use std::alloc::Allocator;
+use zk_script::reads::are_printed;
+use zk_script::script_fault::ScriptFault;
+
+/// How a line makes a client, by its first word.
+#[derive(Clone, Copy, Debug, PartialEq, Eq)]
+pub enum BeginKeyword {
+    Timeout,
+    Resume,
+}
+
+impl BeginKeyword {
+    /// The keyword that a word is.
+    pub fn named(word: &[u8]) -> Option<BeginKeyword>
+        ensures { result ≡ begin_keyword_of word.now }
+    {
+        if word == b"timeout".as_slice() {
+            Some(BeginKeyword::Timeout)
+        } else if word == b"resume".as_slice() {
+            Some(BeginKeyword::Resume)
+        } else {
+            None
+        }
+    }
+}
+
+/// A line that makes a client. Timeouts are in milliseconds, from 1 on.
+#[derive(Drop)]
+pub enum BeginLine<A: Allocator> {
+    /// Of no session yet.
+    Timeout(i32),
+    /// Of a session that is taken up: its number, its password, and the last seen zxid, from 0 on.
+    Resume {
+        timeout: i32,
+        session: i64,
+        password: Vec<u8, A>,
+        last: i64,
+    },
+}
+
+fn new_at<A: Allocator + Copy>(words: &[&[u8]]) -> Result<BeginLine<A>, ScriptFault>
+    ensures value { Reads begin_value_of result (new_at (map (λ w. w.now) words.now)) }
+    ensures can { IfOk result (λ line. CanBegin (begin_value_of line)) }
+{
+    let [timeout] = words else {
+        return Err(ScriptFault::Words);
+    };
+    let timeout = timeout_at(timeout)?;
+    Ok(BeginLine::Timeout(timeout))
+}
+
+#[tactic(auto, unfolding(crate::specs::ReplayLines::taken_up_at))]
+fn taken_up_at<A: Allocator + Copy>(
+    alloc: A,
+    timeout: &[u8],
+    session: &[u8],
+    password: &[u8],
+    last: &[u8],
+) -> Result<BeginLine<A>, ScriptFault>
+    ensures value { Reads begin_value_of result (taken_up_at timeout.now session.now password.now last.now) }
+    ensures can { IfOk result (λ line. CanBegin (begin_value_of line)) }
+{
+    let found = password_at(alloc, password)?;
+    let timeout = timeout_at(timeout)?;
+    let session = session_at(session)?;
+    let last = last_at(last)?;
+    let Some(password) = found else {
+        return Err(ScriptFault::Hex);
+    };
+    Ok(BeginLine::Resume {
+        timeout,
+        session,
+        password,
+        last,
+    })
+}
+
+fn resume_at<A: Allocator + Copy>(alloc: A, words: &[&[u8]]) -> Result<BeginLine<A>, ScriptFault>
+    ensures value { Reads begin_value_of result (resume_at (map (λ w. w.now) words.now)) }
+    ensures can { IfOk result (λ line. CanBegin (begin_value_of line)) }
+{
+    let [timeout, session, password, last] = words else {
+        return Err(ScriptFault::Words);
+    };
+    taken_up_at(alloc, timeout, session, password, last)
+}
+
+/// The line of a keyword and the words behind it.
+pub fn begin_line_at<A: Allocator + Copy>(
+    alloc: A,
+    keyword: BeginKeyword,
+    words: &[&[u8]],
+) -> Result<BeginLine<A>, ScriptFault>
+    ensures value { Reads begin_value_of result (begin_line_at keyword (map (λ w. w.now) words.now)) }
+    ensures can { IfOk result (λ line. CanBegin (begin_value_of line)) }
+{
+    if !are_printed(words) {
+        return Err(ScriptFault::Words);
+    }
+    match keyword {
+        BeginKeyword::Timeout => new_at(words),
+        BeginKeyword::Resume => resume_at(alloc, words),
+    }
+}

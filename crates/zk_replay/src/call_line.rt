@@ -1,0 +1,246 @@
+//! The lines of calls.
+
+ghost use Rattle.std.specs.Prelude.{◌≡◌, map};
+ghost use Rattle.zk_script.specs.Reads.{Reads};
+ghost use Rattle.zk_replay.specs.CallLines.{kind_read, watched_at, exists_at, get_data_at, get_children_at, set_data_at, create_at, delete_at, close_at, kind_at, numbered_at, call_at};
+ghost use Rattle.zk_replay.specs.Lines.{asked_of, watched_of};
+
+use crate::reads::{boolean_at, mode_at, natural_at, version_at};
+use std::alloc::Allocator;
+use zk_conversation::Call;
+use zk_history::Path;
+use zk_script::reads::{data_at, path_at, text_at};
+use zk_script::script_fault::ScriptFault;
+
+/// What a call asks for, by its second word.
+#[derive(Clone, Copy, Debug, PartialEq, Eq)]
+enum CallKind {
+    Exists,
+    GetData,
+    GetChildren,
+    SetData,
+    Create,
+    Delete,
+    Close,
+}
+
+/// A call, with its caller's number.
+#[derive(Drop)]
+pub struct Asked<A: Allocator> {
+    pub ticket: u64,
+    pub call: Call<A>,
+}
+
+/// A read: its number, its path, and whether it is to leave a watch.
+#[derive(Drop)]
+struct Watched<A: Allocator> {
+    ticket: u64,
+    path: Path<A>,
+    watch: bool,
+}
+
+fn kind_named(word: &[u8]) -> Result<CallKind, ScriptFault>
+    ensures { Reads (λ k. k) result (kind_read word.now) }
+{
+    if word == b"exists".as_slice() {
+        Ok(CallKind::Exists)
+    } else if word == b"getdata".as_slice() {
+        Ok(CallKind::GetData)
+    } else if word == b"getchildren".as_slice() {
+        Ok(CallKind::GetChildren)
+    } else if word == b"setdata".as_slice() {
+        Ok(CallKind::SetData)
+    } else if word == b"create".as_slice() {
+        Ok(CallKind::Create)
+    } else if word == b"delete".as_slice() {
+        Ok(CallKind::Delete)
+    } else if word == b"close".as_slice() {
+        Ok(CallKind::Close)
+    } else {
+        Err(ScriptFault::Words)
+    }
+}
+
+fn watched_at<A: Allocator + Copy>(
+    alloc: A,
+    ticket: &[u8],
+    words: &[&[u8]],
+) -> Result<Watched<A>, ScriptFault>
+    ensures { Reads watched_of result (watched_at ticket.now (map (λ w. w.now) words.now)) }
+{
+    let [path, watch] = words else {
+        return Err(ScriptFault::Words);
+    };
+    let path = text_at(alloc, path)?;
+    let watch = boolean_at(watch)?;
+    let ticket = natural_at(ticket)?;
+    let path = path_at(alloc, path.as_str())?;
+    Ok(Watched {
+        ticket,
+        path,
+        watch,
+    })
+}
+
+fn exists_at<A: Allocator + Copy>(
+    alloc: A,
+    ticket: &[u8],
+    words: &[&[u8]],
+) -> Result<Asked<A>, ScriptFault>
+    ensures { Reads asked_of result (exists_at ticket.now (map (λ w. w.now) words.now)) }
+{
+    let Watched {
+        ticket,
+        path,
+        watch,
+    } = watched_at(alloc, ticket, words)?;
+    let call = Call::Exists { path, watch };
+    Ok(Asked { ticket, call })
+}
+
+fn get_data_at<A: Allocator + Copy>(
+    alloc: A,
+    ticket: &[u8],
+    words: &[&[u8]],
+) -> Result<Asked<A>, ScriptFault>
+    ensures { Reads asked_of result (get_data_at ticket.now (map (λ w. w.now) words.now)) }
+{
+    let Watched {
+        ticket,
+        path,
+        watch,
+    } = watched_at(alloc, ticket, words)?;
+    let call = Call::GetData { path, watch };
+    Ok(Asked { ticket, call })
+}
+
+fn get_children_at<A: Allocator + Copy>(
+    alloc: A,
+    ticket: &[u8],
+    words: &[&[u8]],
+) -> Result<Asked<A>, ScriptFault>
+    ensures { Reads asked_of result (get_children_at ticket.now (map (λ w. w.now) words.now)) }
+{
+    let Watched {
+        ticket,
+        path,
+        watch,
+    } = watched_at(alloc, ticket, words)?;
+    let call = Call::GetChildren { path, watch };
+    Ok(Asked { ticket, call })
+}
+
+fn set_data_at<A: Allocator + Copy>(
+    alloc: A,
+    ticket: &[u8],
+    words: &[&[u8]],
+) -> Result<Asked<A>, ScriptFault>
+    ensures { Reads asked_of result (set_data_at ticket.now (map (λ w. w.now) words.now)) }
+{
+    let [path, bytes, version] = words else {
+        return Err(ScriptFault::Words);
+    };
+    let path = text_at(alloc, path)?;
+    let version = version_at(version)?;
+    let ticket = natural_at(ticket)?;
+    let bytes = data_at(alloc, bytes)?;
+    let path = path_at(alloc, path.as_str())?;
+    let call = Call::SetData {
+        path,
+        bytes,
+        version,
+    };
+    Ok(Asked { ticket, call })
+}
+
+fn create_at<A: Allocator + Copy>(
+    alloc: A,
+    ticket: &[u8],
+    words: &[&[u8]],
+) -> Result<Asked<A>, ScriptFault>
+    ensures { Reads asked_of result (create_at ticket.now (map (λ w. w.now) words.now)) }
+{
+    let [path, bytes, mode] = words else {
+        return Err(ScriptFault::Words);
+    };
+    let path = text_at(alloc, path)?;
+    let mode = mode_at(mode)?;
+    let ticket = natural_at(ticket)?;
+    let bytes = data_at(alloc, bytes)?;
+    let path = path_at(alloc, path.as_str())?;
+    let call = Call::Create { path, bytes, mode };
+    Ok(Asked { ticket, call })
+}
+
+fn delete_at<A: Allocator + Copy>(
+    alloc: A,
+    ticket: &[u8],
+    words: &[&[u8]],
+) -> Result<Asked<A>, ScriptFault>
+    ensures { Reads asked_of result (delete_at ticket.now (map (λ w. w.now) words.now)) }
+{
+    let [path, version] = words else {
+        return Err(ScriptFault::Words);
+    };
+    let path = text_at(alloc, path)?;
+    let version = version_at(version)?;
+    let ticket = natural_at(ticket)?;
+    let path = path_at(alloc, path.as_str())?;
+    let call = Call::Delete { path, version };
+    Ok(Asked { ticket, call })
+}
+
+fn close_at<A: Allocator + Copy>(ticket: &[u8], words: &[&[u8]]) -> Result<Asked<A>, ScriptFault>
+    ensures { Reads asked_of result (close_at ticket.now (map (λ w. w.now) words.now)) }
+{
+    let [] = words else {
+        return Err(ScriptFault::Words);
+    };
+    let ticket = natural_at(ticket)?;
+    let call = Call::Close;
+    Ok(Asked { ticket, call })
+}
+
+fn kind_at<A: Allocator + Copy>(
+    alloc: A,
+    kind: CallKind,
+    ticket: &[u8],
+    words: &[&[u8]],
+) -> Result<Asked<A>, ScriptFault>
+    ensures { Reads asked_of result (kind_at kind ticket.now (map (λ w. w.now) words.now)) }
+{
+    match kind {
+        CallKind::Exists => exists_at(alloc, ticket, words),
+        CallKind::GetData => get_data_at(alloc, ticket, words),
+        CallKind::GetChildren => get_children_at(alloc, ticket, words),
+        CallKind::SetData => set_data_at(alloc, ticket, words),
+        CallKind::Create => create_at(alloc, ticket, words),
+        CallKind::Delete => delete_at(alloc, ticket, words),
+        CallKind::Close => close_at(ticket, words),
+    }
+}
+
+/// The call that its number and the words behind it ask for.
+fn numbered_at<A: Allocator + Copy>(
+    alloc: A,
+    ticket: &[u8],
+    words: &[&[u8]],
+) -> Result<Asked<A>, ScriptFault>
+    ensures { Reads asked_of result (numbered_at ticket.now (map (λ w. w.now) words.now)) }
+{
+    let Some((kind, words)) = words.split_first() else {
+        return Err(ScriptFault::Words);
+    };
+    let kind = kind_named(kind)?;
+    kind_at(alloc, kind, ticket, words)
+}
+
+/// The call that the words behind `call` ask for: its number, its kind, and what the kind asks for.
+pub fn call_at<A: Allocator + Copy>(alloc: A, words: &[&[u8]]) -> Result<Asked<A>, ScriptFault>
+    ensures { Reads asked_of result (call_at (map (λ w. w.now) words.now)) }
+{
+    let Some((ticket, words)) = words.split_first() else {
+        return Err(ScriptFault::Words);
+    };
+    numbered_at(alloc, ticket, words)
+}

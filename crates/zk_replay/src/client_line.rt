@@ -1,0 +1,130 @@
+//! The lines that drive a client, whatever is at the other end of its connection.
+
+ghost use Rattle.std.specs.Prelude.{◌≡◌, map};
+ghost use Rattle.zk_script.specs.Reads.{Reads};
+ghost use Rattle.zk_replay.specs.ClientLines.{client_keyword_of, now_at, peek_at, alone, client_words_at, client_line_at};
+ghost use Rattle.zk_replay.specs.Lines.{client_value_of};
+
+use crate::call_line::{Asked, call_at};
+use crate::reads::natural_at;
+use std::alloc::Allocator;
+use zk_history::{Path, Side};
+use zk_script::history_line::side_at;
+use zk_script::reads::{are_printed, path_at, text_at};
+use zk_script::script_fault::ScriptFault;
+
+/// What a line does with a client, by its first word.
+#[derive(Clone, Copy, Debug, PartialEq, Eq)]
+pub enum ClientKeyword {
+    Cut,
+    Now,
+    Call,
+    Peek,
+    Last,
+    Forget,
+    Saved,
+}
+
+impl ClientKeyword {
+    /// The keyword that a word is.
+    pub fn named(word: &[u8]) -> Option<ClientKeyword>
+        ensures { result ≡ client_keyword_of word.now }
+    {
+        if word == b"cut".as_slice() {
+            Some(ClientKeyword::Cut)
+        } else if word == b"now".as_slice() {
+            Some(ClientKeyword::Now)
+        } else if word == b"call".as_slice() {
+            Some(ClientKeyword::Call)
+        } else if word == b"peek".as_slice() {
+            Some(ClientKeyword::Peek)
+        } else if word == b"last".as_slice() {
+            Some(ClientKeyword::Last)
+        } else if word == b"forget".as_slice() {
+            Some(ClientKeyword::Forget)
+        } else if word == b"saved".as_slice() {
+            Some(ClientKeyword::Saved)
+        } else {
+            None
+        }
+    }
+}
+
+/// A line of a script that drives a client.
+#[derive(Drop)]
+pub enum ClientLine<A: Allocator> {
+    /// The connection ends.
+    Cut,
+    /// The moment, in milliseconds.
+    Now(u64),
+    /// A call.
+    Call(Asked<A>),
+    /// A look-up of what is kept of a path on one side.
+    Peek(Side, Path<A>),
+    /// A look-up of the last seen zxid.
+    Last,
+    /// The stale answers are taken out.
+    Forget,
+    /// A look-up of what the session can be taken up with.
+    Saved,
+}
+
+fn now_at<A: Allocator + Copy>(words: &[&[u8]]) -> Result<ClientLine<A>, ScriptFault>
+    ensures { Reads client_value_of result (now_at (map (λ w. w.now) words.now)) }
+{
+    let [moment] = words else {
+        return Err(ScriptFault::Words);
+    };
+    let moment = natural_at(moment)?;
+    Ok(ClientLine::Now(moment))
+}
+
+fn peek_at<A: Allocator + Copy>(alloc: A, words: &[&[u8]]) -> Result<ClientLine<A>, ScriptFault>
+    ensures { Reads client_value_of result (peek_at (map (λ w. w.now) words.now)) }
+{
+    let [side, path] = words else {
+        return Err(ScriptFault::Words);
+    };
+    let side = side_at(side)?;
+    let path = text_at(alloc, path)?;
+    let path = path_at(alloc, path.as_str())?;
+    Ok(ClientLine::Peek(side, path))
+}
+
+/// A line of its first word alone.
+fn alone<A: Allocator + Copy>(
+    line: ClientLine<A>,
+    words: &[&[u8]],
+) -> Result<ClientLine<A>, ScriptFault>
+    ensures { Reads client_value_of result (alone (client_value_of line) (map (λ w. w.now) words.now)) }
+{
+    match words {
+        [] => Ok(line),
+        _ => Err(ScriptFault::Words),
+    }
+}
+
+/// The line of a keyword and the words behind it.
+pub fn client_line_at<A: Allocator + Copy>(
+    alloc: A,
+    keyword: ClientKeyword,
+    words: &[&[u8]],
+) -> Result<ClientLine<A>, ScriptFault>
+    ensures { Reads client_value_of result (client_line_at keyword (map (λ w. w.now) words.now)) }
+{
+    if !are_printed(words) {
+        return Err(ScriptFault::Words);
+    }
+    match keyword {
+        ClientKeyword::Cut => alone(ClientLine::Cut, words),
+        ClientKeyword::Now => now_at(words),
+        ClientKeyword::Call => {
+            let asked = call_at(alloc, words)?;
+            Ok(ClientLine::Call(asked))
+        }
+        ClientKeyword::Peek => peek_at(alloc, words),
+        ClientKeyword::Last => alone(ClientLine::Last, words),
+        ClientKeyword::Forget => alone(ClientLine::Forget, words),
+        ClientKeyword::Saved => alone(ClientLine::Saved, words),
+    }
+}

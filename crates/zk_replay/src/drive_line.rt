@@ -1,0 +1,89 @@
+//! The lines behind the one that makes the client.
+
+ghost use Rattle.std.specs.Prelude.{◌≡◌, map};
+ghost use Rattle.zk_script.specs.Reads.{Reads};
+ghost use Rattle.zk_replay.specs.Lines.{drive_value_of};
+ghost use Rattle.zk_replay.specs.ReplayLines.{drive_keyword_of, came_at, came_line_at, drive_line_at};
+
+use crate::client_line::{ClientKeyword, ClientLine, client_line_at};
+use crate::reads::bytes_at;
+use std::alloc::Allocator;
+use zk_script::reads::are_printed;
+use zk_script::script_fault::ScriptFault;
+
+/// What a line does with the client, by its first word.
+#[derive(Clone, Copy, Debug, PartialEq, Eq)]
+pub enum DriveKeyword {
+    Opened,
+    Bytes,
+    Client(ClientKeyword),
+}
+
+impl DriveKeyword {
+    /// The keyword that a word is.
+    pub fn named(word: &[u8]) -> Option<DriveKeyword>
+        ensures { result ≡ drive_keyword_of word.now }
+    {
+        if word == b"opened".as_slice() {
+            Some(DriveKeyword::Opened)
+        } else if word == b"bytes".as_slice() {
+            Some(DriveKeyword::Bytes)
+        } else {
+            match ClientKeyword::named(word) {
+                Some(word) => Some(DriveKeyword::Client(word)),
+                None => None,
+            }
+        }
+    }
+}
+
+/// A line behind the one that makes the client.
+#[derive(Drop)]
+pub enum DriveLine<A: Allocator> {
+    /// A connection begins.
+    Opened,
+    /// Bytes come.
+    Bytes(Vec<u8, A>),
+    /// What is the same whatever is at the other end.
+    Client(ClientLine<A>),
+}
+
+fn came_at<A: Allocator + Copy>(alloc: A, words: &[&[u8]]) -> Result<DriveLine<A>, ScriptFault>
+    ensures { Reads drive_value_of result (came_at (map (λ w. w.now) words.now)) }
+{
+    let [bytes] = words else {
+        return Err(ScriptFault::Words);
+    };
+    let bytes = bytes_at(alloc, bytes)?;
+    Ok(DriveLine::Bytes(bytes))
+}
+
+fn came_line_at<A: Allocator + Copy>(alloc: A, words: &[&[u8]]) -> Result<DriveLine<A>, ScriptFault>
+    ensures { Reads drive_value_of result (came_line_at (map (λ w. w.now) words.now)) }
+{
+    if !are_printed(words) {
+        return Err(ScriptFault::Words);
+    }
+    came_at(alloc, words)
+}
+
+/// The line of a keyword and the words behind it.
+pub fn drive_line_at<A: Allocator + Copy>(
+    alloc: A,
+    keyword: DriveKeyword,
+    words: &[&[u8]],
+) -> Result<DriveLine<A>, ScriptFault>
+    ensures { Reads drive_value_of result (drive_line_at keyword (map (λ w. w.now) words.now)) }
+{
+    match keyword {
+        DriveKeyword::Opened => match words {
+            [] => Ok(DriveLine::Opened),
+            _ => Err(ScriptFault::Words),
+        },
+        DriveKeyword::Bytes => came_line_at(alloc, words),
+        DriveKeyword::Client(word) => {
+            let line = client_line_at(alloc, word, words)?;
+            Ok(DriveLine::Client(line))
+        }
+    }
+}

@@ -1,0 +1,123 @@
+//! A replay, line by line.
+
+ghost use Rattle.std.specs.Prelude.{◌≡◌, None, IfOk, IfErr, is_some, map, string_bytes};
+ghost use Rattle.zk_replay.specs.ReplayLines.{is_remark, keyword_of, placed_at, says_at};
+ghost use Rattle.zk_replay.specs.declared.player.Keyword.TheVariants as made;
+ghost use Rattle.zk_script.specs.Pieces.{words_of};
+ghost use Rattle.zk_replay.specs.Played.{standing_of, DoesSaid, IsDue, TakesLine, TakesWords};
+
+use crate::begin_line::{BeginKeyword, begin_line_at};
+use crate::drive_line::{DriveKeyword, drive_line_at};
+use crate::driven::{begun, replayed};
+use crate::stop::Stop;
+use std::alloc::Allocator;
+use zk_client::Client;
+use zk_script::pieces::words_of;
+use zk_script::script_fault::ScriptFault;
+
+/// What a line does, by its first word.
+#[derive(Clone, Copy, Debug, PartialEq, Eq)]
+pub enum Keyword {
+    Begin(BeginKeyword),
+    Drive(DriveKeyword),
+}
+
+impl Keyword {
+    /// The keyword that a word is.
+    pub fn named(word: &[u8]) -> Option<Keyword>
+        ensures { result ≡ keyword_of word.now }
+    {
+        match BeginKeyword::named(word) {
+            Some(word) => Some(Keyword::Begin(word)),
+            None => match DriveKeyword::named(word) {
+                Some(word) => Some(Keyword::Drive(word)),
+                None => None,
+            },
+        }
+    }
+}
+
+/// Whether a line is a remark, by its first word.
+fn is_remark(word: &[u8]) -> bool
+    ensures { result ≡ is_remark word.now }
+{
+    matches!(word, [b'#', ..])
+}
+
+/// A client, once a line has made it.
+#[derive(Drop)]
+pub struct Player<A: Allocator + Copy> {
+    client: Option<Client<A>>,
+}
+
+impl<A: Allocator + Copy> Player<A> {
+    /// No client yet.
+    pub fn new() -> Player<A>
+        ensures { standing_of result ≡ None }
+    {
+        Player { client: None }
+    }
+
+    /// Makes the client. Only the first line does.
+    fn begin(&mut self, alloc: A, word: BeginKeyword, words: &[&[u8]]) -> Result<String<A>, Stop>
+        ensures ok { IfOk result (λ text. DoesSaid (placed_at (made.Begin word) (is_some (standing_of self.old)) (map (λ w. w.now) words.now)) (standing_of self.old) (standing_of self.new) (string_bytes text)) }
+        ensures err { IfErr result (IsDue (placed_at (made.Begin word) (is_some (standing_of self.old)) (map (λ w. w.now) words.now))) }
+    {
+        if self.client.is_some() {
+            return Err(Stop::Refused(ScriptFault::Place));
+        }
+        let line = begin_line_at(alloc, word, words)?;
+        self.client = Some(begun(alloc, line)?);
+        Ok(String::new(alloc))
+    }
+
+    /// Does with the client what the words say.
+    fn drive(&mut self, alloc: A, word: DriveKeyword, words: &[&[u8]]) -> Result<String<A>, Stop>
+        ensures ok { IfOk result (λ text. DoesSaid (placed_at (made.Drive word) (is_some (standing_of self.old)) (map (λ w. w.now) words.now)) (standing_of self.old) (standing_of self.new) (string_bytes text)) }
+        ensures err { IfErr result (IsDue (placed_at (made.Drive word) (is_some (standing_of self.old)) (map (λ w. w.now) words.now))) }
+    {
+        let Some(client) = &mut self.client else {
+            return Err(Stop::Refused(ScriptFault::Place));
+        };
+        let line = drive_line_at(alloc, word, words)?;
+        replayed(alloc, client, line)
+    }
+
+    /// Does what the words behind a keyword say.
+    fn take(&mut self, alloc: A, keyword: Keyword, words: &[&[u8]]) -> Result<String<A>, Stop>
+        ensures ok { IfOk result (λ text. DoesSaid (placed_at keyword (is_some (standing_of self.old)) (map (λ w. w.now) words.now)) (standing_of self.old) (standing_of self.new) (string_bytes text)) }
+        ensures err { IfErr result (IsDue (placed_at keyword (is_some (standing_of self.old)) (map (λ w. w.now) words.now))) }
+    {
+        match keyword {
+            Keyword::Begin(word) => self.begin(alloc, word, words),
+            Keyword::Drive(word) => self.drive(alloc, word, words),
+        }
+    }
+
+    /// Does what the words of a line say.
+    fn take_words(&mut self, alloc: A, words: &[&[u8]]) -> Result<String<A>, Stop>
+        ensures ok { IfOk result (λ text. TakesWords (map (λ w. w.now) words.now) (standing_of self.old) (standing_of self.new) (string_bytes text)) }
+        ensures err { IfErr result (IsDue (says_at (map (λ w. w.now) words.now) (is_some (standing_of self.old)))) }
+    {
+        let Some((first, behind)) = words.split_first() else {
+            return Ok(String::new(alloc));
+        };
+        if is_remark(first) {
+            return Ok(String::new(alloc));
+        }
+        let Some(keyword) = Keyword::named(first) else {
+            return Err(Stop::Refused(ScriptFault::Unknown));
+        };
+        self.take(alloc, keyword, behind)
+    }
+
+    /// Does what a line says, and gives what is to be printed: the lines of what the client says, or of a look-up. An empty line
+    /// and one that begins with `#` say nothing. The first reason that applies refuses a line.
+    pub fn read(&mut self, alloc: A, line: &[u8]) -> Result<String<A>, Stop>
+        ensures ok { IfOk result (λ text. TakesLine line.now (standing_of self.old) (standing_of self.new) (string_bytes text)) }
+        ensures err { IfErr result (IsDue (says_at (words_of line.now) (is_some (standing_of self.old)))) }
+    {
+        let words = words_of(alloc, line)?;
+        self.take_words(alloc, words.as_slice())
+    }
+}

@@ -1,0 +1,194 @@
+//! What a call is answered, as it is printed.
+
+ghost use Rattle.std.specs.Prelude.{◌≡◌, ◌++◌, ◌∷◌, ℕ, ℤ, List, Some, OnOk, map, string_bytes, vec_items, option_map};
+ghost use Rattle.std.specs.FinSet as set;
+ghost use Rattle.zk_client.specs.Views.{call_result_view, outcome_view};
+ghost use Rattle.zk_conversation.specs.Results.{Found, Read, Listing, Made};
+ghost use Rattle.zk_records.specs.Codes.{code_number};
+ghost use Rattle.zk_turns.specs.Turns.{Replied};
+ghost use Rattle.zk_script.specs.Words.{bytes_word};
+ghost use Rattle.zk_replay.specs.Shown.{front_words, back_words, full_words, plain_text, code_text, TellsSet, TellsResult, TellsOutcome};
+
+use crate::names::push_listing;
+use std::alloc::{AllocError, Allocator};
+use zk_client::{CallResult, Outcome};
+use zk_records::{Code, Stat};
+use zk_script::answers::{push_data_word, push_name, push_word};
+
+/// Adds the first six numbers of a Stat.
+#[tactic(auto, unfolding(crate::specs::Shown::front_words))]
+fn push_front<A: Allocator + Copy>(
+    text: &mut String<A>,
+    alloc: A,
+    stat: &Stat,
+) -> Result<(), AllocError>
+    ensures { OnOk result (string_bytes text.new ≡ string_bytes text.old ++ front_words stat.now) }
+{
+    push_word(text, alloc, &stat.czxid)?;
+    push_word(text, alloc, &stat.mzxid)?;
+    push_word(text, alloc, &stat.ctime)?;
+    push_word(text, alloc, &stat.mtime)?;
+    push_word(text, alloc, &stat.version)?;
+    push_word(text, alloc, &stat.cversion)?;
+    Ok(())
+}
+
+/// Adds the other five.
+#[tactic(auto, unfolding(crate::specs::Shown::back_words))]
+fn push_back<A: Allocator + Copy>(
+    text: &mut String<A>,
+    alloc: A,
+    stat: &Stat,
+) -> Result<(), AllocError>
+    ensures { OnOk result (string_bytes text.new ≡ string_bytes text.old ++ back_words stat.now) }
+{
+    push_word(text, alloc, &stat.aversion)?;
+    push_word(text, alloc, &stat.ephemeral_owner)?;
+    push_word(text, alloc, &stat.data_length)?;
+    push_word(text, alloc, &stat.num_children)?;
+    push_word(text, alloc, &stat.pzxid)?;
+    Ok(())
+}
+
+/// Adds the eleven numbers of a Stat, a space before each.
+#[tactic(auto, unfolding(crate::specs::Shown::full_words))]
+fn push_full<A: Allocator + Copy>(
+    text: &mut String<A>,
+    alloc: A,
+    stat: &Stat,
+) -> Result<(), AllocError>
+    ensures { OnOk result (string_bytes text.new ≡ string_bytes text.old ++ full_words stat.now) }
+{
+    push_front(text, alloc, stat)?;
+    push_back(text, alloc, stat)?;
+    Ok(())
+}
+
+/// Adds the number of a code.
+fn push_code<A: Allocator + Copy>(
+    text: &mut String<A>,
+    alloc: A,
+    code: Code,
+) -> Result<(), AllocError>
+    ensures { OnOk result (string_bytes text.new ≡ string_bytes text.old ++ code_text (code_number code)) }
+{
+    text.push_str("code")?;
+    push_word(text, alloc, &code.number())?;
+    Ok(())
+}
+
+/// Adds a Stat.
+fn push_stat_result<A: Allocator + Copy>(
+    text: &mut String<A>,
+    alloc: A,
+    stat: &Stat,
+) -> Result<(), AllocError>
+    ensures { OnOk result (string_bytes text.new ≡ string_bytes text.old ++ plain_text (Found stat.now)) }
+{
+    text.push_str("stat")?;
+    push_full(text, alloc, stat)?;
+    Ok(())
+}
+
+/// Adds data and a Stat.
+fn push_data_result<A: Allocator + Copy>(
+    text: &mut String<A>,
+    alloc: A,
+    bytes: &Option<Vec<u8, A>>,
+    stat: &Stat,
+) -> Result<(), AllocError>
+    ensures { OnOk result (string_bytes text.new ≡ string_bytes text.old ++ plain_text (Read (option_map vec_items bytes.now) stat.now)) }
+{
+    text.push_str("data ")?;
+    push_data_word(text, alloc, bytes)?;
+    push_full(text, alloc, stat)?;
+    Ok(())
+}
+
+/// Adds names and a Stat.
+fn push_names_result<A: Allocator + Copy>(
+    text: &mut String<A>,
+    alloc: A,
+    names: &[String<A>],
+    stat: &Stat,
+) -> Result<(), AllocError>
+    ensures { OnOk result ((told : List ℕ) × TellsResult (Listing (map string_bytes names.now) stat.now) told × (string_bytes text.new ≡ string_bytes text.old ++ told)) }
+{
+    push_listing(text, alloc, names)?;
+    push_full(text, alloc, stat)?;
+    Ok(())
+}
+
+/// Adds the path of a node that was made.
+fn push_created<A: Allocator + Copy>(
+    text: &mut String<A>,
+    alloc: A,
+    path: &str,
+) -> Result<(), AllocError>
+    ensures { OnOk result (string_bytes text.new ≡ string_bytes text.old ++ plain_text (Made path.now)) }
+{
+    text.push_str("created")?;
+    push_name(text, alloc, path.as_bytes())?;
+    Ok(())
+}
+
+/// Adds what a reply brought.
+pub fn push_result<A: Allocator + Copy>(
+    text: &mut String<A>,
+    alloc: A,
+    found: &CallResult<A>,
+) -> Result<(), AllocError>
+    ensures { OnOk result ((told : List ℕ) × TellsResult (call_result_view found.now) told × (string_bytes text.new ≡ string_bytes text.old ++ told)) }
+{
+    match found {
+        CallResult::Code(code) => push_code(text, alloc, *code)?,
+        CallResult::Stat(stat) => push_stat_result(text, alloc, stat)?,
+        CallResult::Data { bytes, stat } => push_data_result(text, alloc, bytes, stat)?,
+        CallResult::Names { names, stat } => {
+            push_names_result(text, alloc, names.as_slice(), stat)?;
+        }
+        CallResult::Created(path) => push_created(text, alloc, path.as_str())?,
+        CallResult::Done => text.push_str("done")?,
+    }
+    Ok(())
+}
+
+/// Adds the zxid of a reply, and what it brought.
+fn push_reply<A: Allocator + Copy>(
+    text: &mut String<A>,
+    alloc: A,
+    zxid: &i64,
+    found: &CallResult<A>,
+) -> Result<(), AllocError>
+    ensures { OnOk result ((told : List ℕ) × TellsOutcome (Replied zxid.now (call_result_view found.now)) told × (string_bytes text.new ≡ string_bytes text.old ++ told)) }
+{
+    let word = zxid.to_string(alloc)?;
+    text.push_str(word.as_str())?;
+    text.push_str(" ")?;
+    push_result(text, alloc, found)?;
+    Ok(())
+}
+
+/// Adds what a call is answered: the zxid of its reply and what it brought, or why there is none.
+pub fn push_outcome<A: Allocator + Copy>(
+    text: &mut String<A>,
+    alloc: A,
+    outcome: &Outcome<A>,
+) -> Result<(), AllocError>
+    ensures { OnOk result ((told : List ℕ) × TellsOutcome (outcome_view outcome.now) told × (string_bytes text.new ≡ string_bytes text.old ++ told)) }
+{
+    match outcome {
+        Outcome::Replied {
+            zxid,
+            result: found,
+        } => push_reply(text, alloc, zxid, found)?,
+        Outcome::ConnectionLoss => text.push_str("- K1")?,
+        Outcome::SessionExpired => text.push_str("- K2")?,
+        Outcome::SessionClosed => text.push_str("- K3")?,
+        Outcome::NotConnected => text.push_str("- K4")?,
+        Outcome::TooManyWatches => text.push_str("- K5")?,
+        Outcome::TooLarge => text.push_str("- K6")?,
+        Outcome::TooManyPending => text.push_str("- K7")?,
+    }
+    Ok(())
+}
