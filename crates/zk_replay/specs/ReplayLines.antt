@@ -1,5 +1,5 @@
 -- The lines of a replay.
-use Rattle.std.specs.Prelude.{◌≤◌, ◌<ℤ◌, ◌≤ℤ◌, ℕ, ℤ, pos, Bool, true, false, not, ◌==◌, if◌then◌else◌, length, List, [], ◌∷◌, codes, Option, Some, None, Result, Ok, Err, bytes_eq}
+use Rattle.std.specs.Prelude.{◌≤◌, ◌<ℤ◌, ◌≤ℤ◌, ℕ, ℤ, pos, Bool, true, false, if◌then◌else◌, length, List, [], ◌∷◌, codes, Option, Some, None, Result, Ok, Err, bytes_eq}
 use Rattle.std.specs.List.{list_all}
 use Rattle.std.specs.Option.{option_map}
 use Rattle.zk_history.specs.History.{Text}
@@ -7,6 +7,7 @@ use Rattle.zk_conversation.specs.declared.conversation.TheConstants.{LONGEST_PAS
 use Rattle.zk_script.specs.declared.script_fault.ScriptFault.{ScriptFault}
 use Rattle.zk_script.specs.declared.script_fault.ScriptFault.TheVariants.{Unknown, Place, Words, Hex}
 use Rattle.zk_script.specs.Reads.{◌>>=◌, time_at, is_printed}
+use Rattle.zk_script.specs.Stories.{is_remark}
 use Rattle.zk_replay.specs.declared.begin_line.BeginKeyword.{BeginKeyword}
 use Rattle.zk_replay.specs.declared.begin_line.BeginKeyword.TheVariants as begin_keyword
 use Rattle.zk_replay.specs.declared.drive_line.DriveKeyword.{DriveKeyword}
@@ -113,11 +114,6 @@ placed_at (keyword.Drive word) false words = Err Place
 abbrev pub known_at : Option Keyword → (begun : Bool) → List Text → Result ReplayValue ScriptFault
 known_at None begun words = Err Unknown
 known_at (Some word) begun words = placed_at word begun words
-
--- a remark begins with #
-abbrev pub is_remark : Text → Bool
-is_remark [] = false
-is_remark (b ∷ bytes) = b == 35
 
 abbrev pub something : Result ReplayValue ScriptFault → Result (Option ReplayValue) ScriptFault
 something (Ok value) = Ok (Some value)

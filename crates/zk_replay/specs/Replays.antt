@@ -1,12 +1,9 @@
 -- What a whole script prints, line by line.
-use Rattle.std.specs.Prelude.{◌≡◌, ℕ, ◌+◌, List, [], ◌∷◌, ◌++◌, length, codes, Option, None}
-use Rattle.std.specs.Fmt.{decimal}
+use Rattle.std.specs.Prelude.{◌≡◌, ℕ, ◌+◌, List, [], ◌∷◌, ◌++◌, length, Option, None}
 use Rattle.std.specs.List.{FoldsTo}
 use Rattle.zk_history.specs.History.{Text}
 use Rattle.zk_turns.specs.View.{View}
 use Rattle.zk_script.specs.declared.script_fault.ScriptFault.{ScriptFault}
-use Rattle.zk_script.specs.Pieces.{pieces_at}
-use Rattle.zk_script.specs.ScriptFaults.{script_fault_text}
 use Rattle.zk_replay.specs.declared.replay.End.{End}
 use Rattle.zk_replay.specs.declared.replay.End.TheVariants.{Taken, Refused, Halted, Memory}
 use Rattle.zk_replay.specs.declared.stop.Stop.{Stop}
@@ -50,14 +47,6 @@ pub record PrintsFirst (lines : List Text) (text : List ℕ) : Type 0 where
   pub behind : List Text
   pub are : lines ≡ before ++ behind
   pub prints : Prints before text
-
--- the lines of a script, which end with newlines
-abbrev pub lines_of : Text → List Text
-lines_of script = pieces_at 10 script
-
--- how a refusal is told
-abbrev pub refusal_text : ℕ → ScriptFault → List ℕ
-refusal_text number fault = codes "line " ++ (decimal number ++ (codes ": " ++ (script_fault_text fault ++ 10 ∷ [])))
 
 -- what lines printed, by how they ended
 abbrev pub IsOutcome : List Text → List ℕ → End → Type 0

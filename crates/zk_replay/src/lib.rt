@@ -4,6 +4,8 @@
 pub mod begin_line;
 pub mod call_line;
 pub mod client_line;
+#[cfg(test)]
+mod cut_rows;
 pub mod drive_line;
 pub mod driven;
 pub mod names;
@@ -11,6 +13,8 @@ pub mod outputs;
 pub mod peeks;
 pub mod player;
 pub mod reads;
+#[cfg(test)]
+mod refusals;
 pub mod replay;
 pub mod results;
 #[cfg(test)]

@@ -1,7 +1,7 @@
 //! A replay, line by line.
 
 ghost use Rattle.std.specs.Prelude.{◌≡◌, None, IfOk, IfErr, is_some, map, string_bytes};
-ghost use Rattle.zk_replay.specs.ReplayLines.{is_remark, keyword_of, placed_at, says_at};
+ghost use Rattle.zk_replay.specs.ReplayLines.{keyword_of, placed_at, says_at};
 ghost use Rattle.zk_replay.specs.declared.player.Keyword.TheVariants as made;
 ghost use Rattle.zk_script.specs.Pieces.{words_of};
 ghost use Rattle.zk_replay.specs.Played.{standing_of, DoesSaid, IsDue, TakesLine, TakesWords};
@@ -14,6 +14,7 @@ use std::alloc::Allocator;
 use zk_client::Client;
 use zk_script::pieces::words_of;
 use zk_script::script_fault::ScriptFault;
+use zk_script::story::is_remark;
 
 /// What a line does, by its first word.
 #[derive(Clone, Copy, Debug, PartialEq, Eq)]
@@ -35,13 +36,6 @@ impl Keyword {
             },
         }
     }
-}
-
-/// Whether a line is a remark, by its first word.
-fn is_remark(word: &[u8]) -> bool
-    ensures { result ≡ is_remark word.now }
-{
-    matches!(word, [b'#', ..])
 }
 
 /// A client, once a line has made it.

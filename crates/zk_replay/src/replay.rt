@@ -4,7 +4,8 @@ ghost use Rattle.std.specs.Prelude.{◌≡◌, IfErr, OnErr, OnOk, is_some, map,
 ghost use Rattle.zk_script.specs.Pieces.{words_of};
 ghost use Rattle.zk_replay.specs.ReplayLines.{says_at};
 ghost use Rattle.zk_replay.specs.Played.{standing_of, IsDue};
-ghost use Rattle.zk_replay.specs.Replays.{end_at, lines_of, progress, Goes, IsOutcome};
+ghost use Rattle.zk_script.specs.Scripts.{lines_of};
+ghost use Rattle.zk_replay.specs.Replays.{end_at, progress, Goes, IsOutcome};
 
 use crate::player::Player;
 use crate::stop::Stop;

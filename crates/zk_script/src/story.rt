@@ -39,7 +39,7 @@ impl From<HistoryFault> for ScriptFault {
 }
 
 /// Whether a line is a remark, by its first word.
-fn is_remark(word: &[u8]) -> bool
+pub fn is_remark(word: &[u8]) -> bool
     ensures { result ≡ is_remark word.now }
 {
     matches!(word, [b'#', ..])

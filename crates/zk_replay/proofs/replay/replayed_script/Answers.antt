@@ -1,4 +1,4 @@
-use Rattle.zk_replay.specs.Replays.{lines_of}
+use Rattle.zk_script.specs.Scripts.{lines_of}
 use Rattle.zk_replay.proofs.ScriptLemmas.{none_yet}
 use Rattle.zk_replay.proofs.replay.replayed_script.Goals as goal
 
