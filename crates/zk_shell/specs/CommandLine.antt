@@ -7,7 +7,7 @@ use Rattle.clap.specs.declared.builder.value_parser.ValueParser.TheVariants as p
 use Rattle.clap.specs.declared.error.kind.ErrorKind.{ErrorKind}
 use Rattle.clap.specs.declared.error.kind.ErrorKind.TheVariants as kinds
 use Rattle.zk_shell.specs.declared.command.Command.{Command}
-use Rattle.zk_shell.specs.declared.command.Command.TheVariants.{Show, History}
+use Rattle.zk_shell.specs.declared.command.Command.TheVariants.{Show, History, Replay}
 use Rattle.zk_shell.specs.declared.command.LineFault.{LineFault}
 use Rattle.zk_shell.specs.declared.command.LineFault.TheVariants.{Help, Refused, Memory}
 use Rattle.zk_shell.specs.declared.kind.Kind.TheVariants as kind
@@ -35,11 +35,14 @@ show_app names = with_rule (with_rule (new_app (codes "show")) (kind_rule names)
 abbrev pub history_app : App
 history_app = new_app (codes "history")
 
+abbrev pub replay_app : App
+replay_app = new_app (codes "replay")
+
 -- the program: one of its subcommands must be given
 abbrev pub shell_app : Bor (List (Bor Text)) → App
 shell_app names =
-    with_subcommand (with_subcommand (on_top (λ s. record s { subcommand_required = true }) (new_app (codes "zk_shell")))
-    (show_app names).top) history_app.top
+    with_subcommand (with_subcommand (with_subcommand (on_top (λ s. record s { subcommand_required = true }) (new_app (codes "zk_shell")))
+    (show_app names).top) history_app.top) replay_app.top
 
 -- the list is that of the kinds
 abbrev pub AreKinds : Bor (List (Bor Text)) → Type 0
@@ -50,6 +53,7 @@ abbrev pub IsFound : Command → Option (Text × List Row) → Type 0
 IsFound (Show kind hex) found = (rows : List Row) × (found ≡ Some (codes "show", rows))
     × (first_of (codes "KIND") rows ≡ Some (kind_word kind)) × (first_of (codes "HEX") rows ≡ Some hex.now)
 IsFound History found = (rows : List Row) × (found ≡ Some (codes "history", rows))
+IsFound Replay found = (rows : List Row) × (found ≡ Some (codes "replay", rows))
 
 -- the words ask for this command
 abbrev pub AsksFor : List Text → Command → Type 0

@@ -34,6 +34,8 @@ pub enum Command<'a> {
     Show { kind: Kind, hex: &'a str },
     /// Answers data and names of a history.
     History,
+    /// Drives a client by a script.
+    Replay,
 }
 
 /// Why a command line asks for nothing.
@@ -83,11 +85,15 @@ fn form<'a>(alloc: Global) -> Result<clap::Command<'a>, AllocError>
     let history = clap::Command::new(alloc, "history").about(
         "Answers data and names of a history at any zxid",
     );
+    let replay = clap::Command::new(alloc, "replay").about(
+        "Drives a client by a script, and prints what it says and keeps",
+    );
     let shell = clap::Command::new(alloc, "zk_shell")
-        .about("Shows frames of the protocol, and answers histories of a tree")
+        .about("Shows frames of the protocol, answers histories of a tree, and drives a client")
         .subcommand_required(true)
         .subcommand(show)?
-        .subcommand(history)?;
+        .subcommand(history)?
+        .subcommand(replay)?;
     Ok(shell)
 }
 
@@ -135,6 +141,7 @@ fn asked<'a>(matches: &ArgMatches<'a>) -> Option<Command<'a>>
     match matches.subcommand() {
         Some(("show", inner)) => show_of(inner),
         Some(("history", _)) => Some(Command::History),
+        Some(("replay", _)) => Some(Command::Replay),
         _ => None,
     }
 }

@@ -91,7 +91,7 @@ fn read_script<A: Allocator + Copy>(alloc: A, script: &[u8]) -> Outcome<A>
 }
 
 /// Tells which line is refused and why.
-fn tell<E: Write>(errors: &mut E, number: usize, why: ScriptFault) -> Status
+pub(crate) fn tell<E: Write>(errors: &mut E, number: usize, why: ScriptFault) -> Status
     ensures fault { result ≡ Status.Fault → Appends (E.contents errors.old) (E.contents errors.new) (refusal_text number why) }
     ensures only { (result ≡ Status.Fault) ⊎ (result ≡ Status.Stream) }
 {

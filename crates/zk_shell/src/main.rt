@@ -1,4 +1,4 @@
-//! Shows frames of the protocol, and answers histories of a data tree.
+//! Shows frames of the protocol, answers histories of a data tree, and drives a client by a script.
 #![tactic(auto)]
 
 mod asked;
@@ -11,6 +11,9 @@ mod kind;
 mod printed;
 #[cfg(test)]
 mod refusals;
+mod replay;
+#[cfg(test)]
+mod replay_tests;
 mod run;
 mod show;
 mod shown;

@@ -23,10 +23,10 @@ const ANSWERED: &str = "data 68 3 3 1000 1000 0 0 1\ndata absent\n";
 
 /// A writer that fails once, after so many bytes. It takes what comes then.
 #[derive(Drop)]
-struct FailsOnce {
-    bytes: Vec<u8>,
-    before: usize,
-    has_failed: bool,
+pub struct FailsOnce {
+    pub bytes: Vec<u8>,
+    pub before: usize,
+    pub has_failed: bool,
 }
 
 impl Write for FailsOnce {
@@ -69,7 +69,12 @@ impl Read for Failing {
 }
 
 /// What a command printed, what it told, and how it ended.
-fn printed(alloc: Global, out: Vec<u8>, errors: Vec<u8>, status: Status) -> Result<String, Fail> {
+pub fn printed(
+    alloc: Global,
+    out: Vec<u8>,
+    errors: Vec<u8>,
+    status: Status,
+) -> Result<String, Fail> {
     let out = String::from_utf8(out)?;
     let errors = String::from_utf8(errors)?;
     Ok(format!(in alloc; "{out}|{errors}|{}", status as u8)?)

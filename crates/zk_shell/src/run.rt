@@ -6,6 +6,7 @@ ghost use Rattle.zk_shell.specs.Run.{IsDone, IsFaulty, IsRefusal, IsWhole};
 
 use crate::command::{Command, LineFault, command_of};
 use crate::history::history;
+use crate::replay::replay;
 use crate::show::show;
 use crate::status::Status;
 use std::alloc::Global;
@@ -29,22 +30,23 @@ pub fn run<I: Read, O: Write, E: Write>(
     errors: &mut E,
     words: &[&str],
 ) -> Status
-    // A frame is shown, a history is answered, or help is told.
+    // A frame is shown, a history is answered, a replay is printed, or help is told.
     ensures done { result ≡ Status.Done → (text : List ℕ) × IsDone (map (λ w. w.now) words.entry.now) (I.remaining input.old) text
         × Appends (O.contents out.old) (O.contents out.new) text × (errors.new ≡ errors.old) }
-    // The frame or a line of the history is refused, and this is told.
+    // The frame or a line of the script is refused, and this is told.
     ensures fault { result ≡ Status.Fault → (text told : List ℕ) × IsFaulty (map (λ w. w.now) words.entry.now) (I.remaining input.old) text told
         × Appends (O.contents out.old) (O.contents out.new) text × Appends (E.contents errors.old) (E.contents errors.new) told }
     // The words are refused, and this is told.
     ensures usage { result ≡ Status.Usage → (told : List ℕ) × IsRefusal (map (λ w. w.now) words.entry.now) told
         × Appends (E.contents errors.old) (E.contents errors.new) told × (out.new ≡ out.old) }
-    // Nothing is written, or whole answers of a history.
+    // Nothing is written, or whole answers of a history, or what whole lines of a replay print.
     ensures memory { result ≡ Status.Memory → (text : List ℕ) × IsWhole (map (λ w. w.now) words.entry.now) (I.remaining input.old) text
         × Appends (O.contents out.old) (O.contents out.new) text × (errors.new ≡ errors.old) }
 {
     match command_of(alloc, words) {
         Ok(Command::Show { kind, hex }) => show(alloc, out, errors, kind, hex),
         Ok(Command::History) => history(alloc, input, out, errors),
+        Ok(Command::Replay) => replay(alloc, input, out, errors),
         Err(LineFault::Help(text)) => write_text(out, text.as_str(), Status::Done),
         Err(LineFault::Refused(text)) => write_text(errors, text.as_str(), Status::Usage),
         Err(LineFault::Memory) => Status::Memory,

@@ -3,7 +3,7 @@ use std::alloc::Global;
 use std::test::Fail;
 
 /// What a command line over an input prints, what it tells, and how it ends.
-fn outcome(alloc: Global, words: &[&str], input: &str) -> Result<String, Fail> {
+pub fn outcome(alloc: Global, words: &[&str], input: &str) -> Result<String, Fail> {
     let mut out: Vec<u8> = Vec::new(alloc);
     let mut errors: Vec<u8> = Vec::new(alloc);
     let mut input = input.as_bytes();
@@ -273,7 +273,7 @@ fn tells_help_and_refusals(rt: HostRuntime) -> Result<(), Fail> {
     for (line, begins, ends) in [
         (
             "zk_shell --help",
-            "Shows frames of the protocol, and answers histories of a tree\n",
+            "Shows frames of the protocol, answers histories of a tree, and drives a client\n",
             "||0",
         ),
         ("zk_shell", "|error: ", "|2"),
@@ -281,6 +281,7 @@ fn tells_help_and_refusals(rt: HostRuntime) -> Result<(), Fail> {
         ("zk_shell show tree 00000000", "|error: ", "|2"),
         ("zk_shell show connect", "|error: ", "|2"),
         ("zk_shell history now", "|error: ", "|2"),
+        ("zk_shell replay now", "|error: ", "|2"),
     ] {
         let got = outcome_of_line(rt.alloc(), line)?;
         let is_due = got.as_str().starts_with(begins) && got.as_str().ends_with(ends);

@@ -3,7 +3,7 @@ use Rattle.std.specs.Prelude.{IfNone, MatchOption}
 use Rattle.clap.specs.Words.{found_of, first_of, rows_of, subcommand_rows_of, Text, Row}
 use Rattle.clap.proofs.WalkLemmas.{first_value-rows}
 use Rattle.zk_shell.specs.declared.command.Command.{Command}
-use Rattle.zk_shell.specs.declared.command.Command.TheVariants.{Show, History}
+use Rattle.zk_shell.specs.declared.command.Command.TheVariants.{Show, History, Replay}
 use Rattle.zk_shell.specs.declared.kind.Kind.{Kind}
 use Rattle.zk_shell.specs.Kinds.{kind_word}
 use Rattle.zk_shell.specs.CommandLine.{AsksForNone, IsFound}
@@ -31,6 +31,8 @@ without_values found rows is absent (Show kind hex) f =
     absent kind hex.now (rw same f.2) (rw same f.3)
 without_values found rows is absent History f =
     let bad : ◌≡◌ {A = ℕ} 115 104 = ap (λ (o : Option (Text × List Row)). slice_index (name_in o) 0) (sym is ∙ f.1) in absurd (omega arith)
+without_values found rows is absent Replay f =
+    let bad : ◌≡◌ {A = ℕ} 115 114 = ap (λ (o : Option (Text × List Row)). slice_index (name_in o) 0) (sym is ∙ f.1) in absurd (omega arith)
 
 pub returns-in-Some-show-default : goal.returns-in-Some-show-default
 returns-in-Some-show-default c =

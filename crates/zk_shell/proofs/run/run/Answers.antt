@@ -1,7 +1,7 @@
 use Rattle.std.proofs.Common.{[], ◌∷◌, ◌++◌, refl, inl, inr}
 use Rattle.zk_script.specs.Scripts.{refusal_text}
 use Rattle.zk_shell.specs.declared.command.LineFault.TheVariants.{Help}
-use Rattle.zk_shell.specs.Run.{shows, answers, helps, unshown, stopped, first}
+use Rattle.zk_shell.specs.Run.{shows, answers, plays, helps, unshown, stopped, ended, first, begins}
 use Rattle.zk_shell.specs.Show.{fault_text}
 use Rattle.zk_shell.proofs.ScriptLemmas.{appends_nothing}
 use Rattle.zk_shell.proofs.run.run.Goals as goal
@@ -35,6 +35,21 @@ pub returns-in-Ok-History-clause-memory : goal.returns-in-Ok-History-clause-memo
 returns-in-Ok-History-clause-memory g c = λ is.
     let told = c.history.ensures.memory is in
     (told.1, first told.0 (rw c.in-Ok-History.field-0-is at c.in-Ok-History.ensures.ok) told.2 told.3, told.4, c.history.ensures.silent (inr is))
+
+pub returns-in-Ok-Replay-clause-done : goal.returns-in-Ok-Replay-clause-done
+returns-in-Ok-Replay-clause-done g c = λ is.
+    let told = c.replay.ensures.done is in
+    (told.1, plays told.0 (rw c.in-Ok-Replay.field-0-is at c.in-Ok-Replay.ensures.ok) told.2 told.3, told.4, c.replay.ensures.silent (inl is))
+
+pub returns-in-Ok-Replay-clause-fault : goal.returns-in-Ok-Replay-clause-fault
+returns-in-Ok-Replay-clause-fault g c = λ is.
+    let told = c.replay.ensures.fault is in
+    (told.1, refusal_text told.2 told.3, ended told.0 told.2 told.3 (rw c.in-Ok-Replay.field-0-is at c.in-Ok-Replay.ensures.ok) told.4 told.5 refl, told.6, told.7)
+
+pub returns-in-Ok-Replay-clause-memory : goal.returns-in-Ok-Replay-clause-memory
+returns-in-Ok-Replay-clause-memory g c = λ is.
+    let told = c.replay.ensures.memory is in
+    (told.1 ++ told.2, begins told.0 told.1 told.2 (rw c.in-Ok-Replay.field-0-is at c.in-Ok-Replay.ensures.ok) told.3 told.4 told.5 refl, told.6, c.replay.ensures.silent (inr is))
 
 pub returns-in-Err-Help-clause-done : goal.returns-in-Err-Help-clause-done
 returns-in-Err-Help-clause-done g c = λ is.
