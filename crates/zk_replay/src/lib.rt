@@ -1,4 +1,8 @@
-//! The lines of scripts that drive a client, and what it gives and keeps as printed lines.
+//! The lines of scripts that drive a client, and what it says and keeps as printed lines.
+//!
+//! [`client_line`] and [`call_line`] read the lines that every script of a client may have, [`begin_line`] and [`drive_line`]
+//! those of a replay. [`outputs`] and [`peeks`] print, and [`driven`] does one line with a client. [`player`] and [`replay`]
+//! are the replay of a script: what its lines print is said once, in `specs/Replays.antt`.
 #![tactic(auto)]
 
 pub mod begin_line;

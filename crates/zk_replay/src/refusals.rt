@@ -1,4 +1,4 @@
-//! Each request for memory refused in turn, and long lists.
+//! Each request for memory refused in turn, long lists, and long passwords.
 
 use crate::replay::{End, replayed_script};
 use crate::rows::{BEGUN, ROWS};
@@ -7,6 +7,7 @@ use std::alloc::Global;
 use std::process::Abort;
 use std::test::Fail;
 use zk_script::pieces::lines_of;
+use zk_script::script_fault::ScriptFault;
 
 /// Whether a script whose memory refuses one request prints whole lines of what it prints else, and ends for that reason; and
 /// whether it came to that.
@@ -97,5 +98,47 @@ fn long_lists_are_watched_again_in_parts(rt: HostRuntime) -> Result<(), Fail> {
     let got = heads(alloc, outcome.text.as_str(), 203)?;
     let want = format!(in alloc; "{PARTS}\n")?;
     assert_eq!(rt; got.as_str(), want.as_str());
+    Ok(())
+}
+
+/// So many bytes in hex.
+fn letters(alloc: Global, count: u32) -> Result<String, Fail> {
+    let mut letters = String::new(alloc);
+    for _ in 0..count {
+        letters.push_str("aa")?;
+    }
+    Ok(letters)
+}
+
+/// What is printed of a session with the longest password and its next connection, up to the 45th byte of each line.
+const LONGEST: &str =
+    "send 0000002d00000000000000000000000000007530\nstate Connecting\nstate Connected\nstate Idle\nsend 0040000900000000000000000000000000007530\nstate Connecting\n\n";
+
+#[test]
+fn the_longest_password_goes_back_as_it_came(rt: HostRuntime) -> Result<(), Fail> {
+    let alloc = rt.alloc();
+    let password = letters(alloc, 4_194_284)?;
+    let script = format!(in alloc;
+        "timeout 30000\nopened\nbytes 0040000000000000000075300000000000000abc003fffec{}\ncut\nopened\n",
+        password.as_str()
+    )?;
+    let outcome = replayed_script(alloc, script.as_bytes());
+    let got = heads(alloc, outcome.text.as_str(), 0)?;
+    assert_eq!(rt; got.as_str(), LONGEST);
+    Ok(())
+}
+
+/// How a replay ends that takes up a session with a password of so many bytes.
+fn taken_up(alloc: Global, count: u32) -> Result<End, Fail> {
+    let password = letters(alloc, count)?;
+    let script = format!(in alloc; "resume 5 1 {} 0\n", password.as_str())?;
+    Ok(replayed_script(alloc, script.as_bytes()).end)
+}
+
+#[test]
+fn a_longer_password_is_none(rt: HostRuntime) -> Result<(), Fail> {
+    let why = ScriptFault::Words;
+    assert!(rt; taken_up(rt.alloc(), 4_194_284)? == End::Taken);
+    assert!(rt; taken_up(rt.alloc(), 4_194_285)? == End::Refused { number: 1, why });
     Ok(())
 }

@@ -1,4 +1,4 @@
-use Rattle.std.proofs.Common.{ap, sym, ◌∙◌, map, take, get_or, string_bytes, arith}
+use Rattle.std.proofs.Common.{ap, sym, ◌∙◌, map, take, get_or, string_bytes}
 use Rattle.std.proofs.lemmas.Cmp.{nat_list_cmp_total}
 use Rattle.std.proofs.lemmas.List.{map_more}
 use Rattle.std.specs.FinSet as set
