@@ -1,5 +1,5 @@
 -- What a reply leaves.
-use Rattle.std.proofs.Common.{◌≡◌, ℕ, ℤ, Bool, true, false, List, [], ◌∷◌, ◌++◌, length, drop, refl, ap, sym, ◌∙◌, cond}
+use Rattle.std.proofs.Common.{◌≡◌, ℕ, ℤ, Bool, true, false, List, [], ◌∷◌, drop, refl, ap, sym, ◌∙◌}
 use Rattle.std.specs.Int.{int_max}
 use Rattle.zk_history.specs.History.{Text}
 use Rattle.zk_session.specs.declared.states.State.{State}
@@ -12,9 +12,8 @@ use Rattle.zk_conversation.specs.Results.{Result}
 use Rattle.zk_watches.specs.Lists.{Lists, no_lists}
 use Rattle.zk_cache.specs.Cache.{Answers, data_kept, names_kept, no_answers}
 use Rattle.zk_turns.specs.Kept.{Took, Replies, leaves_data, leaves_child}
-use Rattle.zk_turns.specs.Turns.{Output, Answer, Enters, Outcome, Replied}
-use Rattle.zk_turns.specs.View.{View, Cache}
-use Rattle.zk_turns.specs.Rule.{next, next_reply, seen, after_reply, kept_after, keep_node, keep_children, closing, empty_cache}
+use Rattle.zk_turns.specs.View.{View}
+use Rattle.zk_turns.specs.Rule.{next, next_reply, seen, after_reply, kept_after, keep_node, keep_children, closing}
 use Rattle.zk_turns.proofs.Happened.{view_ext}
 use Rattle.zk_client.specs.Seen.{shown, while_pending, cache_of}
 use Rattle.zk_client.proofs.Kept.{cache-ext, nothing-kept}

@@ -1,5 +1,5 @@
 -- What a call that is sent leaves.
-use Rattle.std.proofs.Common.{◌≡◌, ℕ, ◌+◌, ◌≤◌, ◌<◌, Bool, true, false, List, [], ◌∷◌, ◌++◌, length, Option, Some, None, refl, ap, sym, ◌∙◌, cond, filter, arith, length-append}
+use Rattle.std.proofs.Common.{◌≡◌, ℕ, ◌+◌, ◌≤◌, ◌<◌, Bool, List, [], ◌∷◌, ◌++◌, length, Option, Some, None, refl, ap, ◌∙◌, cond, filter, arith, length-append}
 use Rattle.std.proofs.lemmas.List.Elements.{filter-append}
 use Rattle.zk_history.specs.declared.side.Side.{Side}
 use Rattle.zk_history.specs.declared.side.Side.TheVariants.{Data, Child}
@@ -8,11 +8,10 @@ use Rattle.zk_session.specs.Table as session
 use Rattle.zk_conversation.specs.Calls.{Call}
 use Rattle.zk_conversation.specs.Questions.{question_of, watched_side}
 use Rattle.zk_conversation.specs.Pending.{Talk, Pending, call_waits, is_on, watches_pending, waits_to_watch, talk_asked}
-use Rattle.zk_conversation.specs.declared.phase.Phase.TheVariants.{Talking}
 use Rattle.zk_session.specs.declared.states.State.TheVariants.{Connected}
 use Rattle.zk_watches.specs.Lists.{Lists, count_of}
 use Rattle.zk_turns.specs.Taken.{phase_of}
-use Rattle.zk_client.specs.Sound.{HasRoom, IsTied, IsSound}
+use Rattle.zk_client.specs.Sound.{HasRoom, IsSound}
 use Rattle.zk_client.proofs.Rooms.{tied-talking}
 
 pushed : (p : Pending → Bool) (xs : List Pending) (y : Pending) → length (filter p (xs ++ y ∷ [])) ≡ length (filter p xs) + length (filter p (y ∷ []))

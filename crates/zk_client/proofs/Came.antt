@@ -1,5 +1,5 @@
 -- What a payload brings, and what it finds.
-use Rattle.std.proofs.Common.{◌≡◌, ◌≢◌, ℕ, ◌+◌, ◌≤◌, ℤ, Bool, List, [], ◌∷◌, ◌++◌, length, drop, Option, Some, None, Result, Ok, Err, refl, ap, sym, subst, ◌∙◌, arith, length-append}
+use Rattle.std.proofs.Common.{◌≡◌, ℕ, ◌+◌, ◌≤◌, ℤ, Bool, List, ◌∷◌, ◌++◌, length, drop, Option, Some, None, Result, Ok, Err, refl, ap, sym, subst, ◌∙◌, arith, length-append}
 use Rattle.zk_jute.specs.declared.fault.TakeError.{TakeError}
 use Rattle.zk_jute.specs.Lenient.{or_empty}
 use Rattle.zk_jute.specs.Spelling.{IsBytes, int_bytes, long_bytes, counted_bytes, spelling}
@@ -10,23 +10,20 @@ use Rattle.zk_session.specs.declared.states.State.{State}
 use Rattle.zk_session.specs.declared.states.State.TheVariants.{Idle, Connecting, Connected as Is_connected, Expired, Closed as Is_closed}
 use Rattle.zk_session.specs.Kept.{Kept}
 use Rattle.zk_conversation.specs.declared.phase.Phase.{Phase}
-use Rattle.zk_conversation.specs.declared.phase.Phase.TheVariants.{Opening, Talking, Closed}
+use Rattle.zk_conversation.specs.declared.phase.Phase.TheVariants.{Opening, Talking}
 use Rattle.zk_conversation.specs.declared.conversation.TheConstants.{LONGEST_PASSWORD}
 use Rattle.zk_conversation.specs.declared.fault.TalkFault.{TalkFault}
-use Rattle.zk_conversation.specs.Pending.{Talk, Pending, Part_waits, Call_waits}
+use Rattle.zk_conversation.specs.Pending.{Talk, Pending}
 use Rattle.zk_conversation.specs.Results.{response_password}
 use Rattle.zk_conversation.specs.Arriving.{Arrived, Connected, Replied, Watches_set, Notice, Pong, Skipped, arriving, first_arriving, pending_after, talk_after}
 use Rattle.zk_watches.specs.Lists.{Lists}
 use Rattle.zk_cache.specs.Cache.{Answers}
-use Rattle.zk_turns.specs.Turns.{Talked}
-use Rattle.zk_turns.specs.Kept.{Happening, Dropped}
-use Rattle.zk_turns.specs.Taken.{phase_of, happening_of, taken_of, reading}
-use Rattle.zk_turns.specs.View.{View}
+use Rattle.zk_turns.specs.Taken.{phase_of, happening_of}
 use Rattle.zk_turns.specs.Rule.{IsOpen, arrival}
-use Rattle.zk_turns.proofs.Arriving.{First, IsOf, AreOf, of_arriving}
+use Rattle.zk_turns.proofs.Arriving.{IsOf, AreOf, of_arriving}
 use Rattle.zk_turns.proofs.Spelt.{first_spelt}
 use Rattle.zk_client.specs.Seen.{shown, while_pending}
-use Rattle.zk_client.specs.Sound.{IsSound, IsLeft, HasArrived, HasRoom}
+use Rattle.zk_client.specs.Sound.{IsSound, IsLeft, HasArrived}
 
 -- ---- how long a password is
 

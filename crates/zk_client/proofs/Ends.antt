@@ -1,6 +1,6 @@
 -- The ends of a session and of a connection, in what a client shows.
 use Rattle.std.proofs.lemmas.Int.{ints}
-use Rattle.std.proofs.Common.{◌≡◌, ℕ, zero, suc, ℤ, pos, negsuc, ◌≤ℤ◌, ◌<ℤ◌, Bool, true, false, List, [], ◌∷◌, length, refl, ap, sym, ◌∙◌, arith, cond}
+use Rattle.std.proofs.Common.{◌≡◌, ℕ, zero, suc, ℤ, pos, negsuc, ◌≤ℤ◌, Bool, false, List, [], ◌∷◌, length, refl, ap, ◌∙◌, arith}
 use Rattle.std.specs.Prelude.{int_lt, unsigned_abs, if◌then◌else◌}
 use Rattle.zk_session.specs.declared.states.State.{State}
 use Rattle.zk_session.specs.declared.states.State.TheVariants.{Idle, Connecting, Connected, Expired, Closed}
@@ -12,8 +12,7 @@ use Rattle.zk_conversation.specs.Pending.{Talk, Pending, cut_off}
 use Rattle.zk_watches.specs.Lists.{Lists, no_lists}
 use Rattle.zk_cache.specs.Cache.{Answers, no_answers}
 use Rattle.zk_turns.specs.Kept.{Took, Expiry}
-use Rattle.zk_turns.specs.View.{View}
-use Rattle.zk_turns.specs.Rule.{next, empty_cache}
+use Rattle.zk_turns.specs.Rule.{next}
 use Rattle.zk_turns.proofs.Happened.{view_ext}
 use Rattle.zk_client.specs.Seen.{shown, while_pending}
 use Rattle.zk_client.proofs.Kept.{nothing-kept}

@@ -1,5 +1,5 @@
 -- Bytes that are held, a frame at a time.
-use Rattle.std.proofs.Common.{◌≡◌, ℕ, suc, ◌+◌, ◌≤◌, ◌<◌, Bool, true, false, List, [], ◌∷◌, ◌++◌, map, length, refl, ap, sym, subst, ◌∙◌, arith, append_assoc, cond, max}
+use Rattle.std.proofs.Common.{◌≡◌, ℕ, ◌≤◌, ◌<◌, Bool, true, false, List, [], ◌∷◌, ◌++◌, map, length, refl, ap, sym, subst, ◌∙◌, arith, max}
 use Rattle.std.specs.Prelude.{Option, None, Err, MatchOption}
 use Rattle.zk_frames.specs.Frame.{frame, IsUnfinished, IsNegative, IsTooLong}
 use Rattle.zk_frames.specs.Held.{Held, failed}
@@ -19,8 +19,8 @@ use Rattle.zk_cache.specs.Cache.{Answers}
 use Rattle.zk_client.specs.Seen.{shown}
 use Rattle.zk_watches.specs.Lists.{Lists}
 use Rattle.zk_watches.specs.Parts.{parts}
-use Rattle.zk_turns.specs.Turns.{Signal, Comes, Output, Fault, Framed}
-use Rattle.zk_turns.specs.Kept.{Happening, Took, Dropped, Came, Message, Accepted, Expiry, Replies, Watches_set, Notifies, Pong, Skipped, if_any}
+use Rattle.zk_turns.specs.Turns.{Comes, Output, Framed}
+use Rattle.zk_turns.specs.Kept.{Happening, Dropped, Came, Message, Accepted, Expiry, Replies, Watches_set, Notifies, Pong, Skipped, if_any}
 use Rattle.zk_turns.specs.Taken.{Cutting, Unfinished, Bad, Payload, cut, of_cutting, happenings}
 use Rattle.zk_turns.specs.View.{View}
 use Rattle.zk_turns.specs.Rule.{IsOpen, Hears, heard, fed, next, says, arrival, after_all, says_all, after_signals, says_signals, next_message, next_reply}

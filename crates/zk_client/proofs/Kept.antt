@@ -1,17 +1,14 @@
 -- What is kept of each path, by what a cache keeps.
-use Rattle.std.proofs.Common.{◌≡◌, ℕ, Bool, true, false, ◌&&◌, List, [], Option, None, refl, ap, sym, ◌∙◌, cond}
+use Rattle.std.proofs.Common.{◌≡◌, Bool, true, false, ◌&&◌, refl, ap, ◌∙◌}
 use Rattle.std.specs.Prelude.{bytes_eq, if◌then◌else◌}
 use Rattle.zk_history.specs.History.{Text}
 use Rattle.zk_history.specs.declared.side.Side.TheVariants.{Data, Child}
-use Rattle.zk_session.specs.Kept.{Kept as Session_kept}
-use Rattle.zk_conversation.specs.Pending.{Talk}
-use Rattle.zk_watches.specs.Lists.{Lists}
 use Rattle.zk_cache.specs.Cache.{Answers, data_kept, names_kept, no_answers, with_stale, with_good}
-use Rattle.zk_cache.specs.Kept.{stale, without_stale}
+use Rattle.zk_cache.specs.Kept.{stale}
 use Rattle.zk_cache.proofs.CallerLemmas.{keeps_each}
-use Rattle.zk_turns.specs.View.{View, Cache}
+use Rattle.zk_turns.specs.View.{Cache}
 use Rattle.zk_turns.specs.Rule.{empty_cache, forgotten}
-use Rattle.zk_client.specs.Seen.{cache_of, shown}
+use Rattle.zk_client.specs.Seen.{cache_of}
 
 pub cache-ext : (a b : Cache) → ((path : Text) → a.nodes path ≡ b.nodes path) → ((path : Text) → a.children path ≡ b.children path) → a ≡ b
 cache-ext a b p q = λ i. record { nodes = λ path. p path i; children = λ path. q path i }

@@ -3,7 +3,7 @@ pub mod Kept
 pub mod Ends
 pub mod Rooms
 pub mod Asked
-pub mod Tests
+pub mod Decided
 pub mod Parts
 pub mod Welcomes
 pub mod Answered

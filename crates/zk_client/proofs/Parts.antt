@@ -1,5 +1,5 @@
 -- The parts of setWatches, one after the other.
-use Rattle.std.proofs.Common.{◌≡◌, ℕ, ℤ, zero, nat_lt, suc, ◌+◌, ◌≤◌, ◌<◌, Bool, true, false, List, [], ◌∷◌, ◌++◌, map, take, length, eqb, get_or, Option, Some, refl, ap, sym, subst, ◌∙◌, arith, length-append, add-one, All, flat_map}
+use Rattle.std.proofs.Common.{◌≡◌, ℕ, ℤ, zero, nat_lt, suc, ◌+◌, ◌≤◌, ◌<◌, Bool, false, List, [], ◌∷◌, ◌++◌, map, take, length, eqb, get_or, Some, refl, ap, sym, subst, ◌∙◌, arith, length-append, add-one, All, flat_map}
 use Rattle.std.proofs.Math.Dec.{eqb-suc-suc, eqb-zero-suc}
 use Rattle.std.proofs.lemmas.List.Sums.{sum_by-cons}
 use Rattle.std.proofs.lemmas.Bool.{lt-ltb}

@@ -1,7 +1,7 @@
 -- What an accepted response leaves.
 use Rattle.std.proofs.lemmas.Int.{ints}
-use Rattle.std.proofs.Common.{◌≡◌, ◌≢◌, ℕ, zero, suc, ℤ, pos, negsuc, ◌<ℤ◌, ◌≤ℤ◌, ◌≤◌, max, Bool, true, false, List, [], ◌∷◌, ◌++◌, map, length, eqb, refl, ap, sym, ◌∙◌, arith, cond}
-use Rattle.std.specs.Prelude.{int_lt, unsigned_abs, ◌==◌, if◌then◌else◌}
+use Rattle.std.proofs.Common.{◌≡◌, ℕ, zero, suc, ℤ, pos, negsuc, ◌<ℤ◌, ◌≤ℤ◌, ◌≤◌, max, Bool, true, List, [], ◌∷◌, ◌++◌, map, length, refl, ap, ◌∙◌, arith}
+use Rattle.std.specs.Prelude.{int_lt, unsigned_abs, if◌then◌else◌}
 use Rattle.std.proofs.lemmas.Bool.{lt-ltb}
 use Rattle.std.proofs.Math.Dec.{eqb-suc-zero}
 use Rattle.zk_records.specs.Response.{Response as Whole_response}
@@ -16,18 +16,17 @@ use Rattle.zk_conversation.specs.declared.conversation.TheConstants.{LONGEST_PAS
 use Rattle.zk_conversation.specs.Results.{response_timeout, response_session, response_password}
 use Rattle.zk_conversation.specs.Pending.{Talk, Pending, watches_pending}
 use Rattle.zk_history.specs.declared.side.Side.TheVariants.{Data, Child}
-use Rattle.zk_watches.specs.Lists.{Lists, count_of}
+use Rattle.zk_watches.specs.Lists.{Lists}
 use Rattle.zk_watches.specs.Parts.{parts}
 use Rattle.zk_cache.specs.Cache.{Answers}
-use Rattle.zk_turns.specs.Kept.{Took, Accepted, Expiry, Message, pending_for, parts_asked, if_any}
+use Rattle.zk_turns.specs.Kept.{Took, Accepted, Expiry, pending_for, parts_asked, if_any}
 use Rattle.zk_turns.specs.Taken.{welcome_by, accepted_or_expired}
-use Rattle.zk_turns.specs.View.{View}
 use Rattle.zk_turns.specs.Rule.{next}
 use Rattle.zk_turns.proofs.Happened.{view_ext}
 use Rattle.zk_client.specs.Seen.{shown, while_pending}
 use Rattle.zk_client.specs.Sound.{HasRoom, IsSound}
 use Rattle.zk_client.specs.Steps.{welcome_of, has_any}
-use Rattle.zk_client.proofs.Ends.{none-there, not-above}
+use Rattle.zk_client.proofs.Ends.{none-there}
 use Rattle.zk_client.proofs.Rooms.{tied-talking}
 
 above : (timeout : ℤ) → pos 0 <ℤ timeout → int_lt (pos 0) timeout ≡ true

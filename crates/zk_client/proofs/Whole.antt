@@ -1,5 +1,5 @@
 -- A whole client: where it begins, and what a halt leaves.
-use Rattle.std.proofs.Common.{◌≡◌, ℕ, ◌≤◌, ℤ, Bool, true, false, List, [], length, replicate, refl, ap, sym, ◌∙◌, arith, None}
+use Rattle.std.proofs.Common.{◌≡◌, ℕ, ◌≤◌, Bool, true, false, List, [], length, refl, ap, ◌∙◌, arith}
 use Rattle.zk_frames.specs.Held.{Held, reading}
 use Rattle.zk_session.specs.Kept.{Kept, Saved, start as kept_start}
 use Rattle.zk_conversation.specs.declared.conversation.TheConstants.{LONGEST_PASSWORD}
@@ -7,11 +7,11 @@ use Rattle.zk_conversation.specs.Pending.{Talk, new_talk}
 use Rattle.zk_watches.specs.Lists.{Lists, no_lists}
 use Rattle.zk_cache.specs.Cache.{Answers, no_answers}
 use Rattle.zk_turns.specs.Turns.{Start}
-use Rattle.zk_turns.specs.View.{View, Standing, view_at}
+use Rattle.zk_turns.specs.View.{Standing, view_at}
 use Rattle.zk_turns.specs.Rule.{HaltsAs}
 use Rattle.zk_turns.proofs.Happened.{view_ext}
-use Rattle.zk_client.specs.Seen.{shown, Origin, origin_of}
-use Rattle.zk_client.specs.Sound.{HasRoom, IsTied, IsSound, IsReading}
+use Rattle.zk_client.specs.Seen.{shown, origin_of}
+use Rattle.zk_client.specs.Sound.{IsSound, IsReading}
 use Rattle.zk_client.proofs.Kept.{nothing-kept}
 use Rattle.zk_client.proofs.Heard.{nothing-held}
 

@@ -1,5 +1,5 @@
 -- Parts of one step.
-use Rattle.std.specs.Prelude.{◌≡◌, ℕ, Bool, negsuc, ◌+◌, ◌<◌, pos, nat_lt, List, [], ◌∷◌, length, Option, Some, None, ◌≤◌, unsigned_abs, max, true, false, if◌then◌else◌}
+use Rattle.std.specs.Prelude.{◌≡◌, ℕ, Bool, negsuc, ◌+◌, ◌<◌, pos, nat_lt, List, [], ◌∷◌, length, Option, Some, None, unsigned_abs, max, true, false, if◌then◌else◌}
 use Rattle.std.specs.Ordering.{int_eq}
 use Rattle.zk_history.specs.declared.side.Side.{Side}
 use Rattle.zk_records.specs.declared.code.Code.{Code}

@@ -1,5 +1,5 @@
 -- What goes in and comes out, without where it lies in memory.
-use Rattle.std.specs.Prelude.{ℕ, List, map, vec_items, string_bytes}
+use Rattle.std.specs.Prelude.{List, map, string_bytes}
 use Rattle.std.specs.Option.{option_map}
 use Rattle.zk_records.specs.Codes.{code_number}
 use Rattle.zk_conversation.specs.Results.{Result, Found, Read, Listing, Made, Done}

@@ -1,4 +1,4 @@
-use Rattle.std.proofs.Common.{◌≡◌, ℕ, ℤ, ◌≤◌, ◌<◌, ◌+◌, ◌++◌, ◌∷◌, [], List, take, map, length, eqb, get_or, nat_lt, All, ap, sym, subst, ◌∙◌, refl, w64, arith, append_assoc, vec_len}
+use Rattle.std.proofs.Common.{◌≡◌, ℕ, ◌+◌, ◌++◌, ◌∷◌, [], List, take, map, length, eqb, nat_lt, ap, sym, ◌∙◌, w64, arith, append_assoc, vec_len}
 use mir.Val.{to_z, of_z}
 use Rattle.std.proofs.lemmas.Int.{ints}
 use Rattle.std.proofs.lemmas.List.{length-map}
@@ -13,7 +13,6 @@ use Rattle.zk_turns.specs.Kept.{pending_for, parts_asked}
 use Rattle.zk_turns.specs.Turns.{Output, Send}
 use Rattle.zk_turns.specs.Rule.{part_frame}
 use Rattle.zk_client.specs.Views.{said}
-use Rattle.zk_client.specs.Steps.{has_any}
 use Rattle.zk_client.proofs.Parts.{part-small, next-part, all-parts, all-frames, any-part}
 use Rattle.zk_client.proofs.arrivals.send_parts.Goals as goal
 

@@ -1,4 +1,4 @@
-use Rattle.std.proofs.Common.{◌≡◌, ◌++◌, length, map, take}
+use Rattle.std.proofs.Common.{◌≡◌, ◌++◌, map, take}
 use Rattle.zk_conversation.specs.declared.phase.Phase.TheVariants.{Talking}
 use Rattle.zk_watches.specs.Parts.{parts}
 use Rattle.zk_turns.specs.Kept.{pending_for, parts_asked}

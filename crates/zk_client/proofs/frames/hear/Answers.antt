@@ -1,4 +1,4 @@
-use Rattle.std.proofs.Common.{◌≡◌, ℕ, ◌<◌, length, refl, List, [], ◌++◌, ap, sym, subst, ◌∙◌, map, arith}
+use Rattle.std.proofs.Common.{◌<◌, length, List, [], ◌++◌, ap, sym, subst, ◌∙◌, map, arith}
 use Rattle.std.proofs.lemmas.List.{append-nil}
 use Rattle.std.proofs.lemmas.Bool.Decides.{nat_tests}
 use Rattle.zk_frames.specs.Held.{Held}

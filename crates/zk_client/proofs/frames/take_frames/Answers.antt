@@ -1,8 +1,6 @@
-use Rattle.std.proofs.Common.{◌≡◌, ℕ, refl, List, [], ◌++◌, ap, sym, subst, ◌∙◌, map, None, append_assoc, arith}
+use Rattle.std.proofs.Common.{refl, List, [], ◌++◌, ap, sym, subst, ◌∙◌, map, append_assoc}
 use Rattle.std.proofs.lemmas.List.{append-nil}
 use Rattle.zk_frames.specs.Held.{Held}
-use Rattle.zk_frames.specs.Next.{AnswersNext, GivesFrame, GivesNothing}
-use Rattle.zk_session.specs.declared.states.State.{State}
 use Rattle.zk_turns.specs.Turns.{Output, Comes}
 use Rattle.zk_turns.specs.View.{View}
 use Rattle.zk_turns.specs.Rule.{IsOpen, after_signals, says_signals, says, next, arrival}

@@ -1,4 +1,4 @@
-use Rattle.std.proofs.Common.{◌≡◌, List, [], ◌++◌, map, None, false, length}
+use Rattle.std.proofs.Common.{◌≡◌, [], ◌++◌, map, None, false, length}
 use Rattle.zk_turns.specs.Turns.{Comes}
 use Rattle.zk_turns.specs.Rule.{after_signals, says_signals}
 use Rattle.zk_client.specs.Views.{said}

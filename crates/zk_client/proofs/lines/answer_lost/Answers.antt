@@ -1,6 +1,6 @@
-use Rattle.std.proofs.Common.{◌≡◌, ap, sym, ◌∙◌, append_assoc, List, [], ◌∷◌, ◌++◌}
+use Rattle.std.proofs.Common.{ap, sym, ◌∙◌, append_assoc, List, ◌++◌}
 use Rattle.std.proofs.lemmas.List.{append-nil}
-use Rattle.zk_turns.specs.Turns.{Output, Answer, ConnectionLoss}
+use Rattle.zk_turns.specs.Turns.{Output}
 use Rattle.zk_client.specs.Views.{said}
 use Rattle.zk_client.proofs.Pendings.{takes-one, takes-none}
 use Rattle.zk_client.proofs.lines.answer_lost.Goals as goal

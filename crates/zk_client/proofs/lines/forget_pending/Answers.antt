@@ -1,4 +1,4 @@
-use Rattle.std.proofs.Common.{◌≡◌, sym, ◌∙◌}
+use Rattle.std.proofs.Common.{sym, ◌∙◌}
 use Rattle.zk_client.proofs.Pendings.{takes-one, takes-none}
 use Rattle.zk_client.proofs.lines.forget_pending.Goals as goal
 

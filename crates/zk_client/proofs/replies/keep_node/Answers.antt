@@ -1,4 +1,4 @@
-use Rattle.std.proofs.Common.{◌≡◌, ap, ◌∙◌}
+use Rattle.std.proofs.Common.{ap, ◌∙◌}
 use Rattle.zk_cache.specs.Cache.{Answers, data_kept}
 use Rattle.zk_cache.proofs.CallerLemmas.{keeps_each}
 use Rattle.zk_client.proofs.replies.keep_node.Goals as goal

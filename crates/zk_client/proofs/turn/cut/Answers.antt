@@ -1,4 +1,4 @@
-use Rattle.std.proofs.Common.{◌≡◌, List, [], ◌∷◌, ap, sym, subst, ◌∙◌}
+use Rattle.std.proofs.Common.{[], ◌∷◌, ap, subst, ◌∙◌}
 use Rattle.zk_frames.specs.Held.{Held}
 use Rattle.zk_turns.specs.Kept.{Lost}
 use Rattle.zk_turns.specs.Taken.{if_open}

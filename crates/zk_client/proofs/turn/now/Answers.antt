@@ -1,14 +1,13 @@
-use Rattle.std.proofs.Common.{◌≡◌, ℕ, List, [], ◌∷◌, ◌++◌, ap, sym, subst, ◌∙◌, max}
+use Rattle.std.proofs.Common.{[], ◌∷◌, ◌++◌, ap, ◌∙◌, max}
 use Rattle.zk_frames.specs.Held.{Held}
 use Rattle.zk_session.specs.declared.states.Due.TheVariants.{Ping, Silent as Is_silent}
-use Rattle.zk_session.specs.Kept.{Kept}
-use Rattle.zk_turns.specs.Turns.{Silent, Output}
-use Rattle.zk_turns.specs.Kept.{Happening, Ticked, Pinged, Dropped}
+use Rattle.zk_turns.specs.Turns.{Silent}
+use Rattle.zk_turns.specs.Kept.{Ticked, Pinged, Dropped}
 use Rattle.zk_turns.specs.Taken.{if_open, due}
 use Rattle.zk_turns.specs.View.{View}
 use Rattle.zk_turns.specs.Rule.{next, says}
 use Rattle.zk_client.specs.Views.{said}
-use Rattle.zk_client.specs.Seen.{view_with, shown}
+use Rattle.zk_client.specs.Seen.{view_with}
 use Rattle.zk_client.proofs.Turning.{turns-view, turns-says, one-says, due-is, ticked-view}
 use Rattle.zk_client.proofs.turn.now.Goals as goal
 

@@ -1,10 +1,9 @@
-use Rattle.std.proofs.Common.{◌≡◌, List, [], ◌∷◌, ◌++◌, ap, sym, subst, ◌∙◌}
+use Rattle.std.proofs.Common.{[], ◌∷◌, ◌++◌, ap, sym, ◌∙◌}
 use Rattle.zk_frames.specs.Held.{Held}
-use Rattle.zk_session.specs.declared.states.State.TheVariants.{Idle, Connected}
-use Rattle.zk_turns.specs.Kept.{Happening, Lost, Began}
+use Rattle.zk_turns.specs.Kept.{Lost, Began}
 use Rattle.zk_turns.specs.Taken.{opens}
 use Rattle.zk_turns.specs.View.{View}
-use Rattle.zk_turns.specs.Rule.{IsOpen, next, says}
+use Rattle.zk_turns.specs.Rule.{next, says}
 use Rattle.zk_client.specs.Views.{said}
 use Rattle.zk_client.specs.Seen.{view_with}
 use Rattle.zk_client.proofs.Turning.{turns-view, turns-says, one-says, two-says, open-begins, either-open}

@@ -1,8 +1,7 @@
-use Rattle.std.proofs.Common.{◌≡◌, ap, ◌∙◌, ℤ, List, pos, ◌≤ℤ◌, ◌<ℤ◌, arith, subst, w32, w64}
+use Rattle.std.proofs.Common.{◌≡◌, pos, ◌≤ℤ◌, ◌<ℤ◌, arith, w32, w64}
 use mir.Val.{to_z, of_z}
 use Rattle.std.proofs.lemmas.Int.{ints}
 use Rattle.zk_records.specs.Views.{lent_response_of}
-use Rattle.zk_conversation.specs.Results.{response_password}
 use Rattle.zk_client.proofs.Welcomes.{takes-expiry, takes-welcome}
 use Rattle.zk_client.proofs.machine.Core.answered.Goals as goal
 

@@ -1,4 +1,4 @@
-use Rattle.std.proofs.Common.{◌≡◌, ap, ◌∙◌, [], arith, rules}
+use Rattle.std.proofs.Common.{ap, ◌∙◌, [], arith, rules}
 use Rattle.zk_turns.specs.Taken.{phase_of}
 use Rattle.zk_conversation.specs.Views.{call_view}
 use Rattle.zk_client.proofs.Asked.{asked-sound}

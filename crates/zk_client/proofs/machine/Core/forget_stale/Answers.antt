@@ -1,4 +1,4 @@
-use Rattle.std.proofs.Common.{◌≡◌, ap}
+use Rattle.std.proofs.Common.{ap}
 use Rattle.zk_turns.specs.View.{View, Cache}
 use Rattle.zk_client.specs.Seen.{view_with}
 use Rattle.zk_client.proofs.Kept.{good-kept}

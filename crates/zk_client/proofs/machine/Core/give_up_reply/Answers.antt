@@ -1,4 +1,4 @@
-use Rattle.std.proofs.Common.{◌≡◌, ap, ◌∙◌, List, [], ◌∷◌, ◌++◌, append_assoc}
+use Rattle.std.proofs.Common.{ap, ◌∙◌, List, [], ◌∷◌, ◌++◌, append_assoc}
 use Rattle.zk_turns.specs.Turns.{Output, Drop, Answer, ConnectionLoss}
 use Rattle.zk_turns.specs.Rule.{losses}
 use Rattle.zk_client.specs.Views.{said, fault_view}

@@ -1,8 +1,7 @@
-use Rattle.std.proofs.Common.{◌≡◌, ◌≢◌, pos, false, int_eq, ap, ◌∙◌, List, w32, arith}
+use Rattle.std.proofs.Common.{◌≡◌, ◌≢◌, pos, w32, arith}
 use mir.Val.{to_z, of_z}
 use Rattle.std.proofs.lemmas.Int.{ints}
-use Rattle.zk_conversation.specs.Pending.{Pending}
-use Rattle.zk_client.proofs.Tests.{not-same}
+use Rattle.zk_client.proofs.Decided.{not-same}
 use Rattle.zk_client.proofs.machine.Core.part_set.Goals as goal
 
 pub returns-then-err-ne0-clause-next : goal.returns-then-err-ne0-clause-next

@@ -1,16 +1,15 @@
-use Rattle.std.proofs.Common.{◌≡◌, ℕ, List, [], ◌++◌, ap, sym, subst, ◌∙◌, Ok, Err, arith}
+use Rattle.std.proofs.Common.{◌++◌, ap, sym, ◌∙◌, Ok, Err, arith}
 use Rattle.zk_jute.specs.Spelling.{IsBytes}
-use Rattle.zk_conversation.specs.Arriving.{Arrived, pending_after, talk_after}
-use Rattle.zk_conversation.specs.Pending.{Talk, Pending}
+use Rattle.zk_conversation.specs.Pending.{Talk}
 use Rattle.zk_conversation.specs.Views.{arrival_view}
-use Rattle.zk_turns.specs.Turns.{Output, Talked}
+use Rattle.zk_turns.specs.Turns.{Talked}
 use Rattle.zk_turns.specs.Kept.{Happening, Dropped}
-use Rattle.zk_turns.specs.Taken.{taken_of, happening_of}
+use Rattle.zk_turns.specs.Taken.{taken_of}
 use Rattle.zk_turns.specs.View.{View}
-use Rattle.zk_turns.specs.Rule.{next, says, arrival}
+use Rattle.zk_turns.specs.Rule.{next, says}
 use Rattle.zk_client.specs.Views.{said}
 use Rattle.zk_client.specs.Seen.{shown, view_with}
-use Rattle.zk_client.specs.Sound.{HasArrived, IsLeft}
+use Rattle.zk_client.specs.Sound.{IsLeft}
 use Rattle.zk_client.proofs.Came.{comes, arrives, before-it}
 use Rattle.zk_client.proofs.machine.Core.take.Goals as goal
 

@@ -1,7 +1,6 @@
-use Rattle.std.proofs.Common.{◌≡◌, sym, ◌∙◌, subst, true, false, w64, arith}
+use Rattle.std.proofs.Common.{◌≡◌, sym, ◌∙◌, subst, w64, arith}
 use mir.Val.{to_z, of_z}
 use Rattle.std.proofs.lemmas.Int.{ints}
-use Rattle.zk_conversation.specs.Pending.{closes, Pending}
 use Rattle.zk_conversation.specs.Views.{question_view, result_view}
 use Rattle.zk_session.specs.Table as session
 use Rattle.zk_client.specs.Sound.{HasRoom}

@@ -1,4 +1,4 @@
-use Rattle.std.proofs.Common.{[], ap, ◌∙◌}
+use Rattle.std.proofs.Common.{[]}
 use Rattle.zk_client.proofs.Welcomes.{welcomes}
 use Rattle.zk_client.proofs.machine.Core.welcome.Goals as goal
 
