@@ -1,0 +1,74 @@
+-- What a connection brings, one piece behind another.
+use Rattle.std.proofs.Common.{◌≡◌, ◌⊎◌, inl, inr, ℕ, List, [], ◌∷◌, ◌++◌, refl, sym, ap, ◌∙◌, append_assoc}
+use Rattle.std.specs.List.{FoldsTo}
+use Rattle.std.proofs.lemmas.List.{append-nil}
+use Rattle.zk_turns.specs.Turns.{Input, Opened, Bytes, Cut, Output}
+use Rattle.zk_turns.specs.View.{View}
+use Rattle.std.specs.Prelude.{codes}
+use Rattle.zk_live.specs.Heard.{tape, AllBrought, Awaits, Brings, Connects, Hears, IsBrought, MayEnd, Takes, Tape, TellsEach, TellsHeard}
+
+-- one more output
+pub one_more : (outputs : List Output) (output : Output) (text told : List ℕ) → TellsEach outputs text → TellsHeard output told
+    → TellsEach (outputs ++ output ∷ []) (text ++ told)
+one_more [] output text told none tells = (told, [], tells, refl, ap (λ x. x ++ told) none ∙ sym (append-nil told))
+one_more (first ∷ outputs) output text told all tells =
+    (all.0, all.1 ++ told, all.2, one_more outputs output all.1 told all.3 tells, ap (λ x. x ++ told) all.4 ∙ append_assoc all.0 all.1 told)
+
+-- nothing came
+pub nothing : (here : Tape) → Brings here here
+nothing here = record { inputs = []; brought = tt; heard = refl }
+
+both_brought : (first second : List Input) → AllBrought first → AllBrought second → AllBrought (first ++ second)
+both_brought [] second none all = all
+both_brought (input ∷ first) second each all = (each.0, both_brought first second each.1 all)
+
+both_heard : (first second : List Input) (old between new : Tape) → FoldsTo Hears old first between → FoldsTo Hears between second new
+    → FoldsTo Hears old (first ++ second) new
+both_heard [] second old between new same rest = rw same rest
+both_heard (input ∷ first) second old between new heard rest = (heard.0, heard.1, both_heard first second heard.0 between new heard.2 rest)
+
+-- what comes first, and what comes behind it
+pub behind : (old between new : Tape) → Brings old between → Brings between new → Brings old new
+behind old between new first second = record {
+  inputs = first.inputs ++ second.inputs;
+  brought = both_brought first.inputs second.inputs first.brought second.brought;
+  heard = both_heard first.inputs second.inputs old between new first.heard second.heard;
+}
+
+-- one input
+pub one : (old new : Tape) (input : Input) → IsBrought input → Hears old input new → Brings old new
+one old new input is hears = record { inputs = input ∷ []; brought = (is, tt); heard = (new, hears, refl) }
+
+-- the end, if it came
+pub may_end : (old new : Tape) → MayEnd old new → Brings old new
+may_end old new (inl same) = rw same (nothing old)
+may_end old new (inr hears) = one old new Cut tt hears
+
+-- a piece, and then perhaps the end
+pub piece : (old new : Tape) (bytes : List ℕ) → Takes old (Bytes bytes) new → Brings old new
+piece old new bytes takes = behind old takes.between new (one old takes.between (Bytes bytes) tt takes.hears) (may_end takes.between new takes.ends)
+
+-- a call, and what is awaited
+pub asks : (old between new : Tape) (input : Input) → Takes old input between → Brings between new → Awaits old input new
+asks old between new input takes brings = record {
+  between = takes.between;
+  hears = takes.hears;
+  brings = behind takes.between between new (may_end takes.between between takes.ends) brings;
+}
+
+-- a connection that begins
+pub connects : (old ended between new : Tape) → MayEnd old ended → Takes ended Opened between → Brings between new → Connects old new
+connects old ended between new ends takes brings = record {
+  between = ended;
+  ends = ends;
+  begins = inl (asks ended between new Opened takes brings);
+}
+
+-- none does
+pub fails : (old : Tape) (view : View) (before after : List ℕ) → MayEnd old (tape view before) → after ≡ before ++ codes "down\n"
+    → Connects old (tape view after)
+fails old view before after ends are = record { between = tape view before; ends = ends; begins = inr (ap (tape view) are) }
+
+-- the end, behind what came
+pub ended : (old between new : Tape) → Brings old between → Hears between Cut new → Brings old new
+ended old between new brings hears = behind old between new brings (one between new Cut tt hears)

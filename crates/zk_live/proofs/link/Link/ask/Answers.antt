@@ -1,0 +1,15 @@
+use Rattle.std.specs.Prelude.{string_bytes}
+use Rattle.zk_conversation.specs.Views.{call_view}
+use Rattle.zk_turns.specs.Turns.{Call}
+use Rattle.zk_client.specs.Clients.{view_of}
+use Rattle.zk_live.specs.Heard.{tape}
+use Rattle.zk_live.proofs.HeardLemmas.{asks}
+use Rattle.zk_live.proofs.link.Link.ask.Goals as goal
+
+pub returns-clause-ok : goal.returns-clause-ok
+returns-clause-ok g c =
+    let sent = c.take.new in
+    let new = c.wait.new in
+    asks (tape (view_of c.args.self.now.client) (string_bytes c.args.text.now)) (tape (view_of sent.self.client) (string_bytes sent.text))
+    (tape (view_of new.self.client) (string_bytes new.text)) (Call c.args.asked.ticket (call_view c.args.asked.call)) c.in_ok-outputs.ensures.ok
+    c.in_ok-wait.ensures.ok

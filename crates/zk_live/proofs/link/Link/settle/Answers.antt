@@ -1,0 +1,19 @@
+use Rattle.std.specs.Prelude.{string_bytes}
+use Rattle.zk_client.specs.Clients.{view_of}
+use Rattle.zk_live.specs.Heard.{tape}
+use Rattle.zk_live.proofs.HeardLemmas.{behind, ended}
+use Rattle.zk_live.proofs.link.Link.settle.Goals as goal
+
+pub loop-preserved : goal.loop-preserved
+loop-preserved g c =
+    let l = c.loop in
+    let new = c.bring.new in
+    behind (tape (view_of c.args.self.now.client) (string_bytes c.args.text.now)) (tape (view_of l.self.client) (string_bytes l.text))
+    (tape (view_of new.self.client) (string_bytes new.text)) l.invariant c.in_ok-bring.ensures.ok
+
+pub returns-clause-ok : goal.returns-clause-ok
+returns-clause-ok g c =
+    let l = c.loop in
+    let new = c.cut.new in
+    ended (tape (view_of c.args.self.now.client) (string_bytes c.args.text.now)) (tape (view_of l.self.client) (string_bytes l.text))
+    (tape (view_of new.self.client) (string_bytes new.text)) l.invariant c.in_ok-cut.ensures.ok

@@ -1,0 +1,8 @@
+use Rattle.std.specs.Prelude.{string_bytes}
+use Rattle.zk_client.specs.Clients.{view_of}
+use Rattle.zk_live.specs.Heard.{tape, Brings}
+use Rattle.zk_live.proofs.link.Link.wait.Given as goal
+
+-- what the connection has brought so far
+abbrev pub invariant-loop : goal.invariant-loop
+invariant-loop g l = Brings (tape (view_of l.initial.self.client) (string_bytes l.initial.text)) (tape (view_of l.self.client) (string_bytes l.text))

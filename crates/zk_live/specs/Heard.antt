@@ -1,0 +1,75 @@
+-- What a client hears from a connection, and what is printed of it.
+use Rattle.std.specs.Prelude.{◌≡◌, ◌⊎◌, ⊤, ℕ, List, [], ◌∷◌, ◌++◌, codes}
+use Rattle.std.specs.List.{FoldsTo}
+use Rattle.zk_turns.specs.Turns.{Input, Opened, Bytes, Cut, Now, Call, Output, Send}
+use Rattle.zk_turns.specs.View.{View}
+use Rattle.zk_turns.specs.Rule.{Rule}
+use Rattle.zk_replay.specs.Shown.{TellsOutput}
+
+-- What is printed of an output: one line, and nothing of what goes to the server.
+abbrev pub TellsHeard : Output → List ℕ → Type 0
+TellsHeard (Send bytes) text = text ≡ []
+TellsHeard output text = TellsOutput output text
+
+-- What is printed of outputs, in order.
+abbrev pub TellsEach : List Output → List ℕ → Type 0
+TellsEach [] text = text ≡ []
+TellsEach (output ∷ outputs) text = (first rest : List ℕ) × TellsHeard output first × TellsEach outputs rest × (text ≡ first ++ rest)
+
+-- a client, and what was printed
+pub record Tape : Type 0 where
+  pub view : View
+  pub printed : List ℕ
+
+abbrev pub tape : View → List ℕ → Tape
+tape view printed = record { view = view; printed = printed }
+
+-- A client takes an input by the rule, and what is printed of its outputs stands behind what was printed.
+pub record Hears (old : Tape) (input : Input) (new : Tape) : Type 0 where
+  pub outputs : List Output
+  pub told : List ℕ
+  pub rule : Rule old.view (record { input = input; outputs = outputs }) new.view
+  pub tells : TellsEach outputs told
+  pub printed : new.printed ≡ old.printed ++ told
+
+-- The connection may have ended.
+abbrev pub MayEnd : Tape → Tape → Type 0
+MayEnd old new = (new ≡ old) ⊎ Hears old Cut new
+
+-- An input comes from the connection: bytes, whichever they are, or its end.
+abbrev pub IsBrought : Input → Type 0
+IsBrought (Bytes bytes) = ⊤
+IsBrought Cut = ⊤
+IsBrought _ = ⊥
+
+abbrev pub AllBrought : List Input → Type 0
+AllBrought [] = ⊤
+AllBrought (input ∷ inputs) = IsBrought input × AllBrought inputs
+
+-- Inputs that come from the connection are taken one by one.
+pub record Brings (old new : Tape) : Type 0 where
+  pub inputs : List Input
+  pub brought : AllBrought inputs
+  pub heard : FoldsTo Hears old inputs new
+
+-- An input is taken; then the connection may have ended.
+pub record Takes (old : Tape) (input : Input) (new : Tape) : Type 0 where
+  pub between : Tape
+  pub hears : Hears old input between
+  pub ends : MayEnd between new
+
+-- An input is taken; then the connection brings what it brings.
+pub record Awaits (old : Tape) (input : Input) (new : Tape) : Type 0 where
+  pub between : Tape
+  pub hears : Hears old input between
+  pub brings : Brings between new
+
+-- what is printed where no address connects
+abbrev pub down : Tape → Tape
+down old = tape old.view (old.printed ++ codes "down\n")
+
+-- The connection that is there ends. Then either one begins, and brings what it brings, or none does.
+pub record Connects (old new : Tape) : Type 0 where
+  pub between : Tape
+  pub ends : MayEnd old between
+  pub begins : Awaits between Opened new ⊎ (new ≡ down between)

@@ -1,0 +1,6 @@
+pub mod Addresses
+pub mod LiveLines
+pub mod Lines
+pub mod Begins
+pub mod Heard
+pub mod Lives

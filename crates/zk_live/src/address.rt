@@ -1,0 +1,62 @@
+//! Addresses: four numbers from 0 to 255, joined by dots, a colon and a port.
+
+ghost use Rattle.std.specs.Prelude.{◌≡◌};
+ghost use Rattle.zk_live.specs.Addresses.{are_four, are_three, are_two, is_address, is_part, is_port};
+
+use zk_script::numbers::natural_of;
+
+/// Whether a word is a number from 0 to 255, in decimal without leading zeros.
+fn is_part(word: &str) -> bool
+    ensures { result ≡ is_part word.now }
+{
+    natural_of(word.as_bytes(), 255).is_some()
+}
+
+/// Whether a word is a number from 1 to 65,535, in decimal without leading zeros.
+fn is_port(word: &str) -> bool
+    ensures { result ≡ is_port word.now }
+{
+    match natural_of(word.as_bytes(), 65_535) {
+        Some(port) => port != 0,
+        None => false,
+    }
+}
+
+fn are_two(text: &str) -> bool
+    ensures { result ≡ are_two text.now }
+{
+    match text.split_once('.') {
+        Some((first, behind)) => is_part(first) && is_part(behind),
+        None => false,
+    }
+}
+
+fn are_three(text: &str) -> bool
+    ensures { result ≡ are_three text.now }
+{
+    match text.split_once('.') {
+        Some((first, behind)) => is_part(first) && are_two(behind),
+        None => false,
+    }
+}
+
+/// Whether a text is four such numbers, joined by dots.
+fn are_four(text: &str) -> bool
+    ensures { result ≡ are_four text.now }
+{
+    match text.split_once('.') {
+        Some((first, behind)) => is_part(first) && are_three(behind),
+        None => false,
+    }
+}
+
+/// Whether a text is an address: four numbers from 0 to 255, joined by dots, a colon and a port from 1 to 65,535, all in decimal
+/// without leading zeros.
+pub fn is_address(text: &str) -> bool
+    ensures { result ≡ is_address text.now }
+{
+    match text.split_once(':') {
+        Some((host, port)) => are_four(host) && is_port(port),
+        None => false,
+    }
+}

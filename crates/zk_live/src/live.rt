@@ -1,0 +1,206 @@
+//! A live session of a whole script.
+
+ghost use Rattle.std.specs.Prelude.{◌≡◌, [], false, IfErr, IfOk, OnErr, OnOk, map, string_bytes};
+ghost use Rattle.zk_turns.specs.View.{view_at};
+ghost use Rattle.zk_client.specs.Clients.{view_of};
+ghost use Rattle.zk_script.specs.Pieces.{words_of};
+ghost use Rattle.zk_script.specs.Scripts.{lines_of};
+ghost use Rattle.zk_replay.specs.Lines.{begin_value_of, client_value_of};
+ghost use Rattle.zk_replay.specs.ReplayLines.{CanBegin};
+ghost use Rattle.zk_replay.specs.Played.{start_of, IsDue, IsWant};
+ghost use Rattle.zk_live.specs.Lines.{live_value_of};
+ghost use Rattle.zk_live.specs.LiveLines.{DrivesLine, says_at};
+ghost use Rattle.zk_live.specs.Lives.{progress, DoesLive, EndsFrom, Goes, IsOutcome, TakesLine};
+
+use crate::begun::{begin_of, end_at};
+use crate::dial::{Dial, Ring};
+use crate::link::Link;
+use crate::live_line::{LiveLine, said_line};
+use std::alloc::{AllocError, Allocator};
+use std::io::{Read, Write};
+use zk_client::Input;
+use zk_replay::begin_line::BeginLine;
+use zk_replay::client_line::ClientLine;
+use zk_replay::driven::{begun, driven};
+use zk_replay::replay::{End, Outcome};
+use zk_replay::stop::Stop;
+use zk_script::pieces::lines_of;
+
+/// A client with its connection, the addresses that are tried, and whether lines have begun.
+#[derive(Drop)]
+struct Session<'a, A: Allocator + Copy, S: Drop> {
+    link: Link<A, S>,
+    ring: Ring<'a>,
+    is_begun: bool,
+}
+
+impl<'a, A: Allocator + Copy, S: Read + Write + Drop> Session<'a, A, S> {
+    /// Does what a line says that is the same whatever is at the other end.
+    fn drive(&mut self, alloc: A, line: ClientLine<A>) -> Result<String<A>, Stop>
+        ensures ok { IfOk result (λ text. DoesLive (DrivesLine (client_value_of line)) (view_of self.old.link.client) (view_of self.new.link.client) (string_bytes text)) }
+        ensures err { IfErr result IsWant }
+        ensures begun { self.new.is_begun ≡ self.old.is_begun }
+    {
+        let mut text = String::new(alloc);
+        match line {
+            ClientLine::Cut => {
+                self.link.cut(alloc, &mut text)?;
+            }
+            ClientLine::Now(moment) => {
+                self.link.take(alloc, Input::Now(moment), &mut text)?;
+            }
+            ClientLine::Call(asked) => self.link.ask(alloc, asked, &mut text)?,
+            line => return driven(alloc, &mut self.link.client, line),
+        }
+        Ok(text)
+    }
+
+    /// Does what a line says, and gives what is to be printed.
+    fn act<D: Dial<Stream = S>>(
+        &mut self,
+        alloc: A,
+        dial: &mut D,
+        line: LiveLine<A>,
+    ) -> Result<String<A>, Stop>
+        ensures ok { IfOk result (λ text. DoesLive (live_value_of line) (view_of self.old.link.client) (view_of self.new.link.client) (string_bytes text)) }
+        ensures err { IfErr result IsWant }
+        ensures begun { self.new.is_begun ≡ self.old.is_begun }
+    {
+        let mut text = String::new(alloc);
+        match line {
+            LiveLine::Resume(_) => {}
+            LiveLine::Open => self.link.connect(alloc, dial, &mut self.ring, &mut text)?,
+            LiveLine::Client(line) => return self.drive(alloc, line),
+        }
+        Ok(text)
+    }
+
+    /// Does what a line says, and gives what is to be printed. The first reason that applies refuses a line.
+    #[tactic(auto, using(crate::proofs::LiveLemmas::took_none, crate::proofs::LiveLemmas::took))]
+    fn read<D: Dial<Stream = S>>(
+        &mut self,
+        alloc: A,
+        dial: &mut D,
+        line: &[u8],
+    ) -> Result<String<A>, Stop>
+        ensures ok { IfOk result (λ text. TakesLine line.now self.old.is_begun (view_of self.old.link.client) self.new.is_begun (view_of self.new.link.client) (string_bytes text)) }
+        ensures err { IfErr result (IsDue (says_at (words_of line.now) self.old.is_begun)) }
+    {
+        let Some(line) = said_line(alloc, line, self.is_begun)? else {
+            return Ok(String::new(alloc));
+        };
+        self.is_begun = true;
+        let text = self.act(alloc, dial, line)?;
+        Ok(text)
+    }
+
+    /// Adds what one line prints: all of it, or nothing where the line is not done.
+    fn read_line<D: Dial<Stream = S>>(
+        &mut self,
+        alloc: A,
+        dial: &mut D,
+        line: &[u8],
+        text: &mut String<A>,
+    ) -> Result<(), Stop>
+        ensures ok { OnOk result (Goes (progress (view_of self.old.link.client) self.old.is_begun (string_bytes text.old)) line.now (progress (view_of self.new.link.client) self.new.is_begun (string_bytes text.new))) }
+        ensures err { IfErr result (IsDue (says_at (words_of line.now) self.old.is_begun)) }
+        ensures same { OnErr result (string_bytes text.new ≡ string_bytes text.old) }
+    {
+        let printed = self.read(alloc, dial, line)?;
+        match text.push_str(printed.as_str()) {
+            Ok(()) => Ok(()),
+            Err(_) => Err(Stop::Memory),
+        }
+    }
+}
+
+/// Reads lines up to the first that is not done. `told` is what was printed before them.
+fn read_lines<A: Allocator + Copy, D: Dial>(
+    alloc: A,
+    dial: &mut D,
+    session: &mut Session<'_, A, D::Stream>,
+    lines: &[&[u8]],
+    told: String<A>,
+) -> Outcome<A>
+    ensures { EndsFrom (progress (view_of session.old.link.client) session.old.is_begun (string_bytes told)) (map (λ l. l.now) lines.now) (string_bytes result.text) result.end }
+{
+    let mut text = told;
+    for (index, line) in lines.iter().enumerate() {
+        if let Err(stop) = session.read_line(alloc, dial, line, &mut text) {
+            let end = end_at(index + 1, stop);
+            return Outcome { text, end };
+        }
+    }
+    let end = End::Taken;
+    Outcome { text, end }
+}
+
+/// The client that a line asks for, with no connection yet.
+fn made<'a, A: Allocator + Copy, S: Read + Write + Drop>(
+    alloc: A,
+    addresses: &'a [&'a str],
+    begin: BeginLine<A>,
+) -> Result<Session<'a, A, S>, AllocError>
+    requires { CanBegin (begin_value_of begin) }
+    ensures view { IfOk result (λ session. view_of session.link.client ≡ view_at (start_of (begin_value_of begin)) []) }
+    ensures begun { IfOk result (λ session. session.is_begun ≡ false) }
+{
+    let client = begun(alloc, begin)?;
+    let link = Link::new(alloc, client)?;
+    Ok(Session {
+        link,
+        ring: Ring::new(addresses),
+        is_begun: false,
+    })
+}
+
+/// Nothing is printed, and lines end so.
+fn nothing<A: Allocator + Copy>(alloc: A, end: End) -> Outcome<A>
+    ensures text { string_bytes result.text ≡ [] }
+    ensures end { result.end ≡ end }
+{
+    let text = String::new(alloc);
+    Outcome { text, end }
+}
+
+/// Makes the client that lines ask for, connects it, and reads them.
+fn live_lines<A: Allocator + Copy, D: Dial>(
+    alloc: A,
+    dial: &mut D,
+    addresses: &[&str],
+    lines: &[&[u8]],
+) -> Outcome<A>
+    ensures { IsOutcome (map (λ l. l.now) lines.now) (string_bytes result.text) result.end }
+{
+    let begin = match begin_of(alloc, lines) {
+        Ok(begin) => begin,
+        Err(end) => return nothing(alloc, end),
+    };
+    let mut session = match made(alloc, addresses, begin) {
+        Ok(session) => session,
+        Err(_) => return nothing(alloc, End::Memory),
+    };
+    match session.act(alloc, dial, LiveLine::Open) {
+        Ok(text) => read_lines(alloc, dial, &mut session, lines, text),
+        Err(stop) => nothing(alloc, end_at(0, stop)),
+    }
+}
+
+/// Drives a client by a script, over connections to the addresses, which are tried in turn: what its lines print, and how they end.
+///
+/// The client asks for 30,000 milliseconds, or takes up the session that the first line says. It is connected before the lines
+/// are read. After a call, bytes are read until its answer has come or the connection has ended. A read or a write that fails,
+/// and an end of the bytes, is a cut, and so is a wait of more than 1,000,000 pieces. Text comes with the outcome.
+pub fn live<A: Allocator + Copy, D: Dial>(
+    alloc: A,
+    dial: &mut D,
+    addresses: &[&str],
+    script: &[u8],
+) -> Outcome<A>
+    ensures { IsOutcome (lines_of script.now) (string_bytes result.text) result.end }
+{
+    match lines_of(alloc, script) {
+        Ok(lines) => live_lines(alloc, dial, addresses, lines.as_slice()),
+        Err(_) => nothing(alloc, End::Memory),
+    }
+}

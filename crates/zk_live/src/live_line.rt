@@ -1,0 +1,165 @@
+//! The lines of a live session.
+
+ghost use Rattle.std.specs.Prelude.{◌≡◌, IfOk, IfSome, map};
+ghost use Rattle.std.specs.Option.{option_map};
+ghost use Rattle.zk_script.specs.Pieces.{words_of};
+ghost use Rattle.zk_script.specs.Reads.{Reads};
+ghost use Rattle.zk_replay.specs.Lines.{begin_value_of};
+ghost use Rattle.zk_replay.specs.ReplayLines.{CanBegin};
+ghost use Rattle.zk_live.specs.Lines.{live_value_of};
+ghost use Rattle.zk_live.specs.LiveLines.{begins_at, keyword_of, placed_at, resume_at, says_at};
+
+use std::alloc::Allocator;
+use zk_replay::begin_line::{BeginKeyword, BeginLine, begin_line_at};
+use zk_replay::client_line::{ClientKeyword, ClientLine, client_line_at};
+use zk_script::pieces::words_of;
+use zk_script::script_fault::ScriptFault;
+use zk_script::story::is_remark;
+
+/// The timeout that a client asks for, in milliseconds.
+pub const ASKED: i32 = 30_000;
+
+/// What a line does, by its first word.
+#[derive(Clone, Copy, Debug, PartialEq, Eq)]
+pub enum LiveKeyword {
+    Resume,
+    Open,
+    Client(ClientKeyword),
+}
+
+impl LiveKeyword {
+    /// The keyword that a word is.
+    pub fn named(word: &[u8]) -> Option<LiveKeyword>
+        ensures { result ≡ keyword_of word.now }
+    {
+        if word == b"resume".as_slice() {
+            Some(LiveKeyword::Resume)
+        } else if word == b"open".as_slice() {
+            Some(LiveKeyword::Open)
+        } else {
+            match ClientKeyword::named(word) {
+                Some(word) => Some(LiveKeyword::Client(word)),
+                None => None,
+            }
+        }
+    }
+}
+
+/// A line of a live session.
+#[derive(Drop)]
+pub enum LiveLine<A: Allocator> {
+    /// A session is taken up. It was, before the first connection.
+    Resume(BeginLine<A>),
+    /// A connection is to begin.
+    Open,
+    /// What is the same whatever is at the other end.
+    Client(ClientLine<A>),
+}
+
+/// The session that the words behind `resume` take up: its number, its password and the last seen zxid.
+fn resume_at<A: Allocator + Copy>(alloc: A, words: &[&[u8]]) -> Result<BeginLine<A>, ScriptFault>
+    ensures value { Reads begin_value_of result (resume_at (map (λ w. w.now) words.now)) }
+    ensures can { IfOk result (λ line. CanBegin (begin_value_of line)) }
+{
+    let [session, password, last] = words else {
+        return Err(ScriptFault::Words);
+    };
+    let words = [b"30000".as_slice(), *session, *password, *last];
+    begin_line_at(alloc, BeginKeyword::Resume, words.as_slice())
+}
+
+/// The line of a keyword and the words behind it. A session is taken up by the first line alone.
+fn placed_at<A: Allocator + Copy>(
+    alloc: A,
+    keyword: LiveKeyword,
+    is_begun: bool,
+    words: &[&[u8]],
+) -> Result<LiveLine<A>, ScriptFault>
+    ensures { Reads live_value_of result (placed_at keyword is_begun (map (λ w. w.now) words.now)) }
+{
+    match keyword {
+        LiveKeyword::Resume if is_begun => Err(ScriptFault::Place),
+        LiveKeyword::Resume => {
+            let line = resume_at(alloc, words)?;
+            Ok(LiveLine::Resume(line))
+        }
+        LiveKeyword::Open => match words {
+            [] => Ok(LiveLine::Open),
+            _ => Err(ScriptFault::Words),
+        },
+        LiveKeyword::Client(word) => {
+            let line = client_line_at(alloc, word, words)?;
+            Ok(LiveLine::Client(line))
+        }
+    }
+}
+
+/// What words say, if they are some and no remark.
+fn said_words<A: Allocator + Copy>(
+    alloc: A,
+    words: &[&[u8]],
+    is_begun: bool,
+) -> Result<Option<LiveLine<A>>, ScriptFault>
+    ensures { Reads (option_map live_value_of) result (says_at (map (λ w. w.now) words.now) is_begun) }
+{
+    let Some((first, behind)) = words.split_first() else {
+        return Ok(None);
+    };
+    if is_remark(first) {
+        return Ok(None);
+    }
+    let Some(keyword) = LiveKeyword::named(first) else {
+        return Err(ScriptFault::Unknown);
+    };
+    let line = placed_at(alloc, keyword, is_begun, behind)?;
+    Ok(Some(line))
+}
+
+/// What a line says, if it is neither empty nor a remark; or the first reason that refuses it.
+pub fn said_line<A: Allocator + Copy>(
+    alloc: A,
+    line: &[u8],
+    is_begun: bool,
+) -> Result<Option<LiveLine<A>>, ScriptFault>
+    ensures { Reads (option_map live_value_of) result (says_at (words_of line.now) is_begun) }
+{
+    match words_of(alloc, line) {
+        Ok(words) => said_words(alloc, words.as_slice(), is_begun),
+        Err(_) => Err(ScriptFault::Memory),
+    }
+}
+
+/// The client that words ask for, if they are some and no remark.
+fn begun_words<A: Allocator + Copy>(
+    alloc: A,
+    words: &[&[u8]],
+) -> Result<Option<BeginLine<A>>, ScriptFault>
+    ensures value { Reads (option_map begin_value_of) result (begins_at (map (λ w. w.now) words.now)) }
+    ensures can { IfOk result (λ found. IfSome found (λ line. CanBegin (begin_value_of line))) }
+{
+    let Some((first, behind)) = words.split_first() else {
+        return Ok(None);
+    };
+    if is_remark(first) {
+        return Ok(None);
+    }
+    if *first != b"resume".as_slice() {
+        return Ok(Some(BeginLine::Timeout(ASKED)));
+    }
+    let line = resume_at(alloc, behind)?;
+    Ok(Some(line))
+}
+
+/// The client that a line asks for, if it is neither empty nor a remark: of no session yet where it is no line that takes one up.
+pub fn begun_line<A: Allocator + Copy>(
+    alloc: A,
+    line: &[u8],
+) -> Result<Option<BeginLine<A>>, ScriptFault>
+    ensures value { Reads (option_map begin_value_of) result (begins_at (words_of line.now)) }
+    ensures can { IfOk result (λ found. IfSome found (λ line. CanBegin (begin_value_of line))) }
+{
+    match words_of(alloc, line) {
+        Ok(words) => begun_words(alloc, words.as_slice()),
+        Err(_) => Err(ScriptFault::Memory),
+    }
+}
