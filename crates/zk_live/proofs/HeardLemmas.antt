@@ -1,11 +1,14 @@
 -- What a connection brings, one piece behind another.
-use Rattle.std.proofs.Common.{◌≡◌, ◌⊎◌, inl, inr, ℕ, List, [], ◌∷◌, ◌++◌, refl, sym, ap, ◌∙◌, append_assoc}
+use Rattle.std.proofs.Common.{◌≡◌, inl, inr, ℕ, Bool, false, List, [], ◌∷◌, ◌++◌, refl, sym, ap, ◌∙◌, append_assoc}
 use Rattle.std.specs.List.{FoldsTo}
 use Rattle.std.proofs.lemmas.List.{append-nil}
-use Rattle.zk_turns.specs.Turns.{Input, Opened, Bytes, Cut, Output}
+use Rattle.zk_turns.specs.Turns.{Input, Opened, Bytes, Cut, Cuts, Output}
 use Rattle.zk_turns.specs.View.{View}
+use Rattle.zk_turns.specs.Rule.{after_signals}
+use Rattle.zk_session.specs.declared.states.State.{State}
+use Rattle.zk_session.specs.declared.states.State.TheVariants.{Idle, Connecting, Connected, Expired, Closed}
 use Rattle.std.specs.Prelude.{codes}
-use Rattle.zk_live.specs.Heard.{tape, AllBrought, Awaits, Brings, Connects, Hears, IsBrought, MayEnd, Takes, Tape, TellsEach, TellsHeard}
+use Rattle.zk_live.specs.Heard.{is_waiting, tape, AllBrought, Awaits, Brings, Connects, Hears, IsBrought, MayEnd, Takes, Tape, TellsEach, TellsHeard}
 
 -- one more output
 pub one_more : (outputs : List Output) (output : Output) (text told : List ℕ) → TellsEach outputs text → TellsHeard output told
@@ -57,11 +60,12 @@ asks old between new input takes brings = record {
 }
 
 -- a connection that begins
-pub connects : (old ended between new : Tape) → MayEnd old ended → Takes ended Opened between → Brings between new → Connects old new
-connects old ended between new ends takes brings = record {
+pub connects : (old ended between new : Tape) → MayEnd old ended → Takes ended Opened between → Brings between new
+    → is_waiting new.view.standing.state ≡ false → Connects old new
+connects old ended between new ends takes brings settled = record {
   between = ended;
   ends = ends;
-  begins = inl (asks ended between new Opened takes brings);
+  begins = inl (record { awaits = asks ended between new Opened takes brings; settled = settled });
 }
 
 -- none does
@@ -72,3 +76,25 @@ fails old view before after ends are = record { between = tape view before; ends
 -- the end, behind what came
 pub ended : (old between new : Tape) → Brings old between → Hears between Cut new → Brings old new
 ended old between new brings hears = behind old between new brings (one between new Cut tt hears)
+
+-- a client that goes on, in this state
+abbrev going : State → View → View
+going state view = record view { standing = record { halted = false; state = state } }
+
+-- it does not wait where the connection has ended
+going_cut : (state : State) (view : View) → is_waiting (after_signals (going state view) (Cuts ∷ [])).standing.state ≡ false
+going_cut Idle view = refl
+going_cut Connecting view = refl
+going_cut Connected view = refl
+going_cut Expired view = refl
+going_cut Closed view = refl
+
+is_going : (view : View) (halted : Bool) → halted ≡ false → record view { standing = record { halted = halted; state = view.standing.state } } ≡ going view.standing.state view
+is_going view halted goes_on = rw goes_on refl
+
+-- where the connection has ended, the client does not wait
+pub cut_settles : (old new : Tape) → Hears old Cut new → is_waiting new.view.standing.state ≡ false
+cut_settles old new hears =
+    let same : old.view ≡ going old.view.standing.state old.view = is_going old.view old.view.standing.halted hears.rule.goes_on in
+    ap (λ v. is_waiting v.standing.state) hears.rule.next
+    ∙ (ap (λ v. is_waiting (after_signals v (Cuts ∷ [])).standing.state) same ∙ going_cut old.view.standing.state old.view)

@@ -1,6 +1,6 @@
 -- How a live script goes on from line to line, and how it ends.
-use Rattle.std.proofs.Common.{◌≡◌, ◌⊎◌, inl, inr, ℕ, suc, ◌+◌, ◌<◌, ◌≤◌, Bool, true, false, ◌||◌, List, [], ◌∷◌, ◌++◌, length, get_or, take, drop, map, refl, sym, ap, ◌∙◌, arith}
-use Rattle.std.specs.Prelude.{Option, Some, None, Ok}
+use Rattle.std.proofs.Common.{◌≡◌, inl, inr, ℕ, suc, ◌+◌, ◌<◌, ◌≤◌, Bool, true, false, ◌||◌, List, [], ◌∷◌, ◌++◌, length, get_or, take, drop, map, refl, sym, ap, ◌∙◌, arith}
+use Rattle.std.specs.Prelude.{Some, None, Ok}
 use Rattle.std.specs.Borrow.{Bor}
 use Rattle.std.specs.List.{FoldsTo}
 use Rattle.std.proofs.Math.Seq.{drop-cons}
@@ -9,7 +9,6 @@ use Rattle.std.proofs.lemmas.List.{map-append, take_more, take_all, take-append-
 use Rattle.zk_history.specs.History.{Text}
 use Rattle.zk_turns.specs.View.{View, view_at}
 use Rattle.zk_script.specs.Pieces.{words_of}
-use Rattle.zk_script.specs.declared.script_fault.ScriptFault.{ScriptFault}
 use Rattle.zk_replay.specs.declared.stop.Stop.{Stop}
 use Rattle.zk_replay.specs.declared.stop.Stop.TheVariants as stops
 use Rattle.zk_replay.specs.declared.replay.End.{End}
@@ -18,7 +17,7 @@ use Rattle.zk_live.specs.Heard.{tape, Connects, Tape}
 use Rattle.zk_replay.specs.Played.{start_of, IsDue, IsWant}
 use Rattle.zk_live.specs.Begins.{begun_by, end_at, Begins, Nothing}
 use Rattle.zk_live.specs.LiveLines.{LiveValue, says_at}
-use Rattle.zk_live.specs.Lives.{DoesLive, EndsFrom, Goes, IsOutcome, Prints, PrintsFirst, Progress, StopsAt, TakesLine, progress}
+use Rattle.zk_live.specs.Lives.{DoesLive, EndsFrom, Goes, IsOutcome, Prints, PrintsFirst, Progress, TakesLine, progress}
 
 or_false : (b : Bool) → b ≡ (b || false)
 or_false true = refl

@@ -1,8 +1,10 @@
 -- What a client hears from a connection, and what is printed of it.
-use Rattle.std.specs.Prelude.{◌≡◌, ◌⊎◌, ⊤, ℕ, List, [], ◌∷◌, ◌++◌, codes}
+use Rattle.std.specs.Prelude.{◌≡◌, ◌⊎◌, ⊤, ℕ, Bool, true, false, List, [], ◌∷◌, ◌++◌, codes}
 use Rattle.std.specs.List.{FoldsTo}
-use Rattle.zk_turns.specs.Turns.{Input, Opened, Bytes, Cut, Now, Call, Output, Send}
+use Rattle.zk_turns.specs.Turns.{Input, Opened, Bytes, Cut, Output, Send}
 use Rattle.zk_turns.specs.View.{View}
+use Rattle.zk_session.specs.declared.states.State.{State}
+use Rattle.zk_session.specs.declared.states.State.TheVariants.{Connecting}
 use Rattle.zk_turns.specs.Rule.{Rule}
 use Rattle.zk_replay.specs.Shown.{TellsOutput}
 
@@ -68,8 +70,18 @@ pub record Awaits (old : Tape) (input : Input) (new : Tape) : Type 0 where
 abbrev pub down : Tape → Tape
 down old = tape old.view (old.printed ++ codes "down\n")
 
--- The connection that is there ends. Then either one begins, and brings what it brings, or none does.
+-- whether the server has not answered yet that a connection begins
+abbrev pub is_waiting : State → Bool
+is_waiting Connecting = true
+is_waiting _ = false
+
+-- A connection begins, and brings what it brings, until the server has answered that it begins, or it has ended.
+pub record Begins (old new : Tape) : Type 0 where
+  pub awaits : Awaits old Opened new
+  pub settled : is_waiting new.view.standing.state ≡ false
+
+-- The connection that is there ends. Then either one begins, or none does.
 pub record Connects (old new : Tape) : Type 0 where
   pub between : Tape
   pub ends : MayEnd old between
-  pub begins : Awaits between Opened new ⊎ (new ≡ down between)
+  pub begins : Begins between new ⊎ (new ≡ down between)

@@ -8,7 +8,7 @@ use Rattle.zk_script.specs.Reads.{◌>>=◌}
 use Rattle.zk_script.specs.Stories.{is_remark}
 use Rattle.zk_replay.specs.declared.begin_line.BeginKeyword.TheVariants as begin_keyword
 use Rattle.zk_replay.specs.ClientLines.{ClientValue, client_keyword_of, client_line_at, alone}
-use Rattle.zk_replay.specs.ReplayLines.{BeginValue, TimeoutLine, CanBegin, begin_line_at}
+use Rattle.zk_replay.specs.ReplayLines.{BeginValue, TimeoutLine, begin_line_at}
 use Rattle.zk_live.specs.declared.live_line.LiveKeyword.{LiveKeyword}
 use Rattle.zk_live.specs.declared.live_line.LiveKeyword.TheVariants as keyword
 

@@ -1,5 +1,5 @@
 -- What a whole script makes of a client over a connection, and what it prints, line by line.
-use Rattle.std.specs.Prelude.{◌≡◌, ◌⊎◌, is_some, ℕ, ◌+◌, ◌||◌, Bool, true, false, List, [], ◌∷◌, ◌++◌, length, Option, Some, None, Result, Ok, Err}
+use Rattle.std.specs.Prelude.{◌≡◌, ◌⊎◌, is_some, ℕ, ◌+◌, ◌||◌, Bool, false, List, [], ◌∷◌, ◌++◌, length, Option, Some, None, Ok, Err}
 use Rattle.std.specs.List.{FoldsTo}
 use Rattle.zk_history.specs.History.{Text}
 use Rattle.zk_turns.specs.Turns.{Cut, Now, Call}

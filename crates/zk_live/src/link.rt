@@ -1,12 +1,12 @@
 //! A client and the connection that it has.
 
-ghost use Rattle.std.specs.Prelude.{◌≡◌, IfErr, IfOk, OnOk, string_bytes};
+ghost use Rattle.std.specs.Prelude.{◌≡◌, false, IfErr, IfOk, OnOk, string_bytes};
 ghost use Rattle.zk_conversation.specs.Views.{call_view};
 ghost use Rattle.zk_client.specs.Clients.{view_of};
 ghost use Rattle.zk_client.specs.Views.{input_view};
 ghost use Rattle.zk_turns.specs.Turns.{Call, Cut};
 ghost use Rattle.zk_replay.specs.Played.{IsWant};
-ghost use Rattle.zk_live.specs.Heard.{tape, Awaits, Brings, Connects, Hears, MayEnd, Takes};
+ghost use Rattle.zk_live.specs.Heard.{is_waiting, tape, Awaits, Brings, Connects, Hears, MayEnd, Takes};
 
 use crate::dial::{Dial, Ring};
 use crate::heard::hear;
@@ -115,7 +115,7 @@ impl<A: Allocator + Copy, S: Read + Write + Drop> Link<A, S> {
 
     /// Does what outputs ask for: what goes to the server is written, and where it is not, the connection ends. A connection that
     /// the client gives up is given up.
-    fn answer(&mut self, alloc: A, outputs: &[Output<A>], text: &mut String<A>) -> Result<(), Stop>
+    fn deliver(&mut self, alloc: A, outputs: &[Output<A>], text: &mut String<A>) -> Result<(), Stop>
         ensures ok { OnOk result (MayEnd (tape (view_of self.old.client) (string_bytes text.old)) (tape (view_of self.new.client) (string_bytes text.new))) }
         ensures err { IfErr result IsWant }
     {
@@ -140,7 +140,7 @@ impl<A: Allocator + Copy, S: Read + Write + Drop> Link<A, S> {
         ensures err { IfErr result IsWant }
     {
         let outputs = hear(alloc, &mut self.client, input, text)?;
-        self.answer(alloc, outputs.as_slice(), text)?;
+        self.deliver(alloc, outputs.as_slice(), text)?;
         Ok(outputs)
     }
 
@@ -172,14 +172,17 @@ impl<A: Allocator + Copy, S: Read + Write + Drop> Link<A, S> {
     }
 
     /// Whether the server has not answered yet that a connection begins.
-    fn is_connecting(&self) -> bool {
-        self.stream.is_some() && self.client.state() == State::Connecting
+    fn is_connecting(&self) -> bool
+        ensures { result ≡ is_waiting (view_of self.now.client).standing.state }
+    {
+        matches!(self.client.state(), State::Connecting)
     }
 
     /// Reads until the server has answered that a connection begins. By the last piece it ends.
     #[tactic(auto, using(crate::proofs::HeardLemmas::nothing))]
     fn settle(&mut self, alloc: A, text: &mut String<A>) -> Result<(), Stop>
         ensures ok { OnOk result (Brings (tape (view_of self.old.client) (string_bytes text.old)) (tape (view_of self.new.client) (string_bytes text.new))) }
+        ensures settled { OnOk result (is_waiting (view_of self.new.client).standing.state ≡ false) }
         ensures err { IfErr result IsWant }
     {
         for _ in 0..PIECES {

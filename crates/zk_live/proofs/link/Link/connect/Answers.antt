@@ -11,4 +11,4 @@ returns-clause-ok g c =
     let new = c.settle.new in
     connects (tape (view_of c.args.self.now.client) (string_bytes c.args.text.now)) (tape (view_of ended.self.client) (string_bytes ended.text))
     (tape (view_of began.self.client) (string_bytes began.text)) (tape (view_of new.self.client) (string_bytes new.text)) c.in_ok-give_up.ensures.ok
-    c.in_ok-take.ensures.ok c.in_ok-settle.ensures.ok
+    c.in_ok-take.ensures.ok c.in_ok-settle.ensures.ok c.in_ok-settle.ensures.settled

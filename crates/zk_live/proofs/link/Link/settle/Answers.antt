@@ -1,7 +1,7 @@
 use Rattle.std.specs.Prelude.{string_bytes}
 use Rattle.zk_client.specs.Clients.{view_of}
 use Rattle.zk_live.specs.Heard.{tape}
-use Rattle.zk_live.proofs.HeardLemmas.{behind, ended}
+use Rattle.zk_live.proofs.HeardLemmas.{behind, cut_settles, ended}
 use Rattle.zk_live.proofs.link.Link.settle.Goals as goal
 
 pub loop-preserved : goal.loop-preserved
@@ -17,3 +17,9 @@ returns-clause-ok g c =
     let new = c.cut.new in
     ended (tape (view_of c.args.self.now.client) (string_bytes c.args.text.now)) (tape (view_of l.self.client) (string_bytes l.text))
     (tape (view_of new.self.client) (string_bytes new.text)) l.invariant c.in_ok-cut.ensures.ok
+
+pub returns-clause-settled : goal.returns-clause-settled
+returns-clause-settled g c =
+    let l = c.loop in
+    let new = c.cut.new in
+    cut_settles (tape (view_of l.self.client) (string_bytes l.text)) (tape (view_of new.self.client) (string_bytes new.text)) c.in_ok-cut.ensures.ok
