@@ -1,13 +1,17 @@
 //! Scripts over partners in memory: rows, refused lines, and connections that fail after each count of bytes.
 
 use crate::address::is_address;
+use crate::dial::Dial;
 use crate::frames::{
     ACCEPTED, AGAIN, ASK, CLOSE, CLOSED, CONNECT, OVER, PING, REPLY, STRANGER, TAKEN_UP,
 };
 use crate::live::live;
 use crate::partner::{Dialled, Partners, Turns};
+use crate::tcp::Tcp;
 use refusing::Refusing;
 use std::alloc::{Allocator, Global};
+use std::io::{Read, Write};
+use std::net::TcpListener;
 use std::test::Fail;
 use zk_replay::replay::{End, Outcome};
 
@@ -214,5 +218,20 @@ fn addresses_are_numbers(rt: HostRuntime) -> Result<(), Fail> {
     for (word, want) in &WORDS {
         assert_eq!(rt; is_address(word), *want, "{word}");
     }
+    Ok(())
+}
+
+#[test]
+fn numbers_alone_are_dialled(rt: HostRuntime) -> Result<(), Fail> {
+    let listener = TcpListener::bind(&rt, "127.0.0.1:0")?;
+    let address = format!(in rt.alloc(); "{}", listener.local_addr()?)?;
+    let mut tcp = Tcp::new(&rt);
+    let mut stream = tcp.dial(address.as_str())?;
+    let (mut partner, _) = listener.accept()?;
+    stream.write_all(b"a")?;
+    let mut came = [0];
+    partner.read_exact(came.as_mut_slice())?;
+    assert_eq!(rt; came[0], b'a');
+    assert!(rt; tcp.dial("localhost:2181").is_err());
     Ok(())
 }
