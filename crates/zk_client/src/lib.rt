@@ -22,6 +22,8 @@ mod recorded;
 mod recording;
 mod replies;
 mod running;
+#[cfg(test)]
+mod tests;
 mod ticks;
 mod turn;
 
