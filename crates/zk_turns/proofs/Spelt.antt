@@ -1,5 +1,5 @@
 -- A reading is there exactly where a spelling begins the bytes; and what is sent is read again.
-use Rattle.std.proofs.Common.{◌≡◌, ℕ, ℤ, List, ◌++◌, length, Ok, Err, refl, ap, ◌∙◌}
+use Rattle.std.proofs.Common.{◌≡◌, ℕ, ℤ, pos, false, Some, List, ◌++◌, length, Ok, Err, refl, ap, ◌∙◌}
 use Rattle.std.specs.Prelude.{Result as Reading}
 use Rattle.zk_jute.specs.declared.fault.TakeError.{TakeError}
 use Rattle.zk_jute.specs.Layout.{Layout, Value}
@@ -8,10 +8,11 @@ use Rattle.zk_jute.specs.Reading.{◌>>=◌, reading}
 use Rattle.zk_jute.specs.Laws.{reads, bind_ok, ok_is}
 use Rattle.zk_records.specs.Response.{Response, IsPayload, response_at}
 use Rattle.zk_records.specs.ResponseLaws.{response_takes, response_again}
+use Rattle.zk_records.specs.Layouts.{connect_request}
 use Rattle.zk_records.specs.Operations.{operation_number, request_layout}
-use Rattle.zk_records.specs.declared.operation.Operation.TheVariants.{SetWatches}
+use Rattle.zk_records.specs.declared.operation.Operation.TheVariants.{Ping, SetWatches}
 use Rattle.zk_conversation.specs.declared.phase.Phase.TheVariants.{Opening}
-use Rattle.zk_conversation.specs.Calls.{Call, call_operation, call_body, call_payload, part_xid, texts_value, part_payload}
+use Rattle.zk_conversation.specs.Calls.{Call, call_operation, call_body, call_payload, connect_payload, part_xid, part_payload, ping_payload, ping_xid, texts_value}
 use Rattle.zk_conversation.specs.Questions.{Question}
 use Rattle.zk_conversation.specs.Results.{Result, result_layout, result_from, record_of}
 use Rattle.zk_conversation.specs.Pending.{Pending}
@@ -62,3 +63,13 @@ pub part_read : (relative : ℤ) (known missing parents : List Text) (end : ℕ)
 unfolding part_payload
 part_read relative known missing parents end rest fits =
     (reads (request_layout SetWatches) end).again (part_xid, (operation_number SetWatches, (relative, (texts_value known, (texts_value missing, texts_value parents))))) rest fits
+
+pub connect_read : (last timeout session : ℤ) (password : List ℕ) (end : ℕ) (rest : List ℕ) → Fits connect_request (pos 0, (last, (timeout, (session, (Some password, false)))))
+    → reading connect_request end (connect_payload last timeout session password ++ rest) ≡ Ok ((pos 0, (last, (timeout, (session, (Some password, false))))), rest)
+unfolding connect_payload
+connect_read last timeout session password end rest fits = (reads connect_request end).again (pos 0, (last, (timeout, (session, (Some password, false))))) rest fits
+
+pub ping_read : (end : ℕ) (rest : List ℕ) → Fits (request_layout Ping) (ping_xid, (operation_number Ping, tt))
+    → reading (request_layout Ping) end (ping_payload ++ rest) ≡ Ok ((ping_xid, (operation_number Ping, tt)), rest)
+unfolding ping_payload
+ping_read end rest fits = (reads (request_layout Ping) end).again (ping_xid, (operation_number Ping, tt)) rest fits

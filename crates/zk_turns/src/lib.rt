@@ -1,15 +1,16 @@
 //! Laws about whole lists of turns.
 #![tactic(auto)]
 
-ghost use Rattle.std.specs.Prelude.{ℤ, Ok};
+ghost use Rattle.std.specs.Prelude.{ℤ, pos, Ok};
 ghost use Rattle.zk_jute.specs.Layout.{Layout, Value};
 ghost use Rattle.zk_jute.specs.Spelling.{IsBytes, spelling, Fits};
 ghost use Rattle.zk_jute.specs.Reading.{reading as read_at};
 ghost use Rattle.zk_records.specs.Operations.{operation_number, request_layout};
-ghost use Rattle.zk_records.specs.declared.operation.Operation.TheVariants.{SetWatches};
+ghost use Rattle.zk_records.specs.declared.operation.Operation.TheVariants.{Ping, SetWatches};
+ghost use Rattle.zk_records.specs.Layouts.{connect_request};
 ghost use Rattle.zk_records.specs.Response.{Response, IsPayload};
 ghost use Rattle.zk_conversation.specs.declared.phase.Phase.TheVariants.{Opening};
-ghost use Rattle.zk_conversation.specs.Calls.{Call, call_operation, call_body, call_payload, part_xid, texts_value, part_payload};
+ghost use Rattle.zk_conversation.specs.Calls.{Call, call_operation, call_body, call_payload, connect_payload, part_xid, part_payload, ping_payload, ping_xid, texts_value};
 ghost use Rattle.zk_conversation.specs.Questions.{Question};
 ghost use Rattle.zk_conversation.specs.Results.{Result, record_of};
 ghost use Rattle.zk_conversation.specs.Pending.{Pending};
@@ -261,7 +262,8 @@ pub fn readings()
         arriving Opening pending payload ≡ Ok (Connected response) ↔ ((ignored : List ℕ) × IsPayload payload response ignored) }
 {}
 
-/// What is sent is read again, whatever follows: each request begins with the header and the record of what was asked.
+/// What is sent is read again, whatever follows: each request begins with the header and the record of what was asked, and the
+/// first message of a connection is the record of the session that is asked for.
 pub fn requests_read()
     ensures call { (xid : ℤ) (call : Call) (end : ℕ) (rest : List ℕ) →
         Fits (request_layout (call_operation call)) (xid, (operation_number (call_operation call), call_body call)) →
@@ -270,4 +272,9 @@ pub fn requests_read()
         Fits (request_layout SetWatches) (part_xid, (operation_number SetWatches, (relative, (texts_value known, (texts_value missing, texts_value parents))))) →
         read_at (request_layout SetWatches) end (part_payload relative known missing parents ++ rest)
         ≡ Ok ((part_xid, (operation_number SetWatches, (relative, (texts_value known, (texts_value missing, texts_value parents))))), rest) }
+    ensures connect { (last timeout session : ℤ) (password : List ℕ) (end : ℕ) (rest : List ℕ) →
+        Fits connect_request (pos 0, (last, (timeout, (session, (Some password, false))))) →
+        read_at connect_request end (connect_payload last timeout session password ++ rest) ≡ Ok ((pos 0, (last, (timeout, (session, (Some password, false))))), rest) }
+    ensures ping { (end : ℕ) (rest : List ℕ) → Fits (request_layout Ping) (ping_xid, (operation_number Ping, tt)) →
+        read_at (request_layout Ping) end (ping_payload ++ rest) ≡ Ok ((ping_xid, (operation_number Ping, tt)), rest) }
 {}
