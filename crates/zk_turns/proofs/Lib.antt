@@ -17,3 +17,7 @@ pub mod Meant
 pub mod Refusing
 pub mod Ending
 pub mod Spelt
+pub mod Fields
+pub mod Fitting
+pub mod Ranged
+pub mod Requested

@@ -9,3 +9,4 @@ pub mod Reported
 pub mod Meaning
 pub mod Spelled
 pub mod Causes
+pub mod Ranges

@@ -15,11 +15,15 @@ ghost use Rattle.zk_conversation.specs.Questions.{Question};
 ghost use Rattle.zk_conversation.specs.Results.{Result, record_of};
 ghost use Rattle.zk_conversation.specs.Pending.{Pending};
 ghost use Rattle.zk_conversation.specs.Arriving.{Connected, arriving};
-ghost use Rattle.zk_turns.specs.Turns.{Fault};
+ghost use Rattle.zk_turns.specs.Turns.{Fault, new_start};
+ghost use Rattle.zk_turns.specs.Ranges.{IsResumable, IsTyped, AllAskOf};
+ghost use Rattle.zk_session.specs.Kept.{Welcome};
+ghost use Rattle.zk_watches.specs.Parts.{parts};
+ghost use Rattle.std.specs.List.{AllByRecursion};
 ghost use Rattle.zk_turns.specs.Taken.{refusal};
 ghost use Rattle.zk_turns.specs.Spelled.{BeginsWith};
 ghost use Rattle.zk_turns.specs.Causes.{in_turn, IsFirstOf, IsGivenUp};
-ghost use Rattle.std.specs.Prelude.{◌≡◌, ◌≤◌, ℕ, List, [], ◌∷◌, ◌++◌, length, map, Option, ◌<◌, ◌≤ℤ◌, ◌+◌, ◌&&◌, ◌↔◌, true, false, Some, if◌then◌else◌};
+ghost use Rattle.std.specs.Prelude.{◌≡◌, ◌≤◌, ℕ, List, [], ◌∷◌, ◌++◌, length, map, Option, ◌<◌, ◌≤ℤ◌, ◌+◌, ◌^◌, ◌&&◌, ◌↔◌, true, false, Some, if◌then◌else◌};
 ghost use Rattle.zk_history.specs.History.{Text};
 ghost use Rattle.zk_history.specs.declared.side.Side.{Side};
 ghost use Rattle.zk_history.specs.declared.side.Side.TheVariants.{Data, Child};
@@ -29,7 +33,7 @@ ghost use Rattle.zk_turns.specs.Turns.{Report, Start, Item, Turned, Forgets, Hal
 ghost use Rattle.zk_frames.specs.Frame.{frame, IsUnfinished};
 ghost use Rattle.zk_cache.specs.Kept.{Full, is_marked_good, Answer, Names};
 ghost use Rattle.zk_cache.specs.declared.held.Mark.TheVariants.{Good};
-ghost use Rattle.zk_turns.specs.Kept.{Past, Happening, Took, Notifies, Dropped, state_of, is_talking, is_over, is_good, kept_data, kept_names, standing, word_data, word_child, IsMarked, AgreesWith, in_known, in_missing, in_parents, KeepsNothing, last_of, pending_of, held_of, xid_of, lists_of};
+ghost use Rattle.zk_turns.specs.Kept.{Past, Happening, Began, Asked, Took, Accepted, Notifies, Dropped, session_of, state_of, is_talking, is_over, is_good, kept_data, kept_names, standing, word_data, word_child, IsMarked, AgreesWith, in_known, in_missing, in_parents, KeepsNothing, last_of, pending_of, held_of, xid_of, lists_of};
 ghost use Rattle.zk_records.specs.Events.{concerns};
 ghost use Rattle.zk_turns.specs.View.{View, standing_at, saved_at, moments_at, cache_at, view_at};
 ghost use Rattle.zk_frames.specs.declared.reader.TheConstants.{LONGEST_INCOMING};
@@ -277,4 +281,30 @@ pub fn requests_read()
         read_at connect_request end (connect_payload last timeout session password ++ rest) ≡ Ok ((pos 0, (last, (timeout, (session, (Some password, false))))), rest) }
     ensures ping { (end : ℕ) (rest : List ℕ) → Fits (request_layout Ping) (ping_xid, (operation_number Ping, tt)) →
         read_at (request_layout Ping) end (ping_payload ++ rest) ≡ Ok ((ping_xid, (operation_number Ping, tt)), rest) }
+{}
+
+/// Each request that was sent is of a length that a frame can tell, and its numbers, texts and lists are in the range of their
+/// fields, so that it is read again: a call was refused where it would be too long, and what is asked for as a connection begins
+/// was read of a payload, or is what the client began with. Callers ask with values of their types, and a new client begins
+/// in range.
+pub fn requests_fit()
+    ensures new { (timeout : ℕ) → timeout < 2 ^ 31 → IsResumable (new_start timeout) }
+    ensures call { (start : Start) (items : List Item) (since : List Happening) (ticket : ℕ) (call : Call) (before : Past) →
+        AllAskOf IsTyped items → past_of start items ≡ since ++ Asked ticket call ∷ before →
+        Fits (request_layout (call_operation call)) (pos (xid_of before), (operation_number (call_operation call), call_body call)) }
+    ensures call_told { (start : Start) (items : List Item) (since : List Happening) (ticket : ℕ) (call : Call) (before : Past) →
+        past_of start items ≡ since ++ Asked ticket call ∷ before → length (call_payload (pos (xid_of before)) call) < 2 ^ 31 }
+    ensures parts { (start : Start) (items : List Item) (since : List Happening) (welcome : Welcome) (before : Past) →
+        IsResumable start → AllAskOf IsTyped items → past_of start items ≡ since ++ Took (Accepted welcome) ∷ before →
+        AllByRecursion (λ part. Fits (request_layout SetWatches) (part_xid, (operation_number SetWatches, (last_of start before, (texts_value part.data_watches, (texts_value part.exist_watches, texts_value part.child_watches)))))) (parts (lists_of before)) }
+    ensures parts_told { (start : Start) (items : List Item) (since : List Happening) (welcome : Welcome) (before : Past) →
+        past_of start items ≡ since ++ Took (Accepted welcome) ∷ before →
+        AllByRecursion (λ part. length (part_payload (last_of start before) part.data_watches part.exist_watches part.child_watches) < 2 ^ 31) (parts (lists_of before)) }
+    ensures connect { (start : Start) (items : List Item) (since : List Happening) (before : Past) →
+        IsResumable start → past_of start items ≡ since ++ Began ∷ before →
+        Fits connect_request (pos 0, (last_of start before, (pos start.timeout, ((session_of start before).session, (Some (session_of start before).password, false))))) }
+    ensures connect_told { (start : Start) (items : List Item) (since : List Happening) (before : Past) →
+        IsResumable start → past_of start items ≡ since ++ Began ∷ before →
+        length (connect_payload (last_of start before) (pos start.timeout) (session_of start before).session (session_of start before).password) < 2 ^ 31 }
+    ensures ping { Fits (request_layout Ping) (ping_xid, (operation_number Ping, tt)) }
 {}
