@@ -17,6 +17,7 @@ pub mod Meeting
 pub mod Moving
 pub mod Headlines
 pub mod Parsed
+pub mod Found
 pub mod Meeting_shown
 pub mod Resumed
 pub mod Outputs

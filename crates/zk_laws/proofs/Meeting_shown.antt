@@ -19,6 +19,8 @@ use Rattle.zk_cache.specs.Kept.{Full, good}
 use Rattle.zk_turns.specs.View.{view_at}
 use Rattle.zk_turns.specs.Taken.{cut, past_of}
 use Rattle.zk_turns.specs.Rule.{Stands}
+use Rattle.zk_turns.specs.Ranges.{IsResumable, IsTyped, AllAskOf}
+use Rattle.zk_turns.proofs.Requested.{new_resumable}
 use Rattle.zk_laws.specs.Example.{two_changes, at_a, fields_at_five, a_changed}
 use Rattle.zk_laws.specs.Steps.{Serving, Ended}
 use Rattle.zk_laws.proofs.Shown.{all_sent}
@@ -118,3 +120,11 @@ stands_then = record {
   said = (refl, (refl, (refl, (refl, (refl, (refl, (refl, tt)))))));
   asked = (tt, (tt, (tt, (tt, (refl, (tt, (tt, tt)))))));
 }
+
+-- it began in range, and was asked with values of their types
+pub resumable_then : IsResumable new_client
+resumable_then = new_resumable 30000 (omega arith)
+
+pub typed_then : AllAskOf IsTyped (items_in until_cut)
+unfolding is_utf8 chars encode
+typed_then = (tt, (tt, (tt, (tt, (refl, (tt, (tt, tt)))))))

@@ -34,7 +34,8 @@ ghost use Rattle.zk_laws.specs.Meeting_example.{new_client, until_cut};
 ghost use Rattle.zk_turns.specs.Rule.{AllAsked, Stands, IsOpen};
 ghost use Rattle.zk_turns.specs.Sent.{sends, outputs_of};
 ghost use Rattle.zk_frames.specs.Frame.{frame, joined};
-ghost use Rattle.zk_laws.specs.Parsed.{AreTold, IsCutInto, stream_of, payloads_of};
+ghost use Rattle.zk_laws.specs.Parsed.{AreTold, IsCutInto, AreReadAs, stream_of, payloads_of};
+ghost use Rattle.zk_turns.specs.Ranges.{IsResumable, IsTyped, AllAskOf};
 ghost use Rattle.zk_laws.specs.Seen.{seen, from_zero, node_answer, names_answer, if_good};
 ghost use Rattle.zk_laws.specs.Headline.{Headline, IsCoherentWith, ReadsAreTrue, WritesAreTrue, RepliesAreAbove, DropsAreDue, IsQuietAt, IsTrueOf, tree_of};
 
@@ -126,21 +127,28 @@ pub fn sent_requests()
 {}
 
 /// A server that cuts the bytes that a connection was sent into frames finds the payloads of its requests, in order, and nothing
-/// else; of a beginning of these bytes, those of the first requests.
+/// else; of a beginning of these bytes, those of the first requests. In each payload it reads the request that was asked: with
+/// its xid all that a caller asked, the paths to be watched again with the last seen zxid, or the last seen zxid of a client that
+/// comes. Each of them is of a length that a frame can tell. The client began in range, and callers ask with values of their types.
 pub fn parsed_requests()
+    ensures told { (start : Start) (items : List Client_item) → IsResumable start → AreTold (payloads_of start items) }
     ensures beginning { (start : Start) (items : List Client_item) (view : View) (found : List (List ℕ)) (rest : List ℕ) → Stands start items view → IsOpen view.standing.state
-        → AreTold (payloads_of start items) → AreTold found → joined found ++ rest ≡ stream_of items → (more : List (List ℕ)) × (payloads_of start items ≡ found ++ more) × (rest ≡ joined more) }
+        → IsResumable start → AreTold found → joined found ++ rest ≡ stream_of items → (more : List (List ℕ)) × (payloads_of start items ≡ found ++ more) × (rest ≡ joined more) }
     ensures whole { (start : Start) (items : List Client_item) (view : View) (found : List (List ℕ)) (rest : List ℕ) → Stands start items view → IsOpen view.standing.state
-        → AreTold (payloads_of start items) → IsCutInto found rest (stream_of items) → (found ≡ payloads_of start items) × (rest ≡ []) }
+        → IsResumable start → IsCutInto found rest (stream_of items) → (found ≡ payloads_of start items) × (rest ≡ []) }
+    ensures read { (start : Start) (items : List Client_item) (view : View) (found : List (List ℕ)) (rest : List ℕ) → Stands start items view → IsOpen view.standing.state
+        → IsResumable start → AllAskOf IsTyped items → AreTold found → joined found ++ rest ≡ stream_of items → AreReadAs (requests start (past_of start items)) found }
 {}
 
 /// The premises can be met: a schedule in bytes, whose client stands at its items, with an answer kept over a cut in the
 /// middle of the notice that would end its mark.
-#[tactic(auto, using(crate::proofs::Shown::is_history, crate::proofs::Meeting_shown::cut_then, crate::proofs::Meeting_shown::kept_then, crate::proofs::Meeting_shown::last_then, crate::proofs::Meeting_shown::stands_then))]
+#[tactic(auto, using(crate::proofs::Shown::is_history, crate::proofs::Meeting_shown::cut_then, crate::proofs::Meeting_shown::kept_then, crate::proofs::Meeting_shown::last_then, crate::proofs::Meeting_shown::stands_then, crate::proofs::Meeting_shown::resumable_then, crate::proofs::Meeting_shown::typed_then))]
 pub fn small_schedule()
     ensures history { IsHistory two_changes }
     ensures serving { IsServing two_changes new_client until_cut }
     ensures stands { Stands new_client (items_in until_cut) (view_at new_client (past_of new_client (items_in until_cut))) }
+    ensures resumable { IsResumable new_client }
+    ensures typed { AllAskOf IsTyped (items_in until_cut) }
     ensures kept { kept_data at_a (past_of new_client (items_in until_cut)) ≡ Some (record { answer = Found_full (Some (104 ∷ 105 ∷ [])) fields_at_five; mark = Good }) }
     ensures last { last_of new_client (past_of new_client (items_in until_cut)) ≡ pos 5 }
 {}

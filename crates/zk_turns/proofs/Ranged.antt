@@ -43,7 +43,7 @@ use Rattle.zk_turns.proofs.Pieces.{cut_there, cut_short}
 
 -- ---- all of a list
 
-all_append : {A : Type 0} (Q : A → Type 0) (xs ys : List A) → AllByRecursion Q xs → AllByRecursion Q ys → AllByRecursion Q (xs ++ ys)
+pub all_append : {A : Type 0} (Q : A → Type 0) (xs ys : List A) → AllByRecursion Q xs → AllByRecursion Q ys → AllByRecursion Q (xs ++ ys)
 all_append Q [] ys a b = b
 all_append Q (x ∷ xs) ys a b = (a.0, all_append Q xs ys a.1 b)
 

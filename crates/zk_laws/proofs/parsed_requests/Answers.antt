@@ -1,8 +1,14 @@
-use Rattle.zk_laws.proofs.Parsed.{beginning_found, all_found}
+use Rattle.zk_laws.proofs.Found.{all_told, first_found, each_found, each_read}
 use Rattle.zk_laws.proofs.parsed_requests.Goals as goal
 
+pub returns-clause-told : goal.returns-clause-told
+returns-clause-told c start items from = all_told start items from
+
 pub returns-clause-beginning : goal.returns-clause-beginning
-returns-clause-beginning c start items view found rest s up told here e = beginning_found start items view found rest s up told here e
+returns-clause-beginning c start items view found rest s up from told e = first_found start items view found rest s up from told e
 
 pub returns-clause-whole : goal.returns-clause-whole
-returns-clause-whole c start items view found rest s up told cut = all_found start items view found rest s up told cut
+returns-clause-whole c start items view found rest s up from cut = each_found start items view found rest s up from cut
+
+pub returns-clause-read : goal.returns-clause-read
+returns-clause-read c start items view found rest s up from typed told e = each_read start items view found rest s up from typed told e
