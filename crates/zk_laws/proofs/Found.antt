@@ -16,13 +16,13 @@ use Rattle.zk_watches.specs.Parts.{parts}
 use Rattle.zk_turns.specs.Turns.{Start, Item}
 use Rattle.zk_turns.specs.View.{View}
 use Rattle.zk_turns.specs.Rule.{Stands, IsOpen}
-use Rattle.zk_turns.specs.Kept.{Past, Began, Asked, Pinged, Took as Takes_in, Accepted as Accepts, Expiry, Replies as Answers_call, Watches_set as Sets_watches, Notifies as Tells, Pong as Echo, Skipped, last_of, session_of, lists_of, xid_of}
+use Rattle.zk_turns.specs.Kept.{Past, Happening, Began, Asked, Pinged, Took as Takes_in, Accepted as Accepts, Expiry, Replies as Answers_call, Watches_set as Sets_watches, Notifies as Tells, Pong as Echo, Skipped, last_of, session_of, lists_of, xid_of}
 use Rattle.zk_turns.specs.Taken.{past_of}
 use Rattle.zk_turns.specs.Ranges.{IsResumable, IsTyped, AllAskOf}
 use Rattle.zk_turns.proofs.Spelt.{call_read, part_read, connect_read, ping_read}
 use Rattle.zk_turns.proofs.Fitting.{ping_fits}
 use Rattle.zk_turns.proofs.Ranged.{all_append, AreRanged, items_ranged}
-use Rattle.zk_turns.proofs.Requested.{Any, any_items, told_call, fits_call, IsTold, told_parts, PartFits, fits_parts, told_connect, fits_connect}
+use Rattle.zk_turns.proofs.Requested.{Any, any_items, told_call, fits_call, IsTold, told_parts, PartFits, fits_parts, told_connect, fits_connect, connect_of}
 use Rattle.zk_turns.proofs.Meant.{is_last_seen}
 use Rattle.zk_laws.specs.Messages.{Connect, Restore, Ask, Ping}
 use Rattle.zk_laws.specs.Seen.{from_zero}
@@ -167,3 +167,15 @@ each_read start items view found rest s up from typed told e =
     let f = first_found start items view found rest s up from told e in
     found_read (requests start (past_of start items)) found f.0 f.1
     (requests_read start (past_of start items) from (items_ranged Any start items (any_items items)) (items_ranged IsTyped start items typed))
+
+-- And in the first payload of a connection the session that it was begun with.
+pub connect_found : (start : Start) (items : List Item) (since : List Happening) (before : Past) → IsResumable start → past_of start items ≡ since ++ Began ∷ before
+    → IsRecord connect_request (pos 0, (last_of start before, (pos start.timeout, ((session_of start before).session, (Some (session_of start before).password, false)))))
+    (connect_payload (last_of start before) (pos start.timeout) (session_of start before).session (session_of start before).password)
+connect_found start items since before from e =
+    let last = last_of start before in
+    let timeout = pos start.timeout in
+    let session = (session_of start before).session in
+    let password = (session_of start before).password in
+    alone connect_request (pos 0, (last, (timeout, (session, (Some password, false))))) (connect_payload last timeout session password)
+    (connect_read last timeout session password (length (connect_payload last timeout session password)) [] (connect_of start items since before from e))

@@ -4,9 +4,10 @@
 ghost use Rattle.std.specs.Prelude.{◌<◌, ◌^◌, ◌&&◌, ◌++◌, false, Bool, length, is_some, nat_lt, ◌≡◌, ◌≤◌, Some, None, ℕ, ◌∷◌, [], List, if◌then◌else◌, ℤ, pos, map};
 ghost use Rattle.zk_session.specs.Kept.{Welcome};
 ghost use Rattle.zk_session.specs.declared.states.State.TheVariants.{Connecting, Connected};
-ghost use Rattle.zk_conversation.specs.Calls.{part_xid, Call};
+ghost use Rattle.zk_conversation.specs.Calls.{part_xid, connect_payload, Call};
+ghost use Rattle.zk_records.specs.Layouts.{connect_request};
 ghost use Rattle.zk_conversation.specs.Pending.{Pending, Call_waits, part_waits};
-ghost use Rattle.zk_turns.specs.Kept.{Accepted as Takes_acceptance, Expiry, Notifies as Takes_notice, Pong as Takes_pong, Watches_set as Takes_part, kept_data, kept_names, last_of, Past, lists_of, Dropped, Took as Takes_in, Replies as Answers_call};
+ghost use Rattle.zk_turns.specs.Kept.{Accepted as Takes_acceptance, Expiry, Notifies as Takes_notice, Pong as Takes_pong, Watches_set as Takes_part, kept_data, kept_names, last_of, session_of, Began, Happening, Past, lists_of, Dropped, Took as Takes_in, Replies as Answers_call};
 ghost use Rattle.zk_turns.specs.Taken.{cut, Payload, reading, past_of};
 ghost use Rattle.zk_laws.specs.Server.{left_by, Notice, Fits, Full, zxid_held};
 ghost use Rattle.zk_laws.specs.Messages.{Accepted, Expired as Expired_session, Notifies, Pong, Watches_set, Replies};
@@ -34,7 +35,7 @@ ghost use Rattle.zk_laws.specs.Meeting_example.{new_client, until_cut};
 ghost use Rattle.zk_turns.specs.Rule.{AllAsked, Stands, IsOpen};
 ghost use Rattle.zk_turns.specs.Sent.{sends, outputs_of};
 ghost use Rattle.zk_frames.specs.Frame.{frame, joined};
-ghost use Rattle.zk_laws.specs.Parsed.{AreTold, IsCutInto, AreReadAs, stream_of, payloads_of};
+ghost use Rattle.zk_laws.specs.Parsed.{AreTold, IsCutInto, IsRecord, AreReadAs, stream_of, payloads_of};
 ghost use Rattle.zk_turns.specs.Ranges.{IsResumable, IsTyped, AllAskOf};
 ghost use Rattle.zk_laws.specs.Seen.{seen, from_zero, node_answer, names_answer, if_good};
 ghost use Rattle.zk_laws.specs.Headline.{Headline, IsCoherentWith, ReadsAreTrue, WritesAreTrue, RepliesAreAbove, DropsAreDue, IsQuietAt, IsTrueOf, tree_of};
@@ -129,7 +130,8 @@ pub fn sent_requests()
 /// A server that cuts the bytes that a connection was sent into frames finds the payloads of its requests, in order, and nothing
 /// else; of a beginning of these bytes, those of the first requests. In each payload it reads the request that was asked: with
 /// its xid all that a caller asked, the paths to be watched again with the last seen zxid, or the last seen zxid of a client that
-/// comes. Each of them is of a length that a frame can tell. The client began in range, and callers ask with values of their types.
+/// comes, in a record that has the session as it was kept when the connection began (`connect`). Each payload is of a length that
+/// a frame can tell. The client began in range, and callers ask with values of their types.
 pub fn parsed_requests()
     ensures told { (start : Start) (items : List Client_item) → IsResumable start → AreTold (payloads_of start items) }
     ensures beginning { (start : Start) (items : List Client_item) (view : View) (found : List (List ℕ)) (rest : List ℕ) → Stands start items view → IsOpen view.standing.state
@@ -138,6 +140,9 @@ pub fn parsed_requests()
         → IsResumable start → IsCutInto found rest (stream_of items) → (found ≡ payloads_of start items) × (rest ≡ []) }
     ensures read { (start : Start) (items : List Client_item) (view : View) (found : List (List ℕ)) (rest : List ℕ) → Stands start items view → IsOpen view.standing.state
         → IsResumable start → AllAskOf IsTyped items → AreTold found → joined found ++ rest ≡ stream_of items → AreReadAs (requests start (past_of start items)) found }
+    ensures connect { (start : Start) (items : List Client_item) (since : List Happening) (before : Past) → IsResumable start → past_of start items ≡ since ++ Began ∷ before
+        → IsRecord connect_request (pos 0, (last_of start before, (pos start.timeout, ((session_of start before).session, (Some (session_of start before).password, false)))))
+        (connect_payload (last_of start before) (pos start.timeout) (session_of start before).session (session_of start before).password) }
 {}
 
 /// The premises can be met: a schedule in bytes, whose client stands at its items, with an answer kept over a cut in the

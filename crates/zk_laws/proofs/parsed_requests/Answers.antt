@@ -1,4 +1,4 @@
-use Rattle.zk_laws.proofs.Found.{all_told, first_found, each_found, each_read}
+use Rattle.zk_laws.proofs.Found.{all_told, first_found, each_found, each_read, connect_found}
 use Rattle.zk_laws.proofs.parsed_requests.Goals as goal
 
 pub returns-clause-told : goal.returns-clause-told
@@ -12,3 +12,6 @@ returns-clause-whole c start items view found rest s up from cut = each_found st
 
 pub returns-clause-read : goal.returns-clause-read
 returns-clause-read c start items view found rest s up from typed told e = each_read start items view found rest s up from typed told e
+
+pub returns-clause-connect : goal.returns-clause-connect
+returns-clause-connect c start items since before from e = connect_found start items since before from e
