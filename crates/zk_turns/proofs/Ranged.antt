@@ -72,7 +72,7 @@ module _ (Q : Text → Type 0) where
 
 -- ---- what is in range
 
--- a call of these kept the limit of a request when it was sent, and asked this
+-- the question of one of these calls, whose request was not too long
 pub record IsOfCall (P : Call → Type 0) (question : Question) : Type 0 where
   pub xid : ℤ
   pub call : Call
@@ -255,9 +255,9 @@ module _ (P : Call → Type 0) where
           short_by bytes payload (length_field bytes) (leb (2 ^ 31) (length_field bytes)) (ltb LONGEST_INCOMING (length_field bytes)) (eqb (length bytes) (4 + length_field bytes)) refl refl
           (at (ltb-false (length bytes) 4 there))
 
-  last_none : (b : Bool) (long : Bool) (why : Outcome) (rest : Option Outcome) → cond b (Some why) rest ≡ None → rest ≡ None
-  last_none true long why rest e = absurd cc
-  last_none false long why rest e = e
+  not_this : (b : Bool) (why : Outcome) (rest : Option Outcome) → cond b (Some why) rest ≡ None → rest ≡ None
+  not_this true why rest e = absurd cc
+  not_this false why rest e = e
 
   not_long : (b : Bool) → cond b (Some TooLarge) None ≡ None → b ≡ false
   not_long true e = absurd cc
@@ -270,9 +270,9 @@ module _ (P : Call → Type 0) where
       let third : Option Outcome = cond long (Some TooLarge) None in
       let second : Option Outcome = cond (is_full_on view (watched_side (question_of call))) (Some TooManyWatches) third in
       let first : Option Outcome = cond (nat_le 1024 (calls_pending view.pending)) (Some TooManyPending) second in
-      let a = last_none (is_close_pending view.pending) long SessionClosed first e in
-      let b = last_none (nat_le 1024 (calls_pending view.pending)) long TooManyPending second a in
-      let c = last_none (is_full_on view (watched_side (question_of call))) long TooManyWatches third b in
+      let a = not_this (is_close_pending view.pending) SessionClosed first e in
+      let b = not_this (nat_le 1024 (calls_pending view.pending)) TooManyPending second a in
+      let c = not_this (is_full_on view (watched_side (question_of call))) TooManyWatches third b in
       ltb-false LONGEST_OUTGOING (length (call_payload (pos view.xid) call)) (not_long long c)
   sent_short _ view call e = absurd cc
 
