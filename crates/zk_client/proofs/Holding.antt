@@ -3,7 +3,6 @@ use Rattle.std.proofs.lemmas.Int.{ints}
 use Rattle.std.proofs.Common.{◌≡◌, refl, sym, ap, subst, ◌∙◌, arith, List, [], ◌∷◌, ◌++◌, Bool, true, Some, None}
 use Rattle.std.specs.Prelude.{Option, Result, Ok, Err, OnErr, ◌≤ℤ◌, ◌↔◌, map, ℤ}
 use Rattle.std.specs.Int.Signed.{≤ℤ_refl}
-use Rattle.zk_history.specs.History.{Text, History, IsHistory}
 use Rattle.zk_history.specs.declared.side.Side.TheVariants.{Data, Child}
 use Rattle.zk_cache.specs.Kept.{is_marked_good}
 use Rattle.zk_turns.specs.Turns.{Start, Item, Turned, Halts, Turn, Input, Output}
@@ -17,10 +16,9 @@ use Rattle.zk_turns.proofs.Meant.{is_good_since, is_last_seen}
 use Rattle.zk_turns.proofs.Over.{nothing_kept, last_rises}
 use Rattle.zk_turns.proofs.Reporting.{reports_are}
 use Rattle.zk_turns.proofs.Stepped.{halt_stands}
-use Rattle.zk_laws.specs.Served.{Served, Entry, items_in, IsServing}
 use Rattle.zk_laws.proofs.Headlines.{headline_here, quiet_client}
 use Rattle.zk_client.specs.Outsides.{Told, HandsOut, IsGiven, TellsAll, TellsAllButOne, NoneIsLeft, inputs_then}
-use Rattle.zk_client.specs.Runs.{Holds, IsExact, IsTrueToServers, LeadsTo, RanWhole, RanUntilHalt}
+use Rattle.zk_client.specs.Runs.{Holds, IsExact, RanWhole, RanUntilHalt}
 
 -- ---- one view
 

@@ -1,6 +1,7 @@
 //! A call of a caller.
 
-ghost use Rattle.std.specs.Prelude.{◌≡◌, ◌<◌, ◌≤◌, ◌+◌, ℕ, List, [], ◌∷◌, ◌++◌, OnOk, MatchOption, Option, Some, pos, length};
+ghost use Rattle.std.specs.Prelude.{◌≡◌, ◌<◌, ◌≤◌, ◌+◌, ℕ, List, [], ◌∷◌, ◌++◌, OnOk, MatchOption, Option, Some, pos, length, FitsSigned};
+ghost use Rattle.std.specs.Int.{w32};
 ghost use Rattle.zk_history.specs.declared.side.Side.{Side as A_side};
 ghost use Rattle.zk_conversation.specs.Calls.{call_payload};
 ghost use Rattle.zk_conversation.specs.Pending.{calls_pending, watches_pending};
@@ -8,6 +9,7 @@ ghost use Rattle.zk_conversation.specs.Questions.{question_of, watched_side};
 ghost use Rattle.zk_conversation.specs.Views.{call_view};
 ghost use Rattle.zk_session.specs.declared.states.State.TheVariants.{Connected};
 ghost use Rattle.zk_watches.specs.Lists.{count_of};
+ghost use Rattle.zk_turns.specs.Ranges.{IsTyped};
 ghost use Rattle.zk_turns.specs.Taken.{refusal, calls};
 ghost use Rattle.zk_turns.specs.Turns.{IsAskable};
 ghost use Rattle.zk_turns.specs.Rule.{after_all, says_all};
@@ -38,17 +40,32 @@ fn side_of<A: Allocator + Copy>(call: &Call<A>) -> Option<Side>
     }
 }
 
-/// How long the path of a call is. It is read for what is known of its text.
+/// A version, read for what is known of it.
+fn read_version(version: i32) -> i32
+    ensures range { FitsSigned w32 version }
+    ensures same { result ≡ version }
+{
+    version
+}
+
+/// How long the path of a call is. The call is read for what is known of its texts and numbers.
 pub(crate) fn path_length<A: Allocator + Copy>(call: &Call<A>) -> usize
-    ensures { IsAskable (call_view call.now) }
+    ensures asked { IsAskable (call_view call.now) }
+    ensures typed { IsTyped (call_view call.now) }
 {
     match call {
         Call::Exists { path, .. } => path.as_str().len(),
         Call::GetData { path, .. } => path.as_str().len(),
         Call::GetChildren { path, .. } => path.as_str().len(),
-        Call::SetData { path, .. } => path.as_str().len(),
+        Call::SetData { path, version, .. } => {
+            read_version(*version);
+            path.as_str().len()
+        }
         Call::Create { path, .. } => path.as_str().len(),
-        Call::Delete { path, .. } => path.as_str().len(),
+        Call::Delete { path, version } => {
+            read_version(*version);
+            path.as_str().len()
+        }
         Call::Close => 0,
     }
 }

@@ -39,6 +39,7 @@ impl<A: Allocator + Copy> Client<A> {
     ghost use Rattle.zk_turns.specs.Rule.{Rule, Stands, HaltsAs, forgotten};
     ghost use Rattle.zk_client.specs.Views.{input_view, turn_of};
     ghost use Rattle.zk_client.specs.Steps.{IsQuiet};
+    ghost use Rattle.zk_turns.specs.Ranges.{IsResumable, IsTyped, AsksOf};
     ghost use Rattle.zk_client.specs.Clients.{view_of, saved_start, Tells};
 
     /// A client of no session yet, which asks for this timeout in milliseconds. It takes no memory.
@@ -46,6 +47,7 @@ impl<A: Allocator + Copy> Client<A> {
         requires { pos 0 <ℤ timeout_ms }
         ensures view { view_of result ≡ view_at (new_start (unsigned_abs timeout_ms)) [] }
         ensures stands { Stands (new_start (unsigned_abs timeout_ms)) [] (view_of result) }
+        ensures resumable { IsResumable (new_start (unsigned_abs timeout_ms)) }
     {
         first_view();
         Client {
@@ -70,6 +72,7 @@ impl<A: Allocator + Copy> Client<A> {
         requires password { length saved.now.password.now ≤ LONGEST_PASSWORD }
         ensures view { IfOk result (λ client. view_of client ≡ view_at (saved_start timeout_ms saved.now) []) }
         ensures stands { IfOk result (λ client. Stands (saved_start timeout_ms saved.now) [] (view_of client)) }
+        ensures resumable { IfOk result (λ client. IsResumable (saved_start timeout_ms saved.now)) }
     {
         first_view();
         Ok(Client {
@@ -95,6 +98,7 @@ impl<A: Allocator + Copy> Client<A> {
     pub fn step(&mut self, input: Input<A>) -> Result<Vec<Output<A>, A>, Halt>
         ensures rule { IfOk result (λ outputs. Rule (view_of self.old) (turn_of input outputs.items) (view_of self.new)) }
         ensures stands { IfOk result (λ outputs. (start : Start) (items : List Item) → Stands start items (view_of self.old) → Stands start (Turned (turn_of input outputs.items) ∷ items) (view_of self.new)) }
+        ensures typed { AsksOf IsTyped (input_view input) }
         ensures quiet { IsQuiet (view_of self.old) (input_view input) → IsOk result }
         ensures halt { OnErr result (HaltsAs (view_of self.old) (view_of self.new)) }
         ensures halted { (view_of self.old).standing.halted ≡ true → IsErr result }

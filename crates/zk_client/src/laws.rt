@@ -10,6 +10,6 @@ pub use zk_laws::{
 pub use zk_turns::{
     each_call_once, first_view, given_up, good_marks, good_since, kept_whole, last_never_falls,
     last_seen, listed_order, listed_paths, nothing_is_kept, one_cut, one_forget, one_halt,
-    one_turn, readings, refused_first, reports, requests_read, sent_frames, standing_answers,
-    told_states, whole_stream,
+    one_turn, readings, refused_first, reports, requests_fit, requests_read, sent_frames,
+    standing_answers, told_states, whole_stream,
 };

@@ -4,6 +4,7 @@ ghost use Rattle.std.specs.Prelude.{◌≡◌, List, [], ◌∷◌, ◌++◌, On
 ghost use Rattle.zk_conversation.specs.Views.{call_view};
 ghost use Rattle.zk_turns.specs.Turns.{signals_of, IsAsked, Opens, Cuts, Ticks};
 ghost use Rattle.zk_turns.specs.Kept.{is_final};
+ghost use Rattle.zk_turns.specs.Ranges.{IsTyped, AsksOf};
 ghost use Rattle.zk_turns.specs.Rule.{IsOpen, after_signals, says_signals};
 ghost use Rattle.zk_client.specs.Views.{said, input_view};
 ghost use Rattle.zk_client.specs.Seen.{view_with, origin};
@@ -22,7 +23,8 @@ use zk_session::{Due, State};
 
 /// How long the path is that a caller asks about, if one does. It is read for what is known of its text.
 pub(crate) fn asked_length<A: Allocator + Copy>(input: &Input<A>) -> usize
-    ensures { IsAsked (input_view input.now) }
+    ensures asked { IsAsked (input_view input.now) }
+    ensures typed { AsksOf IsTyped (input_view input.now) }
 {
     match input {
         Input::Call(_, call) => path_length(call),

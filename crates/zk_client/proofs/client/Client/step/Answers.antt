@@ -31,7 +31,7 @@ returns-in_default-clause-halt g c =
 pub returns-clause-stands : goal.returns-clause-stands
 returns-clause-stands g c = λ start items s.
     c.one_turn.ensures.stands start items _ _ (turn_of c.args.input c.turn.new.outputs.items) s (record {
-      asked = c.asked_length.ensures;
+      asked = c.asked_length.ensures.asked;
       goes_on = c.if-self.false;
       outputs = c.in-Ok.ensures.says ∙ ap (λ (l : List (Output g.row.A.Denot)). said l ++ says_signals (view_of c.args.self.now) (signals_of (input_view c.args.input))) c.new-outputs.ensures.items;
       next = c.in-Ok.ensures.next;

@@ -1,4 +1,4 @@
-use Rattle.std.proofs.Common.{◌≡◌, [], map, reverse, List, ap, ◌∙◌, None}
+use Rattle.std.proofs.Common.{◌≡◌, map, reverse, List, ap, ◌∙◌, None}
 use Rattle.zk_turns.specs.Turns.{Input, Turn}
 use Rattle.zk_client.specs.Views.{input_view}
 use Rattle.zk_client.specs.Outsides.{Told}
