@@ -1,4 +1,5 @@
 pub mod SetLemmas
 pub mod TellLemmas
 pub mod PlayLemmas
+pub mod CourseLemmas
 pub mod ScriptLemmas

@@ -14,6 +14,7 @@ use Rattle.zk_replay.specs.declared.stop.Stop.{Stop}
 use Rattle.zk_replay.specs.declared.stop.Stop.TheVariants as stops
 use Rattle.zk_replay.specs.ReplayLines.{says_at}
 use Rattle.zk_replay.specs.Played.{IsDue, RefusesLine}
+use Rattle.zk_replay.proofs.CourseLemmas.{from_first, prints}
 use Rattle.zk_replay.specs.Replays.{Progress, Prints, PrintsFirst, Goes, StopsAt, IsOutcome, beginning, progress, end_at}
 
 -- one line further
@@ -27,7 +28,7 @@ further lines at none old new within taken goes =
 -- all lines
 pub all_taken : (lines : List (Bor Text)) (at : ℕ) (end : Option View) (text : List ℕ) → length lines ≤ at
     → FoldsTo Goes beginning (map (λ p. p.now) (take at lines)) (progress end text) → Prints (map (λ p. p.now) lines) text
-all_taken lines at end text past taken = record { end = end; taken = rw take_all at taken }
+all_taken lines at end text past taken = prints (map (λ p. p.now) lines) end text (rw take_all at taken)
 
 -- the lines before one, that one, and those behind it
 parted : (lines : List (Bor Text)) (at : ℕ) (none : Bor Text) → at < length lines
@@ -50,20 +51,25 @@ stopped lines at none end text stop within taken due = go stop due
       before = map (λ p. p.now) (take at lines);
       behind = map (λ p. p.now) (drop at lines);
       are = ap (map (λ p. p.now)) (sym (take-append-drop at lines)) ∙ map-append (λ p. p.now) (take at lines) (drop at lines);
-      prints = record { end = end; taken = taken };
+      prints = prints (map (λ p. p.now) (take at lines)) end text taken;
     }
 
     stops_at : (f : ScriptFault) → RefusesLine (get_or lines at none).now end f → StopsAt (map (λ p. p.now) lines) (at + 1) f text
-    stops_at f refuses = record {
-      before = map (λ p. p.now) (take at lines);
-      line = (get_or lines at none).now;
-      behind = map (λ p. p.now) (drop (at + 1) lines);
-      are = parted lines at none within;
-      counted = simp (length-map, length-take) (omega arith);
-      end = end;
-      taken = taken;
-      refused = refuses;
-    }
+    stops_at f refuses =
+        let all = from_first (map (λ p. p.now) (take at lines)) end text taken in
+        record {
+          before = map (λ p. p.now) (take at lines);
+          line = (get_or lines at none).now;
+          behind = map (λ p. p.now) (drop (at + 1) lines);
+          are = parted lines at none within;
+          counted = simp (length-map, length-take) (omega arith);
+          end = end;
+          taken = taken;
+          refused = refuses;
+          course = all.0;
+          told = all.1;
+          stands = all.2;
+        }
 
     go : (s : Stop) → IsDue (says_at (words_of (get_or lines at none).now) (is_some end)) s → IsOutcome (map (λ p. p.now) lines) text (end_at (at + 1) s)
     go (stops.Refused why) h = stops_at why h
@@ -72,4 +78,4 @@ stopped lines at none end text stop within taken due = go stop due
 
 -- nothing is what the first lines print
 pub none_yet : (lines : List Text) → PrintsFirst lines []
-none_yet lines = record { before = []; behind = lines; are = refl; prints = record { end = beginning.standing; taken = refl } }
+none_yet lines = record { before = []; behind = lines; are = refl; prints = prints [] beginning.standing [] refl }

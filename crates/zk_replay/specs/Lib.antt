@@ -5,4 +5,5 @@ pub mod ReplayLines
 pub mod Lines
 pub mod Shown
 pub mod Played
+pub mod Courses
 pub mod Replays

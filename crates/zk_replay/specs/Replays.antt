@@ -9,6 +9,7 @@ use Rattle.zk_replay.specs.declared.replay.End.TheVariants.{Taken, Refused, Halt
 use Rattle.zk_replay.specs.declared.stop.Stop.{Stop}
 use Rattle.zk_replay.specs.declared.stop.Stop.TheVariants as stops
 use Rattle.zk_replay.specs.Played.{TakesLine, RefusesLine}
+use Rattle.zk_replay.specs.Courses.{Course, StandsBy, Moves, first_stage, stage}
 
 -- how far a script has come: the client, once there is one, and what was printed
 pub record Progress : Type 0 where
@@ -25,10 +26,14 @@ beginning = progress None []
 abbrev pub Goes : Progress → Text → Progress → Type 0
 Goes old line new = (text : List ℕ) × TakesLine line old.standing new.standing text × (new.printed ≡ old.printed ++ text)
 
--- Each of these lines is taken, in order, and the text is what they print, one behind the other.
+-- Each of these lines is taken, in order, and the text is what they print, one behind the other. By all that they make happen it is
+-- what the definitions give, and the client stands where that has led.
 pub record Prints (lines : List Text) (text : List ℕ) : Type 0 where
   pub end : Option View
   pub taken : FoldsTo Goes beginning lines (progress end text)
+  pub course : Option Course
+  pub told : FoldsTo Moves first_stage lines (stage course text)
+  pub stands : StandsBy course end
 
 -- The line of this number, counted from 1, is refused for this reason, and the text is what the lines before it print.
 pub record StopsAt (lines : List Text) (number : ℕ) (fault : ScriptFault) (text : List ℕ) : Type 0 where
@@ -40,6 +45,9 @@ pub record StopsAt (lines : List Text) (number : ℕ) (fault : ScriptFault) (tex
   pub end : Option View
   pub taken : FoldsTo Goes beginning before (progress end text)
   pub refused : RefusesLine line end fault
+  pub course : Option Course
+  pub told : FoldsTo Moves first_stage before (stage course text)
+  pub stands : StandsBy course end
 
 -- The text is what the first of these lines print: of no line a part.
 pub record PrintsFirst (lines : List Text) (text : List ℕ) : Type 0 where

@@ -1,10 +1,11 @@
 //! A replay, line by line.
 
-ghost use Rattle.std.specs.Prelude.{◌≡◌, None, IfOk, IfErr, is_some, map, string_bytes};
+ghost use Rattle.std.specs.Prelude.{◌≡◌, Option, None, IfOk, IfErr, is_some, map, string_bytes};
 ghost use Rattle.zk_replay.specs.ReplayLines.{keyword_of, placed_at, says_at};
 ghost use Rattle.zk_replay.specs.declared.player.Keyword.TheVariants as made;
 ghost use Rattle.zk_script.specs.Pieces.{words_of};
 ghost use Rattle.zk_replay.specs.Played.{standing_of, DoesSaid, IsDue, TakesLine, TakesWords};
+ghost use Rattle.zk_replay.specs.Courses.{Course, Follows, StandsBy};
 
 use crate::begin_line::{BeginKeyword, begin_line_at};
 use crate::drive_line::{DriveKeyword, drive_line_at};
@@ -106,9 +107,11 @@ impl<A: Allocator + Copy> Player<A> {
     }
 
     /// Does what a line says, and gives what is to be printed: the lines of what the client says, or of a look-up. An empty line
-    /// and one that begins with `#` say nothing. The first reason that applies refuses a line.
+    /// and one that begins with `#` say nothing. The first reason that applies refuses a line. Wherever what has happened has led
+    /// the client, what is printed is what the definitions give for it, and the client stands where the line leads.
     pub fn read(&mut self, alloc: A, line: &[u8]) -> Result<String<A>, Stop>
         ensures ok { IfOk result (λ text. TakesLine line.now (standing_of self.old) (standing_of self.new) (string_bytes text)) }
+        ensures stands { IfOk result (λ text. (course : Option Course) → StandsBy course (standing_of self.old) → Follows line.now course (standing_of self.new) (string_bytes text)) }
         ensures err { IfErr result (IsDue (says_at (words_of line.now) (is_some (standing_of self.old)))) }
     {
         let words = words_of(alloc, line)?;

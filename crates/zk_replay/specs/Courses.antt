@@ -1,0 +1,103 @@
+-- What the lines of a replay print by all that they make happen: each input is a turn with the outputs that are due, and a look-up
+-- prints what the definitions give for the whole past. No client is named here but where it is said that one stands there.
+use Rattle.std.specs.Prelude.{◌≡◌, ⊤, is_some, ℕ, List, [], ◌∷◌, ◌++◌, Option, Some, None, Ok}
+use Rattle.zk_history.specs.History.{Text}
+use Rattle.zk_history.specs.declared.side.Side.TheVariants.{Data, Child}
+use Rattle.zk_turns.specs.Turns.{Input, Opened, Bytes, Cut, Now, Call, Output, Start, Item, Turned, Forgets, signals_of}
+use Rattle.zk_turns.specs.Kept.{Past, kept_data, kept_names}
+use Rattle.zk_turns.specs.View.{View, saved_at}
+use Rattle.zk_turns.specs.Taken.{past_of}
+use Rattle.zk_turns.specs.Rule.{Stands, due_signals}
+use Rattle.zk_script.specs.Pieces.{words_of}
+use Rattle.zk_replay.specs.ClientLines.{ClientValue, CutLine, NowLine, CallLine, PeekLine, LastLine, ForgetLine, SavedLine}
+use Rattle.zk_replay.specs.ReplayLines.{DriveValue, OpenedLine, BytesLine, ClientValueLine, ReplayValue, Begins, Drives, says_at}
+use Rattle.zk_replay.specs.Shown.{TellsAll, TellsKept, kept_line, last_line, saved_line}
+use Rattle.zk_replay.specs.Played.{start_of}
+
+-- What a client began with, and what has happened to it since, the newest first.
+pub record Course : Type 0 where
+  pub start : Start
+  pub items : List Item
+
+abbrev pub past_in : Course → Past
+past_in course = past_of course.start course.items
+
+abbrev pub and_then : Course → Item → Course
+and_then course item = record { start = course.start; items = item ∷ course.items }
+
+-- what an input makes due there
+abbrev pub due_to : Course → Input → List Output
+due_to course input = due_signals course.start (past_in course) (signals_of input)
+
+-- An input is one more turn, with the outputs that are due, and the text tells these.
+pub record AddsTurn (input : Input) (old new : Course) (text : List ℕ) : Type 0 where
+  pub next : new ≡ and_then old (Turned (record { input = input; outputs = due_to old input }))
+  pub told : TellsAll (due_to old input) text
+
+-- What a line adds to what has happened, and what it prints.
+abbrev pub AddsClient : ClientValue → Course → Course → List ℕ → Type 0
+AddsClient CutLine old new text = AddsTurn Cut old new text
+AddsClient (NowLine moment) old new text = AddsTurn (Now moment) old new text
+AddsClient (CallLine asked) old new text = AddsTurn (Call asked.ticket asked.call) old new text
+AddsClient (PeekLine Data path) old new text = (new ≡ old) × (text ≡ kept_line (kept_data path (past_in old)))
+AddsClient (PeekLine Child path) old new text = (new ≡ old) × TellsKept (kept_names path (past_in old)) text
+AddsClient LastLine old new text = (new ≡ old) × (text ≡ last_line (saved_at old.start (past_in old)).last)
+AddsClient SavedLine old new text =
+    (new ≡ old) × (text ≡ saved_line (saved_at old.start (past_in old)).session.session (saved_at old.start (past_in old)).session.password (saved_at old.start (past_in old)).last)
+AddsClient ForgetLine old new text = (new ≡ and_then old Forgets) × (text ≡ [])
+
+abbrev pub AddsDrive : DriveValue → Course → Course → List ℕ → Type 0
+AddsDrive OpenedLine old new text = AddsTurn Opened old new text
+AddsDrive (BytesLine bytes) old new text = AddsTurn (Bytes bytes) old new text
+AddsDrive (ClientValueLine value) old new text = AddsClient value old new text
+
+-- A course that had begun goes on.
+pub record Continues (value : DriveValue) (old new : Option Course) (text : List ℕ) : Type 0 where
+  pub before : Course
+  pub after : Course
+  pub was : old ≡ Some before
+  pub is : new ≡ Some after
+  pub adds : AddsDrive value before after text
+
+-- the line that makes the client begins the course
+abbrev pub Adds : ReplayValue → Option Course → Option Course → List ℕ → Type 0
+Adds (Begins value) old new text = (old ≡ None) × (new ≡ Some (record { start = start_of value; items = [] })) × (text ≡ [])
+Adds (Drives value) old new text = Continues value old new text
+
+abbrev pub AddsSome : Option ReplayValue → Option Course → Option Course → List ℕ → Type 0
+AddsSome None old new text = (new ≡ old) × (text ≡ [])
+AddsSome (Some value) old new text = Adds value old new text
+
+-- What the words of a line say is added, and printed.
+pub record AddsLine (line : Text) (old new : Option Course) (text : List ℕ) : Type 0 where
+  pub what : Option ReplayValue
+  pub says : says_at (words_of line) (is_some old) ≡ Ok what
+  pub adds : AddsSome what old new text
+
+-- A client stands where a course has led, once there is one.
+abbrev pub StandsBy : Option Course → Option View → Type 0
+StandsBy None None = ⊤
+StandsBy None (Some view) = ⊥
+StandsBy (Some course) None = ⊥
+StandsBy (Some course) (Some view) = Stands course.start course.items view
+
+-- A line takes a course to another one, where a client stands then that shows this.
+pub record Follows (line : Text) (old : Option Course) (view : Option View) (text : List ℕ) : Type 0 where
+  pub next : Option Course
+  pub adds : AddsLine line old next text
+  pub stands : StandsBy next view
+
+-- how far lines have come: what has happened, and what was printed
+pub record Stage : Type 0 where
+  pub course : Option Course
+  pub printed : List ℕ
+
+abbrev pub stage : Option Course → List ℕ → Stage
+stage course printed = record { course = course; printed = printed }
+
+abbrev pub first_stage : Stage
+first_stage = stage None []
+
+-- one line further
+abbrev pub Moves : Stage → Text → Stage → Type 0
+Moves old line new = (text : List ℕ) × AddsLine line old.course new.course text × (new.printed ≡ old.printed ++ text)
