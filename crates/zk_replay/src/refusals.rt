@@ -1,7 +1,7 @@
 //! Each request for memory refused in turn, long lists, and long passwords.
 
 use crate::replay::{End, replayed_script};
-use crate::rows::{BEGUN, ROWS};
+use crate::rows::{BEGUN, TAKEN_UP, first_rows, rows};
 use refusing::Refusing;
 use std::alloc::Global;
 use std::process::Abort;
@@ -29,7 +29,7 @@ fn replayed_after(
 /// Replays a script with each request for memory refused in turn.
 fn replayed_without(rt: &impl Abort, alloc: Global, script: &str) -> Result<(), Fail> {
     let whole = replayed_script(alloc, script.as_bytes()).text;
-    for passed in 0..10_000u32 {
+    for passed in 0..1_000_000u32 {
         let (is_part, refused) = replayed_after(alloc, script, whole.as_str(), passed)?;
         if !refused {
             assert!(rt; passed > 10);
@@ -41,13 +41,25 @@ fn replayed_without(rt: &impl Abort, alloc: Global, script: &str) -> Result<(), 
     Ok(())
 }
 
-#[test]
-fn refused_memory_leaves_whole_lines(rt: HostRuntime) -> Result<(), Fail> {
-    for (script, _) in &ROWS {
-        let script = format!(in rt.alloc(); "{BEGUN}{script}")?;
-        replayed_without(&rt, rt.alloc(), script.as_str())?;
+/// Replays each script behind what begins it, with each request for memory refused in turn.
+fn rows_without(
+    rt: &impl Abort,
+    alloc: Global,
+    first: &str,
+    rows: &[(&str, &str)],
+) -> Result<(), Fail> {
+    for (script, _) in rows {
+        let script = format!(in alloc; "{first}{script}")?;
+        replayed_without(rt, alloc, script.as_str())?;
     }
     Ok(())
+}
+
+#[test]
+fn refused_memory_leaves_whole_lines(rt: HostRuntime) -> Result<(), Fail> {
+    rows_without(&rt, rt.alloc(), "", first_rows())?;
+    rows_without(&rt, rt.alloc(), BEGUN, rows())?;
+    rows_without(&rt, rt.alloc(), TAKEN_UP, rows())
 }
 
 const FOUND: &str =
@@ -62,12 +74,12 @@ const PARTS: &str =
     "state Idle\nsend 0000002d00000000000000000000000500007530\nstate Connecting\nstate Connected\nsend 0001fcf0fffffff8000000650000000000000005\nsend 00011218fffffff8000000650000000000000005\nlast 5\nstate Idle\nsend 0000002d00000000000000000000000500007530\nstate Connecting\nstate Connected\nsend 0001fcf0fffffff8000000650000000000000005\nsend 00011218fffffff8000000650000000000000005\n";
 
 /// A script of a client that watches the data of 100 paths of 2,000 bytes, and begins again twice.
-fn long_lists(alloc: Global) -> Result<String, Fail> {
+fn long_lists(alloc: Global, first: &str) -> Result<String, Fail> {
     let mut letters = String::new(alloc);
     for _ in 0..1_996 {
         letters.push_str("p")?;
     }
-    let mut script = String::from_str(alloc, BEGUN)?;
+    let mut script = String::from_str(alloc, first)?;
     for number in 0..100u32 {
         let call = format!(in alloc; "call 7 getdata /{}{number:03} 1\n", letters.as_str())?;
         let reply = format!(in alloc; "bytes 0000005a{:08x}{FOUND}\n", number + 1)?;
@@ -93,12 +105,25 @@ fn heads(alloc: Global, text: &str, from: usize) -> Result<String, Fail> {
 #[test]
 fn long_lists_are_watched_again_in_parts(rt: HostRuntime) -> Result<(), Fail> {
     let alloc = rt.alloc();
-    let script = long_lists(alloc)?;
+    let script = long_lists(alloc, BEGUN)?;
     let outcome = replayed_script(alloc, script.as_bytes());
     let got = heads(alloc, outcome.text.as_str(), 203)?;
     let want = format!(in alloc; "{PARTS}\n")?;
     assert_eq!(rt; got.as_str(), want.as_str());
     Ok(())
+}
+
+/// Each of some 4,700 requests is refused: six seconds as it is built, but more than the minute that a run with checks is given.
+#[test]
+fn refused_memory_leaves_whole_lines_of_long_lists(rt: HostRuntime) -> Result<(), Fail> {
+    let script = long_lists(rt.alloc(), BEGUN)?;
+    replayed_without(&rt, rt.alloc(), script.as_str())
+}
+
+#[test]
+fn refused_memory_leaves_whole_lines_of_a_session_taken_up(rt: HostRuntime) -> Result<(), Fail> {
+    let script = long_lists(rt.alloc(), TAKEN_UP)?;
+    replayed_without(&rt, rt.alloc(), script.as_str())
 }
 
 /// So many bytes in hex.

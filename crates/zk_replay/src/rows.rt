@@ -8,8 +8,29 @@ pub const BEGUN: &str =
 pub const BEGAN: &str =
     "send 0000002d000000000000000000000000000075300000000000000000000000100000000000000000000000000000000000\nstate Connecting\nstate Connected\n";
 
-/// What such a client is told, and what is printed then.
-pub const ROWS: [(&str, &str); 37] = [
+/// A client that takes a session up, and is connected.
+pub const TAKEN_UP: &str =
+    "resume 30000 1 01010101010101010101010101010101 4\nopened\nbytes 0000002400000000000075300000000000000abc00000010000102030405060708090a0b0c0d0e0f\n";
+
+/// Scripts from their first line, and what they print: responses with a last byte, which is to be a boolean, and a session that is
+/// taken up. It watches nothing yet, so nothing is set again; it reads, and is saved.
+const FIRST: [(&str, &str); 3] = [
+    (
+        "timeout 30000\nopened\nbytes 0000002500000000000075300000000000000abc00000010000102030405060708090a0b0c0d0e0f00\nsaved\n",
+        "send 0000002d000000000000000000000000000075300000000000000000000000100000000000000000000000000000000000\nstate Connecting\nstate Connected\nsaved 2748 000102030405060708090a0b0c0d0e0f 0\n",
+    ),
+    (
+        "timeout 30000\nopened\nbytes 0000002500000000000075300000000000000abc00000010000102030405060708090a0b0c0d0e0f02\nsaved\n",
+        "send 0000002d000000000000000000000000000075300000000000000000000000100000000000000000000000000000000000\nstate Connecting\ndrop C4 J3 at 36\nstate Idle\nsaved 0 00000000000000000000000000000000 0\n",
+    ),
+    (
+        "resume 30000 1 01010101010101010101010101010101 6\nlast\npeek data /b\nopened\nbytes 00000024000000000000753000000000000000010000001001010101010101010101010101010101\ncall 3 getdata /b 1\nbytes 0000005900000001000000000000000600000000000000013200000000000000000000000000000006000000000000000000000000000003e8000000010000000000000000000000000000000000000001000000000000000000000000\npeek data /b\nsaved\n",
+        "last 6\ndata none\nsend 0000002d000000000000000000000006000075300000000000000001000000100101010101010101010101010101010100\nstate Connecting\nstate Connected\nsend 0000000f0000000100000004000000022f6201\nanswer 3 6 data 32 0 6 0 1000 1 0 0 0 1 0 0\ndata full 32 0 6 0 1000 1 0 1 good\nsaved 1 01010101010101010101010101010101 6\n",
+    ),
+];
+
+/// What a client is told that is connected, and what is printed then.
+const ROWS: [(&str, &str); 37] = [
     (
         "call 7 getdata /a 1\nbytes 0000005a000000010000000000000005000000000000000268690000000000000003000000000000000500000000000003e800000000000007d0000000010000000000000000000000000000000000000002000000000000000000000003\nlast\npeek data /a\n",
         "send 0000000f0000000100000004000000022f6101\nanswer 7 5 data 6869 3 5 1000 2000 1 0 0 0 2 0 3\nlast 5\ndata full 6869 3 5 1000 2000 1 0 2 good\n",
@@ -144,3 +165,13 @@ pub const ROWS: [(&str, &str); 37] = [
         "state Idle\nsend 0000002d000000000000000000000000000075300000000000000abc00000010000102030405060708090a0b0c0d0e0f00\nstate Connecting\n",
     ),
 ];
+
+/// The scripts from their first line. They stand behind a function so that no proof reads them.
+pub fn first_rows() -> &'static [(&'static str, &'static str)] {
+    FIRST.as_slice()
+}
+
+/// What a client is told that is connected, likewise.
+pub fn rows() -> &'static [(&'static str, &'static str)] {
+    ROWS.as_slice()
+}

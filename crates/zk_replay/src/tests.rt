@@ -2,7 +2,7 @@
 
 use crate::cut_rows::{AGAIN, NOTICE, NOTICE_CUTS, READ, REFUSED, REPLY, REPLY_CUTS};
 use crate::replay::{End, replayed_script};
-use crate::rows::{BEGAN, BEGUN, ROWS};
+use crate::rows::{BEGAN, BEGUN, first_rows, rows};
 use std::alloc::Global;
 use std::process::Abort;
 use std::test::Fail;
@@ -49,16 +49,28 @@ fn told_twice(alloc: Global, script: &[u8]) -> Result<(String, bool), Fail> {
     Ok((whole, same))
 }
 
-#[test]
-fn rows_print_their_lines(rt: HostRuntime) -> Result<(), Fail> {
-    for (script, want) in &ROWS {
-        let script = format!(in rt.alloc(); "{BEGUN}{script}")?;
-        let want = format!(in rt.alloc(); "{BEGAN}{want}")?;
-        let (got, same) = told_twice(rt.alloc(), script.as_bytes())?;
+/// Plays each script behind what begins it: whole, and one byte at a time.
+fn rows_print(
+    rt: &impl Abort,
+    alloc: Global,
+    begun: (&str, &str),
+    rows: &[(&str, &str)],
+) -> Result<(), Fail> {
+    let (first, printed) = begun;
+    for (script, want) in rows {
+        let script = format!(in alloc; "{first}{script}")?;
+        let want = format!(in alloc; "{printed}{want}")?;
+        let (got, same) = told_twice(alloc, script.as_bytes())?;
         assert_eq!(rt; got.as_str(), want.as_str(), "{}", script.as_str());
         assert!(rt; same, "{}", script.as_str());
     }
     Ok(())
+}
+
+#[test]
+fn rows_print_their_lines(rt: HostRuntime) -> Result<(), Fail> {
+    rows_print(&rt, rt.alloc(), (BEGUN, BEGAN), rows())?;
+    rows_print(&rt, rt.alloc(), ("", ""), first_rows())
 }
 
 #[test]
