@@ -1,13 +1,16 @@
 -- What a command line asks for, by the definition that `clap` gives of a simple command's matches.
 use Rattle.std.specs.Prelude.{◌≡◌, ◌≢◌, ◌⊎◌, true, List, [], ◌∷◌, map, codes, Option, Some}
 use Rattle.std.specs.Borrow.{Bor}
-use Rattle.clap.specs.Words.{App, IsAmong, Row, Rule, Text, fault_of, first_of, new_app, new_rule, subcommand_of, with_rule, with_subcommand}
+use Rattle.std.specs.List.{list_all}
+use Rattle.clap.specs.Words.{App, IsAmong, Row, Rule, Text, all_of, fault_of, first_of, new_app, new_rule, subcommand_of, with_rule, with_subcommand}
 use Rattle.clap.specs.Simple.{on_top}
+use Rattle.clap.specs.declared.builder.action.ArgAction.TheVariants as action
 use Rattle.clap.specs.declared.builder.value_parser.ValueParser.TheVariants as parser
 use Rattle.clap.specs.declared.error.kind.ErrorKind.{ErrorKind}
 use Rattle.clap.specs.declared.error.kind.ErrorKind.TheVariants as kinds
+use Rattle.zk_live.specs.Addresses.{is_address}
 use Rattle.zk_shell.specs.declared.command.Command.{Command}
-use Rattle.zk_shell.specs.declared.command.Command.TheVariants.{Show, History, Replay}
+use Rattle.zk_shell.specs.declared.command.Command.TheVariants.{Show, History, Replay, Live}
 use Rattle.zk_shell.specs.declared.command.LineFault.{LineFault}
 use Rattle.zk_shell.specs.declared.command.LineFault.TheVariants.{Help, Refused, Memory}
 use Rattle.zk_shell.specs.declared.kind.Kind.TheVariants as kind
@@ -38,15 +41,26 @@ history_app = new_app (codes "history")
 abbrev pub replay_app : App
 replay_app = new_app (codes "replay")
 
+-- one word or more, and one must be given
+abbrev pub address_rule : Rule
+address_rule = record (new_rule (codes "ADDRESS")) { required = true; action = Some action.Append }
+
+abbrev pub live_app : App
+live_app = with_rule (new_app (codes "live")) address_rule
+
 -- the program: one of its subcommands must be given
 abbrev pub shell_app : Bor (List (Bor Text)) → App
 shell_app names =
-    with_subcommand (with_subcommand (with_subcommand (on_top (λ s. record s { subcommand_required = true }) (new_app (codes "zk_shell")))
-    (show_app names).top) history_app.top) replay_app.top
+    with_subcommand (with_subcommand (with_subcommand (with_subcommand (on_top (λ s. record s { subcommand_required = true }) (new_app (codes "zk_shell")))
+    (show_app names).top) history_app.top) replay_app.top) live_app.top
 
 -- the list is that of the kinds
 abbrev pub AreKinds : Bor (List (Bor Text)) → Type 0
 AreKinds names = map (λ n. n.now) names.now ≡ kind_words
+
+-- these words were given, and each is an address
+abbrev pub AreAddresses : List Text → List Row → Type 0
+AreAddresses words rows = (all_of (codes "ADDRESS") rows ≡ Some words) × (list_all is_address words ≡ true)
 
 -- the subcommand that was found, with its values, is this command
 abbrev pub IsFound : Command → Option (Text × List Row) → Type 0
@@ -54,6 +68,7 @@ IsFound (Show kind hex) found = (rows : List Row) × (found ≡ Some (codes "sho
     × (first_of (codes "KIND") rows ≡ Some (kind_word kind)) × (first_of (codes "HEX") rows ≡ Some hex.now)
 IsFound History found = (rows : List Row) × (found ≡ Some (codes "history", rows))
 IsFound Replay found = (rows : List Row) × (found ≡ Some (codes "replay", rows))
+IsFound (Live addresses) found = (rows : List Row) × (found ≡ Some (codes "live", rows)) × AreAddresses (map (λ a. a.now) addresses.items) rows
 
 -- the words ask for this command
 abbrev pub AsksFor : List Text → Command → Type 0
@@ -62,6 +77,17 @@ AsksFor words command = (names : Bor (List (Bor Text))) × AreKinds names × IsF
 -- the words ask for no command
 abbrev pub AsksForNone : Option (Text × List Row) → Type 0
 AsksForNone found = (command : Command) → IsFound command found → ⊥
+
+-- A refusal, or that memory ran out.
+abbrev pub IsNoHelp : LineFault → Type 0
+IsNoHelp (Help text) = ⊥
+IsNoHelp fault = Unit {0}
+
+-- A refusal, where this holds; or that memory ran out.
+abbrev pub TellsIf : Type 0 → LineFault → Type 0
+TellsIf why (Help text) = ⊥
+TellsIf why (Refused text) = why
+TellsIf why Memory = Unit {0}
 
 -- what `clap` says of the words is told so
 abbrev pub Tells : ErrorKind → LineFault → Type 0

@@ -5,5 +5,5 @@ pub mod Kinds
 pub mod CommandLine
 pub mod Show
 pub mod History
-pub mod Replay
+pub mod Written
 pub mod Run

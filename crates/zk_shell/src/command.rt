@@ -1,17 +1,21 @@
 //! What a command line asks for.
 
-ghost use Rattle.std.specs.Prelude.{◌≡◌, List, IfOk, IfErr, IfSome, IfNone, MatchOption, map, codes};
+ghost use Rattle.std.specs.Prelude.{◌≡◌, List, IfOk, IfErr, IfSome, IfNone, find, map, codes, not};
 ghost use Rattle.std.specs.Borrow.{Bor};
-ghost use Rattle.clap.specs.Words.{Text, app_of, found_of, first_value, kind_of, subcommand_rows_of};
+ghost use Rattle.std.specs.Global.{Vec};
+ghost use Rattle.clap.specs.Words.{Text, app_of, found_of, first_value, kind_of, rows_of, subcommand_rows_of};
+ghost use Rattle.zk_live.specs.Addresses.{is_address};
 ghost use Rattle.zk_shell.specs.Kinds.{kind_word};
-ghost use Rattle.zk_shell.specs.CommandLine.{AreKinds, AsksFor, AsksForNone, IsDue, IsFound, Tells, show_app, shell_app};
+ghost use Rattle.zk_shell.specs.CommandLine.{AreAddresses, AreKinds, AsksFor, AsksForNone, IsDue, IsFound, IsNoHelp, Tells, TellsIf, live_app, show_app, shell_app};
 ghost use Rattle.zk_shell.specs.declared.command.LineFault.TheVariants as faults;
 
+use crate::help;
 use crate::kind::Kind;
 use clap::error::ErrorKind;
-use clap::{Arg, ArgMatches, Error};
+use clap::{Arg, ArgAction, ArgMatches, Error};
 use std::alloc::{AllocError, Global};
 use thiserror::Error;
+use zk_live::address::is_address;
 
 static KINDS: [&str; 11] = [
     "connect",
@@ -28,7 +32,7 @@ static KINDS: [&str; 11] = [
 ];
 
 /// What a command line asks for.
-#[derive(Clone, Copy, Debug, PartialEq, Eq)]
+#[derive(Debug, Drop)]
 pub enum Command<'a> {
     /// Shows one whole frame in hex.
     Show { kind: Kind, hex: &'a str },
@@ -36,6 +40,8 @@ pub enum Command<'a> {
     History,
     /// Drives a client by a script.
     Replay,
+    /// Drives a client over connections to these addresses by a script.
+    Live { addresses: Vec<&'a str> },
 }
 
 /// Why a command line asks for nothing.
@@ -77,6 +83,21 @@ fn show_form<'a>(alloc: Global) -> Result<clap::Command<'a>, AllocError>
     Ok(show)
 }
 
+/// The form of `live`.
+fn live_form<'a>(alloc: Global) -> Result<clap::Command<'a>, AllocError>
+    ensures { IfOk result (λ r. app_of r ≡ live_app) }
+{
+    let address = Arg::new(alloc, "ADDRESS")
+        .required(true)
+        .action(ArgAction::Append)
+        .help("A server's address in numbers, as 127.0.0.1:2181. Several are tried in turn");
+    let live = clap::Command::new(alloc, "live")
+        .about("Drives a client over TCP by a script, and prints what it says and keeps")
+        .after_help(help::LIVE)
+        .arg(address)?;
+    Ok(live)
+}
+
 /// The command line's form.
 fn form<'a>(alloc: Global) -> Result<clap::Command<'a>, AllocError>
     ensures { IfOk result (λ r. (names : Bor (List (Bor Text))) × AreKinds names × (app_of r ≡ shell_app names)) }
@@ -88,12 +109,15 @@ fn form<'a>(alloc: Global) -> Result<clap::Command<'a>, AllocError>
     let replay = clap::Command::new(alloc, "replay").about(
         "Drives a client by a script, and prints what it says and keeps",
     );
+    let live = live_form(alloc)?;
     let shell = clap::Command::new(alloc, "zk_shell")
         .about("Shows frames of the protocol, answers histories of a tree, and drives a client")
+        .after_help(help::SHELL)
         .subcommand_required(true)
         .subcommand(show)?
         .subcommand(history)?
-        .subcommand(replay)?;
+        .subcommand(replay)?
+        .subcommand(live)?;
     Ok(shell)
 }
 
@@ -113,9 +137,21 @@ fn told_of(alloc: Global, error: &Error) -> LineFault
 
 /// What is told where the words ask for nothing.
 fn no_command(alloc: Global) -> LineFault
-    ensures { Tells ErrorKind.MissingSubcommand result }
+    ensures { IsNoHelp result }
 {
     match String::from_str(alloc, "error: no command\n") {
+        Ok(text) => LineFault::Refused(text),
+        Err(_) => LineFault::Memory,
+    }
+}
+
+/// What is told of a word that is no address.
+fn no_address(alloc: Global, word: &str) -> LineFault
+    ensures { IsNoHelp result }
+{
+    match format!(in alloc;
+        "error: {word:?} is no address: IP:PORT in numbers, as 127.0.0.1:2181\n"
+    ) {
         Ok(text) => LineFault::Refused(text),
         Err(_) => LineFault::Memory,
     }
@@ -134,15 +170,44 @@ fn show_of<'a>(matches: &ArgMatches<'a>) -> Option<Command<'a>>
     Some(Command::Show { kind, hex })
 }
 
+/// The first word that is no address.
+fn stranger<'a>(words: &[&'a str]) -> Option<&'a str>
+    ensures { result ≡ find (λ w. not (is_address w.now)) words.now }
+{
+    let word = words.iter().find(|word| !is_address(word))?;
+    Some(*word)
+}
+
+/// The command that the matches of `live` give, where each word is an address.
+fn live_of<'a>(alloc: Global, matches: &ArgMatches<'a>) -> Result<Command<'a>, LineFault>
+    ensures ok { IfOk result (λ command. (addresses : Vec (Bor Text)) × (command ≡ Command.Live addresses)
+        × AreAddresses (map (λ a. a.now) addresses.items) (rows_of (found_of matches.now))) }
+    ensures err { IfErr result (TellsIf ((words : List Text) → AreAddresses words (rows_of (found_of matches.now)) → ⊥)) }
+{
+    let Some(words) = matches.get_strs("ADDRESS") else {
+        return Err(no_command(alloc));
+    };
+    if let Some(word) = stranger(words) {
+        return Err(no_address(alloc, word));
+    }
+    let addresses = Vec::from_slice(alloc, words)?;
+    Ok(Command::Live { addresses })
+}
+
 /// The command that the matches of a command line give.
-fn asked<'a>(matches: &ArgMatches<'a>) -> Option<Command<'a>>
-    ensures { MatchOption result (AsksForNone (subcommand_rows_of matches.now)) (λ command. IsFound command (subcommand_rows_of matches.now)) }
+fn asked<'a>(alloc: Global, matches: &ArgMatches<'a>) -> Result<Command<'a>, LineFault>
+    ensures ok { IfOk result (λ command. IsFound command (subcommand_rows_of matches.now)) }
+    ensures err { IfErr result (TellsIf (AsksForNone (subcommand_rows_of matches.now))) }
 {
     match matches.subcommand() {
-        Some(("show", inner)) => show_of(inner),
-        Some(("history", _)) => Some(Command::History),
-        Some(("replay", _)) => Some(Command::Replay),
-        _ => None,
+        Some(("show", inner)) => match show_of(inner) {
+            Some(command) => Ok(command),
+            None => Err(no_command(alloc)),
+        },
+        Some(("history", _)) => Ok(Command::History),
+        Some(("replay", _)) => Ok(Command::Replay),
+        Some(("live", inner)) => live_of(alloc, inner),
+        _ => Err(no_command(alloc)),
     }
 }
 
@@ -151,12 +216,8 @@ pub fn command_of<'a>(alloc: Global, words: &'a [&'a str]) -> Result<Command<'a>
     ensures ok { IfOk result (AsksFor (map (λ w. w.now) words.entry.now)) }
     ensures err { IfErr result (IsDue (map (λ w. w.now) words.entry.now)) }
 {
-    let matches = match form(alloc)?.try_get_matches_from(words) {
-        Ok(matches) => matches,
-        Err(error) => return Err(told_of(alloc, &error)),
-    };
-    match asked(&matches) {
-        Some(command) => Ok(command),
-        None => Err(no_command(alloc)),
+    match form(alloc)?.try_get_matches_from(words) {
+        Ok(matches) => asked(alloc, &matches),
+        Err(error) => Err(told_of(alloc, &error)),
     }
 }

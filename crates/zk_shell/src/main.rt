@@ -6,8 +6,10 @@ mod command;
 mod fault;
 mod fields;
 mod frame;
+mod help;
 mod history;
 mod kind;
+mod live;
 mod printed;
 #[cfg(test)]
 mod refusals;
@@ -20,11 +22,13 @@ mod shown;
 mod status;
 #[cfg(test)]
 mod tests;
+mod written;
 
 use run::run;
 use status::Status;
 use std::io;
 use std::process::ExitCode;
+use zk_live::tcp::Tcp;
 
 /// Runs the command that the process's arguments ask for.
 fn run_arguments(rt: &HostRuntime) -> io::Result<Status> {
@@ -37,7 +41,16 @@ fn run_arguments(rt: &HostRuntime) -> io::Result<Status> {
     let mut out = io::writer(rt);
     let mut errors = rt.stderr();
     let mut input = rt.stdin();
-    Ok(run(alloc, &mut input, &mut out, &mut errors, texts.as_slice()))
+    let mut dial = Tcp::new(rt);
+    let status = run(
+        alloc,
+        &mut dial,
+        &mut input,
+        &mut out,
+        &mut errors,
+        texts.as_slice(),
+    );
+    Ok(status)
 }
 
 fn main(rt: HostRuntime) -> ExitCode {

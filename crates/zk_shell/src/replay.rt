@@ -1,30 +1,19 @@
 //! The command that drives a client by a script.
 
-ghost use Rattle.std.specs.Prelude.{◌≡◌, ◌≢◌, ◌⊎◌, ◌++◌, List, ℕ, codes};
+ghost use Rattle.std.specs.Prelude.{◌≡◌, ◌≢◌, ◌⊎◌, ◌++◌, List, ℕ};
 ghost use Rattle.std.specs.Io.KnownBytes.{Appends};
-ghost use Rattle.zk_replay.specs.Replays.{Prints, PrintsFirst, StopsAt};
+ghost use Rattle.zk_replay.specs.Replays.{IsOutcome, Prints, StopsAt};
 ghost use Rattle.zk_script.specs.Scripts.{lines_of, refusal_text};
 ghost use Rattle.zk_script.specs.declared.script_fault.ScriptFault.{ScriptFault as Why};
 ghost use Rattle.zk_shell.specs.History.{IsInput};
-ghost use Rattle.zk_shell.specs.Replay.{IsHalt};
+ghost use Rattle.zk_shell.specs.Written.{RunsOut};
 
-use crate::history::tell;
 use crate::status::Status;
+use crate::written::{unread, write_outcome};
 use std::alloc::Allocator;
 use std::io::{Read, Write};
 use zk_replay::replay::{End, replayed_script};
-use zk_script::input::{InputFault, read_whole};
-
-/// Says that a step of the client ran out of memory.
-fn halt<O: Write>(out: &mut O) -> Status
-    ensures written { result ≡ Status.Memory → Appends (O.contents out.old) (O.contents out.new) (codes "halt\n") }
-    ensures only { (result ≡ Status.Memory) ⊎ (result ≡ Status.Stream) }
-{
-    match out.write_all(b"halt\n") {
-        Ok(()) => Status::Memory,
-        Err(_) => Status::Stream,
-    }
-}
+use zk_script::input::read_whole;
 
 /// Drives a client by the script on `input`, and prints what it says and what its look-ups find, a line each. A line that is
 /// refused is told to `errors` with its number; what the lines before it made the client say is printed. `Memory` where memory
@@ -43,25 +32,16 @@ pub fn replay<A: Allocator + Copy, I: Read, O: Write, E: Write>(
     ensures fault { result ≡ Status.Fault → (script text : List ℕ) × (number : ℕ) × (why : Why) × IsInput (I.remaining input.old) script
         × StopsAt (lines_of script) number why text × Appends (O.contents out.old) (O.contents out.new) text
         × Appends (E.contents errors.old) (E.contents errors.new) (refusal_text number why) }
-    // What is written is what the first lines print: of no line a part. The line of a halt may stand behind it.
-    ensures memory { result ≡ Status.Memory → (script text told : List ℕ) × IsInput (I.remaining input.old) script × PrintsFirst (lines_of script) text
-        × IsHalt told × Appends (O.contents out.old) (O.contents out.new) (text ++ told) }
+    // What is written is what the first lines print: of no line a part. The line of a halt stands behind it where a step halted.
+    ensures memory { result ≡ Status.Memory → (script text told : List ℕ) × (end : End) × IsInput (I.remaining input.old) script
+        × IsOutcome (lines_of script) text end × RunsOut end told × Appends (O.contents out.old) (O.contents out.new) (text ++ told) }
     ensures silent { (result ≡ Status.Done) ⊎ (result ≡ Status.Memory) → errors.new ≡ errors.old }
     ensures usage { result ≢ Status.Usage }
 {
     let script = match read_whole(alloc, input) {
         Ok(script) => script,
-        Err(InputFault::Unread) => return Status::Stream,
-        Err(InputFault::Memory) => return Status::Memory,
+        Err(fault) => return unread(fault),
     };
     let outcome = replayed_script(alloc, script.as_slice());
-    if out.write_all(outcome.text.as_bytes()).is_err() {
-        return Status::Stream;
-    }
-    match outcome.end {
-        End::Taken => Status::Done,
-        End::Refused { number, why } => tell(errors, number, why),
-        End::Halted => halt(out),
-        End::Memory => Status::Memory,
-    }
+    write_outcome(out, errors, &outcome)
 }

@@ -1,13 +1,53 @@
 use crate::run::run;
 use std::alloc::Global;
+use std::io;
+use std::io::{Read, Write};
 use std::test::Fail;
+use zk_live::dial::Dial;
+
+/// A connection that has ended.
+#[derive(Drop)]
+struct Ended;
+
+impl Read for Ended {
+    fn read(&mut self, _buf: &mut [u8]) -> io::Result<usize> {
+        Ok(0)
+    }
+}
+
+impl Write for Ended {
+    fn write(&mut self, buf: &[u8]) -> io::Result<usize> {
+        Ok(buf.len())
+    }
+
+    fn flush(&mut self) -> io::Result<()> {
+        Ok(())
+    }
+}
+
+/// What finds a connection at one address, which ends before anything comes, and none at any other.
+#[derive(Drop)]
+struct Dialled;
+
+impl Dial for Dialled {
+    type Stream = Ended;
+
+    fn dial(&mut self, address: &str) -> io::Result<Ended> {
+        if address == "127.0.0.1:2181" {
+            Ok(Ended)
+        } else {
+            Err(io::ErrorKind::ConnectionRefused.into())
+        }
+    }
+}
 
 /// What a command line over an input prints, what it tells, and how it ends.
 pub fn outcome(alloc: Global, words: &[&str], input: &str) -> Result<String, Fail> {
     let mut out: Vec<u8> = Vec::new(alloc);
     let mut errors: Vec<u8> = Vec::new(alloc);
     let mut input = input.as_bytes();
-    let status = run(alloc, &mut input, &mut out, &mut errors, words);
+    let mut dial = Dialled;
+    let status = run(alloc, &mut dial, &mut input, &mut out, &mut errors, words);
     let out = String::from_utf8(out)?;
     let errors = String::from_utf8(errors)?;
     Ok(format!(in alloc; "{out}|{errors}|{}", status as u8)?)
@@ -282,10 +322,48 @@ fn tells_help_and_refusals(rt: HostRuntime) -> Result<(), Fail> {
         ("zk_shell show connect", "|error: ", "|2"),
         ("zk_shell history now", "|error: ", "|2"),
         ("zk_shell replay now", "|error: ", "|2"),
+        ("zk_shell live", "|error: ", "|2"),
+        (
+            "zk_shell live 127.0.0.1:2181 127.0.0.1:0",
+            "|error: \"127.0.0.1:0\" is no address",
+            "|2",
+        ),
+        (
+            "zk_shell live --help",
+            "Drives a client over TCP by a script",
+            "zk_shell live 127.0.0.1:2181\n||0",
+        ),
     ] {
         let got = outcome_of_line(rt.alloc(), line)?;
         let is_due = got.as_str().starts_with(begins) && got.as_str().ends_with(ends);
         assert!(rt; is_due, "at {line}: {got}");
+    }
+    Ok(())
+}
+
+const SESSIONS: [(&[&str], &str, &str); 3] = [
+    (
+        &["zk_shell", "live", "127.0.0.1:1"],
+        "call 7 getdata /a 1\npeek data /a\nlast\n",
+        "down\nanswer 7 - K4\ndata none\nlast 0\n||0",
+    ),
+    (
+        &["zk_shell", "live", "127.0.0.1:1", "127.0.0.1:2181"],
+        "open\nlast",
+        "state Connecting\nstate Idle\nstate Connecting\nstate Idle\nlast 0\n||0",
+    ),
+    (
+        &["zk_shell", "live", "127.0.0.1:1"],
+        "last\nopened\n",
+        "down\nlast 0\n|line 2: unknown\n|1",
+    ),
+];
+
+#[test]
+fn drives_sessions(rt: HostRuntime) -> Result<(), Fail> {
+    for (words, script, want) in &SESSIONS {
+        let got = outcome(rt.alloc(), *words, script)?;
+        assert_eq!(rt; got.as_str(), *want, "at {script}");
     }
     Ok(())
 }

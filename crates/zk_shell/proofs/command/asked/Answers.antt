@@ -1,18 +1,13 @@
-use Rattle.std.proofs.Common.{rules, arith, ◌≡◌, ◌∙◌, ℕ, List, [], sym, subst, ap, codes, slice_index, Some, None, Option, IfSome}
-use Rattle.std.specs.Prelude.{IfNone, MatchOption}
+use Rattle.std.proofs.Common.{rules, arith, ◌≡◌, ◌∙◌, ℕ, List, [], map, sym, subst, ap, codes, slice_index, Some, None, Option}
 use Rattle.clap.specs.Words.{found_of, first_of, rows_of, subcommand_rows_of, Text, Row}
 use Rattle.clap.proofs.WalkLemmas.{first_value-rows}
 use Rattle.zk_shell.specs.declared.command.Command.{Command}
-use Rattle.zk_shell.specs.declared.command.Command.TheVariants.{Show, History, Replay}
+use Rattle.zk_shell.specs.declared.command.Command.TheVariants.{Show, History, Replay, Live}
 use Rattle.zk_shell.specs.declared.kind.Kind.{Kind}
 use Rattle.zk_shell.specs.Kinds.{kind_word}
-use Rattle.zk_shell.specs.CommandLine.{AsksForNone, IsFound}
+use Rattle.zk_shell.specs.CommandLine.{AreAddresses, AsksForNone, IsFound}
+use Rattle.zk_shell.proofs.AddressLemmas.{tells}
 use Rattle.zk_shell.proofs.command.asked.Goals as goal
-
--- what holds of an option's two cases gives what follows from it
-both_weaker : {X : Type 0} (o : Option X) (P P' : Type 0) (Q Q' : X → Type 0) → (P → P') → ((x : X) → Q x → Q' x) → IfNone o P → IfSome o Q → MatchOption o P' Q'
-both_weaker None P P' Q Q' none some p q = none p
-both_weaker (Some x) P P' Q Q' none some p q = some x q
 
 abbrev name_in : Option (Text × List Row) → Text
 name_in None = []
@@ -22,6 +17,11 @@ abbrev rows_in : Option (Text × List Row) → List Row
 rows_in None = []
 rows_in (Some p) = p.1
 
+-- the first letter of the one name is that of the other
+first_letter : {found : Option (Text × List Row)} {name other : Text} {rows others : List Row} → found ≡ Some (name, rows)
+    → found ≡ Some (other, others) → slice_index name 0 ≡ slice_index other 0
+first_letter one two = ap (λ (o : Option (Text × List Row)). slice_index (name_in o) 0) (sym one ∙ two)
+
 -- where `show` was found without its two values, the words ask for no command
 without_values : (found : Option (Text × List Row)) (rows : List Row) → found ≡ Some (codes "show", rows)
     → ((kind : Kind) (hex : Text) → first_of (codes "KIND") rows ≡ Some (kind_word kind) → first_of (codes "HEX") rows ≡ Some hex → ⊥)
@@ -30,18 +30,38 @@ without_values found rows is absent (Show kind hex) f =
     let same : rows ≡ f.0 = ap rows_in (sym is ∙ f.1) in
     absent kind hex.now (rw same f.2) (rw same f.3)
 without_values found rows is absent History f =
-    let bad : ◌≡◌ {A = ℕ} 115 104 = ap (λ (o : Option (Text × List Row)). slice_index (name_in o) 0) (sym is ∙ f.1) in absurd (omega arith)
+    let bad : ◌≡◌ {A = ℕ} 115 104 = first_letter is f.1 in absurd (omega arith)
 without_values found rows is absent Replay f =
-    let bad : ◌≡◌ {A = ℕ} 115 114 = ap (λ (o : Option (Text × List Row)). slice_index (name_in o) 0) (sym is ∙ f.1) in absurd (omega arith)
+    let bad : ◌≡◌ {A = ℕ} 115 114 = first_letter is f.1 in absurd (omega arith)
+without_values found rows is absent (Live addresses) f =
+    let bad : ◌≡◌ {A = ℕ} 115 108 = first_letter is f.1 in absurd (omega arith)
 
-pub returns-in-Some-show-default : goal.returns-in-Some-show-default
-returns-in-Some-show-default c =
+-- where `live` was found without words that are addresses, the words ask for no command
+without_addresses : (found : Option (Text × List Row)) (rows : List Row) → found ≡ Some (codes "live", rows)
+    → ((words : List Text) → AreAddresses words rows → ⊥) → AsksForNone found
+without_addresses found rows is absent (Show kind hex) f =
+    let bad : ◌≡◌ {A = ℕ} 108 115 = first_letter is f.1 in absurd (omega arith)
+without_addresses found rows is absent History f =
+    let bad : ◌≡◌ {A = ℕ} 108 104 = first_letter is f.1 in absurd (omega arith)
+without_addresses found rows is absent Replay f =
+    let bad : ◌≡◌ {A = ℕ} 108 114 = first_letter is f.1 in absurd (omega arith)
+without_addresses found rows is absent (Live addresses) f =
+    let same : rows ≡ f.0 = ap rows_in (sym is ∙ f.1) in
+    absent (map (λ a. a.now) addresses.items) (rw same f.2)
+
+pub returns-in-Some-clause-ok : goal.returns-in-Some-clause-ok
+returns-in-Some-clause-ok c =
     let found = found_of c.in-Some-show-default.inner.now in
     let is : subcommand_rows_of c.args.matches.now ≡ Some (codes "show", rows_of found) = search rules in
-    let kind = first_value-rows found (codes "KIND") in
-    let hex = first_value-rows found (codes "HEX") in
-    both_weaker c.show_of.result _ _ _ _
-    (λ absent. without_values _ (rows_of found) is (λ k h first second. absent k h (kind ∙ first) (hex ∙ second)))
-    (λ command h. subst (λ (x : Command). IsFound x (subcommand_rows_of c.args.matches.now)) (sym h.2)
-    (rows_of found, is, sym kind ∙ h.3, sym hex ∙ h.4))
-    c.show_of.ensures.none c.show_of.ensures.some
+    let h = c.in-Some.ensures.some in
+    subst (λ (x : Command). IsFound x (subcommand_rows_of c.args.matches.now)) (sym h.2)
+    (rows_of found, is, sym (first_value-rows found (codes "KIND")) ∙ h.3, sym (first_value-rows found (codes "HEX")) ∙ h.4)
+
+pub returns-in-None-clause-err : goal.returns-in-None-clause-err
+returns-in-None-clause-err c =
+    let found = found_of c.in-Some-show-default.inner.now in
+    let is : subcommand_rows_of c.args.matches.now ≡ Some (codes "show", rows_of found) = search rules in
+    let absent = c.in-None.ensures.none in
+    tells _ c.no_command.result c.no_command.ensures
+    (without_values _ (rows_of found) is (λ k h first second.
+    absent k h (first_value-rows found (codes "KIND") ∙ first) (first_value-rows found (codes "HEX") ∙ second)))

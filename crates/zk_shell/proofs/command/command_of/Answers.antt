@@ -1,11 +1,12 @@
-use Rattle.std.proofs.Common.{◌≡◌, ◌≢◌, ◌⊎◌, ◌∙◌, ap, sym, subst, inl, inr, refl, List, map, true}
+use Rattle.std.proofs.Common.{◌≡◌, ◌⊎◌, ◌∙◌, ap, sym, subst, inl, inr, refl, List, map, true}
 use Rattle.std.specs.Borrow.{Bor}
+use Rattle.std.proofs.lemmas.Result.{IfErr-weaker, IfOk-weaker}
 use Rattle.clap.specs.Words.{App, IsAmong, Text, fault_of, kind_of, is_simple_and_free, is_simple, subcommand_of}
 use Rattle.clap.specs.declared.error.kind.ErrorKind.{ErrorKind}
 use Rattle.clap.specs.declared.error.kind.ErrorKind.TheVariants as kinds
 use Rattle.zk_shell.specs.declared.command.LineFault.{LineFault}
 use Rattle.zk_shell.specs.declared.command.LineFault.TheVariants.{Help, Refused, Memory}
-use Rattle.zk_shell.specs.CommandLine.{AreKinds, AsksForNone, IsDue, Tells, shell_app}
+use Rattle.zk_shell.specs.CommandLine.{AreKinds, AsksForNone, IsDue, IsFound, Tells, TellsIf, shell_app}
 use Rattle.zk_shell.proofs.command.command_of.Goals as goal
 
 -- the program's form is one of which `clap` gives the matches and the faults
@@ -25,11 +26,11 @@ told_is_due words names kind (Refused text) are (inr among) told = (names, are, 
 told_is_due words names kind Memory are has told = tt
 
 -- where no command is found, a refusal is due
-nothing_is_due : (words : List Text) (names : Bor (List (Bor Text))) (kind : ErrorKind) (fault : LineFault) → AreKinds names
-    → kind ≢ kinds.DisplayHelp → AsksForNone (subcommand_of (shell_app names) words) → Tells kind fault → IsDue words fault
-nothing_is_due words names kind (Help text) are other none told = absurd (other told)
-nothing_is_due words names kind (Refused text) are other none told = (names, are, inr none)
-nothing_is_due words names kind Memory are other none told = tt
+nothing_is_due : (words : List Text) (names : Bor (List (Bor Text))) (fault : LineFault) → AreKinds names
+    → TellsIf (AsksForNone (subcommand_of (shell_app names) words)) fault → IsDue words fault
+nothing_is_due words names (Help text) are told = absurd told
+nothing_is_due words names (Refused text) are told = (names, are, inr told)
+nothing_is_due words names Memory are told = tt
 
 pub returns-in-Err-clause-err : goal.returns-in-Err-clause-err
 returns-in-Err-clause-err c =
@@ -40,10 +41,18 @@ returns-in-Err-clause-err c =
     told_is_due words form.0 kind c.told_of.result form.1
     (subst (λ (a : App). (kind ≡ kinds.OutOfMemory) ⊎ IsAmong kind (fault_of a words)) form.2 has) c.told_of.ensures
 
-pub returns-clause-err : goal.returns-clause-err
-returns-clause-err c =
+pub returns-in-Ok-clause-err : goal.returns-in-Ok-clause-err
+returns-in-Ok-clause-err c =
     let form = c.in_ok-form.ensures in
     let words : List Text = map (λ w. w.now) c.args.words.now in
     let found = (c.in-Ok.ensures.matches (ap is_simple form.2 ∙ simple form.0)).1 ∙ ap (λ (a : App). subcommand_of a words) form.2 in
-    nothing_is_due words form.0 kinds.MissingSubcommand c.no_command.result form.1
-    (λ e. cc) (subst AsksForNone found c.in-None.ensures) c.no_command.ensures
+    IfErr-weaker c.asked.result _ _
+    (λ fault told. nothing_is_due words form.0 fault form.1 (subst (λ rows. TellsIf (AsksForNone rows) fault) found told)) c.asked.ensures.err
+
+pub returns-in-Ok-clause-ok : goal.returns-in-Ok-clause-ok
+returns-in-Ok-clause-ok c =
+    let form = c.in_ok-form.ensures in
+    let words : List Text = map (λ w. w.now) c.args.words.now in
+    let found = (c.in-Ok.ensures.matches (ap is_simple form.2 ∙ simple form.0)).1 ∙ ap (λ (a : App). subcommand_of a words) form.2 in
+    IfOk-weaker c.asked.result _ _
+    (λ command asked. (form.0, form.1, subst (λ rows. IsFound command rows) found asked)) c.asked.ensures.ok

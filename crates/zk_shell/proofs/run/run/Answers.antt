@@ -1,7 +1,7 @@
 use Rattle.std.proofs.Common.{[], ◌∷◌, ◌++◌, refl, inl, inr}
 use Rattle.zk_script.specs.Scripts.{refusal_text}
 use Rattle.zk_shell.specs.declared.command.LineFault.TheVariants.{Help}
-use Rattle.zk_shell.specs.Run.{shows, answers, plays, helps, unshown, stopped, ended, first, begins}
+use Rattle.zk_shell.specs.Run.{shows, answers, plays, lives, helps, unshown, stopped, ended, broken, first, begins, halts}
 use Rattle.zk_shell.specs.Show.{fault_text}
 use Rattle.zk_shell.proofs.ScriptLemmas.{appends_nothing}
 use Rattle.zk_shell.proofs.run.run.Goals as goal
@@ -48,8 +48,36 @@ returns-in-Ok-Replay-clause-fault g c = λ is.
 
 pub returns-in-Ok-Replay-clause-memory : goal.returns-in-Ok-Replay-clause-memory
 returns-in-Ok-Replay-clause-memory g c = λ is.
-    let told = c.replay.ensures.memory is in
-    (told.1 ++ told.2, begins told.0 told.1 told.2 (rw c.in-Ok-Replay.field-0-is at c.in-Ok-Replay.ensures.ok) told.3 told.4 told.5 refl, told.6, c.replay.ensures.silent (inr is))
+    let told = c.replay.ensures.memory is in (
+      told.1 ++ told.2,
+      begins told.0 told.1 told.2 told.3 (rw c.in-Ok-Replay.field-0-is at c.in-Ok-Replay.ensures.ok) told.4 told.5 told.6 refl,
+      told.7,
+      c.replay.ensures.silent (inr is),
+    )
+
+pub returns-in-Ok-Live-clause-done : goal.returns-in-Ok-Live-clause-done
+returns-in-Ok-Live-clause-done g c = λ is.
+    let told = c.live_over.ensures.done is in
+    (told.1, lives c.in-Ok-Live.addresses told.0 (rw c.in-Ok-Live.field-0-is at c.in-Ok-Live.ensures.ok) told.2 told.3, told.4, c.live_over.ensures.silent (inl is))
+
+pub returns-in-Ok-Live-clause-fault : goal.returns-in-Ok-Live-clause-fault
+returns-in-Ok-Live-clause-fault g c = λ is.
+    let told = c.live_over.ensures.fault is in (
+      told.1,
+      refusal_text told.2 told.3,
+      broken c.in-Ok-Live.addresses told.0 told.2 told.3 (rw c.in-Ok-Live.field-0-is at c.in-Ok-Live.ensures.ok) told.4 told.5 refl,
+      told.6,
+      told.7,
+    )
+
+pub returns-in-Ok-Live-clause-memory : goal.returns-in-Ok-Live-clause-memory
+returns-in-Ok-Live-clause-memory g c = λ is.
+    let told = c.live_over.ensures.memory is in (
+      told.1 ++ told.2,
+      halts c.in-Ok-Live.addresses told.0 told.1 told.2 told.3 (rw c.in-Ok-Live.field-0-is at c.in-Ok-Live.ensures.ok) told.4 told.5 told.6 refl,
+      told.7,
+      c.live_over.ensures.silent (inr is),
+    )
 
 pub returns-in-Err-Help-clause-done : goal.returns-in-Err-Help-clause-done
 returns-in-Err-Help-clause-done g c = λ is.
