@@ -1,0 +1,511 @@
+#!/usr/bin/env bash
+# Runs `zk_shell live` against real ZooKeeper servers: one alone, and an ensemble of three of which one stops. What is printed is
+# checked line by line. All traffic stays on 127.0.0.1; servers and folders are gone at the end, however it ends.
+#
+# usage: scripts/real_server.sh [PROGRAM]     PROGRAM is a zk_shell that is built; without it, this one is built first.
+# The last line is `passed`, or `skipped: ..` where there is no server to be had. Else the exit status is 1.
+set -euo pipefail
+top=$(cd "$(dirname "$0")/.." && pwd)
+jars=/usr/share/java/zookeeper.jar:/usr/share/java/slf4j-simple.jar
+folder=$(mktemp -d)
+declare -A servers=() known=()
+gates=()
+
+# Ends each process that was started here, by its number, and removes the folder.
+clean() {
+    trap - EXIT
+    local process
+    for process in ${servers[@]+"${servers[@]}"} ${gates[@]+"${gates[@]}"}; do
+        kill -KILL "$process" 2>/dev/null || true
+        wait "$process" 2>/dev/null || true
+    done
+    rm -rf "$folder"
+}
+trap clean EXIT
+trap 'exit 1' INT TERM HUP
+
+fail() {
+    echo "failed: $*" >&2
+    tail -n 5 "$folder"/*.log >&2 2>/dev/null || true
+    exit 1
+}
+
+# Waits for up to so many seconds until a command succeeds.
+within() {
+    local end=$((SECONDS + $1))
+    shift
+    until "$@"; do
+        ((SECONDS < end)) || return 1
+        sleep 0.2
+    done
+}
+
+has_server() {
+    command -v java >/dev/null && [[ -e /usr/share/java/zookeeper.jar ]]
+}
+
+install_server() {
+    has_server && return
+    command -v apt-get >/dev/null || return 1
+    export DEBIAN_FRONTEND=noninteractive
+    timeout 300 apt-get update >"$folder/apt.log" 2>&1 || true
+    timeout 900 apt-get install -y --no-install-recommends zookeeper default-jre-headless >>"$folder/apt.log" 2>&1 || true
+    has_server
+}
+
+build() {
+    (cd "$top/crates/zk_shell" && rt run -- --help) >"$folder/build.log" 2>&1 || fail "zk_shell is not built"
+    program=$top/crates/zk_shell/out/zk_shell
+}
+
+# So many ports that nothing listens at.
+free_ports() {
+    python3 - "$1" <<'EOF'
+import socket, sys
+
+taken = [socket.socket() for _ in range(int(sys.argv[1]))]
+for one in taken:
+    one.bind(("127.0.0.1", 0))
+print(*(one.getsockname()[1] for one in taken))
+EOF
+}
+
+# Writes the settings of a server: its name, its number, its port, and the lines of its ensemble.
+configure() {
+    mkdir -p "$folder/$1"
+    echo "$2" >"$folder/$1/myid"
+    cat >"$folder/$1.cfg" <<EOF
+tickTime=2000
+initLimit=10
+syncLimit=5
+dataDir=$folder/$1
+clientPort=$3
+clientPortAddress=127.0.0.1
+admin.enableServer=false
+4lw.commands.whitelist=srvr
+$4
+EOF
+}
+
+start_server() {
+    java -Xmx128m -Djava.net.preferIPv4Stack=true -Dzookeeper.jmx.log4j.disable=true -cp "$jars" \
+        org.apache.zookeeper.server.quorum.QuorumPeerMain "$folder/$1.cfg" >"$folder/$1.log" 2>&1 &
+    servers[$1]=$!
+}
+
+stop_server() {
+    kill "${servers[$1]}"
+    within 20 is_gone "${servers[$1]}" || kill -KILL "${servers[$1]}"
+    wait "${servers[$1]}" 2>/dev/null || true
+    unset "servers[$1]"
+}
+
+is_gone() {
+    ! kill -0 "$1" 2>/dev/null
+}
+
+# What the server at a port says of itself: standalone, leader or follower. It says nothing before it serves.
+mode_of() {
+    (exec 3<>"/dev/tcp/127.0.0.1/$1" && printf srvr >&3 && timeout 5 sed -n 's/^Mode: //p' <&3) 2>/dev/null
+}
+
+serves() {
+    [[ -n $(mode_of "$1") ]]
+}
+
+# A command of ZooKeeper's own client, at a port.
+outside() {
+    local port=$1
+    shift
+    timeout 60 java -Djava.net.preferIPv4Stack=true -cp "$jars" org.apache.zookeeper.ZooKeeperMain \
+        -server "127.0.0.1:$port" "$@" >>"$folder/outside.log" 2>&1 || fail "ZooKeeper's own client: $*"
+}
+
+# A listener that holds the one connection that comes, until the file NAME.go is there, and then is gone. Its port is in NAME.port;
+# NAME.held is there once the connection has come.
+start_gate() {
+    python3 - "$folder/$1" <<'EOF' &
+import os, socket, sys, time
+
+name = sys.argv[1]
+listener = socket.socket()
+listener.bind(("127.0.0.1", 0))
+listener.listen()
+listener.settimeout(120)
+with open(name + ".new", "w") as port:
+    port.write(str(listener.getsockname()[1]))
+os.rename(name + ".new", name + ".port")
+held, _ = listener.accept()
+held.settimeout(10)
+held.recv(4096)
+open(name + ".held", "w").close()
+for _ in range(1200):
+    if os.path.exists(name + ".go"):
+        break
+    time.sleep(0.1)
+held.close()
+EOF
+    gates+=($!)
+    within 20 test -e "$folder/$1.port" || fail "no gate"
+}
+
+# Runs a session by the script on standard input; what it prints is in NAME.out, which is checked later.
+session() {
+    local name=$1 status=0
+    shift
+    timeout 180 "$program" live "$@" >"$folder/$name.out" 2>"$folder/$name.err" || status=$?
+    [[ $status == 0 && ! -s $folder/$name.err ]] || fail "$name ends with $status: $(cat "$folder/$name.err")"
+}
+
+# Whether a word is as wanted: `@NAME` is a number and `%NAME` is hex, the same for the same name, and `@` is any number.
+is_word() {
+    case $1 in
+    @*) [[ $2 =~ ^-?[0-9]+$ ]] || return 1 ;;
+    %*) [[ $2 =~ ^([0-9a-f]{2})+$ ]] || return 1 ;;
+    *)
+        [[ $1 == "$2" ]]
+        return
+        ;;
+    esac
+    [[ $1 == @ ]] && return
+    [[ -v known[$1] ]] || known[$1]=$2
+    [[ ${known[$1]} == "$2" ]]
+}
+
+is_line() {
+    local -a want got
+    local at
+    read -ra want <<<"$1"
+    read -ra got <<<"$2"
+    [[ ${#want[@]} == "${#got[@]}" ]] || return 1
+    for at in "${!want[@]}"; do
+        is_word "${want[at]}" "${got[at]}" || return 1
+    done
+}
+
+# Checks what a session printed against the lines on standard input.
+expect() {
+    local -a want got
+    local at
+    mapfile -t want
+    mapfile -t got <"$folder/$1.out"
+    for at in "${!want[@]}"; do
+        is_line "${want[at]}" "${got[at]-}" || fail "$1, line $((at + 1)): '${got[at]-}' where '${want[at]}' is wanted"
+    done
+    [[ ${#want[@]} == "${#got[@]}" ]] || fail "$1 prints more: '${got[${#want[@]}]}'"
+    echo "$1: ${#got[@]} lines as wanted"
+}
+
+# Checks that numbers of these names rise.
+rises() {
+    local last=$1
+    shift
+    while (($#)); do
+        ((known[$last] < known[$1])) || fail "$1 is not above $last"
+        last=$1
+        shift
+    done
+}
+
+# One server, and one session with every kind of call, with a cut during which others change what is watched.
+script_alone() {
+    cat <<'EOF'
+# each call, and what its watches tell
+call 1 create /live 6f6e65 0
+call 2 exists /live 0
+call 3 getdata /live 1
+peek data /live
+call 4 getchildren /live 1
+peek names /live
+call 5 exists /live/b 1
+peek data /live/b
+call 6 setdata /live 74776f 0
+peek data /live
+call 7 setdata /live 78 0
+call 8 create /live/b \0 1
+peek data /live/b
+peek names /live
+call 9 getdata /live/b 1
+call 10 getchildren /live 1
+call 11 create /live/q- 71 2
+call 12 delete /live 1
+call 13 delete /live/q-0000000001 -1
+call 14 create /live/a 61 0
+call 15 create /live/a 61 0
+now 1000
+now 12000
+call 16 getdata /live 1
+call 17 getchildren /live 1
+call 18 exists /live/c 1
+last
+saved
+# a cut, a connection that ends, and the server again
+cut
+call 19 exists /live 0
+peek data /live
+open
+open
+last
+peek data /live
+call 20 exists /live 0
+peek data /live
+peek names /live
+peek data /live/c
+peek data /live/b
+call 21 getdata /live 1
+peek data /live
+# what had not changed is watched again
+call 22 setdata /live/b 62 -1
+forget
+peek data /live/b
+call 23 close
+peek data /live
+call 24 exists /live 0
+EOF
+}
+
+printed_alone() {
+    cat <<'EOF'
+state Connecting
+state Connected
+answer 1 @create created /live
+answer 2 @create stat @create @create @made @made 0 0 0 0 3 0 @create
+answer 3 @create data 6f6e65 @create @create @made @made 0 0 0 0 3 0 @create
+data full 6f6e65 @create @create @made @made 0 0 3 good
+answer 4 @create names 0 @create @create @made @made 0 0 0 0 3 0 @create
+names 0 @create good
+answer 5 @create code -101
+data absent good
+report data DataChanged /live
+answer 6 @two stat @create @two @made @set 1 0 0 0 3 0 @create
+data full 6f6e65 @create @create @made @made 0 0 3 stale
+answer 7 @refused code -103
+report data Created /live/b
+report child ChildrenChanged /live
+answer 8 @b created /live/b
+data absent stale
+names 0 @create stale
+answer 9 @b data \0 @b @b @born @born 0 0 0 @session 0 0 @b
+answer 10 @b names 1 b @create @two @made @set 1 1 0 0 3 1 @b
+report child ChildrenChanged /live
+answer 11 @queue created /live/q-0000000001
+answer 12 @full code -111
+answer 13 @gone done
+answer 14 @a created /live/a
+answer 15 @again code -110
+answer 16 @again data 74776f @create @two @made @set 1 4 0 0 3 2 @a
+answer 17 @again names 2 a b @create @two @made @set 1 4 0 0 3 2 @a
+answer 18 @again code -101
+last @again
+saved @session %password @again
+state Idle
+answer 19 - K4
+data full 74776f @create @two @made @set 1 0 3 good
+state Connecting
+state Idle
+state Connecting
+state Connected
+last @again
+data full 74776f @create @two @made @set 1 0 3 good
+report data DataChanged /live
+report data Created /live/c
+report child ChildrenChanged /live
+answer 20 @later stat @create @three @made @reset 2 6 0 0 5 2 @c
+data full 74776f @create @two @made @set 1 0 3 stale
+names 2 a b @a stale
+data absent stale
+data full \0 @b @b @born @born 0 @session 0 good
+answer 21 @later data 7468726565 @create @three @made @reset 2 6 0 0 5 2 @c
+data full 7468726565 @create @three @made @reset 2 0 5 good
+report data DataChanged /live/b
+answer 22 @write stat @b @write @born @rewritten 1 0 0 @session 1 0 @b
+data none
+answer 23 @closed done
+state Closed
+data none
+answer 24 - K3
+EOF
+}
+
+# What others change while the gate holds the session.
+change_at() {
+    within 60 test -e "$folder/$1.held" || fail "the session does not come to the gate"
+    outside "$2" set /live three
+    outside "$2" delete /live/a
+    outside "$2" create /live/c c
+    touch "$folder/$1.go"
+}
+
+run_alone() {
+    local port
+    port=$(free_ports 1)
+    known=()
+    configure one 1 "$port" ""
+    start_server one
+    within 60 serves "$port" || fail "the server does not serve"
+    start_gate hold
+    script_alone | session alone "127.0.0.1:$port" "127.0.0.1:$(cat "$folder/hold.port")" &
+    local client=$!
+    change_at hold "$port"
+    wait "$client" || exit 1
+    expect alone < <(printed_alone)
+    rises @create @two @refused @b @queue @full @gone @a @again @three @c @write @closed
+    rises @three @later @write
+    run_resumed "$port"
+    stop_server one
+}
+
+# A session that another process takes up; a password that is wrong; and a server that is behind.
+run_resumed() {
+    local at=127.0.0.1:$1
+    printf 'call 1 create /live/e 65 1\nsaved\n' | session left "$at"
+    expect left <<'EOF'
+state Connecting
+state Connected
+answer 1 @e created /live/e
+saved @left %left @e
+EOF
+    local saved="${known[@left]} ${known[%left]}"
+    printf 'resume %s\n%s\n' "$saved 9000000000000000000" last | session ahead "$at"
+    expect ahead <<'EOF'
+state Connecting
+state Idle
+last 9000000000000000000
+EOF
+    printf 'resume %s\n%s\n' "$saved ${known[@e]}" $'saved\ncall 1 getdata /live/e 0\ncall 2 close' | session taken "$at"
+    expect taken <<'EOF'
+state Connecting
+state Connected
+saved @left %left @e
+answer 1 @e data 65 @e @e @grown @grown 0 0 0 @left 1 0 @e
+answer 2 @over done
+state Closed
+EOF
+    printf 'resume %s\n%s\n' "$saved ${known[@e]}" 'call 1 exists / 0' | session expired "$at"
+    expect expired <<'EOF'
+state Connecting
+state Expired
+answer 1 - K2
+EOF
+}
+
+# An ensemble of three: the server of the session stops, and the session goes on at the next address that connects.
+script_ensemble() {
+    cat <<'EOF'
+call 1 create /live 6f6e65 0
+call 2 getdata /live 1
+call 3 getchildren /live 1
+call 4 exists /live/c 1
+saved
+open
+open
+saved
+peek data /live
+call 5 exists /live 0
+peek data /live
+peek names /live
+call 6 getdata /live 1
+call 7 setdata /live 34 2
+call 8 close
+EOF
+}
+
+printed_ensemble() {
+    cat <<'EOF'
+state Connecting
+state Connected
+answer 1 @create created /live
+answer 2 @create data 6f6e65 @create @create @made @made 0 0 0 0 3 0 @create
+answer 3 @create names 0 @create @create @made @made 0 0 0 0 3 0 @create
+answer 4 @create code -101
+saved @session %password @create
+state Idle
+state Connecting
+state Idle
+state Connecting
+state Connected
+saved @session %password @create
+data full 6f6e65 @create @create @made @made 0 0 3 good
+report data DataChanged /live
+report data Created /live/c
+report child ChildrenChanged /live
+answer 5 @later stat @create @three @made @reset 2 1 0 0 5 1 @c
+data full 6f6e65 @create @create @made @made 0 0 3 stale
+names 0 @create stale
+answer 6 @later data 7468726565 @create @three @made @reset 2 1 0 0 5 1 @c
+report data DataChanged /live
+answer 7 @four stat @create @four @made @again 3 1 0 0 1 1 @c
+answer 8 @closed done
+state Closed
+EOF
+}
+
+# A server stops while the gate holds the session; then others change what is watched, at another one.
+stop_and_change() {
+    local server=$1 other=$2
+    within 60 test -e "$folder/$server.held" || fail "the session does not come to the gate"
+    stop_server "$server"
+    within 60 serves "$other" || fail "no server serves once one has stopped"
+    outside "$other" set /live two
+    outside "$other" set /live three
+    outside "$other" create /live/c c
+    touch "$folder/$server.go"
+}
+
+# Starts three servers of one ensemble; their names are NAME-1 to NAME-3.
+start_three() {
+    local name=$1 lines number
+    shift
+    local -a ports=("$@")
+    lines=$(for number in 1 2 3; do
+        echo "server.$number=127.0.0.1:${ports[number + 2]}:${ports[number + 5]}"
+    done)
+    for number in 1 2 3; do
+        configure "$name-$number" "$number" "${ports[number - 1]}" "$lines"
+        start_server "$name-$number"
+    done
+    for number in 1 2 3; do
+        within 60 serves "${ports[number - 1]}" || fail "server $number does not serve"
+    done
+}
+
+# The server that stops, whose session it is, has this mode: leader or follower.
+run_ensemble() {
+    local mode=$1 server='' number port first gate
+    local -a ports others=()
+    read -ra ports < <(free_ports 9)
+    known=()
+    start_three "$mode" "${ports[@]}"
+    for number in 1 2 3; do
+        port=127.0.0.1:${ports[number - 1]}
+        if [[ -z $server && $(mode_of "${port#*:}") == "$mode" ]]; then
+            server=$mode-$number first=$port
+        else
+            others+=("$port")
+        fi
+    done
+    [[ -n $server ]] || fail "no $mode"
+    start_gate "$server"
+    gate=127.0.0.1:$(cat "$folder/$server.port")
+    script_ensemble | session "$mode" "$first" "$gate" "$first" "${others[@]}" &
+    local client=$!
+    stop_and_change "$server" "${others[0]#*:}"
+    wait "$client" || exit 1
+    expect "$mode" < <(printed_ensemble)
+    rises @create @three @c @four @closed
+    rises @three @later @four
+    for server in "${!servers[@]}"; do
+        stop_server "$server"
+    done
+}
+
+install_server || {
+    echo "skipped: the package zookeeper cannot be had"
+    exit 0
+}
+program=${1-}
+[[ -n $program ]] || build
+run_alone
+run_ensemble follower
+run_ensemble leader
+echo passed
