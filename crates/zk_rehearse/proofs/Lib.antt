@@ -1,0 +1,5 @@
+pub mod GoodLemmas
+pub mod HeardLemmas
+pub mod DueLemmas
+pub mod ScriptLemmas
+pub mod StageLemmas

@@ -1,0 +1,14 @@
+//! Rehearsals: a history, and lines that drive a client against servers over it.
+#![tactic(auto)]
+
+pub mod bench_line;
+pub mod good;
+pub mod heard;
+pub mod rehearsal;
+pub mod rehearse;
+#[cfg(test)]
+mod rows;
+pub mod said;
+pub mod stage;
+#[cfg(test)]
+mod tests;

@@ -1,0 +1,124 @@
+//! A rehearsal, line by line.
+
+ghost use Rattle.std.specs.Prelude.{◌≡◌, ◌<ℤ◌, pos, true, false, Ok, IfOk, IfErr, IfSome, map, string_bytes};
+ghost use Rattle.std.specs.Option.{option_map};
+ghost use Rattle.zk_script.specs.Pieces.{words_of};
+ghost use Rattle.zk_script.specs.Stories.{first_standing};
+ghost use Rattle.zk_replay.specs.Played.{IsWant};
+ghost use Rattle.zk_rehearse.specs.BenchLines.{bench_value_of, CanServe};
+ghost use Rattle.zk_rehearse.specs.RehearseLines.{said_value, says_at, BenchValueLine, HistoryLine, CanPlay};
+ghost use Rattle.zk_rehearse.specs.Rehearsed.{standing_of, is_begun, Told, Begins, Does, DoesBenchLine, DoesHistory, IsDue, IsDueOf, TakesLine};
+
+use crate::bench_line::BenchLine;
+use crate::said::{Said, said_at};
+use crate::stage::Stage;
+use std::alloc::Allocator;
+use std::mem;
+use zk_history::History;
+use zk_replay::stop::Stop;
+use zk_script::pieces::words_of;
+use zk_script::story::Story;
+
+/// A history, and a client with servers over it, once a line has made them.
+#[derive(Drop)]
+pub struct Rehearsal<A: Allocator + Copy> {
+    story: Story<A>,
+    stage: Option<Stage<A>>,
+}
+
+impl<A: Allocator + Copy> Rehearsal<A> {
+    /// A history with the root alone, and no client yet.
+    pub fn new(alloc: A) -> Rehearsal<A>
+        ensures { standing_of result ≡ Told first_standing }
+    {
+        Rehearsal {
+            story: Story::new(alloc),
+            stage: None,
+        }
+    }
+
+    /// Whether the client was made.
+    fn is_begun(&self) -> bool
+        ensures { result ≡ is_begun (standing_of self.now) }
+    {
+        self.stage.is_some()
+    }
+
+    /// Makes the client, and the servers over the history so far.
+    fn begin(&mut self, alloc: A, timeout: i32)
+        requires above { pos 0 <ℤ timeout }
+        requires first { is_begun (standing_of self.old) ≡ false }
+        ensures { Begins timeout (standing_of self.old) (standing_of self.new) }
+    {
+        let history = mem::replace(&mut self.story.history, History::new(alloc));
+        self.stage = Some(Stage::new(alloc, timeout, history));
+    }
+
+    /// Does what a line behind the one that makes the client says.
+    fn perform(&mut self, alloc: A, line: BenchLine<A>) -> Result<String<A>, Stop>
+        requires serves { CanServe (bench_value_of line) }
+        requires begun { is_begun (standing_of self.old) ≡ true }
+        ensures ok { IfOk result (λ text. DoesBenchLine (bench_value_of line) (standing_of self.old) (standing_of self.new) (string_bytes text)) }
+        ensures err { IfErr result IsWant }
+    {
+        match &mut self.stage {
+            Some(stage) => stage.perform(alloc, line),
+            None => Err(Stop::Memory),
+        }
+    }
+
+    /// Reads a line of the history.
+    fn tell(&mut self, alloc: A, line: &[u8]) -> Result<String<A>, Stop>
+        requires { is_begun (standing_of self.old) ≡ false }
+        ensures ok { IfOk result (λ text. DoesHistory line.now (standing_of self.old) (standing_of self.new) (string_bytes text)) }
+        ensures err { IfErr result (IsDueOf line.now HistoryLine (standing_of self.old)) }
+    {
+        match self.story.read(alloc, line) {
+            Ok(text) => Ok(text),
+            Err(fault) => Err(Stop::from(fault)),
+        }
+    }
+
+    /// Does what a line says that may stand here.
+    fn take(&mut self, alloc: A, line: &[u8], said: Said<A>) -> Result<String<A>, Stop>
+        requires { CanPlay (is_begun (standing_of self.old)) (said_value said) }
+        ensures ok { IfOk result (λ text. Does line.now (said_value said) (standing_of self.old) (standing_of self.new) (string_bytes text)) }
+        ensures err { IfErr result (IsDueOf line.now (said_value said) (standing_of self.old)) }
+    {
+        match said {
+            Said::History => self.tell(alloc, line),
+            Said::Begin(timeout) => {
+                self.begin(alloc, timeout);
+                Ok(String::new(alloc))
+            }
+            Said::Bench(line) => self.perform(alloc, line),
+        }
+    }
+
+    /// What a line says, if it says something.
+    #[tactic(auto, using(crate::proofs::DueLemmas::says_due))]
+    fn said(&self, alloc: A, line: &[u8]) -> Result<Option<Said<A>>, Stop>
+        ensures says { IfOk result (λ said. says_at (words_of line.now) (is_begun (standing_of self.now)) ≡ Ok (option_map said_value said)) }
+        ensures can { IfOk result (λ said. IfSome said (λ one. CanPlay (is_begun (standing_of self.now)) (said_value one))) }
+        ensures err { IfErr result (IsDue line.now (standing_of self.now)) }
+    {
+        let words = words_of(alloc, line)?;
+        match said_at(alloc, words.as_slice(), self.is_begun()) {
+            Ok(said) => Ok(said),
+            Err(fault) => Err(Stop::from(fault)),
+        }
+    }
+
+    /// Does what a line says, and gives what is to be printed: the lines of what the client says, or of a look-up. An empty line
+    /// and one that begins with `#` say nothing. The first reason that applies refuses a line.
+    #[tactic(auto, using(crate::proofs::DueLemmas::due_by, crate::proofs::DueLemmas::taken))]
+    pub fn read(&mut self, alloc: A, line: &[u8]) -> Result<String<A>, Stop>
+        ensures ok { IfOk result (λ text. TakesLine line.now (standing_of self.old) (standing_of self.new) (string_bytes text)) }
+        ensures err { IfErr result (IsDue line.now (standing_of self.old)) }
+    {
+        match self.said(alloc, line)? {
+            Some(said) => self.take(alloc, line, said),
+            None => Ok(String::new(alloc)),
+        }
+    }
+}

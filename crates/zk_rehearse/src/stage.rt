@@ -1,0 +1,207 @@
+//! A client, and the servers over a history.
+
+ghost use Rattle.std.specs.Prelude.{◌≡◌, ◌≤◌, ◌<ℤ◌, pos, ℕ, List, [], map, IfOk, IfErr, OnOk, string_bytes};
+ghost use Rattle.std.specs.Option.{option_copied};
+ghost use Rattle.zk_client.specs.Clients.{view_of, saved_start};
+ghost use Rattle.zk_conversation.specs.Views.{call_view};
+ghost use Rattle.zk_history.specs.NamesKept.{names_of};
+ghost use Rattle.zk_turns.specs.View.{view_at};
+ghost use Rattle.zk_client.specs.Views.{input_view};
+ghost use Rattle.zk_replay.specs.ClientLines.{ClientValue};
+ghost use Rattle.zk_replay.specs.Lines.{client_value_of, asked_of};
+ghost use Rattle.zk_replay.specs.Played.{IsWant};
+ghost use Rattle.zk_rehearse.specs.BenchLines.{ProcessLine, bench_value_of, CanServe, IsServer};
+ghost use Rattle.zk_rehearse.specs.Good.{TellsPaths};
+ghost use Rattle.zk_rehearse.specs.Stages.{scene_of, first_scene, rejoined, taken_up, Plays, Delivers, Processes, TakesNext, Calls, named_path, with_path, TellsGood, DoesBench, DoesClientLine};
+
+use crate::bench_line::BenchLine;
+use crate::good::push_paths;
+use crate::heard::hear_all;
+use std::alloc::{AllocError, Allocator};
+use std::collections::BTreeSet;
+use zk_bench::Bench;
+use zk_client::{Client, Input};
+use zk_conversation::{Call, LONGEST_PASSWORD};
+use zk_history::History;
+use zk_replay::call_line::Asked;
+use zk_replay::client_line::ClientLine;
+use zk_replay::driven::driven;
+use zk_replay::outputs::outputs_text;
+use zk_replay::stop::Stop;
+use zk_session::Saved;
+
+/// A client that asks for a timeout in milliseconds, the servers over a history, and the paths that calls named.
+#[derive(Drop)]
+pub struct Stage<A: Allocator + Copy> {
+    timeout: i32,
+    client: Client<A>,
+    bench: Bench<A>,
+    called: BTreeSet<String<A>, A>,
+}
+
+/// The path that a call names.
+fn named_path<A: Allocator>(call: &Call<A>) -> Option<&str>
+    ensures { option_copied result ≡ named_path (call_view call.now) }
+{
+    match call {
+        Call::Exists { path, .. } => Some(path.as_str()),
+        Call::GetData { path, .. } => Some(path.as_str()),
+        Call::GetChildren { path, .. } => Some(path.as_str()),
+        Call::SetData { path, .. } => Some(path.as_str()),
+        Call::Create { path, .. } => Some(path.as_str()),
+        Call::Delete { path, .. } => Some(path.as_str()),
+        Call::Close => None,
+    }
+}
+
+/// Adds the path that a call names.
+fn add_path<A: Allocator + Copy>(
+    alloc: A,
+    call: &Call<A>,
+    called: &mut BTreeSet<String<A>, A>,
+) -> Result<(), AllocError>
+    ensures { OnOk result (names_of called.new ≡ with_path (named_path (call_view call.now)) (names_of called.old)) }
+{
+    if let Some(path) = named_path(call) {
+        called.insert(String::from_str(alloc, path)?)?;
+    }
+    Ok(())
+}
+
+/// The client that takes up a session. One that is out of range is answered as want of memory; no client has such a session, but
+/// no contract of a client says so, and it is looked at here.
+fn taken_up<A: Allocator + Copy>(
+    alloc: A,
+    timeout: i32,
+    saved: &Saved<'_>,
+) -> Result<Client<A>, AllocError>
+    ensures { IfOk result (λ client. view_of client ≡ view_at (saved_start timeout saved.now) []) }
+{
+    if timeout <= 0 || saved.last_zxid < 0 || saved.password.len() > LONGEST_PASSWORD {
+        return Err(AllocError);
+    }
+    Client::resume(alloc, timeout, saved)
+}
+
+impl<A: Allocator + Copy> Stage<A> {
+    /// A new client, and servers over a history. None is connected.
+    pub fn new(alloc: A, timeout: i32, history: History<A>) -> Stage<A>
+        requires { pos 0 <ℤ timeout }
+        ensures { scene_of result ≡ first_scene timeout history }
+    {
+        Stage {
+            timeout,
+            client: Client::new(alloc, timeout),
+            bench: Bench::new(alloc, history),
+            called: BTreeSet::new(alloc),
+        }
+    }
+
+    /// The client takes an input, and the servers hear what it says.
+    fn play(&mut self, alloc: A, input: Input<A>) -> Result<String<A>, Stop>
+        ensures ok { IfOk result (λ text. Plays (input_view input) (scene_of self.old) (scene_of self.new) (string_bytes text)) }
+        ensures err { IfErr result IsWant }
+    {
+        let outputs = self.client.step(input)?;
+        hear_all(&mut self.bench, outputs.as_slice())?;
+        let text = outputs_text(alloc, outputs.as_slice())?;
+        Ok(text)
+    }
+
+    /// The connected server processes the next request.
+    fn process(&mut self, alloc: A) -> Result<String<A>, Stop>
+        ensures ok { IfOk result (λ text. DoesBench ProcessLine (scene_of self.old) (scene_of self.new) (string_bytes text)) }
+        ensures err { IfErr result IsWant }
+    {
+        self.bench.process()?;
+        Ok(String::new(alloc))
+    }
+
+    /// Bytes of the connected server come, if there are any.
+    fn deliver(&mut self, alloc: A, most: usize) -> Result<String<A>, Stop>
+        ensures ok { IfOk result (λ text. Delivers most (scene_of self.old) (scene_of self.new) (string_bytes text)) }
+        ensures err { IfErr result IsWant }
+    {
+        let bytes = self.bench.output(most)?;
+        if bytes.is_empty() {
+            return Ok(String::new(alloc));
+        }
+        self.play(alloc, Input::Bytes(bytes))
+    }
+
+    /// The client is asked. The path of the call is looked up by `good` from now on.
+    fn call(&mut self, alloc: A, asked: Asked<A>) -> Result<String<A>, Stop>
+        ensures ok { IfOk result (λ text. Calls (asked_of asked) (scene_of self.old) (scene_of self.new) (string_bytes text)) }
+        ensures err { IfErr result IsWant }
+    {
+        add_path(alloc, &asked.call, &mut self.called)?;
+        self.play(alloc, Input::Call(asked.ticket, asked.call))
+    }
+
+    /// Another client takes up the session. No server is connected.
+    fn rejoin(&mut self, alloc: A) -> Result<String<A>, Stop>
+        ensures ok { IfOk result (λ text. (scene_of self.new ≡ rejoined (scene_of self.old)) × (string_bytes text ≡ [])) }
+        ensures err { IfErr result IsWant }
+    {
+        self.bench.disconnect();
+        let client = taken_up(alloc, self.timeout, &self.client.saved())?;
+        self.client = client;
+        Ok(String::new(alloc))
+    }
+
+    /// The lines of the good answers.
+    fn good(&self, alloc: A) -> Result<String<A>, AllocError>
+        ensures { IfOk result (λ text. TellsGood (scene_of self.now) (string_bytes text)) }
+    {
+        let mut text = String::new(alloc);
+        let history = self.bench.history();
+        push_paths(&mut text, alloc, &self.client, history, &self.called)?;
+        Ok(text)
+    }
+
+    /// Does with the client what a line says.
+    fn drive(&mut self, alloc: A, line: ClientLine<A>) -> Result<String<A>, Stop>
+        ensures ok { IfOk result (λ text. DoesClientLine (client_value_of line) (scene_of self.old) (scene_of self.new) (string_bytes text)) }
+        ensures err { IfErr result IsWant }
+    {
+        match line {
+            ClientLine::Cut => {
+                self.bench.disconnect();
+                self.play(alloc, Input::Cut)
+            }
+            ClientLine::Now(moment) => {
+                self.bench.now(moment);
+                self.play(alloc, Input::Now(moment))
+            }
+            ClientLine::Call(asked) => self.call(alloc, asked),
+            line => driven(alloc, &mut self.client, line),
+        }
+    }
+
+    /// Does what a line says, and gives what is to be printed.
+    pub fn perform(&mut self, alloc: A, line: BenchLine<A>) -> Result<String<A>, Stop>
+        requires { CanServe (bench_value_of line) }
+        ensures ok { IfOk result (λ text. DoesBench (bench_value_of line) (scene_of self.old) (scene_of self.new) (string_bytes text)) }
+        ensures err { IfErr result IsWant }
+    {
+        match line {
+            BenchLine::Open(server) => {
+                self.bench.connect(server);
+                self.play(alloc, Input::Opened)
+            }
+            BenchLine::Take(server) => {
+                self.bench.take(server)?;
+                Ok(String::new(alloc))
+            }
+            BenchLine::Process => self.process(alloc),
+            BenchLine::Deliver(most) => self.deliver(alloc, most),
+            BenchLine::Expire => {
+                self.bench.expire();
+                Ok(String::new(alloc))
+            }
+            BenchLine::Good => Ok(self.good(alloc)?),
+            BenchLine::Rejoin => self.rejoin(alloc),
+            BenchLine::Client(line) => self.drive(alloc, line),
+        }
+    }
+}
