@@ -10,7 +10,7 @@ use Rattle.clap.specs.declared.error.kind.ErrorKind.{ErrorKind}
 use Rattle.clap.specs.declared.error.kind.ErrorKind.TheVariants as kinds
 use Rattle.zk_live.specs.Addresses.{is_address}
 use Rattle.zk_shell.specs.declared.command.Command.{Command}
-use Rattle.zk_shell.specs.declared.command.Command.TheVariants.{Show, History, Replay, Live}
+use Rattle.zk_shell.specs.declared.command.Command.TheVariants.{Show, History, Replay, Rehearse, Live}
 use Rattle.zk_shell.specs.declared.command.LineFault.{LineFault}
 use Rattle.zk_shell.specs.declared.command.LineFault.TheVariants.{Help, Refused, Memory}
 use Rattle.zk_shell.specs.declared.kind.Kind.TheVariants as kind
@@ -41,6 +41,9 @@ history_app = new_app (codes "history")
 abbrev pub replay_app : App
 replay_app = new_app (codes "replay")
 
+abbrev pub rehearse_app : App
+rehearse_app = new_app (codes "rehearse")
+
 -- one word or more, and one must be given
 abbrev pub address_rule : Rule
 address_rule = record (new_rule (codes "ADDRESS")) { required = true; action = Some action.Append }
@@ -51,8 +54,8 @@ live_app = with_rule (new_app (codes "live")) address_rule
 -- the program: one of its subcommands must be given
 abbrev pub shell_app : Bor (List (Bor Text)) → App
 shell_app names =
-    with_subcommand (with_subcommand (with_subcommand (with_subcommand (on_top (λ s. record s { subcommand_required = true }) (new_app (codes "zk_shell")))
-    (show_app names).top) history_app.top) replay_app.top) live_app.top
+    with_subcommand (with_subcommand (with_subcommand (with_subcommand (with_subcommand (on_top (λ s. record s { subcommand_required = true }) (new_app (codes "zk_shell")))
+    (show_app names).top) history_app.top) replay_app.top) rehearse_app.top) live_app.top
 
 -- the list is that of the kinds
 abbrev pub AreKinds : Bor (List (Bor Text)) → Type 0
@@ -68,6 +71,7 @@ IsFound (Show kind hex) found = (rows : List Row) × (found ≡ Some (codes "sho
     × (first_of (codes "KIND") rows ≡ Some (kind_word kind)) × (first_of (codes "HEX") rows ≡ Some hex.now)
 IsFound History found = (rows : List Row) × (found ≡ Some (codes "history", rows))
 IsFound Replay found = (rows : List Row) × (found ≡ Some (codes "replay", rows))
+IsFound Rehearse found = (rows : List Row) × (found ≡ Some (codes "rehearse", rows))
 IsFound (Live addresses) found = (rows : List Row) × (found ≡ Some (codes "live", rows)) × AreAddresses (map (λ a. a.now) addresses.items) rows
 
 -- the words ask for this command

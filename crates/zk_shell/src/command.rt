@@ -40,6 +40,8 @@ pub enum Command<'a> {
     History,
     /// Drives a client by a script.
     Replay,
+    /// Drives a client against servers in memory by a script.
+    Rehearse,
     /// Drives a client over connections to these addresses by a script.
     Live { addresses: Vec<&'a str> },
 }
@@ -103,12 +105,15 @@ fn form<'a>(alloc: Global) -> Result<clap::Command<'a>, AllocError>
     ensures { IfOk result (λ r. (names : Bor (List (Bor Text))) × AreKinds names × (app_of r ≡ shell_app names)) }
 {
     let show = show_form(alloc)?;
-    let history = clap::Command::new(alloc, "history").about(
-        "Answers data and names of a history at any zxid",
-    );
-    let replay = clap::Command::new(alloc, "replay").about(
-        "Drives a client by a script, and prints what it says and keeps",
-    );
+    let history = clap::Command::new(alloc, "history")
+        .about("Answers data and names of a history at any zxid")
+        .after_help(help::HISTORY);
+    let replay = clap::Command::new(alloc, "replay")
+        .about("Drives a client by a script, and prints what it says and keeps")
+        .after_help(help::REPLAY);
+    let rehearse = clap::Command::new(alloc, "rehearse")
+        .about("Drives a client by a script against servers in memory")
+        .after_help(help::REHEARSE);
     let live = live_form(alloc)?;
     let shell = clap::Command::new(alloc, "zk_shell")
         .about("Shows frames of the protocol, answers histories of a tree, and drives a client")
@@ -117,6 +122,7 @@ fn form<'a>(alloc: Global) -> Result<clap::Command<'a>, AllocError>
         .subcommand(show)?
         .subcommand(history)?
         .subcommand(replay)?
+        .subcommand(rehearse)?
         .subcommand(live)?;
     Ok(shell)
 }
@@ -206,6 +212,7 @@ fn asked<'a>(alloc: Global, matches: &ArgMatches<'a>) -> Result<Command<'a>, Lin
         },
         Some(("history", _)) => Ok(Command::History),
         Some(("replay", _)) => Ok(Command::Replay),
+        Some(("rehearse", _)) => Ok(Command::Rehearse),
         Some(("live", inner)) => live_of(alloc, inner),
         _ => Err(no_command(alloc)),
     }

@@ -2,8 +2,8 @@
 
 /// At the end of the program's help.
 pub const SHELL: &str = "\
-Scripts come on standard input, a line for each thing to do. `zk_shell live --help` names the lines
-that drive a client; those of replay are the same, with timeout, opened and bytes in place of open.
+Scripts come on standard input, a line for each thing to do. The help of each command names its lines;
+`zk_shell live --help` names those that drive a client.
 
 Exit status: 0 done, and for help; 1 a fault in the input, told on standard error; 2 a fault of the
 command line, told there too; 3 out of memory; 4 standard input or output failed.";
@@ -62,3 +62,80 @@ line; 3 out of memory; 4 standard input or output failed.
 Example:
   printf 'call 1 create /a 6869 0\ncall 2 getdata /a 1\npeek data /a\ncall 3 close\n' |
     zk_shell live 127.0.0.1:2181";
+
+/// At the end of the help of `history`.
+pub const HISTORY: &str =
+    r"The script on standard input tells a history, and then asks it. Empty lines and those that begin
+with # are skipped.
+
+Lines:
+  node PATH DATA TIME       A node of the first tree; only before the first tx
+  tx ZXID TIME              Begins a transaction. ZXID is above that of the one before
+  create PATH DATA OWNER    Changes of it, in order. OWNER is the session of an ephemeral node, or 0
+  set PATH DATA
+  delete PATH
+  ask ZXID data PATH        Prints what there was to see at this zxid; only ask lines may follow
+  ask ZXID names PATH
+
+DATA is hex, and \e for no bytes, or \0, which is null. TIME is in milliseconds. In a PATH a space
+stands as \x20, and so does each byte outside 21 to 7e.
+
+Printed:
+  data DATA CZXID MZXID CTIME MTIME VERSION OWNER LENGTH, or data absent
+  names N NAME.. PZXID, in the order of their bytes, or names absent
+
+A line that is refused ends the script, with `line N: REASON` on standard error. REASON is unknown,
+place, words, number, hex, path P1 to P6, order for a zxid that is not above the one before, or illegal
+for a change that the tree does not allow.
+
+Example:
+  printf 'tx 3 1000\ncreate /a 68 0\ntx 5 2000\nset /a 6869\nask 4 data /a\nask 5 data /a\n' |
+    zk_shell history";
+
+/// At the end of the help of `replay`.
+pub const REPLAY: &str =
+    r"The script on standard input tells what happens to a client, line by line, and what it says is
+printed. Empty lines and those that begin with # are skipped.
+
+Lines:
+  timeout MS                      Makes the client, with the timeout that it asks for; the first line
+  resume MS SESSION PASSWORD ZXID So does this: it takes up a session, as saved printed it
+  opened                          A connection is open
+  bytes HEX                       These bytes came
+  cut                             The connection is lost
+
+All others are those of live, and so is what is printed: `zk_shell live --help` lists them. Besides,
+each frame that the client sends is printed as send HEX, with its length.
+
+A line that is refused ends the script, with `line N: REASON` on standard error, as in live.
+
+Example:
+  printf 'timeout 30000\nopened\ncall 7 exists /a 1\nlast\n' | zk_shell replay";
+
+/// At the end of the help of `rehearse`.
+pub const REHEARSE: &str =
+    r"The script on standard input tells a history, and then drives a client over eight servers in
+memory, which hold what they have taken of it. Empty lines and those that begin with # are skipped.
+
+Lines:
+  node, tx, create, set, delete   The history, as in `zk_shell history --help`
+  begin MS                        Makes the client, with the session timeout that it asks for
+  open N                          Connects it to server N, 1 to 8
+  take N                          Server N takes the next transaction; its notices are on their way
+  process                         The connected server answers the next request
+  deliver, deliver K              What is on its way reaches the client: all of it, or K bytes
+  cut                             The connection is lost
+  expire                          From now on who connects is told that the session has expired
+  rejoin                          Gives the client up: a new one takes up its session
+  good                            Asks of each good answer whether the history says the same at the
+                                  client's last seen zxid: good SIDE PATH agrees, or differs
+
+The lines now, call, peek, last, saved and forget are those of live, and so is what is printed:
+`zk_shell live --help` lists them. Besides, each frame that the client sends is printed as send HEX,
+with its length. A write that is accepted is a new transaction of the history.
+
+A line that is refused ends the script, with `line N: REASON` on standard error, as in live and history.
+
+Example:
+  printf 'node /a 68 0\nbegin 30000\nopen 1\nprocess\ndeliver\ncall 1 getdata /a 1\nlast\n' |
+    zk_shell rehearse";

@@ -13,6 +13,7 @@ mod live;
 mod printed;
 #[cfg(test)]
 mod refusals;
+mod rehearse;
 mod replay;
 #[cfg(test)]
 mod replay_tests;

@@ -7,6 +7,7 @@ ghost use Rattle.zk_shell.specs.Run.{IsDone, IsFaulty, IsRefusal, IsWhole};
 use crate::command::{Command, LineFault, command_of};
 use crate::history::history;
 use crate::live::live_over;
+use crate::rehearse::rehearse;
 use crate::replay::replay;
 use crate::show::show;
 use crate::status::Status;
@@ -34,7 +35,7 @@ pub fn run<D: Dial, I: Read, O: Write, E: Write>(
     errors: &mut E,
     words: &[&str],
 ) -> Status
-    // A frame is shown, a history is answered, a replay or a session is printed, or help is told.
+    // A frame is shown, a history is answered, a replay, a rehearsal or a session is printed, or help is told.
     ensures done { result ≡ Status.Done → (text : List ℕ) × IsDone (map (λ w. w.now) words.entry.now) (I.remaining input.old) text
         × Appends (O.contents out.old) (O.contents out.new) text × (errors.new ≡ errors.old) }
     // The frame or a line of the script is refused, and this is told.
@@ -43,7 +44,7 @@ pub fn run<D: Dial, I: Read, O: Write, E: Write>(
     // The words are refused, and this is told.
     ensures usage { result ≡ Status.Usage → (told : List ℕ) × IsRefusal (map (λ w. w.now) words.entry.now) told
         × Appends (E.contents errors.old) (E.contents errors.new) told × (out.new ≡ out.old) }
-    // Nothing is written, or whole answers of a history, or what whole lines of a replay or a session print.
+    // Nothing is written, or whole answers of a history, or what whole lines of a replay, a rehearsal or a session print.
     ensures memory { result ≡ Status.Memory → (text : List ℕ) × IsWhole (map (λ w. w.now) words.entry.now) (I.remaining input.old) text
         × Appends (O.contents out.old) (O.contents out.new) text × (errors.new ≡ errors.old) }
 {
@@ -51,6 +52,7 @@ pub fn run<D: Dial, I: Read, O: Write, E: Write>(
         Ok(Command::Show { kind, hex }) => show(alloc, out, errors, kind, hex),
         Ok(Command::History) => history(alloc, input, out, errors),
         Ok(Command::Replay) => replay(alloc, input, out, errors),
+        Ok(Command::Rehearse) => rehearse(alloc, input, out, errors),
         Ok(Command::Live { addresses }) => {
             live_over(alloc, dial, addresses.as_slice(), input, out, errors)
         }

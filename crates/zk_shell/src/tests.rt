@@ -322,6 +322,12 @@ fn tells_help_and_refusals(rt: HostRuntime) -> Result<(), Fail> {
         ("zk_shell show connect", "|error: ", "|2"),
         ("zk_shell history now", "|error: ", "|2"),
         ("zk_shell replay now", "|error: ", "|2"),
+        ("zk_shell rehearse now", "|error: ", "|2"),
+        (
+            "zk_shell rehearse --help",
+            "Drives a client by a script against servers in memory\n",
+            "zk_shell rehearse\n||0",
+        ),
         ("zk_shell live", "|error: ", "|2"),
         (
             "zk_shell live 127.0.0.1:2181 127.0.0.1:0",
@@ -341,7 +347,17 @@ fn tells_help_and_refusals(rt: HostRuntime) -> Result<(), Fail> {
     Ok(())
 }
 
-const SESSIONS: [(&[&str], &str, &str); 3] = [
+const SESSIONS: [(&[&str], &str, &str); 5] = [
+    (
+        &["zk_shell", "rehearse"],
+        "node /a 68 0\nbegin 30000\nopen 1\nprocess\ndeliver 8\nlast\ngood\n",
+        "send 0000002d000000000000000000000000000075300000000000000000000000100000000000000000000000000000000000\nstate Connecting\nlast 0\n||0",
+    ),
+    (
+        &["zk_shell", "rehearse"],
+        "begin 30000\nlast\nopen 9\n",
+        "last 0\n|line 3: number\n|1",
+    ),
     (
         &["zk_shell", "live", "127.0.0.1:1"],
         "call 7 getdata /a 1\npeek data /a\nlast\n",

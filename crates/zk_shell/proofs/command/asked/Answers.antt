@@ -2,7 +2,7 @@ use Rattle.std.proofs.Common.{rules, arith, ◌≡◌, ◌∙◌, ℕ, List, [],
 use Rattle.clap.specs.Words.{found_of, first_of, rows_of, subcommand_rows_of, Text, Row}
 use Rattle.clap.proofs.WalkLemmas.{first_value-rows}
 use Rattle.zk_shell.specs.declared.command.Command.{Command}
-use Rattle.zk_shell.specs.declared.command.Command.TheVariants.{Show, History, Replay, Live}
+use Rattle.zk_shell.specs.declared.command.Command.TheVariants.{Show, History, Replay, Rehearse, Live}
 use Rattle.zk_shell.specs.declared.kind.Kind.{Kind}
 use Rattle.zk_shell.specs.Kinds.{kind_word}
 use Rattle.zk_shell.specs.CommandLine.{AreAddresses, AsksForNone, IsFound}
@@ -33,6 +33,8 @@ without_values found rows is absent History f =
     let bad : ◌≡◌ {A = ℕ} 115 104 = first_letter is f.1 in absurd (omega arith)
 without_values found rows is absent Replay f =
     let bad : ◌≡◌ {A = ℕ} 115 114 = first_letter is f.1 in absurd (omega arith)
+without_values found rows is absent Rehearse f =
+    let bad : ◌≡◌ {A = ℕ} 115 114 = first_letter is f.1 in absurd (omega arith)
 without_values found rows is absent (Live addresses) f =
     let bad : ◌≡◌ {A = ℕ} 115 108 = first_letter is f.1 in absurd (omega arith)
 
@@ -44,6 +46,8 @@ without_addresses found rows is absent (Show kind hex) f =
 without_addresses found rows is absent History f =
     let bad : ◌≡◌ {A = ℕ} 108 104 = first_letter is f.1 in absurd (omega arith)
 without_addresses found rows is absent Replay f =
+    let bad : ◌≡◌ {A = ℕ} 108 114 = first_letter is f.1 in absurd (omega arith)
+without_addresses found rows is absent Rehearse f =
     let bad : ◌≡◌ {A = ℕ} 108 114 = first_letter is f.1 in absurd (omega arith)
 without_addresses found rows is absent (Live addresses) f =
     let same : rows ≡ f.0 = ap rows_in (sym is ∙ f.1) in

@@ -1,7 +1,7 @@
 use Rattle.std.proofs.Common.{[], ◌∷◌, ◌++◌, refl, inl, inr}
 use Rattle.zk_script.specs.Scripts.{refusal_text}
 use Rattle.zk_shell.specs.declared.command.LineFault.TheVariants.{Help}
-use Rattle.zk_shell.specs.Run.{shows, answers, plays, lives, helps, unshown, stopped, ended, broken, first, begins, halts}
+use Rattle.zk_shell.specs.Run.{shows, answers, plays, rehearses, lives, helps, unshown, stopped, ended, interrupted, broken, first, begins, breaks_off, halts}
 use Rattle.zk_shell.specs.Show.{fault_text}
 use Rattle.zk_shell.proofs.ScriptLemmas.{appends_nothing}
 use Rattle.zk_shell.proofs.run.run.Goals as goal
@@ -53,6 +53,25 @@ returns-in-Ok-Replay-clause-memory g c = λ is.
       begins told.0 told.1 told.2 told.3 (rw c.in-Ok-Replay.field-0-is at c.in-Ok-Replay.ensures.ok) told.4 told.5 told.6 refl,
       told.7,
       c.replay.ensures.silent (inr is),
+    )
+
+pub returns-in-Ok-Rehearse-clause-done : goal.returns-in-Ok-Rehearse-clause-done
+returns-in-Ok-Rehearse-clause-done g c = λ is.
+    let told = c.rehearse.ensures.done is in
+    (told.1, rehearses told.0 (rw c.in-Ok-Rehearse.field-0-is at c.in-Ok-Rehearse.ensures.ok) told.2 told.3, told.4, c.rehearse.ensures.silent (inl is))
+
+pub returns-in-Ok-Rehearse-clause-fault : goal.returns-in-Ok-Rehearse-clause-fault
+returns-in-Ok-Rehearse-clause-fault g c = λ is.
+    let told = c.rehearse.ensures.fault is in
+    (told.1, refusal_text told.2 told.3, interrupted told.0 told.2 told.3 (rw c.in-Ok-Rehearse.field-0-is at c.in-Ok-Rehearse.ensures.ok) told.4 told.5 refl, told.6, told.7)
+
+pub returns-in-Ok-Rehearse-clause-memory : goal.returns-in-Ok-Rehearse-clause-memory
+returns-in-Ok-Rehearse-clause-memory g c = λ is.
+    let told = c.rehearse.ensures.memory is in (
+      told.1 ++ told.2,
+      breaks_off told.0 told.1 told.2 told.3 (rw c.in-Ok-Rehearse.field-0-is at c.in-Ok-Rehearse.ensures.ok) told.4 told.5 told.6 refl,
+      told.7,
+      c.rehearse.ensures.silent (inr is),
     )
 
 pub returns-in-Ok-Live-clause-done : goal.returns-in-Ok-Live-clause-done
