@@ -1,0 +1,29 @@
+//! The session, played.
+
+ghost use Rattle.std.specs.Prelude.{List, ℕ, OnOk};
+ghost use Rattle.std.specs.Io.KnownBytes.{Appends};
+ghost use Rattle.zk_replay.specs.declared.replay.End.{End};
+ghost use Rattle.zk_script.specs.Scripts.{lines_of};
+ghost use Rattle.zk_live.specs.Lives.{IsOutcome};
+
+use std::alloc::Global;
+use std::io::{self, Write};
+use zk_live::dial::Dial;
+use zk_live::live::live;
+
+/// The server's address, which the script doesn't see.
+const ADDRESS: &str = "127.0.0.1:2181";
+
+/// Plays a script and writes what it prints.
+pub fn play<D: Dial, O: Write>(
+    alloc: Global,
+    server: &mut D,
+    script: &[u8],
+    out: &mut O,
+) -> io::Result<()>
+    // What is written is the outcome of the script's lines.
+    ensures { OnOk result ((text : List ℕ) × (end : End) × IsOutcome (lines_of script.now) text end × Appends (O.contents out.old) (O.contents out.new) text) }
+{
+    let outcome = live(alloc, server, &[ADDRESS], script);
+    out.write_all(outcome.text.as_bytes())
+}
