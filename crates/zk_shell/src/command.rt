@@ -3,7 +3,7 @@
 ghost use Rattle.std.specs.Prelude.{◌≡◌, List, IfOk, IfErr, IfSome, IfNone, find, map, codes, not};
 ghost use Rattle.std.specs.Borrow.{Bor};
 ghost use Rattle.std.specs.Global.{Vec};
-ghost use Rattle.clap.specs.Words.{Text, app_of, found_of, first_value, kind_of, rows_of, subcommand_rows_of};
+ghost use Rattle.clap.specs.Words.{Text, app_of, found_of, first_value, kind_of, new_app, rows_of, subcommand_rows_of};
 ghost use Rattle.zk_live.specs.Addresses.{is_address};
 ghost use Rattle.zk_shell.specs.Kinds.{kind_word};
 ghost use Rattle.zk_shell.specs.CommandLine.{AreAddresses, AreKinds, AsksFor, AsksForNone, IsDue, IsFound, IsNoHelp, Tells, TellsIf, live_app, show_app, shell_app};
@@ -85,6 +85,20 @@ fn show_form<'a>(alloc: Global) -> Result<clap::Command<'a>, AllocError>
     Ok(show)
 }
 
+/// The form of a command of this name that takes a script and no words, and what its help says first and last.
+fn script_form<'a>(
+    alloc: Global,
+    name: &'a str,
+    about: &'a str,
+    lines: &'a str,
+) -> clap::Command<'a>
+    ensures { app_of result ≡ new_app name.now }
+{
+    clap::Command::new(alloc, name)
+        .about(about)
+        .after_help(lines)
+}
+
 /// The form of `live`.
 fn live_form<'a>(alloc: Global) -> Result<clap::Command<'a>, AllocError>
     ensures { IfOk result (λ r. app_of r ≡ live_app) }
@@ -105,15 +119,24 @@ fn form<'a>(alloc: Global) -> Result<clap::Command<'a>, AllocError>
     ensures { IfOk result (λ r. (names : Bor (List (Bor Text))) × AreKinds names × (app_of r ≡ shell_app names)) }
 {
     let show = show_form(alloc)?;
-    let history = clap::Command::new(alloc, "history")
-        .about("Answers data and names of a history at any zxid")
-        .after_help(help::HISTORY);
-    let replay = clap::Command::new(alloc, "replay")
-        .about("Drives a client by a script, and prints what it says and keeps")
-        .after_help(help::REPLAY);
-    let rehearse = clap::Command::new(alloc, "rehearse")
-        .about("Drives a client by a script against servers in memory")
-        .after_help(help::REHEARSE);
+    let history = script_form(
+        alloc,
+        "history",
+        "Answers data and names of a history at any zxid",
+        help::HISTORY,
+    );
+    let replay = script_form(
+        alloc,
+        "replay",
+        "Drives a client by a script, and prints what it says and keeps",
+        help::REPLAY,
+    );
+    let rehearse = script_form(
+        alloc,
+        "rehearse",
+        "Drives a client by a script against servers in memory",
+        help::REHEARSE,
+    );
     let live = live_form(alloc)?;
     let shell = clap::Command::new(alloc, "zk_shell")
         .about("Shows frames of the protocol, answers histories of a tree, and drives a client")
