@@ -16,7 +16,12 @@ fn run(rt: &HostRuntime) -> io::Result<()> {
         return Err(io::ErrorKind::InvalidInput.into());
     };
     let mut server = Once::new(rt.alloc());
-    play(rt.alloc(), &mut server, script.as_slice(), &mut io::writer(rt))
+    play(
+        rt.alloc(),
+        &mut server,
+        script.as_slice(),
+        &mut io::writer(rt),
+    )
 }
 
 fn main(rt: HostRuntime) -> ExitCode {
