@@ -95,42 +95,16 @@ on_node change (Some node) = Some (change node)
 
 -- a new node: its three zxids are the transaction's, its times too, its version is 0 ("ZooKeeper Stat Structure")
 abbrev pub made : ℕ → ℤ → Option (List ℕ) → ℤ → Node
-made zxid time content owner = record {
-  content = content;
-  czxid = zxid;
-  mzxid = zxid;
-  pzxid = zxid;
-  ctime = time;
-  mtime = time;
-  version = 0;
-  owner = owner;
-}
+made zxid time content owner =
+    record { content = content; czxid = zxid; mzxid = zxid; pzxid = zxid; ctime = time; mtime = time; version = 0; owner = owner }
 
 -- a write of the data: it moves mzxid and mtime, and raises the version by one ("ZooKeeper Stat Structure")
 abbrev pub written : ℕ → ℤ → Option (List ℕ) → Node → Node
-written zxid time content node = record {
-  content = content;
-  czxid = node.czxid;
-  mzxid = zxid;
-  pzxid = node.pzxid;
-  ctime = node.ctime;
-  mtime = time;
-  version = node.version + 1;
-  owner = node.owner;
-}
+written zxid time content node = record node { content = content; mzxid = zxid; mtime = time; version = node.version + 1 }
 
 -- a change of the set of children: it moves pzxid alone ("ZooKeeper Stat Structure")
 abbrev pub regrouped : ℕ → Node → Node
-regrouped zxid node = record {
-  content = node.content;
-  czxid = node.czxid;
-  mzxid = node.mzxid;
-  pzxid = zxid;
-  ctime = node.ctime;
-  mtime = node.mtime;
-  version = node.version;
-  owner = node.owner;
-}
+regrouped zxid node = record node { pzxid = zxid }
 
 -- The tree after a change: the node of its path is made, written or gone, a creation or a deletion changes the set of
 -- the parent's children too, and all other nodes stay ("ZooKeeper Stat Structure").
