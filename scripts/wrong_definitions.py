@@ -15,7 +15,7 @@ import tempfile
 
 TURNS, LAWS = "zk_turns", "zk_laws"
 KEPT, RULE, TAKEN, SENT = (f"specs/{name}.antt" for name in ("Kept", "Rule", "Taken", "Sent"))
-SERVER, STEPS, SERVED = (f"specs/{name}.antt" for name in ("Server", "Steps", "Served"))
+SERVER, SERVER_STEPS, SERVED = (f"specs/{name}.antt" for name in ("Server", "ServerSteps", "Served"))
 
 # name, crate, file, what stands there, what is to stand there
 EDITS = [
@@ -91,15 +91,15 @@ EDITS = [
      "told Data (name ∷ path) Deleted watches ++ told Child path ChildrenChanged watches"),
     ("a child list is tested by mzxid", LAWS, SERVER,
      "parent_check relative (Some node) = if nat_lt relative node.pzxid", "parent_check relative (Some node) = if nat_lt relative node.mzxid"),
-    ("a client that is ahead is admitted", LAWS, STEPS,
-     "MayStep h (Admits seen) c log = (c.stage ≡ Waiting) × IsNext (Connect seen) c.requests × (seen ≤ zxid_held h c.place)",
-     "MayStep h (Admits seen) c log = (c.stage ≡ Waiting) × IsNext (Connect seen) c.requests × (0 ≤ zxid_held h c.place)"),
+    ("a client that is ahead is admitted", LAWS, SERVER_STEPS,
+     "MayDo h (Admits seen) server requests = (server.stage ≡ Waiting) × IsNext (Connect seen) requests × (seen ≤ zxid_held h server.place)",
+     "MayDo h (Admits seen) server requests = (server.stage ≡ Waiting) × IsNext (Connect seen) requests × (0 ≤ zxid_held h server.place)"),
     ("a reply has the xid of no request", LAWS, SERVED,
      "IsPayload xid (Replies question zxid result) payload = (behind : List ℕ) × IsHeaded xid",
      "IsPayload xid (Replies question zxid result) payload = (behind : List ℕ) × IsHeaded (pos 0)"),
-    ("notices come behind the reply to their part", LAWS, STEPS,
-     "messages = c.messages ++ (map Notifies sent ++ Watches_set is_last (zxid_held h c.place) ∷ []);",
-     "messages = c.messages ++ (Watches_set is_last (zxid_held h c.place) ∷ [] ++ map Notifies sent);"),
+    ("notices come behind the reply to their part", LAWS, SERVER_STEPS,
+     "place = map Notifies sent ++ Watches_set is_last (zxid_held h place) ∷ []",
+     "place = (Watches_set is_last (zxid_held h place) ∷ []) ++ map Notifies sent"),
     ("a read is answered from any tree", LAWS, SERVER,
      "Gives h place (Exists path watch) (Found stat) = Fits (Known (data_stat_of stat)) (view Data (tree_held h place) (path_of path))",
      "Gives h place (Exists path watch) (Found stat) = ⊤"),

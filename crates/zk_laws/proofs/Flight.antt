@@ -6,9 +6,8 @@ use Rattle.std.proofs.Common.{◌≡◌, ℕ, zero, suc, ◌+◌, ◌≤◌, ℤ
 use Rattle.std.proofs.lemmas.List.{append-nil, drop-append-le}
 use Rattle.zk_turns.specs.Turns.{Start}
 use Rattle.zk_history.specs.History.{History}
-use Rattle.zk_laws.specs.Messages.{Restore}
+use Rattle.zk_laws.specs.Messages.{Restore, from_zero}
 use Rattle.zk_laws.specs.Steps.{restores}
-use Rattle.zk_laws.specs.Seen.{from_zero}
 use Rattle.zk_laws.specs.Served.{Sent, part_requests, Line, is_going}
 use Rattle.zk_laws.specs.Flight.{Owes, Matches, WaitsFor}
 

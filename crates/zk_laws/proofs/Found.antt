@@ -24,8 +24,7 @@ use Rattle.zk_turns.proofs.Fitting.{ping_fits}
 use Rattle.zk_turns.proofs.Ranged.{all_append, AreRanged, items_ranged}
 use Rattle.zk_turns.proofs.Requested.{Any, any_items, told_call, fits_call, IsTold, told_parts, PartFits, fits_parts, told_connect, fits_connect, connect_of}
 use Rattle.zk_turns.proofs.Meant.{is_last_seen}
-use Rattle.zk_laws.specs.Messages.{Connect, Restore, Ask, Ping}
-use Rattle.zk_laws.specs.Seen.{from_zero}
+use Rattle.zk_laws.specs.Messages.{Connect, Restore, Ask, Ping, from_zero}
 use Rattle.zk_laws.specs.Served.{Sent, part_requests, requests}
 use Rattle.zk_laws.specs.Parsed.{AreTold, IsCutInto, stream_of, payloads_of, IsRecord, IsReadAs, AreReadAs}
 use Rattle.zk_laws.proofs.Parsed.{beginning_found, all_found}

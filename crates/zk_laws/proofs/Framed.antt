@@ -35,8 +35,7 @@ use Rattle.zk_session.specs.Kept.{Welcome}
 use Rattle.zk_frames.specs.declared.reader.TheConstants.{LONGEST_INCOMING}
 use Rattle.zk_turns.proofs.Pieces.{cut_there, cut_short, same_field, length-frame, drop-frame}
 use Rattle.zk_laws.specs.Server.{Notice as Notified, left_by}
-use Rattle.zk_laws.specs.Messages.{Accepted, Expired, Replies, Watches_set, Notifies, Pong}
-use Rattle.zk_laws.specs.Seen.{from_zero}
+use Rattle.zk_laws.specs.Messages.{Accepted, Expired, Replies, Watches_set, Notifies, Pong, from_zero}
 use Rattle.zk_laws.specs.Flight.{HasCode}
 
 -- ---- cutting

@@ -25,10 +25,10 @@ use Rattle.zk_turns.proofs.Pieces.{length-frame}
 use Rattle.zk_turns.proofs.Sending.{sent_is}
 use Rattle.zk_turns.specs.Meaning.{Among}
 use Rattle.zk_laws.specs.Server.{Fits, Answer, tree_held}
-use Rattle.zk_laws.specs.Messages.{Replies}
+use Rattle.zk_laws.specs.Messages.{Replies, from_zero}
 use Rattle.zk_laws.specs.Log.{Took, last, good}
 use Rattle.zk_laws.specs.Steps.{World, Connection, Link}
-use Rattle.zk_laws.specs.Seen.{from_zero, seen, item_of, node_answer, names_answer, if_good}
+use Rattle.zk_laws.specs.Seen.{seen, item_of, node_answer, names_answer, if_good}
 use Rattle.zk_frames.specs.declared.reader.TheConstants.{LONGEST_INCOMING}
 use Rattle.zk_laws.specs.Served.{WasSent, requests, part_requests, Entry, items_in, Line, line_of, unread, IsServing, Served}
 use Rattle.zk_laws.proofs.Basics.{Among-left, Among-right}
@@ -171,9 +171,9 @@ nothing_in_flight (l ∷ ls) e =
     absurd (omega arith)
 
 module _ (h : History) (is : IsHistory h) (start : Start) where
-  served_sim : (items : List Item) → AllAsked items → (served : Served h start items) → Matches h start (WasSent served.entries) (past_of start items) (line_of h start served.entries)
+  served_sim : (items : List Item) → AllAsked items → (served : Served h start items) → Matches h start (WasSent served.entries) (past_of start items) (line_of h served.entries)
   served_sim items asked served =
-      subst (λ t. Matches h start (WasSent served.entries) (past_of start t) (line_of h start served.entries)) served.whole
+      subst (λ t. Matches h start (WasSent served.entries) (past_of start t) (line_of h served.entries)) served.whole
       (schedule_here h is start served.entries (subst AllAsked (sym served.whole) asked) served.may)
 
   -- The invariant gives coherence.
@@ -188,7 +188,7 @@ module _ (h : History) (is : IsHistory h) (start : Start) where
       (cache_true start past (tree_at h (last (seen start past))) (λ path a e. k Data path a e) (λ path a e. k Child path a e)))
 
   pub coherent_client : (items : List Item) (view : View) → Stands start items view → Served h start items → IsCoherentWith h view
-  coherent_client items view s served = sim_coherent (WasSent served.entries) items view (line_of h start served.entries) s (served_sim items s.asked served)
+  coherent_client items view s served = sim_coherent (WasSent served.entries) items view (line_of h served.entries) s (served_sim items s.asked served)
 
   reached_reads : (w : World) → Reached h (from_zero start.last) w → (q : Question) (z : ℕ) (r : Result) → Among (Took (Replies q z r)) w.log → IsTrueRead h q z r
   reached_reads w r q z res a = reads_true h is (from_zero start.last) r.moves r.may q z res (subst (λ v. Among (Took (Replies q z res)) v.log) (sym r.is) a)
@@ -211,20 +211,20 @@ module _ (h : History) (is : IsHistory h) (start : Start) where
 
   quiet_by : (past : Past) (line : Line) (link : Link) (Was : List ℕ → Type 0) (letters : List Letter) → Going h start Was past line link letters → Reached h (from_zero start.last) (record { log = seen start past; link = link })
       → is_talking (state_of past) ≡ true → line.coming ≡ [] → held_of past ≡ [] → AreRestored (map (λ s. s.request) (unread start past line))
-      → IsTrueOf (tree_held h line.place) (record { nodes = λ path. kept_data path past; children = λ path. kept_names path past })
+      → IsTrueOf (tree_held h line.server.place) (record { nodes = λ path. kept_data path past; children = λ path. kept_names path past })
   quiet_by past line link Was letters g r talks received taken restored =
       let c : Connection = connection start past line letters in
       let w : World = record { log = seen start past; link = link } in
       let none : letters ≡ [] = nothing_in_flight letters (sym g.bytes ∙ ap (λ l. held_of past ++ l) received ∙ ap (λ l. l ++ []) taken) in
       let a = agrees h w (reached_kept h (from_zero start.last) w is r) c g.up talks (ap messages none) restored in
-      cache_true start past (tree_held h line.place) (λ path b e. a Data path b e) (λ path b e. a Child path b e)
+      cache_true start past (tree_held h line.server.place) (λ path b e. a Data path b e) (λ path b e. a Child path b e)
 
-  pub quiet_client : (entries : List Entry) (view : View) → IsServing h start entries → Stands start (items_in entries) view → IsQuietAt h start entries → IsTrueOf (tree_of h start entries) view.cache
+  pub quiet_client : (entries : List Entry) (view : View) → IsServing h start entries → Stands start (items_in entries) view → IsQuietAt h start entries → IsTrueOf (tree_of h entries) view.cache
   quiet_client entries view may s quiet =
       let sim = schedule_here h is start entries s.asked may in
       let g = sim.going quiet.going in
-      subst (λ c. IsTrueOf (tree_of h start entries) c) (sym s.cache)
-      (quiet_by (past_of start (items_in entries)) (line_of h start entries) sim.link (WasSent entries) g.0 g.1 sim.reached quiet.talking quiet.received quiet.taken quiet.restored)
+      subst (λ c. IsTrueOf (tree_of h entries) c) (sym s.cache)
+      (quiet_by (past_of start (items_in entries)) (line_of h entries) sim.link (WasSent entries) g.0 g.1 sim.reached quiet.talking quiet.received quiet.taken quiet.restored)
 
   -- the reason of a drop
   abbrev Due : (List ℕ → Type 0) → Fault → Type 0

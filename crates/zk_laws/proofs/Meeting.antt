@@ -20,11 +20,12 @@ use Rattle.zk_turns.proofs.Pieces.{byte_happens}
 use Rattle.zk_history.specs.History.{History, IsHistory}
 use Rattle.zk_laws.specs.Invariant.{IsKeptUp, IsStarting, IsOpening}
 use Rattle.zk_laws.specs.Server.{left_by}
-use Rattle.zk_laws.specs.Messages.{Message, Accepted, Replies, Watches_set, Notifies, Pong, Request, Expired as Expires}
+use Rattle.zk_laws.specs.Messages.{Message, Accepted, Replies, Watches_set, Notifies, Pong, Request, Expired as Expires, from_zero}
 use Rattle.zk_laws.specs.Log.{Item as Log_item, last}
-use Rattle.zk_laws.specs.Steps.{Connection, Link, Up, Down, World, Stage, Waiting, Serving, Ended, Joins, Takes, is_behind, restores}
+use Rattle.zk_laws.specs.Steps.{Connection, Link, Up, Down, World, Joins, Takes, is_behind, restores}
+use Rattle.zk_laws.specs.ServerSteps.{Stage, Waiting, Serving, Ended}
 use Rattle.zk_laws.specs.Run.{Goes}
-use Rattle.zk_laws.specs.Seen.{from_zero, seen}
+use Rattle.zk_laws.specs.Seen.{seen}
 use Rattle.zk_laws.specs.Served.{Sent, requests, part_requests, unread, Line, new_line, no_line, is_open, is_going, IsPayload, MayTurn, line_after, line_past}
 use Rattle.zk_laws.proofs.More.{none_behind}
 use Rattle.zk_laws.proofs.Seeing.{last_is}

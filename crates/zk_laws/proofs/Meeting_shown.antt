@@ -22,7 +22,7 @@ use Rattle.zk_turns.specs.Rule.{Stands}
 use Rattle.zk_turns.specs.Ranges.{IsResumable, IsTyped, AllAskOf}
 use Rattle.zk_turns.proofs.Requested.{new_resumable}
 use Rattle.zk_laws.specs.Example.{two_changes, at_a, fields_at_five, a_changed}
-use Rattle.zk_laws.specs.Steps.{Serving, Ended}
+use Rattle.zk_laws.specs.ServerSteps.{Serving, Ended}
 use Rattle.zk_laws.proofs.Shown.{all_sent}
 
 not_ended : Serving ≡ Ended → ⊥
@@ -72,7 +72,7 @@ unfolding is_utf8 chars encode cut arriving connect_payload call_payload part_pa
 accepted_then = (
   λ on. ([], refl),
   (
-    record { going = refl; servers = tt; may = (refl, refl, omega arith); told = (omega arith, (welcome, [], welcomed, refl), tt) },
+    record { going = refl; may = (refl, refl, omega arith); told = (omega arith, (welcome, [], welcomed, refl), tt) },
     (omega arith, tt),
   ),
 )
@@ -82,7 +82,7 @@ unfolding is_utf8 chars encode cut arriving connect_payload call_payload part_pa
 half_read_then = (
   λ on. (_, refl),
   (
-    record { going = refl; servers = tt; may = (refl, refl, (refl, refl)); told = (omega arith, (_, reply_headed, (_, reply_recorded, refl)), tt) },
+    record { going = refl; may = (refl, refl, (refl, refl)); told = (omega arith, (_, reply_headed, (_, reply_recorded, refl)), tt) },
     (tt, accepted_then),
   ),
 )
@@ -94,7 +94,7 @@ cut_then = (
   (
     λ on. (_, refl),
     (
-      record { going = refl; servers = tt; may = (not_ended, omega arith, all_sent (a_changed ∷ [])); told = (omega arith, (_, _, _, notice_headed, _, _, notice_recorded, refl), tt) },
+      record { going = refl; may = (not_ended, omega arith, all_sent (a_changed ∷ [])); told = (omega arith, (_, _, _, notice_headed, _, _, notice_recorded, refl), tt) },
       (λ on. ([], refl), half_read_then),
     ),
   ),

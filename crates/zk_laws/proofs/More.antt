@@ -13,10 +13,11 @@ use Rattle.zk_turns.specs.Meaning.{Among}
 use Rattle.zk_laws.specs.Server.{Notice, Answer, Absent, Known, Full, Names, Fits, held, tree_held, zxid_held, LastHolds, Gives}
 use Rattle.zk_laws.specs.Messages.{Message, Accepted, Expired, Replies, Watches_set, Notifies, Pong, Request, Connect, Restore, Ask, Ping}
 use Rattle.zk_laws.specs.Log.{Item, Lost, Took, last, good}
-use Rattle.zk_laws.specs.Steps.{is_behind, ends, Stage, Waiting, Serving, Ended, Connection, Link, Down, Up, World, Step, Asks, Pings, Joins, Takes, Advances, Admits, Refuses, Answers, Restores, Pongs, rest_of, IsNext, MayStep, stepped}
-use Rattle.zk_laws.specs.Run.{start, Move, Opens, Loses, Halts, Forgets_stale, Goes, MayGo, gone, May, moved, IsSchedule, run}
+use Rattle.zk_laws.specs.Steps.{is_behind, ends, Connection, Link, Down, Up, World, Step, Asks, Pings, Joins, Takes, rest_of, MayStep, stepped, By_server}
+use Rattle.zk_laws.specs.ServerSteps.{Stage, Waiting, Serving, Ended, Advances, Admits, Refuses, Answers, Restores, Pongs, IsNext}
+use Rattle.zk_laws.specs.Run.{start, Move, Opens, Loses, Halts, Forgets_stale, Goes, MayGo, gone, May, moved, IsSchedule, run, NoneBehind, AgreesWhenQuiet}
 use Rattle.zk_laws.specs.Invariant.{Ahead, IsAwaited, IsSure, IsSettled, IsOpening, IsTalking, IsKeptUp, IsKeptBy, IsKept}
-use Rattle.zk_laws.specs.Laws.{IsTrueRead, IsTrueWrite, HasChange, NoneBehind, AreRestored, AgreesWhenQuiet}
+use Rattle.zk_laws.specs.Laws.{IsTrueRead, IsTrueWrite, HasChange, AreRestored}
 use Rattle.zk_laws.proofs.Stamps.{tree_at_held}
 use Rattle.zk_laws.proofs.Whole.{next_is, start_kept, run_kept}
 
@@ -32,12 +33,12 @@ last_step h Pings c log = omega arith
 last_step h (Joins parts) c log = omega arith
 last_step h (Takes m) c log = last_if (is_behind log m) (last log) (record { log = Lost ∷ log; link = Down })
     (record { log = Took m ∷ log; link = if ends m then Down else Up (record c { messages = rest_of c.messages }) }) (omega arith) (omega arith)
-last_step h (Advances sent) c log = omega arith
-last_step h (Admits seen) c log = omega arith
-last_step h (Refuses seen) c log = omega arith
-last_step h (Answers q r) c log = omega arith
-last_step h (Restores b z part sent) c log = omega arith
-last_step h Pongs c log = omega arith
+last_step h (By_server (Advances sent)) c log = omega arith
+last_step h (By_server (Admits seen)) c log = omega arith
+last_step h (By_server (Refuses seen)) c log = omega arith
+last_step h (By_server (Answers q r)) c log = omega arith
+last_step h (By_server (Restores b z part sent)) c log = omega arith
+last_step h (By_server Pongs) c log = omega arith
 
 last_more : (h : History) (move : Move) (w : World) → last w.log ≤ last (moved h move w).log
 last_more h (Opens place) w = omega arith
@@ -153,13 +154,13 @@ honest_step h (Takes m) c log may t g = go (is_behind log m) (ends m)
     go true d = ((tt, t), tt)
     go false true = ((given_first h m c.messages may.0 g, t), tt)
     go false false = ((given_first h m c.messages may.0 g, t), given_rest h c.messages g)
-honest_step h (Advances sent) c log may t g = (t, given_more h c.messages (map Notifies sent) g (given_notices h sent))
-honest_step h (Admits seen) c log may t g = (t, given_more h c.messages (Accepted ∷ []) g (tt, tt))
-honest_step h (Refuses seen) c log may t g = (t, given_more h c.messages (Expired ∷ []) g (tt, tt))
-honest_step h (Answers q r) c log may t g = (t, given_more h c.messages (Replies (question_of q) (zxid_held h c.place) r ∷ []) g ((c.place, q, refl, refl, may.2), tt))
-honest_step h (Restores b z part sent) c log may t g =
+honest_step h (By_server (Advances sent)) c log may t g = (t, given_more h c.messages (map Notifies sent) g (given_notices h sent))
+honest_step h (By_server (Admits seen)) c log may t g = (t, given_more h c.messages (Accepted ∷ []) g (tt, tt))
+honest_step h (By_server (Refuses seen)) c log may t g = (t, given_more h c.messages (Expired ∷ []) g (tt, tt))
+honest_step h (By_server (Answers q r)) c log may t g = (t, given_more h c.messages (Replies (question_of q) (zxid_held h c.place) r ∷ []) g ((c.place, q, refl, refl, may.2), tt))
+honest_step h (By_server (Restores b z part sent)) c log may t g =
     (t, given_more h c.messages (map Notifies sent ++ Watches_set b (zxid_held h c.place) ∷ []) g (given_more h (map Notifies sent) (Watches_set b (zxid_held h c.place) ∷ []) (given_notices h sent) (tt, tt)))
-honest_step h Pongs c log may t g = (t, given_more h c.messages (Pong ∷ []) g (tt, tt))
+honest_step h (By_server Pongs) c log may t g = (t, given_more h c.messages (Pong ∷ []) g (tt, tt))
 
 honest_move : (h : History) (move : Move) (w : World) → May h move w → IsHonest h w → IsHonest h (moved h move w)
 honest_move h (Opens place) w may k = ((tt, k.0), tt)
@@ -219,5 +220,5 @@ reads_true h is saved moves may q z r a =
     subst (λ (x : Question). IsTrueRead h x z r) g.2 (subst (λ (y : ℕ). IsTrueRead h (question_of g.1) y r) (sym g.3) (given_read h is g.0 g.1 r g.4))
 
 -- a write that a server answers with 0 is a change of its last transaction
-pub writes_true : (h : History) (step : Step) (c : Connection) (log : List Item) (call : Call) (result : Result) → step ≡ Answers call result → MayStep h step c log → IsTrueWrite h call (zxid_held h c.place) result
+pub writes_true : (h : History) (step : Step) (c : Connection) (log : List Item) (call : Call) (result : Result) → step ≡ By_server (Answers call result) → MayStep h step c log → IsTrueWrite h call (zxid_held h c.place) result
 writes_true h step c log call result e may = given_write h c.place call result (subst (λ (s : Step). MayStep h s c log) e may).2

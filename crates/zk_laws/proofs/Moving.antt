@@ -15,11 +15,12 @@ use Rattle.zk_history.specs.History.{History, IsHistory}
 use Rattle.zk_laws.specs.Invariant.{IsKeptUp, IsTalking}
 use Rattle.zk_turns.specs.Meaning.{Among}
 use Rattle.zk_laws.specs.Server.{Notice, Gives, IsOther, zxid_held}
-use Rattle.zk_laws.specs.Messages.{Message, Accepted, Replies, Watches_set, Notifies, Pong, Request, Connect, Restore, Ask, Ping, Expired as Expires}
-use Rattle.zk_laws.specs.Steps.{Connection, Link, Up, Waiting, Step, Asks, Pings, Joins, Takes, Advances, Admits, Refuses, Answers, Restores, Pongs, MayStep, stepped, rest_of, IsNext}
+use Rattle.zk_laws.specs.Messages.{Message, Accepted, Replies, Watches_set, Notifies, Pong, Request, Connect, Restore, Ask, Ping, Expired as Expires, from_zero}
+use Rattle.zk_laws.specs.Steps.{Connection, Link, Up, Step, MayStep, stepped, rest_of, By_server}
+use Rattle.zk_laws.specs.ServerSteps.{ServerStep, MayDo, messages_by, Waiting, Advances, Admits, Refuses, Answers, Restores, Pongs, IsNext}
 use Rattle.zk_laws.specs.Run.{Goes}
-use Rattle.zk_laws.specs.Seen.{from_zero, seen}
-use Rattle.zk_laws.specs.Served.{WasSent, Sent, requests, unread, Line, ArePayloads, server_at, first_xid, messages_on, IsServers, line_on, Entry, Goes_on, Serves, items_in, line_of, MayEnter, IsServing}
+use Rattle.zk_laws.specs.Seen.{seen}
+use Rattle.zk_laws.specs.Served.{WasSent, Sent, requests, unread, Line, ArePayloads, first_xid, line_on, Entry, Goes_on, Serves, items_in, line_of, MayEnter, IsServing}
 use Rattle.zk_laws.specs.Headline.{IsDue, DropsAreDue}
 use Rattle.zk_laws.specs.Flight.{HasCode, Reached, Letter, IsFor, AreLetters, frames, messages, answers, AreLater, WaitsFor, Owes, connection, Going, Matches}
 use Rattle.zk_laws.proofs.Reaching.{reach, reached_kept}
@@ -131,14 +132,14 @@ module _ (h : History) (is : IsHistory h) (start : Start) (Was : List ℕ → Ty
 
   serve_going : (past : Past) (line other : Line) (link link' : Link) (letters : List Letter) (xid : ℤ) (mine owed : List Asking) (ms : List Message) (payloads : List (List ℕ))
       → (g : Going h start Was past line link letters) → AllByRecursion Was payloads → ArePayloads xid ms payloads → AllFor h xid mine ms → other.coming ≡ line.coming ++ flat_map frame payloads
-      → link' ≡ Up (record { requests = map (λ s. s.request) (unread start past other); messages = messages letters ++ ms; place = other.place; watches = other.watches; stage = other.stage; talking = is_talking (state_of past) })
+      → link' ≡ Up (record { requests = map (λ s. s.request) (unread start past other); messages = messages letters ++ ms; place = other.server.place; watches = other.server.watches; stage = other.server.stage; talking = is_talking (state_of past) })
       → other.processed ≤ length (requests start past) → Owes (unread start past other) owed → g.owed ≡ flat_map (mine_of mine) ms ++ owed → (is_talking (state_of past) ≡ true → AreLater ms)
       → Going h start Was past other link' (letters ++ letters_of xid mine ms payloads)
   serve_going past line other link link' letters xid mine owed ms payloads g was a f coming up enough owes split later =
       let new : List Letter = letters_of xid mine ms payloads in
       let told : messages (letters ++ new) ≡ messages letters ++ ms = map-append (λ l. l.message) letters new ∙ ap (λ l. messages letters ++ l) (lo_messages xid mine ms payloads a) in
       record {
-        up = up ∙ ap (λ l. Up (record { requests = map (λ s. s.request) (unread start past other); messages = l; place = other.place; watches = other.watches; stage = other.stage; talking = is_talking (state_of past) })) (sym told);
+        up = up ∙ ap (λ l. Up (record { requests = map (λ s. s.request) (unread start past other); messages = l; place = other.server.place; watches = other.server.watches; stage = other.server.stage; talking = is_talking (state_of past) })) (sym told);
         enough = enough;
         are = are_append h Was letters new g.are (lo_are h Was xid mine ms payloads was a f);
         bytes = ap (λ l. held_of past ++ l) coming ∙ sym (append_assoc (held_of past) line.coming (flat_map frame payloads)) ∙ ap (λ l. l ++ flat_map frame payloads) g.bytes
@@ -155,7 +156,7 @@ module _ (h : History) (is : IsHistory h) (start : Start) (Was : List ℕ → Ty
       → (g : Going h start Was past line link letters) → AllByRecursion Was payloads → IsNext r (map (λ s. s.request) (unread start past line)) → ArePayloads (first_xid (unread start past line)) ms payloads
       → ((xid : ℤ) (mine : List Asking) → WaitsFor xid r mine → AllFor h xid mine ms × (flat_map (mine_of mine) ms ≡ mine))
       → other.processed ≡ line.processed + 1 → other.coming ≡ line.coming ++ flat_map frame payloads
-      → link' ≡ Up (record { requests = rest_of (map (λ s. s.request) (unread start past line)); messages = messages letters ++ ms; place = other.place; watches = other.watches; stage = other.stage; talking = is_talking (state_of past) })
+      → link' ≡ Up (record { requests = rest_of (map (λ s. s.request) (unread start past line)); messages = messages letters ++ ms; place = other.server.place; watches = other.server.watches; stage = other.server.stage; talking = is_talking (state_of past) })
       → (is_talking (state_of past) ≡ true → AreLater ms)
       → (letters' : List Letter) × Going h start Was past other link' letters'
   serve_one past line other link link' letters r ms payloads g was next a for processed coming up later =
@@ -171,7 +172,7 @@ module _ (h : History) (is : IsHistory h) (start : Start) (Was : List ℕ → Ty
       let a' : ArePayloads s.xid ms payloads = subst (λ l. ArePayloads (first_xid l) ms payloads) n.2 a in (
         letters ++ letters_of s.xid o.0 ms payloads,
         serve_going past line other link link' letters s.xid o.0 o.1 ms payloads g was a' f.0 coming
-            (up ∙ ap (λ l. Up (record { requests = l; messages = messages letters ++ ms; place = other.place; watches = other.watches; stage = other.stage; talking = is_talking (state_of past) }))
+            (up ∙ ap (λ l. Up (record { requests = l; messages = messages letters ++ ms; place = other.server.place; watches = other.server.watches; stage = other.server.stage; talking = is_talking (state_of past) }))
             (ap (λ l. rest_of (map (λ s. s.request) l)) n.2 ∙ ap (λ l. map (λ s. s.request) l) (sym here)))
             (subst (λ m. m ≤ length (requests start past)) (sym processed) le)
             (subst (λ l. Owes l o.1) (sym here) o.4)
@@ -180,7 +181,7 @@ module _ (h : History) (is : IsHistory h) (start : Start) (Was : List ℕ → Ty
       )
 
   -- while the client talks, no ConnectRequest is to be processed
-  past_waiting : (past : Past) (line : Line) (s : Matches h start Was past line) (letters : List Letter) → Going h start Was past line s.link letters → is_talking (state_of past) ≡ true → line.stage ≡ Waiting → ⊥
+  past_waiting : (past : Past) (line : Line) (s : Matches h start Was past line) (letters : List Letter) → Going h start Was past line s.link letters → is_talking (state_of past) ≡ true → line.server.stage ≡ Waiting → ⊥
   past_waiting past line s letters g talks waits =
       let c : Connection = connection start past line letters in
       let k : IsKeptUp h (seen start past) c (is_talking (state_of past)) = reached_kept h (from_zero start.last) (record { log = seen start past; link = Up c }) is (up_reached h start Was past line s.link letters g s.reached) in
@@ -198,65 +199,61 @@ module _ (h : History) (is : IsHistory h) (start : Start) (Was : List ℕ → Ty
     counted = s.counted;
   }
 
-  serve_by : (step : Step) (payloads : List (List ℕ)) (past : Past) (line : Line) (s : Matches h start Was past line) (letters : List Letter) → Going h start Was past line s.link letters
-      → AllByRecursion Was payloads → IsServers step → MayStep h step (server_at start past line) [] → ArePayloads (first_xid (unread start past line)) (messages_on (stepped h step (server_at start past line) []).link) payloads
-      → Matches h start Was past (line_on step payloads line (stepped h step (server_at start past line) []).link)
-  serve_by (Advances sent) payloads past line s letters g was servers may a =
-      let other : Line = line_on (Advances sent) payloads line (stepped h (Advances sent) (server_at start past line) []).link in
+  serve_by : (step : ServerStep) (payloads : List (List ℕ)) (past : Past) (line : Line) (s : Matches h start Was past line) (letters : List Letter) → Going h start Was past line s.link letters
+      → AllByRecursion Was payloads → MayDo h step line.server (map (λ s. s.request) (unread start past line)) → ArePayloads (first_xid (unread start past line)) (messages_by h step line.server.place) payloads
+      → Matches h start Was past (line_on h step payloads line)
+  serve_by (Advances sent) payloads past line s letters g was may a =
+      let other : Line = line_on h (Advances sent) payloads line in
       let same : other.processed ≡ line.processed = omega arith in
       let back : unread start past other ≡ unread start past line = ap (λ m. drop m (requests start past)) same in
-      served_world (Advances sent) past line other s _ letters g may refl (
+      served_world (By_server (Advances sent)) past line other s _ letters g may refl (
         letters ++ letters_of (first_xid (unread start past line)) [] (map Notifies sent) payloads,
         serve_going past line other s.link _ letters (first_xid (unread start past line)) [] g.owed (map Notifies sent) payloads g was a (notices_for h (first_xid (unread start past line)) [] sent) refl
-            (ap (λ l. Up (record { requests = map (λ s. s.request) l; messages = messages letters ++ map Notifies sent; place = other.place; watches = other.watches; stage = other.stage; talking = is_talking (state_of past) })) (sym back))
+            (ap (λ l. Up (record { requests = map (λ s. s.request) l; messages = messages letters ++ map Notifies sent; place = other.server.place; watches = other.server.watches; stage = other.server.stage; talking = is_talking (state_of past) })) (sym back))
             (subst (λ m. m ≤ length (requests start past)) (sym same) g.enough)
             (subst (λ l. Owes l g.owed) (sym back) g.owes)
             (ap (λ l. l ++ g.owed) (sym (notices_mine [] sent)))
             (λ t. notices_later sent),
       )
-  serve_by (Admits z) payloads past line s letters g was servers may a =
-      let other : Line = line_on (Admits z) payloads line (stepped h (Admits z) (server_at start past line) []).link in
-      served_world (Admits z) past line other s _ letters g may refl
+  serve_by (Admits z) payloads past line s letters g was may a =
+      let other : Line = line_on h (Admits z) payloads line in
+      served_world (By_server (Admits z)) past line other s _ letters g may refl
       (serve_one past line other s.link _ letters (Connect z) (Accepted ∷ []) payloads g was may.1 a (λ xid mine w. ((refl, tt), sym w)) refl refl refl (λ t. absurd (past_waiting past line s letters g t may.0)))
-  serve_by (Refuses z) payloads past line s letters g was servers may a =
-      let other : Line = line_on (Refuses z) payloads line (stepped h (Refuses z) (server_at start past line) []).link in
-      served_world (Refuses z) past line other s _ letters g may refl
+  serve_by (Refuses z) payloads past line s letters g was may a =
+      let other : Line = line_on h (Refuses z) payloads line in
+      served_world (By_server (Refuses z)) past line other s _ letters g may refl
       (serve_one past line other s.link _ letters (Connect z) (Expires ∷ []) payloads g was may.1 a (λ xid mine w. ((refl, tt), sym w)) refl refl refl (λ t. absurd (past_waiting past line s letters g t may.0)))
-  serve_by (Answers q r) payloads past line s letters g was servers may a =
-      let other : Line = line_on (Answers q r) payloads line (stepped h (Answers q r) (server_at start past line) []).link in
-      served_world (Answers q r) past line other s _ letters g may refl
-      (serve_one past line other s.link _ letters (Ask q) (Replies (question_of q) (zxid_held h line.place) r ∷ []) payloads g was may.1 a
-      (λ xid mine w. (((w.0, w.1, q, coded h line.place q r may.2, w.2, refl, w.3, given_write h line.place q r may.2), tt), append-nil mine)) refl refl refl (λ t. tt))
-  serve_by (Restores b z part sent) payloads past line s letters g was servers may a =
-      let other : Line = line_on (Restores b z part sent) payloads line (stepped h (Restores b z part sent) (server_at start past line) []).link in
-      served_world (Restores b z part sent) past line other s _ letters g may refl
-      (serve_one past line other s.link _ letters (Restore b z part) (map Notifies sent ++ Watches_set b (zxid_held h line.place) ∷ []) payloads g was may.1 a
+  serve_by (Answers q r) payloads past line s letters g was may a =
+      let other : Line = line_on h (Answers q r) payloads line in
+      served_world (By_server (Answers q r)) past line other s _ letters g may refl
+      (serve_one past line other s.link _ letters (Ask q) (Replies (question_of q) (zxid_held h line.server.place) r ∷ []) payloads g was may.1 a
+      (λ xid mine w. (((w.0, w.1, q, coded h line.server.place q r may.2, w.2, refl, w.3, given_write h line.server.place q r may.2), tt), append-nil mine)) refl refl refl (λ t. tt))
+  serve_by (Restores b z part sent) payloads past line s letters g was may a =
+      let other : Line = line_on h (Restores b z part sent) payloads line in
+      served_world (By_server (Restores b z part sent)) past line other s _ letters g may refl
+      (serve_one past line other s.link _ letters (Restore b z part) (map Notifies sent ++ Watches_set b (zxid_held h line.server.place) ∷ []) payloads g was may.1 a
       (λ xid mine w. (
-        all_append h xid mine (map Notifies sent) (Watches_set b (zxid_held h line.place) ∷ []) (notices_for h xid mine sent) ((w.0, w.1), tt),
-        flat-more (mine_of mine) (map Notifies sent) (Watches_set b (zxid_held h line.place) ∷ []) ∙ ap (λ l. l ++ (mine ++ [])) (notices_mine mine sent) ∙ append-nil mine,
+        all_append h xid mine (map Notifies sent) (Watches_set b (zxid_held h line.server.place) ∷ []) (notices_for h xid mine sent) ((w.0, w.1), tt),
+        flat-more (mine_of mine) (map Notifies sent) (Watches_set b (zxid_held h line.server.place) ∷ []) ∙ ap (λ l. l ++ (mine ++ [])) (notices_mine mine sent) ∙ append-nil mine,
       ))
-      refl refl refl (λ t. later_append (map Notifies sent) (Watches_set b (zxid_held h line.place) ∷ []) (notices_later sent) tt))
-  serve_by Pongs payloads past line s letters g was servers may a =
-      let other : Line = line_on Pongs payloads line (stepped h Pongs (server_at start past line) []).link in
-      served_world Pongs past line other s _ letters g may refl
+      refl refl refl (λ t. later_append (map Notifies sent) (Watches_set b (zxid_held h line.server.place) ∷ []) (notices_later sent) tt))
+  serve_by Pongs payloads past line s letters g was may a =
+      let other : Line = line_on h Pongs payloads line in
+      served_world (By_server Pongs) past line other s _ letters g may refl
       (serve_one past line other s.link _ letters Ping (Pong ∷ []) payloads g was may.1 a (λ xid mine w. ((refl, tt), sym w)) refl refl refl (λ t. tt))
-  serve_by (Asks q) payloads past line s letters g was servers may a = absurd servers
-  serve_by Pings payloads past line s letters g was servers may a = absurd servers
-  serve_by (Joins parts) payloads past line s letters g was servers may a = absurd servers
-  serve_by (Takes m) payloads past line s letters g was servers may a = absurd servers
 
   -- ---- schedules
 
   -- one entry more
-  entered : (entry : Entry) (earlier : List Entry) → Sends Was entry → Asks_paths entry → MayEnter h start entry (past_of start (items_in earlier)) (line_of h start earlier)
-      → Matches h start Was (past_of start (items_in earlier)) (line_of h start earlier)
-      → Matches h start Was (past_of start (items_in (entry ∷ earlier))) (line_of h start (entry ∷ earlier))
-  entered (Goes_on place (Turned turn)) earlier was ask may s = turned_here h is start Was place turn (past_of start (items_in earlier)) (line_of h start earlier) ask may s
-  entered (Goes_on place Forgets_now) earlier was ask may s = forgot h start Was (past_of start (items_in earlier)) (line_of h start earlier) s
-  entered (Goes_on place Halts_here) earlier was ask may s = halted h start Was (past_of start (items_in earlier)) (line_of h start earlier) s
+  entered : (entry : Entry) (earlier : List Entry) → Sends Was entry → Asks_paths entry → MayEnter h start entry (past_of start (items_in earlier)) (line_of h earlier)
+      → Matches h start Was (past_of start (items_in earlier)) (line_of h earlier)
+      → Matches h start Was (past_of start (items_in (entry ∷ earlier))) (line_of h (entry ∷ earlier))
+  entered (Goes_on place (Turned turn)) earlier was ask may s = turned_here h is start Was place turn (past_of start (items_in earlier)) (line_of h earlier) ask may s
+  entered (Goes_on place Forgets_now) earlier was ask may s = forgot h start Was (past_of start (items_in earlier)) (line_of h earlier) s
+  entered (Goes_on place Halts_here) earlier was ask may s = halted h start Was (past_of start (items_in earlier)) (line_of h earlier) s
   entered (Serves step payloads) earlier was ask may s =
       let g = s.going may.going in
-      serve_by step payloads (past_of start (items_in earlier)) (line_of h start earlier) s g.0 g.1 was may.servers may.may may.told
+      serve_by step payloads (past_of start (items_in earlier)) (line_of h earlier) s g.0 g.1 was may.may may.told
 
 -- ---- what was sent stays so
 
@@ -311,14 +308,14 @@ asked_before (Goes_on place Halts_here) earlier a = a
 asked_before (Serves step payloads) earlier a = a
 
 -- Each entry keeps the invariant.
-pub entry_here : (h : History) (is : IsHistory h) (start : Start) (entry : Entry) (earlier : List Entry) → AllAsked (items_in (entry ∷ earlier)) → MayEnter h start entry (past_of start (items_in earlier)) (line_of h start earlier)
-    → Matches h start (WasSent earlier) (past_of start (items_in earlier)) (line_of h start earlier)
-    → Matches h start (WasSent (entry ∷ earlier)) (past_of start (items_in (entry ∷ earlier))) (line_of h start (entry ∷ earlier))
+pub entry_here : (h : History) (is : IsHistory h) (start : Start) (entry : Entry) (earlier : List Entry) → AllAsked (items_in (entry ∷ earlier)) → MayEnter h start entry (past_of start (items_in earlier)) (line_of h earlier)
+    → Matches h start (WasSent earlier) (past_of start (items_in earlier)) (line_of h earlier)
+    → Matches h start (WasSent (entry ∷ earlier)) (past_of start (items_in (entry ∷ earlier))) (line_of h (entry ∷ earlier))
 entry_here h is start entry earlier ask may s =
     entered h is start (WasSent (entry ∷ earlier)) entry earlier (entry_sends entry earlier) (asked_now entry earlier ask) may
-    (matches_more h (WasSent earlier) (WasSent (entry ∷ earlier)) (still_sent entry earlier) start (past_of start (items_in earlier)) (line_of h start earlier) s)
+    (matches_more h (WasSent earlier) (WasSent (entry ∷ earlier)) (still_sent entry earlier) start (past_of start (items_in earlier)) (line_of h earlier) s)
 
 -- A schedule of turns and moves is a run.
-pub schedule_here : (h : History) (is : IsHistory h) (start : Start) (entries : List Entry) → AllAsked (items_in entries) → IsServing h start entries → Matches h start (WasSent entries) (past_of start (items_in entries)) (line_of h start entries)
+pub schedule_here : (h : History) (is : IsHistory h) (start : Start) (entries : List Entry) → AllAsked (items_in entries) → IsServing h start entries → Matches h start (WasSent entries) (past_of start (items_in entries)) (line_of h entries)
 schedule_here h is start [] ask may = first_here h is start (WasSent [])
 schedule_here h is start (entry ∷ earlier) ask may = entry_here h is start entry earlier ask may.0 (schedule_here h is start earlier (asked_before entry earlier ask) may.1)

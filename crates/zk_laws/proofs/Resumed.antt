@@ -8,7 +8,8 @@ use Rattle.zk_history.specs.declared.side.Side.TheVariants.{Data}
 use Rattle.zk_conversation.specs.Results.{Result}
 use Rattle.zk_laws.specs.Server.{Notice, Watches, zxid_held}
 use Rattle.zk_turns.specs.Meaning.{Among}
-use Rattle.zk_laws.specs.Steps.{Stage, Waiting, Serving, Ended, Connection, Link, Up, Down, World, Step, Asks, Pings, Joins, Takes, Advances, Admits, Refuses, Answers, Restores, Pongs, MayStep, stepped, is_behind, ends, rest_of, IsNext}
+use Rattle.zk_laws.specs.Steps.{Connection, Link, Up, Down, World, Step, Asks, Pings, Joins, Takes, MayStep, stepped, is_behind, ends, rest_of, By_server}
+use Rattle.zk_laws.specs.ServerSteps.{Stage, Waiting, Serving, Ended, Advances, Admits, Refuses, Answers, Restores, Pongs, IsNext}
 use Rattle.zk_laws.specs.Messages.{Message, Accepted, Expired, Replies, Watches_set, Notifies, Pong, Request, Ask}
 use Rattle.zk_laws.specs.Log.{Item, Took, Lost, last}
 use Rattle.zk_laws.specs.Run.{Move, Opens, Loses, Halts, Forgets_stale, Goes, MayGo, gone, May, moved, IsSchedule, run, start}
@@ -88,13 +89,13 @@ module _ (saved : ℕ) where
       go true d = ((tt, t), tt)
       go false true = ((above_first m c.messages may.0 g, t), tt)
       go false false = ((above_first m c.messages may.0 g, t), above_rest c.messages g)
-  above_step h (Advances sent) c log may k low t g = (t, above_more c.messages (map Notifies sent) g (above_notices sent))
-  above_step h (Admits seen) c log may k low t g = (t, above_more c.messages (Accepted ∷ []) g (tt, tt))
-  above_step h (Refuses seen) c log may k low t g = (t, above_more c.messages (Expired ∷ []) g (tt, tt))
-  above_step h (Answers q r) c log may k low t g = (t, above_more c.messages (Replies (question_of q) (zxid_held h c.place) r ∷ []) g (answers_above h c log q may.1 k low, tt))
-  above_step h (Restores b z part sent) c log may k low t g =
+  above_step h (By_server (Advances sent)) c log may k low t g = (t, above_more c.messages (map Notifies sent) g (above_notices sent))
+  above_step h (By_server (Admits seen)) c log may k low t g = (t, above_more c.messages (Accepted ∷ []) g (tt, tt))
+  above_step h (By_server (Refuses seen)) c log may k low t g = (t, above_more c.messages (Expired ∷ []) g (tt, tt))
+  above_step h (By_server (Answers q r)) c log may k low t g = (t, above_more c.messages (Replies (question_of q) (zxid_held h c.place) r ∷ []) g (answers_above h c log q may.1 k low, tt))
+  above_step h (By_server (Restores b z part sent)) c log may k low t g =
       (t, above_more c.messages (map Notifies sent ++ Watches_set b (zxid_held h c.place) ∷ []) g (above_more (map Notifies sent) (Watches_set b (zxid_held h c.place) ∷ []) (above_notices sent) (tt, tt)))
-  above_step h Pongs c log may k low t g = (t, above_more c.messages (Pong ∷ []) g (tt, tt))
+  above_step h (By_server Pongs) c log may k low t g = (t, above_more c.messages (Pong ∷ []) g (tt, tt))
 
   above_move : (h : History) (move : Move) (w : World) → May h move w → IsKept h w → AreAbove w → AllTaken (moved h move w).log × IsAboveOn (moved h move w).link
   above_move h (Opens place) w may k a = ((tt, a.1), tt)

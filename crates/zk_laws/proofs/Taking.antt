@@ -12,11 +12,11 @@ use Rattle.zk_conversation.specs.Results.{Result}
 use Rattle.zk_turns.proofs.Stepped.{Counted, counted_next, Waits, waits}
 use Rattle.zk_history.specs.History.{History}
 use Rattle.zk_laws.specs.Server.{Notice}
-use Rattle.zk_laws.specs.Messages.{Message, Replies, Watches_set, Notifies, Pong, Request, Ask, Ping}
+use Rattle.zk_laws.specs.Messages.{Message, Replies, Watches_set, Notifies, Pong, Request, Ask, Ping, from_zero}
 use Rattle.zk_laws.specs.Log.{Lost, Took, last}
 use Rattle.zk_laws.specs.Steps.{Connection, Link, Up, Down, World, Asks, Pings, Takes, is_behind, ends}
 use Rattle.zk_laws.specs.Run.{Opens, Loses, Halts, Forgets_stale, Goes, opened}
-use Rattle.zk_laws.specs.Seen.{from_zero, seen}
+use Rattle.zk_laws.specs.Seen.{seen}
 use Rattle.zk_laws.specs.Served.{Sent, requests, unread, Line, new_line, is_open, is_going}
 use Rattle.zk_laws.proofs.Seeing.{last_is}
 use Rattle.zk_laws.specs.Flight.{IsCalm, Reached, Letter, frames, messages, answers, Owes, connection, Going, Matches}
@@ -136,7 +136,7 @@ module _ (h : History) (start : Start) (Was : List ℕ → Type 0) where
   up_reached past line link letters g r = reach_as h (from_zero start.last) (record { log = seen start past; link = link }) (record { log = seen start past; link = Up (connection start past line letters) }) (ap (λ l. record { log = seen start past; link = l }) g.up) r
 
   abbrev pub with_requests : Past → Line → List Letter → List Request → Link
-  with_requests past line letters rs = Up (record { requests = rs; messages = messages letters; place = line.place; watches = line.watches; stage = line.stage; talking = is_talking (state_of past) })
+  with_requests past line letters rs = Up (record { requests = rs; messages = messages letters; place = line.server.place; watches = line.server.watches; stage = line.server.stage; talking = is_talking (state_of past) })
 
   asked_requests : (past : Past) (line : Line) (s : Sent) → line.processed ≤ length (requests start past)
       → map (λ s. s.request) (unread start past line) ++ s.request ∷ [] ≡ map (λ s. s.request) (drop line.processed (requests start past ++ s ∷ []))

@@ -13,7 +13,8 @@ use Rattle.zk_laws.specs.Server.{Notice, Watches, fires, leaves_set, fires_all, 
 use Rattle.zk_turns.specs.Turns.{IsAskable}
 use Rattle.zk_laws.specs.Messages.{Message, Accepted, Expired, Replies, Watches_set, Notifies, Pong, Request, Connect, Restore, Ask, Ping}
 use Rattle.zk_laws.specs.Log.{Item, Opened, Lost, Forgets, Took, last, good, AreParts, IsCoherent}
-use Rattle.zk_laws.specs.Steps.{is_behind, ends, Stage, Waiting, Serving, Ended, Connection, Link, Down, Up, World, changes_next, restores, Step, Asks, Pings, Joins, Takes, Advances, Admits, Refuses, Answers, Restores, Pongs, rest_of, IsNext, MayStep, stepped}
+use Rattle.zk_laws.specs.Steps.{is_behind, ends, Connection, Link, Down, Up, World, restores, Step, Asks, Pings, Joins, Takes, rest_of, MayStep, stepped, By_server}
+use Rattle.zk_laws.specs.ServerSteps.{Stage, Waiting, Serving, Ended, changes_next, Advances, Admits, Refuses, Answers, Restores, Pongs, IsNext}
 use Rattle.zk_laws.specs.Run.{start, Move, Opens, Loses, Halts, Forgets_stale, Goes, May, moved, MayGo, gone, IsSchedule, run}
 use Rattle.zk_conversation.specs.Pending.{closes}
 use Rattle.zk_laws.proofs.Basics.{none_sent}
@@ -254,18 +255,18 @@ step_kept h is (Takes m) c log may false e k = go may.1
     go : (c.talking ≡ true) ⊎ (m ≡ Expired) → IsKept h (stepped h (Takes m) c log)
     go (inl t) = absurd cc
     go (inr x) = subst (λ (y : Message). IsKept h (stepped h (Takes y) c log)) (sym x) (start_takes h log c (subst (λ (y : Message). IsNext y c.messages) x may.0) k)
-step_kept h is (Advances sent) c log may true e k = kept_true h log (record c { messages = c.messages ++ map Notifies sent; place = suc c.place; watches = leaves_set_all (changes_next h c.place) c.watches }) e (talk_advances h is log c sent may.1 may.2 k)
-step_kept h is (Advances sent) c log may false e k = kept_false h log (record c { messages = c.messages ++ map Notifies sent; place = suc c.place; watches = leaves_set_all (changes_next h c.place) c.watches }) e (start_advances h is log c sent may.1 may.2 k)
-step_kept h is (Admits seen) c log may true e k = absurd (k.stage may.0)
-step_kept h is (Admits seen) c log may false e k = kept_false h log (record c { requests = rest_of c.requests; messages = c.messages ++ Accepted ∷ []; stage = Serving }) e (start_admits h log c seen may.0 may.1 may.2 k)
-step_kept h is (Refuses seen) c log may true e k = absurd (k.stage may.0)
-step_kept h is (Refuses seen) c log may false e k = kept_false h log (record c { requests = rest_of c.requests; messages = c.messages ++ Expired ∷ []; stage = Ended }) e (start_refuses h log c seen may.0 may.1 k)
-step_kept h is (Answers q r) c log may true e k = kept_true h log (record c { requests = rest_of c.requests; messages = c.messages ++ Replies (question_of q) (zxid_held h c.place) r ∷ []; watches = both c.watches (sets (question_of q) r); stage = if closes (question_of q) then Ended else Serving }) e (talk_answers h is log c q r may.1 may.2 k)
-step_kept h is (Answers q r) c log may false e k = absurd (start_serves h log c (Ask q) may.0 may.1 k)
-step_kept h is (Restores b z part sent) c log may true e k = kept_true h log (record c { requests = rest_of c.requests; messages = c.messages ++ (map Notifies sent ++ Watches_set b (zxid_held h c.place) ∷ []); watches = both c.watches (part_sets z (tree_held h c.place) part) }) e (talk_restores h is log c b z part sent may.1 may.2 k)
-step_kept h is (Restores b z part sent) c log may false e k = absurd (start_serves h log c (Restore b z part) may.0 may.1 k)
-step_kept h is Pongs c log may true e k = kept_true h log (record c { requests = rest_of c.requests; messages = c.messages ++ Pong ∷ [] }) e (talk_pongs h log c may.1 k)
-step_kept h is Pongs c log may false e k = absurd (start_serves h log c Ping may.0 may.1 k)
+step_kept h is (By_server (Advances sent)) c log may true e k = kept_true h log (record c { messages = c.messages ++ map Notifies sent; place = suc c.place; watches = leaves_set_all (changes_next h c.place) c.watches }) e (talk_advances h is log c sent may.1 may.2 k)
+step_kept h is (By_server (Advances sent)) c log may false e k = kept_false h log (record c { messages = c.messages ++ map Notifies sent; place = suc c.place; watches = leaves_set_all (changes_next h c.place) c.watches }) e (start_advances h is log c sent may.1 may.2 k)
+step_kept h is (By_server (Admits seen)) c log may true e k = absurd (k.stage may.0)
+step_kept h is (By_server (Admits seen)) c log may false e k = kept_false h log (record c { requests = rest_of c.requests; messages = c.messages ++ Accepted ∷ []; stage = Serving }) e (start_admits h log c seen may.0 may.1 may.2 k)
+step_kept h is (By_server (Refuses seen)) c log may true e k = absurd (k.stage may.0)
+step_kept h is (By_server (Refuses seen)) c log may false e k = kept_false h log (record c { requests = rest_of c.requests; messages = c.messages ++ Expired ∷ []; stage = Ended }) e (start_refuses h log c seen may.0 may.1 k)
+step_kept h is (By_server (Answers q r)) c log may true e k = kept_true h log (record c { requests = rest_of c.requests; messages = c.messages ++ Replies (question_of q) (zxid_held h c.place) r ∷ []; watches = both c.watches (sets (question_of q) r); stage = if closes (question_of q) then Ended else Serving }) e (talk_answers h is log c q r may.1 may.2 k)
+step_kept h is (By_server (Answers q r)) c log may false e k = absurd (start_serves h log c (Ask q) may.0 may.1 k)
+step_kept h is (By_server (Restores b z part sent)) c log may true e k = kept_true h log (record c { requests = rest_of c.requests; messages = c.messages ++ (map Notifies sent ++ Watches_set b (zxid_held h c.place) ∷ []); watches = both c.watches (part_sets z (tree_held h c.place) part) }) e (talk_restores h is log c b z part sent may.1 may.2 k)
+step_kept h is (By_server (Restores b z part sent)) c log may false e k = absurd (start_serves h log c (Restore b z part) may.0 may.1 k)
+step_kept h is (By_server Pongs) c log may true e k = kept_true h log (record c { requests = rest_of c.requests; messages = c.messages ++ Pong ∷ [] }) e (talk_pongs h log c may.1 k)
+step_kept h is (By_server Pongs) c log may false e k = absurd (start_serves h log c Ping may.0 may.1 k)
 
 -- forgetting what is stale changes nothing that is good
 forget_opening : (h : History) (log : List Item) (stage : Stage) (requests : List Request) (messages : List Message) (place : ℕ) → IsOpening h log stage requests messages place → IsOpening h (Forgets ∷ log) stage requests messages place

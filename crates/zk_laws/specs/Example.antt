@@ -12,7 +12,8 @@ use Rattle.zk_conversation.specs.Results.{Result, Read}
 use Rattle.zk_laws.specs.Server.{Notice}
 use Rattle.zk_laws.specs.Messages.{Replies, Watches_set, Notifies}
 use Rattle.zk_laws.specs.Run.{Move, Opens, Loses, Goes}
-use Rattle.zk_laws.specs.Steps.{Asks, Joins, Takes, Advances, Admits, Answers, Restores}
+use Rattle.zk_laws.specs.Steps.{Asks, Joins, Takes, By_server}
+use Rattle.zk_laws.specs.ServerSteps.{Advances, Admits, Answers, Restores}
 
 abbrev pub root_alone : Tree
 root_alone path = if path_eq path [] then Some (record { content = None; czxid = 0; mzxid = 0; pzxid = 0; ctime = pos 0; mtime = pos 0; version = 0; owner = pos 0 }) else None
@@ -49,8 +50,8 @@ a_changed = record { event = DataChanged; path = at_a }
 -- up to the reply to the setWatches request, the notice still in flight
 abbrev pub until_restored : List Move
 until_restored =
-    Opens 1 ∷ Goes (Admits 0) ∷ Goes (Joins []) ∷ Goes (Asks read_a) ∷ Goes (Answers read_a what_a_held) ∷ Goes (Takes (Replies (question_of read_a) 5 what_a_held))
-    ∷ Loses ∷ Opens 1 ∷ Goes (Admits 5) ∷ Goes (Joins (just_a ∷ [])) ∷ Goes (Restores true 5 just_a []) ∷ Goes (Advances (a_changed ∷ []))
+    Opens 1 ∷ Goes (By_server (Admits 0)) ∷ Goes (Joins []) ∷ Goes (Asks read_a) ∷ Goes (By_server (Answers read_a what_a_held)) ∷ Goes (Takes (Replies (question_of read_a) 5 what_a_held))
+    ∷ Loses ∷ Opens 1 ∷ Goes (By_server (Admits 5)) ∷ Goes (Joins (just_a ∷ [])) ∷ Goes (By_server (Restores true 5 just_a [])) ∷ Goes (By_server (Advances (a_changed ∷ [])))
     ∷ Goes (Takes (Watches_set true 5)) ∷ []
 
 abbrev pub until_told : List Move
@@ -76,6 +77,6 @@ just_b = record { data_watches = at_b ∷ []; exist_watches = []; child_watches 
 -- both are read at 5; on a new connection, to a server at 6, the reply to the first of two parts is taken
 abbrev pub until_first_part : List Move
 until_first_part =
-    Opens 1 ∷ Goes (Admits 0) ∷ Goes (Joins []) ∷ Goes (Asks read_a) ∷ Goes (Asks read_b) ∷ Goes (Answers read_a what_a_held) ∷ Goes (Answers read_b what_a_held)
+    Opens 1 ∷ Goes (By_server (Admits 0)) ∷ Goes (Joins []) ∷ Goes (Asks read_a) ∷ Goes (Asks read_b) ∷ Goes (By_server (Answers read_a what_a_held)) ∷ Goes (By_server (Answers read_b what_a_held))
     ∷ Goes (Takes (Replies (question_of read_a) 5 what_a_held)) ∷ Goes (Takes (Replies (question_of read_b) 5 what_a_held))
-    ∷ Loses ∷ Opens 2 ∷ Goes (Admits 5) ∷ Goes (Joins (just_a ∷ just_b ∷ [])) ∷ Goes (Restores false 5 just_a []) ∷ Goes (Takes (Watches_set false 6)) ∷ []
+    ∷ Loses ∷ Opens 2 ∷ Goes (By_server (Admits 5)) ∷ Goes (Joins (just_a ∷ just_b ∷ [])) ∷ Goes (By_server (Restores false 5 just_a [])) ∷ Goes (Takes (Watches_set false 6)) ∷ []

@@ -11,10 +11,10 @@ use Rattle.zk_conversation.specs.Results.{Result, Refused}
 use Rattle.zk_frames.specs.Frame.{frame}
 use Rattle.zk_history.specs.History.{History}
 use Rattle.zk_laws.specs.Server.{IsOther}
-use Rattle.zk_laws.specs.Messages.{Message, Accepted, Expired, Replies, Watches_set, Request, Ask, Restore}
+use Rattle.zk_laws.specs.Messages.{Message, Accepted, Expired, Replies, Watches_set, Request, Ask, Restore, from_zero}
 use Rattle.zk_laws.specs.Steps.{Connection, Link, Up, World}
 use Rattle.zk_laws.specs.Run.{Move, IsSchedule, run, start as from_start}
-use Rattle.zk_laws.specs.Seen.{from_zero, seen}
+use Rattle.zk_laws.specs.Seen.{seen}
 use Rattle.zk_laws.specs.Served.{Sent, requests, unread, Line, is_going, IsPayload}
 
 -- a schedule leads to the world
@@ -89,9 +89,9 @@ abbrev pub connection : Start → Past → Line → List Letter → Connection
 connection start past line letters = record {
   requests = map (λ s. s.request) (unread start past line);
   messages = messages letters;
-  place = line.place;
-  watches = line.watches;
-  stage = line.stage;
+  place = line.server.place;
+  watches = line.server.watches;
+  stage = line.server.stage;
   talking = is_talking (state_of past);
 }
 

@@ -19,7 +19,8 @@ use Rattle.zk_frames.specs.Frame.{length_field}
 use Rattle.zk_turns.specs.Meaning.{Among}
 use Rattle.zk_laws.specs.Server.{Fits, tree_held}
 use Rattle.zk_laws.specs.Laws.{IsTrueRead, IsTrueWrite, AreRestored}
-use Rattle.zk_laws.specs.Seen.{from_zero, node_answer, names_answer}
+use Rattle.zk_laws.specs.Messages.{from_zero}
+use Rattle.zk_laws.specs.Seen.{node_answer, names_answer}
 use Rattle.zk_laws.specs.Served.{WasSent, Entry, items_in, line_of, is_going, unread}
 
 -- Each answer marked good is what there is to see in the tree: a node's absence, its seven fields, or these with its data;
@@ -74,13 +75,13 @@ DropsAreDue Was (_ ∷ past) = DropsAreDue Was past
 pub record IsQuietAt (h : History) (start : Start) (entries : List Entry) : Type 0 where
   pub going : is_going (past_of start (items_in entries)) ≡ true
   pub talking : is_talking (state_of (past_of start (items_in entries))) ≡ true
-  pub received : (line_of h start entries).coming ≡ []
+  pub received : (line_of h entries).coming ≡ []
   pub taken : held_of (past_of start (items_in entries)) ≡ []
-  pub restored : AreRestored (map (λ sent. sent.request) (unread start (past_of start (items_in entries)) (line_of h start entries)))
+  pub restored : AreRestored (map (λ sent. sent.request) (unread start (past_of start (items_in entries)) (line_of h entries)))
 
 -- the tree of the server of the connection
-abbrev pub tree_of : History → Start → List Entry → Tree
-tree_of h start entries = tree_held h (line_of h start entries).place
+abbrev pub tree_of : History → List Entry → Tree
+tree_of h entries = tree_held h (line_of h entries).server.place
 
 -- All of it at once, by what a client gave: its good answers are the history's at its last seen zxid; each Answer with a
 -- reply's zxid is of a reply that was taken, true there as a read, not below the zxid that the client began with, and to a

@@ -8,7 +8,8 @@ use Rattle.zk_laws.specs.Server.{Watches, Answer, Absent, Known, Full, Names, Fi
 use Rattle.zk_turns.specs.Turns.{IsAskable}
 use Rattle.zk_laws.specs.Messages.{Message, Accepted, Expired, Request, Connect, Restore, Ask, Ping}
 use Rattle.zk_laws.specs.Log.{Item, Took, last, good}
-use Rattle.zk_laws.specs.Steps.{is_behind, Stage, Waiting, Serving, Ended, Connection, Link, Down, Up, World}
+use Rattle.zk_laws.specs.Steps.{is_behind, Connection, Link, Down, Up, World}
+use Rattle.zk_laws.specs.ServerSteps.{Stage, Waiting, Serving, Ended}
 
 -- a child watch stands only at a node that is there
 abbrev pub is_seen : View → Bool

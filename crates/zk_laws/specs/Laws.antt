@@ -1,19 +1,16 @@
--- What holds of each world that a schedule reaches.
+-- What is true of a reply, and when no watches are still to be set again.
 use Rattle.std.specs.FinSet as set
 use Rattle.zk_conversation.specs.Calls as call
 use Rattle.zk_conversation.specs.Calls.{Call}
-use Rattle.zk_history.specs.History.{Text, path_of, Change, Creates, Sets, Deletes, Transaction, History, tree_at, view}
-use Rattle.std.specs.Prelude.{ℕ, ℤ, ◌≡◌, false, List, [], ◌∷◌, Some, IsTrue, ⊤}
+use Rattle.zk_history.specs.History.{path_of, Change, Creates, Sets, Deletes, Transaction, History, tree_at, view}
+use Rattle.std.specs.Prelude.{ℕ, ℤ, ◌≡◌, List, [], ◌∷◌, ⊤}
 use Rattle.zk_history.specs.DataStats.{data_stat_of}
-use Rattle.zk_history.specs.declared.side.Side.{Side}
 use Rattle.zk_history.specs.declared.side.Side.TheVariants.{Data, Child}
 use Rattle.zk_conversation.specs.Questions.{Question, Exists, GetData, GetChildren}
 use Rattle.zk_conversation.specs.Results.{Result, NoNode, Found, Read, Listing, Made, Done}
 use Rattle.zk_turns.specs.Meaning.{Among}
-use Rattle.zk_laws.specs.Server.{Answer, Absent, Known, Full, Names, Fits, IsMadeOf, is_sequential, tree_held}
-use Rattle.zk_laws.specs.Messages.{Message, Request, Connect, Restore, Ask, Ping}
-use Rattle.zk_laws.specs.Log.{good}
-use Rattle.zk_laws.specs.Steps.{is_behind, Connection, Up, World, IsNext}
+use Rattle.zk_laws.specs.Server.{Absent, Known, Full, Names, Fits, IsMadeOf, is_sequential}
+use Rattle.zk_laws.specs.Messages.{Request, Connect, Restore, Ask, Ping}
 
 -- A read that is answered with 0 or -101 is answered with what there is to see at its reply's zxid.
 abbrev pub IsTrueRead : History → Question → ℕ → Result → Type 0
@@ -36,10 +33,6 @@ IsTrueWrite h (call.Create path content mode) zxid (Made at) = (owner : ℤ) × 
 IsTrueWrite h (call.Delete path version) zxid Done = HasChange h zxid (Deletes (path_of path))
 IsTrueWrite h _ zxid _ = ⊤
 
--- No message that comes next is behind the last seen zxid.
-abbrev pub NoneBehind : World → Type 0
-NoneBehind w = (c : Connection) (message : Message) → w.link ≡ Up c → IsNext message c.messages → is_behind w.log message ≡ false
-
 -- No setWatches request is still to be processed.
 abbrev pub AreRestored : List Request → Type 0
 AreRestored [] = ⊤
@@ -47,9 +40,3 @@ AreRestored (Restore is_last relative part ∷ requests) = ⊥
 AreRestored (Connect seen ∷ requests) = AreRestored requests
 AreRestored (Ask question ∷ requests) = AreRestored requests
 AreRestored (Ping ∷ requests) = AreRestored requests
-
--- Where the client talks, has taken all messages, and no setWatches request is under way, each good answer is what the
--- server would answer where it stands.
-abbrev pub AgreesWhenQuiet : History → World → Type 0
-AgreesWhenQuiet h w = (c : Connection) → w.link ≡ Up c → IsTrue c.talking → c.messages ≡ [] → AreRestored c.requests
-    → (side : Side) (path : Text) (answer : Answer) → good side path w.log ≡ Some answer → Fits answer (view side (tree_held h c.place) (path_of path))

@@ -1,6 +1,7 @@
 pub mod Server
 pub mod Messages
 pub mod Log
+pub mod ServerSteps
 pub mod Steps
 pub mod Run
 pub mod Invariant

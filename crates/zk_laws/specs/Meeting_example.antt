@@ -5,7 +5,7 @@ use Rattle.zk_turns.specs.Turns.{Start, new_start, Input, Bytes, Cut, Call, Item
 use Rattle.zk_frames.specs.Frame.{frame}
 use Rattle.zk_turns.specs.Taken.{past_of}
 use Rattle.zk_turns.specs.Rule.{due_signals}
-use Rattle.zk_laws.specs.Steps.{Admits, Answers, Advances}
+use Rattle.zk_laws.specs.ServerSteps.{Admits, Answers, Advances}
 use Rattle.zk_laws.specs.Example.{read_a, what_a_held, a_changed}
 use Rattle.zk_laws.specs.Served.{Entry, Goes_on, Serves, items_in}
 

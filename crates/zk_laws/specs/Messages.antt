@@ -1,9 +1,8 @@
 -- What servers send and what clients send.
-use Rattle.std.specs.FinSet as set
 use Rattle.zk_conversation.specs.Questions.{Question}
 use Rattle.zk_conversation.specs.Calls.{Call}
 use Rattle.zk_watches.specs.Lists.{Lists}
-use Rattle.std.specs.Prelude.{ℕ, Bool, if◌then◌else◌, []}
+use Rattle.std.specs.Prelude.{ℕ, ℤ, pos, negsuc, Bool}
 use Rattle.zk_conversation.specs.Results.{Result}
 use Rattle.zk_laws.specs.Server.{Notice}
 
@@ -23,3 +22,8 @@ pub data Request : Type 0 where
   Restore : (is_last : Bool) → ℕ → Lists → Request
   Ask : Call → Request
   Ping : Request
+
+-- a zxid, where one below 0 counts as 0
+abbrev pub from_zero : ℤ → ℕ
+from_zero (pos n) = n
+from_zero (negsuc n) = 0

@@ -1,11 +1,13 @@
 -- A run of one client against servers, over many connections, message by message.
-use Rattle.std.specs.FinSet as set
-use Rattle.zk_history.specs.History.{History}
-use Rattle.std.specs.Prelude.{ℕ, ◌≤◌, false, List, [], ◌∷◌, length, ⊤}
-use Rattle.zk_laws.specs.Server.{no_watches}
-use Rattle.zk_laws.specs.Messages.{Connect}
-use Rattle.zk_laws.specs.Log.{Item, last, Starts, Opened, Lost, Halted, Forgets}
-use Rattle.zk_laws.specs.Steps.{Connection, Link, World, Step, MayStep, stepped, Waiting, Down, Up}
+use Rattle.zk_history.specs.History.{Text, path_of, History, view}
+use Rattle.zk_history.specs.declared.side.Side.{Side}
+use Rattle.std.specs.Prelude.{ℕ, ◌≡◌, ◌≤◌, false, List, [], ◌∷◌, length, Some, IsTrue, ⊤}
+use Rattle.zk_laws.specs.Server.{no_watches, Answer, Fits, tree_held}
+use Rattle.zk_laws.specs.Messages.{Message, Connect}
+use Rattle.zk_laws.specs.Log.{Item, last, good, Starts, Opened, Lost, Halted, Forgets}
+use Rattle.zk_laws.specs.Steps.{is_behind, Connection, Link, World, Step, MayStep, stepped, Down, Up}
+use Rattle.zk_laws.specs.ServerSteps.{Waiting, IsNext}
+use Rattle.zk_laws.specs.Laws.{AreRestored}
 
 -- A client that starts from a saved zxid, or from 0.
 abbrev pub start : ℕ → World
@@ -59,3 +61,15 @@ IsSchedule h (move ∷ moves) w = May h move w × IsSchedule h moves (moved h mo
 abbrev pub run : History → List Move → World → World
 run h [] w = w
 run h (move ∷ moves) w = run h moves (moved h move w)
+
+-- What holds of each world that a schedule reaches
+
+-- No message that comes next is behind the last seen zxid.
+abbrev pub NoneBehind : World → Type 0
+NoneBehind w = (c : Connection) (message : Message) → w.link ≡ Up c → IsNext message c.messages → is_behind w.log message ≡ false
+
+-- Where the client talks, has taken all messages, and no setWatches request is under way, each good answer is what the
+-- server would answer where it stands.
+abbrev pub AgreesWhenQuiet : History → World → Type 0
+AgreesWhenQuiet h w = (c : Connection) → w.link ≡ Up c → IsTrue c.talking → c.messages ≡ [] → AreRestored c.requests
+    → (side : Side) (path : Text) (answer : Answer) → good side path w.log ≡ Some answer → Fits answer (view side (tree_held h c.place) (path_of path))

@@ -19,10 +19,9 @@ use Rattle.zk_watches.specs.Parts.{parts}
 use Rattle.zk_turns.specs.Taken.{past_of}
 use Rattle.zk_history.specs.History.{History}
 use Rattle.zk_turns.specs.Meaning.{Among}
-use Rattle.zk_laws.specs.Server.{Watches, no_watches}
-use Rattle.zk_laws.specs.Messages.{Message, Accepted, Expired, Replies, Watches_set, Notifies, Pong, Request, Connect, Restore, Ask, Ping}
-use Rattle.zk_laws.specs.Steps.{Stage, Waiting, Ended, Connection, Link, Down, Up, Step, Advances, Admits, Refuses, Answers, Restores, Pongs, MayStep, stepped}
-use Rattle.zk_laws.specs.Seen.{from_zero}
+use Rattle.zk_laws.specs.Server.{no_watches}
+use Rattle.zk_laws.specs.Messages.{Message, Accepted, Expired, Replies, Watches_set, Notifies, Pong, Request, Connect, Restore, Ask, Ping, from_zero}
+use Rattle.zk_laws.specs.ServerSteps.{ServerEnd, Waiting, Ended, ServerStep, Advances, MayDo, messages_by, end_after}
 
 -- What a client asked, as it stands in the bytes that it sent
 
@@ -80,22 +79,19 @@ ArePayloads xid (message ∷ messages) (payload ∷ payloads) = (length payload 
 
 -- A server on the open connection
 
--- where it stands, its watches and its stage; how many requests of the connection it has processed; what it has sent and
--- the client has not received yet
+-- the server's end; how many requests of the connection it has processed; what it has sent and the client has not received yet
 pub record Line : Type 0 where
-  pub place : ℕ
-  pub watches : Watches
-  pub stage : Stage
+  pub server : ServerEnd
   pub processed : ℕ
   pub coming : List ℕ
 
 -- as a connection begins, at a place
 abbrev pub new_line : ℕ → Line
-new_line place = record { place = place; watches = no_watches; stage = Waiting; processed = 0; coming = [] }
+new_line place = record { server = record { place = place; watches = no_watches; stage = Waiting }; processed = 0; coming = [] }
 
 -- before any connection
 abbrev pub no_line : Line
-no_line = record { place = 0; watches = no_watches; stage = Ended; processed = 0; coming = [] }
+no_line = record { server = record { place = 0; watches = no_watches; stage = Ended }; processed = 0; coming = [] }
 
 -- a client that takes bytes
 abbrev pub is_open : State → Bool
@@ -111,60 +107,26 @@ is_going past = is_open (state_of past) && not (has_halted past)
 abbrev pub unread : Start → Past → Line → List Sent
 unread start past line = drop line.processed (requests start past)
 
--- the server with these requests to process
-abbrev pub server_at : Start → Past → Line → Connection
-server_at start past line = record {
-  requests = map (λ sent. sent.request) (unread start past line);
-  messages = [];
-  place = line.place;
-  watches = line.watches;
-  stage = line.stage;
-  talking = true;
-}
-
 -- the xid of the first request
 abbrev pub first_xid : List Sent → ℤ
 first_xid [] = pos 0
 first_xid (sent ∷ more) = sent.xid
 
--- the messages that are on a link
-abbrev pub messages_on : Link → List Message
-messages_on Down = []
-messages_on (Up c) = c.messages
-
--- the steps of a server
-abbrev pub IsServers : Step → Type 0
-IsServers (Advances sent) = ⊤
-IsServers (Admits seen) = ⊤
-IsServers (Refuses seen) = ⊤
-IsServers (Answers question result) = ⊤
-IsServers (Restores is_last relative part sent) = ⊤
-IsServers Pongs = ⊤
-IsServers _ = ⊥
-
 -- all steps of a server but the next transaction process a request
-abbrev pub processes : Step → ℕ
+abbrev pub processes : ServerStep → ℕ
 processes (Advances sent) = 0
 processes _ = 1
 
--- A server's move on the open connection: a step of a server with the requests that stand whole in the bytes sent, whose
--- messages have these payloads.
-pub record MayServe (h : History) (start : Start) (step : Step) (payloads : List (List ℕ)) (past : Past) (line : Line) : Type 0 where
+-- A server's move on the open connection: a step with the requests that stand whole in the bytes sent, whose messages have
+-- these payloads.
+pub record MayServe (h : History) (start : Start) (step : ServerStep) (payloads : List (List ℕ)) (past : Past) (line : Line) : Type 0 where
   pub going : is_going past ≡ true
-  pub servers : IsServers step
-  pub may : MayStep h step (server_at start past line) []
-  pub told : ArePayloads (first_xid (unread start past line)) (messages_on (stepped h step (server_at start past line) []).link) payloads
+  pub may : MayDo h step line.server (map (λ sent. sent.request) (unread start past line))
+  pub told : ArePayloads (first_xid (unread start past line)) (messages_by h step line.server.place) payloads
 
 -- the server afterwards
-abbrev pub line_on : Step → List (List ℕ) → Line → Link → Line
-line_on step payloads line Down = line
-line_on step payloads line (Up c) = record {
-  place = c.place;
-  watches = c.watches;
-  stage = c.stage;
-  processed = line.processed + processes step;
-  coming = line.coming ++ flat_map frame payloads;
-}
+abbrev pub line_on : History → ServerStep → List (List ℕ) → Line → Line
+line_on h step payloads line = record { server = end_after h step line.server; processed = line.processed + processes step; coming = line.coming ++ flat_map frame payloads }
 
 -- What a turn asks of the servers: a connection begins at any place, what is received is a beginning of what was sent.
 abbrev pub MayTurn : History → ℕ → Input → Past → Line → Type 0
@@ -184,7 +146,7 @@ line_after place _ line = line
 -- server's move, with the payloads of what it sends.
 pub data Entry : Type 0 where
   Goes_on : (place : ℕ) → Item → Entry
-  Serves : Step → (payloads : List (List ℕ)) → Entry
+  Serves : ServerStep → (payloads : List (List ℕ)) → Entry
 
 -- the items among the entries, the newest first
 abbrev pub items_in : List Entry → List Item
@@ -198,11 +160,10 @@ line_past place (Turned turn) line = line_after place turn.input line
 line_past place _ line = line
 
 -- the server after these entries
-abbrev pub line_of : History → Start → List Entry → Line
-line_of h start [] = no_line
-line_of h start (Goes_on place item ∷ earlier) = line_past place item (line_of h start earlier)
-line_of h start (Serves step payloads ∷ earlier) =
-    line_on step payloads (line_of h start earlier) (stepped h step (server_at start (past_of start (items_in earlier)) (line_of h start earlier)) []).link
+abbrev pub line_of : History → List Entry → Line
+line_of h [] = no_line
+line_of h (Goes_on place item ∷ earlier) = line_past place item (line_of h earlier)
+line_of h (Serves step payloads ∷ earlier) = line_on h step payloads (line_of h earlier)
 
 -- the payload is one of those that the servers have sent
 abbrev pub WasSent : List Entry → List ℕ → Type 0
@@ -219,7 +180,7 @@ MayEnter h start (Serves step payloads) past line = MayServe h start step payloa
 -- A schedule has the newest entry first, as items have.
 abbrev pub IsServing : History → Start → List Entry → Type 0
 IsServing h start [] = ⊤
-IsServing h start (entry ∷ earlier) = MayEnter h start entry (past_of start (items_in earlier)) (line_of h start earlier) × IsServing h start earlier
+IsServing h start (entry ∷ earlier) = MayEnter h start entry (past_of start (items_in earlier)) (line_of h earlier) × IsServing h start earlier
 
 -- The client was served by servers that hold beginnings of the history: there is a schedule of its items.
 pub record Served (h : History) (start : Start) (items : List Item) : Type 0 where

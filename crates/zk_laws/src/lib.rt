@@ -10,7 +10,7 @@ ghost use Rattle.zk_conversation.specs.Pending.{Pending, Call_waits, part_waits}
 ghost use Rattle.zk_turns.specs.Kept.{Accepted as Takes_acceptance, Expiry, Notifies as Takes_notice, Pong as Takes_pong, Watches_set as Takes_part, kept_data, kept_names, last_of, session_of, Began, Happening, Past, lists_of, Dropped, Took as Takes_in, Replies as Answers_call};
 ghost use Rattle.zk_turns.specs.Taken.{cut, Payload, reading, past_of};
 ghost use Rattle.zk_laws.specs.Server.{left_by, Notice, Fits, Full, zxid_held};
-ghost use Rattle.zk_laws.specs.Messages.{Accepted, Expired as Expired_session, Notifies, Pong, Watches_set, Replies};
+ghost use Rattle.zk_laws.specs.Messages.{Accepted, Expired as Expired_session, Notifies, Pong, Watches_set, Replies, from_zero};
 ghost use Rattle.zk_laws.specs.Served.{IsPayload, WasSent, Served, Entry, items_in, requests, IsServing, MayEnter, Line, no_line, line_of};
 ghost use Rattle.zk_laws.specs.Flight.{HasCode, Matches};
 ghost use Rattle.zk_history.specs.declared.side.Side.TheVariants.{Child, Data};
@@ -19,11 +19,12 @@ ghost use Rattle.zk_conversation.specs.Questions.{Question};
 ghost use Rattle.zk_conversation.specs.Results.{Result};
 ghost use Rattle.zk_turns.specs.Turns.{Start, Fault, Drop, Replied, Answer as Given_answer, Item as Client_item};
 ghost use Rattle.zk_laws.specs.Invariant.{IsKept};
-ghost use Rattle.zk_laws.specs.Laws.{AgreesWhenQuiet, IsTrueRead, IsTrueWrite, NoneBehind};
+ghost use Rattle.zk_laws.specs.Laws.{IsTrueRead, IsTrueWrite};
 ghost use Rattle.zk_laws.specs.Example.{at_a, at_b, fields_at_five, two_changes, two_nodes, until_first_part, until_restored, until_told};
 ghost use Rattle.zk_laws.specs.Log.{good, IsCoherent, last, Took, listed, Of_data, Of_absence, Of_children, Item};
-ghost use Rattle.zk_laws.specs.Run.{IsSchedule, May, Move, moved, run, start};
-ghost use Rattle.zk_laws.specs.Steps.{World, Answers, Connection, MayStep};
+ghost use Rattle.zk_laws.specs.Run.{IsSchedule, May, Move, moved, run, start, AgreesWhenQuiet, NoneBehind};
+ghost use Rattle.zk_laws.specs.Steps.{World, By_server, Connection, MayStep};
+ghost use Rattle.zk_laws.specs.ServerSteps.{Answers};
 ghost use Rattle.zk_turns.specs.Meaning.{Among};
 ghost use Rattle.zk_cache.specs.declared.held.Mark.TheVariants.{Good};
 ghost use Rattle.zk_watches.specs.Lists.{Lists};
@@ -37,7 +38,7 @@ ghost use Rattle.zk_turns.specs.Sent.{sends, outputs_of};
 ghost use Rattle.zk_frames.specs.Frame.{frame, joined};
 ghost use Rattle.zk_laws.specs.Parsed.{AreTold, IsCutInto, IsRecord, AreReadAs, stream_of, payloads_of};
 ghost use Rattle.zk_turns.specs.Ranges.{IsResumable, IsTyped, AllAskOf};
-ghost use Rattle.zk_laws.specs.Seen.{seen, from_zero, node_answer, names_answer, if_good};
+ghost use Rattle.zk_laws.specs.Seen.{seen, node_answer, names_answer, if_good};
 ghost use Rattle.zk_laws.specs.Headline.{Headline, IsCoherentWith, ReadsAreTrue, WritesAreTrue, RepliesAreAbove, DropsAreDue, IsQuietAt, IsTrueOf, tree_of};
 
 /// The headline: a client that stands at its items and was served keeps good answers that are the history's at its last
@@ -57,9 +58,9 @@ pub fn coherence()
 /// and gives coherence.
 pub fn one_entry()
     ensures begins { (h : History) → IsHistory h → (start : Start) → Matches h start (WasSent []) [] no_line }
-    ensures goes_on { (h : History) → IsHistory h → (start : Start) (entry : Entry) (earlier : List Entry) → AllAsked (items_in (entry ∷ earlier)) → MayEnter h start entry (past_of start (items_in earlier)) (line_of h start earlier)
-        → Matches h start (WasSent earlier) (past_of start (items_in earlier)) (line_of h start earlier)
-        → Matches h start (WasSent (entry ∷ earlier)) (past_of start (items_in (entry ∷ earlier))) (line_of h start (entry ∷ earlier)) }
+    ensures goes_on { (h : History) → IsHistory h → (start : Start) (entry : Entry) (earlier : List Entry) → AllAsked (items_in (entry ∷ earlier)) → MayEnter h start entry (past_of start (items_in earlier)) (line_of h earlier)
+        → Matches h start (WasSent earlier) (past_of start (items_in earlier)) (line_of h earlier)
+        → Matches h start (WasSent (entry ∷ earlier)) (past_of start (items_in (entry ∷ earlier))) (line_of h (entry ∷ earlier)) }
     ensures coherent { (h : History) → IsHistory h → (start : Start) (entries : List Entry) (items : List Client_item) (view : View) (line : Line) → Stands start items view → Matches h start (WasSent entries) (past_of start items) line → IsCoherentWith h view }
 {}
 
@@ -86,7 +87,7 @@ pub fn above_the_saved()
 #[tactic(auto, using(crate::proofs::Headlines::quiet_client))]
 pub fn quiet_client()
     ensures { (h : History) → IsHistory h → (start : Start) (entries : List Entry) (view : View) → IsServing h start entries → Stands start (items_in entries) view
-        → IsQuietAt h start entries → IsTrueOf (tree_of h start entries) view.cache }
+        → IsQuietAt h start entries → IsTrueOf (tree_of h entries) view.cache }
 {}
 
 /// What is good, and the last seen zxid, are the same by the look back over a past and by the items of a run.
@@ -195,7 +196,7 @@ pub fn coherent_runs()
 pub fn true_replies()
     ensures reads { (h : History) → IsHistory h → (saved : ℕ) (moves : List Move) → IsSchedule h moves (start saved)
         → (question : Question) (zxid : ℕ) (result : Result) → Among (Took (Replies question zxid result)) (run h moves (start saved)).log → IsTrueRead h question zxid result }
-    ensures writes { (h : History) (call : Call) (result : Result) (c : Connection) (log : List Item) → MayStep h (Answers call result) c log → IsTrueWrite h call (zxid_held h c.place) result }
+    ensures writes { (h : History) (call : Call) (result : Result) (c : Connection) (log : List Item) → MayStep h (By_server (Answers call result)) c log → IsTrueWrite h call (zxid_held h c.place) result }
 {}
 
 /// No reply that leaves a watch comes with a zxid below the last seen one.

@@ -1,5 +1,6 @@
 use Rattle.std.proofs.Common.{refl}
-use Rattle.zk_laws.specs.Steps.{Answers}
+use Rattle.zk_laws.specs.Steps.{By_server}
+use Rattle.zk_laws.specs.ServerSteps.{Answers}
 use Rattle.zk_laws.proofs.More.{reads_true, writes_true}
 use Rattle.zk_laws.proofs.true_replies.Goals as goal
 
@@ -7,4 +8,4 @@ pub returns-clause-reads : goal.returns-clause-reads
 returns-clause-reads c h is saved moves may question zxid result among = reads_true h is saved moves may question zxid result among
 
 pub returns-clause-writes : goal.returns-clause-writes
-returns-clause-writes c h call result connection log may = writes_true h (Answers call result) connection log call result refl may
+returns-clause-writes c h call result connection log may = writes_true h (By_server (Answers call result)) connection log call result refl may
