@@ -27,21 +27,9 @@ total_of watches = sum_by weight_of watches
 
 -- the path before the others of its list
 abbrev pub put_first : Watch → Lists → Lists
-put_first (OnData path) part = record {
-  data_watches = path ∷ part.data_watches;
-  exist_watches = part.exist_watches;
-  child_watches = part.child_watches;
-}
-put_first (OnExist path) part = record {
-  data_watches = part.data_watches;
-  exist_watches = path ∷ part.exist_watches;
-  child_watches = part.child_watches;
-}
-put_first (OnChild path) part = record {
-  data_watches = part.data_watches;
-  exist_watches = part.exist_watches;
-  child_watches = path ∷ part.child_watches;
-}
+put_first (OnData path) part = record part { data_watches = path ∷ part.data_watches }
+put_first (OnExist path) part = record part { exist_watches = path ∷ part.exist_watches }
+put_first (OnChild path) part = record part { child_watches = path ∷ part.child_watches }
 
 -- the path into the first of these parts
 abbrev pub into_first : Watch → List Lists → List Lists
