@@ -1,5 +1,5 @@
 //! Reading frames from a stream that comes in pieces.
-ghost use Rattle.std.specs.Prelude.{◌≡◌, ◌-◌, ◌≤◌, [], ◌++◌, None, drop, IfSome, IsOkUnless, OnOk, OnErr, vec_len};
+ghost use Rattle.std.specs.Prelude.{◌≡◌, ◌-◌, ◌≤◌, [], ◌++◌, None, drop, IfSome, IsOkUnless, IsOk, OnOk, OnErr, vec_len};
 ghost use Rattle.std.specs.Borrow.{sem};
 ghost use Rattle.std.specs.Io.BufRead.{Rests};
 ghost use Rattle.zk_frames.specs.contracts.reader.FrameReader.{the_row};
@@ -16,8 +16,9 @@ pub const LONGEST_INCOMING: usize = 4_194_304;
 /// Cuts a stream into frames. It holds what was fed and not yet given, or, once a length was wrong, that fault alone.
 ///
 /// It is one vector and a place in it: [`next_frame`](FrameReader::next_frame) only moves the place, and
-/// [`feed`](FrameReader::feed) lets go what was given before it takes a piece. So where all frames are asked for after
-/// each piece, no byte moves more than once, and fewer than 4,194,308 bytes and the last piece are in memory.
+/// [`feed`](FrameReader::feed) and [`adopt`](FrameReader::adopt) let go what was given before they take a piece. So where
+/// all frames are asked for after each piece, no byte moves more than once, none of a piece that was adopted where nothing
+/// was held, and fewer than 4,194,308 bytes and the last piece are in memory.
 #[derive(Drop)]
 pub struct FrameReader<A: Allocator> {
     // What lies before the place was given.
@@ -72,6 +73,23 @@ impl<A: Allocator> FrameReader<A> {
         remove_front(&mut self.bytes, self.place);
         self.place = 0;
         self.bytes.extend_from_slice(piece)?;
+        Ok(())
+    }
+
+    /// Takes the next piece of the stream as [`feed`](FrameReader::feed) does, and the piece itself with it: where nothing is
+    /// held, it becomes the reader's own vector. No byte moves then, and no memory is taken.
+    pub fn adopt(&mut self, piece: Vec<u8, A>) -> Result<(), FrameFault>
+        ensures ok { OnOk result (self.new ≡ reading (self.old.bytes ++ piece.items)) }
+        ensures err { OnErr result (self.new ≡ settled self.old) }
+        ensures failed { IfSome self.old.fault (λ fault. result ≡ Err fault) }
+        ensures memory_only { self.old.fault ≡ None → IsOkUnless result FrameFault.Memory }
+        ensures memory { self.old.fault ≡ None → self.old.bytes ≡ [] → IsOk result }
+    {
+        if self.fault.is_some() || self.place < self.bytes.len() {
+            return self.feed(&piece);
+        }
+        self.bytes = piece;
+        self.place = 0;
         Ok(())
     }
 

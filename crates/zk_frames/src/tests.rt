@@ -8,14 +8,12 @@ const STREAM: [u8; 18] = [
     0, 0, 0, 2, b'h', b'i', 0, 0, 0, 0, 0, 0, 0, 3, b'a', b'b', b'c', 0,
 ];
 
-// Feeds a piece, and copies the payload of each frame that is whole by then.
+// Copies the payload of each frame that is whole.
 fn take_whole<A: Allocator>(
     alloc: Global,
     reader: &mut FrameReader<A>,
-    piece: &[u8],
     out: &mut Vec<Vec<u8>>,
 ) -> Result<(), FrameFault> {
-    reader.feed(piece)?;
     while let Some(payload) = reader.next_frame()? {
         let copy = Vec::from_slice(alloc, payload)?;
         out.push(copy).map_err(AllocError::from)?;
@@ -34,10 +32,23 @@ fn payloads<A: Allocator>(
     let mut out = Vec::new(alloc);
     let (front, back) = STREAM.split_at_checked(cut).unwrap_or((&[], &[]));
     for piece in [front, back] {
-        if take_whole(alloc, &mut reader, piece, &mut out) == Err(FrameFault::Memory) {
+        if reader.feed(piece) == Err(FrameFault::Memory) {
             *refusals = refusals.saturating_add(1);
-            take_whole(alloc, &mut reader, piece, &mut out)?;
+            reader.feed(piece)?;
         }
+        take_whole(alloc, &mut reader, &mut out)?;
+    }
+    Ok(out)
+}
+
+// What a reader that takes the two pieces over gives of the stream.
+fn adopted(alloc: Global, cut: usize) -> Result<Vec<Vec<u8>>, FrameFault> {
+    let mut reader = FrameReader::new(alloc);
+    let mut out = Vec::new(alloc);
+    let (front, back) = STREAM.split_at_checked(cut).unwrap_or((&[], &[]));
+    for piece in [front, back] {
+        reader.adopt(Vec::from_slice(alloc, piece)?)?;
+        take_whole(alloc, &mut reader, &mut out)?;
     }
     Ok(out)
 }
@@ -52,6 +63,7 @@ fn gives_the_frames_however_cut(rt: HostRuntime) -> Result<(), Fail> {
         assert_eq!(rt; got[0].as_slice(), b"hi".as_slice(), "cut at {cut}");
         assert_eq!(rt; got[1].as_slice(), b"".as_slice(), "cut at {cut}");
         assert_eq!(rt; got[2].as_slice(), b"abc".as_slice(), "cut at {cut}");
+        assert_eq!(rt; adopted(alloc, cut)?, got, "adopted, cut at {cut}");
     }
     assert_eq!(rt; none, 0);
     Ok(())
@@ -77,6 +89,23 @@ fn tells_each_refusal_and_goes_on(rt: HostRuntime) -> Result<(), Fail> {
     Ok(())
 }
 
+// Where nothing is held a piece costs no memory. Else the same bytes are held where it is refused.
+#[test]
+fn adopts_without_memory(rt: HostRuntime) -> Result<(), Fail> {
+    let heap = Refusing::after(2, rt.alloc());
+    let mut reader = FrameReader::new(&heap);
+    let (front, back) = STREAM.split_at(2);
+    let first = Vec::from_slice(&heap, front)?;
+    let second = Vec::from_slice(&heap, back)?;
+    assert_eq!(rt; reader.adopt(first), Ok(()));
+    assert_eq!(rt; reader.adopt(second), Err(FrameFault::Memory));
+    assert_eq!(rt; reader.feed(back), Ok(()));
+    let mut out = Vec::new(rt.alloc());
+    assert_eq!(rt; take_whole(rt.alloc(), &mut reader, &mut out), Ok(()));
+    assert_eq!(rt; out.len(), 3);
+    Ok(())
+}
+
 #[test]
 fn keeps_to_the_limits(rt: HostRuntime) -> Result<(), Fail> {
     let alloc = rt.alloc();
@@ -90,16 +119,14 @@ fn keeps_to_the_limits(rt: HostRuntime) -> Result<(), Fail> {
     ] {
         reader.reset();
         let mut out = Vec::new(alloc);
+        assert_eq!(rt; reader.feed(&length), Ok(()), "{length:?}");
         assert_eq!(rt;
-            take_whole(alloc, &mut reader, &length, &mut out),
+            take_whole(alloc, &mut reader, &mut out),
             want,
             "{length:?}"
         );
-        assert_eq!(rt;
-            take_whole(alloc, &mut reader, b"", &mut out),
-            want,
-            "{length:?} again"
-        );
+        assert_eq!(rt; reader.feed(b""), want, "{length:?} again");
+        assert_eq!(rt; reader.adopt(Vec::new(alloc)), want, "{length:?} adopted");
     }
     Ok(())
 }
