@@ -29,7 +29,7 @@ pub(crate) fn is_open(state: State) -> bool
 pub(crate) fn hear<A: Allocator + Copy>(
     core: &mut Core<A>,
     reader: &mut FrameReader<A>,
-    bytes: &[u8],
+    piece: Vec<u8, A>,
     outputs: &mut Vec<Output<A>, A>,
 ) -> Result<(), AllocError>
     requires sound { CoreIsSound core.old }
@@ -37,19 +37,19 @@ pub(crate) fn hear<A: Allocator + Copy>(
     requires goes_on { core.old.halted ≡ false }
     ensures sound { OnOk result (CoreIsSound core.new) }
     ensures reading { OnOk result (IsReading reader.new) }
-    ensures next { OnOk result (view_with reader.new.bytes core.new ≡ after_signals (view_with reader.old.bytes core.old) (map Comes bytes.now)) }
-    ensures says { OnOk result (said outputs.new.items ≡ said outputs.old.items ++ says_signals (view_with reader.old.bytes core.old) (map Comes bytes.now)) }
+    ensures next { OnOk result (view_with reader.new.bytes core.new ≡ after_signals (view_with reader.old.bytes core.old) (map Comes piece.items)) }
+    ensures says { OnOk result (said outputs.new.items ≡ said outputs.old.items ++ says_signals (view_with reader.old.bytes core.old) (map Comes piece.items)) }
     ensures quiet { ¬ (IsOpen core.old.session.state) → IsOk result }
     ensures origin { origin core.new ≡ origin core.old }
 {
     if !is_open(core.session.state()) {
         return Ok(());
     }
-    if bytes.is_empty() {
+    if piece.is_empty() {
         return Ok(());
     }
     core.session.heard(0);
-    let Ok(()) = reader.feed(bytes) else {
+    let Ok(()) = reader.adopt(piece) else {
         return Err(AllocError);
     };
     take_frames(core, reader, outputs)?;

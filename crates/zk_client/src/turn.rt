@@ -51,7 +51,7 @@ pub(crate) fn turn<A: Allocator + Copy>(
 {
     match input {
         Input::Opened => opened(core, reader, outputs)?,
-        Input::Bytes(bytes) => hear(core, reader, &bytes, outputs)?,
+        Input::Bytes(piece) => hear(core, reader, piece, outputs)?,
         Input::Cut => cut(core, reader, outputs)?,
         Input::Now(moment) => now(core, reader, moment, outputs)?,
         Input::Call(ticket, call) => core.ask(ticket, call, outputs)?,

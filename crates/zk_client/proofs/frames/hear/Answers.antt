@@ -14,28 +14,28 @@ pub returns-then-not-is_open-clause-next : goal.returns-then-not-is_open-clause-
 returns-then-not-is_open-clause-next g c =
     let core = c.args.core.now in
     let down : IsOpen core.session.state → ⊥ = λ up. c.is_open.ensures.no c.if-not-is_open.true (subst IsOpen (sym c.state.ensures) up) in
-    sym (unheard_view c.args.bytes.now (view_with c.args.reader.now.bytes core) down)
+    sym (unheard_view c.args.piece.items (view_with c.args.reader.now.bytes core) down)
 
 pub returns-then-not-is_open-clause-says : goal.returns-then-not-is_open-clause-says
 returns-then-not-is_open-clause-says g c =
     let core = c.args.core.now in
     let down : IsOpen core.session.state → ⊥ = λ up. c.is_open.ensures.no c.if-not-is_open.true (subst IsOpen (sym c.state.ensures) up) in
-    sym (append-nil (said c.args.outputs.now.items)) ∙ ap (λ (l : List Output). said c.args.outputs.now.items ++ l) (sym (unheard_says c.args.bytes.now (view_with c.args.reader.now.bytes core) down))
+    sym (append-nil (said c.args.outputs.now.items)) ∙ ap (λ (l : List Output). said c.args.outputs.now.items ++ l) (sym (unheard_says c.args.piece.items (view_with c.args.reader.now.bytes core) down))
 
 pub returns-clause-next : goal.returns-clause-next
 returns-clause-next g c =
     let core = c.args.core.now in
     let up : IsOpen core.session.state = subst IsOpen c.state.ensures (c.is_open.ensures.yes c.if-not-is_open.false) in
-    let some : 0 < length c.args.bytes.now = grind (arith, nat_tests) in
+    let some : 0 < length c.args.piece.items = grind (arith, nat_tests) in
     c.in_ok-take_frames.ensures.next
     ∙ ap (λ (h : Held). after_signals (view_with [] (record core { session = c.heard.new.self })) (map Comes h.bytes)) c.in-Ok.ensures.ok
-    ∙ whole-view c.args.reader.now.bytes c.args.bytes.now core.halted core.session c.heard.new.self core.conversation core.registry core.cache up c.requires.goes_on c.requires.reading.less some c.heard.ensures
+    ∙ whole-view c.args.reader.now.bytes c.args.piece.items core.halted core.session c.heard.new.self core.conversation core.registry core.cache up c.requires.goes_on c.requires.reading.less some c.heard.ensures
 
 pub returns-clause-says : goal.returns-clause-says
 returns-clause-says g c =
     let core = c.args.core.now in
     let up : IsOpen core.session.state = subst IsOpen c.state.ensures (c.is_open.ensures.yes c.if-not-is_open.false) in
-    let some : 0 < length c.args.bytes.now = grind (arith, nat_tests) in
+    let some : 0 < length c.args.piece.items = grind (arith, nat_tests) in
     c.in_ok-take_frames.ensures.says
     ∙ ap (λ (h : Held). said c.args.outputs.now.items ++ says_signals (view_with [] (record core { session = c.heard.new.self })) (map Comes h.bytes)) c.in-Ok.ensures.ok
-    ∙ ap (λ (l : List Output). said c.args.outputs.now.items ++ l) (whole-says c.args.reader.now.bytes c.args.bytes.now core.halted core.session c.heard.new.self core.conversation core.registry core.cache up c.requires.goes_on c.requires.reading.less some c.heard.ensures)
+    ∙ ap (λ (l : List Output). said c.args.outputs.now.items ++ l) (whole-says c.args.reader.now.bytes c.args.piece.items core.halted core.session c.heard.new.self core.conversation core.registry core.cache up c.requires.goes_on c.requires.reading.less some c.heard.ensures)
