@@ -1,4 +1,4 @@
-//! The limits of calls, a run in memory, and refused memory.
+//! The limits of calls, a run in memory, and memory: refused, and counted.
 
 use crate::{Client, Input, Outcome, Output, Recorded, run};
 use refusing::Refusing;
@@ -198,4 +198,120 @@ fn a_refused_step_halts(rt: HostRuntime) -> Result<(), Fail> {
     }
     assert!(rt; false, "no run without a refusal");
     Ok(())
+}
+
+// The notice that the data of `/b` are other ones.
+const CHANGED: [u8; 34] = [
+    0, 0, 0, 0x1e, 0xff, 0xff, 0xff, 0xff, 0xff, 0xff, 0xff, 0xff, 0xff, 0xff, 0xff, 0xff, 0, 0, 0,
+    0, 0, 0, 0, 3, 0, 0, 0, 3, 0, 0, 0, 2, 0x2f, 0x62,
+];
+
+// The same but for its first five bytes.
+const REST: &[u8] = &[
+    0xff, 0xff, 0xff, 0xff, 0xff, 0xff, 0xff, 0xff, 0xff, 0xff, 0xff, 0, 0, 0, 0, 0, 0, 0, 3, 0, 0,
+    0, 3, 0, 0, 0, 2, 0x2f, 0x62,
+];
+
+// Data as they are spelled: none, and two bytes.
+const NULL: &[u8] = &[0xff, 0xff, 0xff, 0xff];
+
+const HI: &[u8] = &[0, 0, 0, 2, b'h', b'i'];
+
+#[derive(Clone, Copy)]
+enum Happens {
+    Opens,
+    /// The data of `/b` are asked for, with a watch.
+    Asks,
+    /// A piece comes.
+    Comes(&'static [u8]),
+    /// The reply with this xid comes, with these data.
+    Replies(u32, &'static [u8]),
+}
+
+// What happens to a client, and how often the step requests memory, the one request for its piece among them.
+const COURSE: [(Happens, Option<u32>); 17] = [
+    (Happens::Opens, None),
+    (Happens::Comes(&ACCEPTED), None),
+    (Happens::Asks, None),
+    (Happens::Replies(1, NULL), None),
+    // The report: its path's text, and its place among the outputs.
+    (Happens::Comes(&CHANGED), Some(3)),
+    // The path is not watched any more.
+    (Happens::Comes(&CHANGED), Some(1)),
+    (Happens::Asks, None),
+    // The place of the answer, and the path's text in the list of those watched.
+    (Happens::Replies(2, NULL), Some(3)),
+    (Happens::Comes(&CHANGED), Some(3)),
+    (Happens::Asks, None),
+    // The same, and the data twice: kept, and answered.
+    (Happens::Replies(3, HI), Some(5)),
+    // An unfinished frame becomes what is held.
+    (Happens::Comes(&[0, 0, 0, 0x1e, 0xff]), Some(1)),
+    // What is held grows, and the report.
+    (Happens::Comes(REST), Some(4)),
+    (Happens::Asks, None),
+    (Happens::Replies(4, HI), Some(5)),
+    (Happens::Comes(&CHANGED), Some(3)),
+    (Happens::Comes(&CHANGED), Some(1)),
+];
+
+/// The frame of a reply with zxid 5, these data and a Stat of zeros, in one request for memory.
+fn found<A: Allocator>(alloc: A, xid: u32, data: &[u8]) -> Result<Vec<u8, A>, AllocError> {
+    let mut frame = Vec::with_capacity(alloc, 94)?;
+    frame.extend_from_slice(&[0, 0, 0, 0x5a])?;
+    frame.extend_from_slice(&xid.to_be_bytes())?;
+    frame.extend_from_slice(&[0, 0, 0, 0, 0, 0, 0, 5, 0, 0, 0, 0])?;
+    frame.extend_from_slice(data)?;
+    frame.resize(94, 0)?;
+    Ok(frame)
+}
+
+fn input<A: Allocator + Copy>(alloc: A, what: Happens) -> Result<Input<A>, AllocError> {
+    match what {
+        Happens::Opens => Ok(Input::Opened),
+        Happens::Asks => {
+            let path = path_of(alloc, "/b")?;
+            let watch = true;
+            Ok(Input::Call(7, Call::GetData { path, watch }))
+        }
+        Happens::Comes(piece) => Ok(Input::Bytes(Vec::from_slice(alloc, piece)?)),
+        Happens::Replies(xid, data) => Ok(Input::Bytes(found(alloc, xid, data)?)),
+    }
+}
+
+/// Whether the first of these steps, so many, request memory more often than this.
+fn exceeds(alloc: Global, steps: usize, passed: u32) -> bool {
+    let heap = Refusing::after(passed, alloc);
+    let mut client = Client::new(&heap, 30_000);
+    for (what, _) in COURSE.iter().take(steps) {
+        let Ok(input) = input(&heap, *what) else {
+            return true;
+        };
+        if client.step(input).is_err() {
+            return true;
+        }
+    }
+    heap.has_refused()
+}
+
+/// How often they request memory, with their inputs.
+fn requests(alloc: Global, steps: usize) -> u32 {
+    for passed in 0..1_000u32 {
+        if !exceeds(alloc, steps, passed) {
+            return passed;
+        }
+    }
+    1_000
+}
+
+#[test]
+fn a_notice_costs_its_report(rt: HostRuntime) {
+    let mut before = 0u32;
+    for (at, (_, want)) in COURSE.iter().enumerate() {
+        let sum = requests(rt.alloc(), at.wrapping_add(1));
+        if let Some(want) = want {
+            assert_eq!(rt; sum, before.wrapping_add(*want), "step {at}");
+        }
+        before = sum;
+    }
 }
