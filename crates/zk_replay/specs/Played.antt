@@ -5,8 +5,9 @@ use Rattle.zk_history.specs.History.{Text}
 use Rattle.zk_history.specs.declared.side.Side.TheVariants.{Data, Child}
 use Rattle.zk_turns.specs.Turns.{Input, Opened, Bytes, Cut, Now, Call, Output, Start, new_start}
 use Rattle.zk_turns.specs.View.{View, view_at}
-use Rattle.zk_turns.specs.Rule.{Rule, forgotten}
+use Rattle.zk_turns.specs.Rule.{Rule, HaltsAs, forgotten}
 use Rattle.zk_client.specs.Clients.{view_of}
+use Rattle.zk_client.specs.Steps.{IsQuiet}
 use Rattle.zk_script.specs.Pieces.{words_of}
 use Rattle.zk_script.specs.declared.script_fault.ScriptFault.{ScriptFault}
 use Rattle.zk_script.specs.declared.script_fault.ScriptFault.TheVariants as refused
@@ -95,6 +96,52 @@ abbrev pub IsWant : Stop → Type 0
 IsWant (Refused fault) = ⊥
 IsWant Halted = ⊤
 IsWant Memory = ⊤
+
+-- this, where a step of the client ran out of memory
+abbrev pub IfHalted : Type 0 → Stop → Type 0
+IfHalted halts (Refused fault) = ⊤
+IfHalted halts Halted = halts
+IfHalted halts Memory = ⊤
+
+-- A client halts at an input of which something comes.
+pub record HaltsAt (input : Input) (old new : View) : Type 0 where
+  pub loud : ¬ (IsQuiet old input)
+  pub halts : HaltsAs old new
+
+-- A client halts at what a line says: at an input, and at no look-up.
+abbrev pub HaltsClient : ClientValue → View → View → Type 0
+HaltsClient CutLine old new = HaltsAt Cut old new
+HaltsClient (NowLine moment) old new = HaltsAt (Now moment) old new
+HaltsClient (CallLine asked) old new = HaltsAt (Call asked.ticket asked.call) old new
+HaltsClient value old new = ⊥
+
+abbrev pub HaltsDrive : DriveValue → View → View → Type 0
+HaltsDrive OpenedLine old new = HaltsAt Opened old new
+HaltsDrive (BytesLine bytes) old new = HaltsAt (Bytes bytes) old new
+HaltsDrive (ClientValueLine value) old new = HaltsClient value old new
+
+-- What was said is an input, and the client that was there halts at it.
+pub record HaltsSaid (said : Result ReplayValue ScriptFault) (old new : Option View) : Type 0 where
+  pub value : DriveValue
+  pub says : said ≡ Ok (Drives value)
+  pub before : View
+  pub after : View
+  pub was : old ≡ Some before
+  pub is : new ≡ Some after
+  pub halts : HaltsDrive value before after
+
+-- So do the words of a line.
+pub record HaltsWords (words : List Text) (old new : Option View) : Type 0 where
+  pub value : DriveValue
+  pub says : says_at words (is_some old) ≡ Ok (Some (Drives value))
+  pub before : View
+  pub after : View
+  pub was : old ≡ Some before
+  pub is : new ≡ Some after
+  pub halts : HaltsDrive value before after
+
+abbrev pub HaltsLine : Text → Option View → Option View → Type 0
+HaltsLine line old new = HaltsWords (words_of line) old new
 
 abbrev pub stop_of : ScriptFault → Stop
 stop_of refused.Memory = Memory

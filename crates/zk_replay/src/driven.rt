@@ -7,7 +7,7 @@ ghost use Rattle.zk_client.specs.Views.{input_view};
 ghost use Rattle.zk_replay.specs.Lines.{begin_value_of, client_value_of, drive_value_of};
 ghost use Rattle.zk_replay.specs.ClientLines.{PeekLine};
 ghost use Rattle.zk_replay.specs.ReplayLines.{CanBegin};
-ghost use Rattle.zk_replay.specs.Played.{start_of, DoesClient, DoesDrive, IsWant, TakesTurn};
+ghost use Rattle.zk_replay.specs.Played.{start_of, DoesClient, DoesDrive, HaltsAt, HaltsClient, HaltsDrive, IfHalted, IsWant, TakesTurn};
 
 use crate::begin_line::BeginLine;
 use crate::client_line::ClientLine;
@@ -51,6 +51,7 @@ fn stepped<A: Allocator + Copy>(
 ) -> Result<String<A>, Stop>
     ensures ok { IfOk result (λ text. TakesTurn (input_view input) (view_of client.old) (view_of client.new) (string_bytes text)) }
     ensures err { IfErr result IsWant }
+    ensures halt { IfErr result (IfHalted (HaltsAt (input_view input) (view_of client.old) (view_of client.new))) }
 {
     let outputs = client.step(input)?;
     let text = outputs_text(alloc, outputs.as_slice())?;
@@ -72,7 +73,8 @@ fn peeked<A: Allocator + Copy>(
     }
 }
 
-/// Does with a client what a line says, and gives what is to be printed.
+/// Does with a client what a line says, and gives what is to be printed. Where that is answered by a halt, the line is an input,
+/// and the client has halted at it.
 pub fn driven<A: Allocator + Copy>(
     alloc: A,
     client: &mut Client<A>,
@@ -80,6 +82,7 @@ pub fn driven<A: Allocator + Copy>(
 ) -> Result<String<A>, Stop>
     ensures ok { IfOk result (λ text. DoesClient (client_value_of line) (view_of client.old) (view_of client.new) (string_bytes text)) }
     ensures err { IfErr result IsWant }
+    ensures halt { IfErr result (IfHalted (HaltsClient (client_value_of line) (view_of client.old) (view_of client.new))) }
 {
     match line {
         ClientLine::Cut => stepped(alloc, client, Input::Cut),
@@ -98,7 +101,8 @@ pub fn driven<A: Allocator + Copy>(
     }
 }
 
-/// Does with a client what a line of a replay says, and gives what is to be printed.
+/// Does with a client what a line of a replay says, and gives what is to be printed. Where that is answered by a halt, the line
+/// is an input, and the client has halted at it.
 pub fn replayed<A: Allocator + Copy>(
     alloc: A,
     client: &mut Client<A>,
@@ -106,6 +110,7 @@ pub fn replayed<A: Allocator + Copy>(
 ) -> Result<String<A>, Stop>
     ensures ok { IfOk result (λ text. DoesDrive (drive_value_of line) (view_of client.old) (view_of client.new) (string_bytes text)) }
     ensures err { IfErr result IsWant }
+    ensures halt { IfErr result (IfHalted (HaltsDrive (drive_value_of line) (view_of client.old) (view_of client.new))) }
 {
     match line {
         DriveLine::Opened => stepped(alloc, client, Input::Opened),

@@ -4,7 +4,7 @@ ghost use Rattle.std.specs.Prelude.{◌≡◌, Option, None, IfOk, IfErr, is_som
 ghost use Rattle.zk_replay.specs.ReplayLines.{keyword_of, placed_at, says_at};
 ghost use Rattle.zk_replay.specs.declared.player.Keyword.TheVariants as made;
 ghost use Rattle.zk_script.specs.Pieces.{words_of};
-ghost use Rattle.zk_replay.specs.Played.{standing_of, DoesSaid, IsDue, TakesLine, TakesWords};
+ghost use Rattle.zk_replay.specs.Played.{standing_of, DoesSaid, HaltsLine, HaltsSaid, HaltsWords, IfHalted, IsDue, TakesLine, TakesWords};
 ghost use Rattle.zk_replay.specs.Courses.{Course, Follows, StandsBy};
 
 use crate::begin_line::{BeginKeyword, begin_line_at};
@@ -57,6 +57,7 @@ impl<A: Allocator + Copy> Player<A> {
     fn begin(&mut self, alloc: A, word: BeginKeyword, words: &[&[u8]]) -> Result<String<A>, Stop>
         ensures ok { IfOk result (λ text. DoesSaid (placed_at (made.Begin word) (is_some (standing_of self.old)) (map (λ w. w.now) words.now)) (standing_of self.old) (standing_of self.new) (string_bytes text)) }
         ensures err { IfErr result (IsDue (placed_at (made.Begin word) (is_some (standing_of self.old)) (map (λ w. w.now) words.now))) }
+        ensures halt { IfErr result (IfHalted (HaltsSaid (placed_at (made.Begin word) (is_some (standing_of self.old)) (map (λ w. w.now) words.now)) (standing_of self.old) (standing_of self.new))) }
     {
         if self.client.is_some() {
             return Err(Stop::Refused(ScriptFault::Place));
@@ -70,6 +71,7 @@ impl<A: Allocator + Copy> Player<A> {
     fn drive(&mut self, alloc: A, word: DriveKeyword, words: &[&[u8]]) -> Result<String<A>, Stop>
         ensures ok { IfOk result (λ text. DoesSaid (placed_at (made.Drive word) (is_some (standing_of self.old)) (map (λ w. w.now) words.now)) (standing_of self.old) (standing_of self.new) (string_bytes text)) }
         ensures err { IfErr result (IsDue (placed_at (made.Drive word) (is_some (standing_of self.old)) (map (λ w. w.now) words.now))) }
+        ensures halt { IfErr result (IfHalted (HaltsSaid (placed_at (made.Drive word) (is_some (standing_of self.old)) (map (λ w. w.now) words.now)) (standing_of self.old) (standing_of self.new))) }
     {
         let Some(client) = &mut self.client else {
             return Err(Stop::Refused(ScriptFault::Place));
@@ -82,6 +84,7 @@ impl<A: Allocator + Copy> Player<A> {
     fn take(&mut self, alloc: A, keyword: Keyword, words: &[&[u8]]) -> Result<String<A>, Stop>
         ensures ok { IfOk result (λ text. DoesSaid (placed_at keyword (is_some (standing_of self.old)) (map (λ w. w.now) words.now)) (standing_of self.old) (standing_of self.new) (string_bytes text)) }
         ensures err { IfErr result (IsDue (placed_at keyword (is_some (standing_of self.old)) (map (λ w. w.now) words.now))) }
+        ensures halt { IfErr result (IfHalted (HaltsSaid (placed_at keyword (is_some (standing_of self.old)) (map (λ w. w.now) words.now)) (standing_of self.old) (standing_of self.new))) }
     {
         match keyword {
             Keyword::Begin(word) => self.begin(alloc, word, words),
@@ -93,6 +96,7 @@ impl<A: Allocator + Copy> Player<A> {
     fn take_words(&mut self, alloc: A, words: &[&[u8]]) -> Result<String<A>, Stop>
         ensures ok { IfOk result (λ text. TakesWords (map (λ w. w.now) words.now) (standing_of self.old) (standing_of self.new) (string_bytes text)) }
         ensures err { IfErr result (IsDue (says_at (map (λ w. w.now) words.now) (is_some (standing_of self.old)))) }
+        ensures halt { IfErr result (IfHalted (HaltsWords (map (λ w. w.now) words.now) (standing_of self.old) (standing_of self.new))) }
     {
         let Some((first, behind)) = words.split_first() else {
             return Ok(String::new(alloc));
@@ -113,6 +117,7 @@ impl<A: Allocator + Copy> Player<A> {
         ensures ok { IfOk result (λ text. TakesLine line.now (standing_of self.old) (standing_of self.new) (string_bytes text)) }
         ensures stands { IfOk result (λ text. (course : Option Course) → StandsBy course (standing_of self.old) → Follows line.now course (standing_of self.new) (string_bytes text)) }
         ensures err { IfErr result (IsDue (says_at (words_of line.now) (is_some (standing_of self.old)))) }
+        ensures halt { IfErr result (IfHalted (HaltsLine line.now (standing_of self.old) (standing_of self.new))) }
     {
         let words = words_of(alloc, line)?;
         self.take_words(alloc, words.as_slice())

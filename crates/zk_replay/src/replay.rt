@@ -3,7 +3,7 @@
 ghost use Rattle.std.specs.Prelude.{◌≡◌, IfErr, OnErr, OnOk, is_some, map, string_bytes};
 ghost use Rattle.zk_script.specs.Pieces.{words_of};
 ghost use Rattle.zk_replay.specs.ReplayLines.{says_at};
-ghost use Rattle.zk_replay.specs.Played.{standing_of, IsDue};
+ghost use Rattle.zk_replay.specs.Played.{standing_of, HaltsLine, IfHalted, IsDue};
 ghost use Rattle.zk_script.specs.Scripts.{lines_of};
 ghost use Rattle.zk_replay.specs.Replays.{end_at, progress, Goes, IsOutcome};
 
@@ -42,6 +42,7 @@ fn read_line<A: Allocator + Copy>(
 ) -> Result<(), Stop>
     ensures ok { OnOk result (Goes (progress (standing_of player.old) (string_bytes text.old)) line.now (progress (standing_of player.new) (string_bytes text.new))) }
     ensures err { IfErr result (IsDue (says_at (words_of line.now) (is_some (standing_of player.old)))) }
+    ensures halt { IfErr result (IfHalted (HaltsLine line.now (standing_of player.old) (standing_of player.new))) }
     ensures same { OnErr result (string_bytes text.new ≡ string_bytes text.old) }
 {
     let printed = player.read(alloc, line)?;
