@@ -8,7 +8,10 @@ use Rattle.zk_turns.specs.Rule.{after_signals}
 use Rattle.zk_session.specs.declared.states.State.{State}
 use Rattle.zk_session.specs.declared.states.State.TheVariants.{Idle, Connecting, Connected, Expired, Closed}
 use Rattle.std.specs.Prelude.{codes}
-use Rattle.zk_live.specs.Heard.{is_waiting, tape, AllBrought, Awaits, Brings, Connects, Hears, IsBrought, MayEnd, Takes, Tape, TellsEach, TellsHeard}
+use Rattle.zk_replay.specs.declared.stop.Stop.{Stop}
+use Rattle.zk_replay.specs.declared.stop.Stop.TheVariants as stops
+use Rattle.zk_replay.specs.Played.{IfHalted}
+use Rattle.zk_live.specs.Heard.{is_waiting, tape, AllBrought, Awaits, Brings, Connects, Halts, HaltsAmong, HaltsAwaiting, HaltsBrought, HaltsConnecting, Hears, IsBrought, MayEnd, Takes, Tape, TellsEach, TellsHeard}
 
 -- one more output
 pub one_more : (outputs : List Output) (output : Output) (text told : List ℕ) → TellsEach outputs text → TellsHeard output told
@@ -98,3 +101,71 @@ cut_settles old new hears =
     let same : old.view ≡ going old.view.standing.state old.view = is_going old.view old.view.standing.halted hears.rule.goes_on in
     ap (λ v. is_waiting v.standing.state) hears.rule.next
     ∙ (ap (λ v. is_waiting (after_signals v (Cuts ∷ [])).standing.state) same ∙ going_cut old.view.standing.state old.view)
+
+-- what follows from a halt follows where there may be one
+pub if_halted : (a b : Type 0) (stop : Stop) → (a → b) → IfHalted a stop → IfHalted b stop
+if_halted a b (stops.Refused fault) to h = tt
+if_halted a b stops.Halted to h = to h
+if_halted a b stops.Memory to h = tt
+
+-- a halt at a piece, or where the connection ends behind it
+pub halts_piece : (old new : Tape) (bytes : List ℕ) (stop : Stop) → IfHalted (HaltsAmong old (Bytes bytes ∷ Cut ∷ []) new) stop → IfHalted (HaltsBrought old new) stop
+halts_piece old new bytes stop =
+    if_halted (HaltsAmong old (Bytes bytes ∷ Cut ∷ []) new) (HaltsBrought old new) stop
+    (λ halts. record { inputs = Bytes bytes ∷ Cut ∷ []; brought = (tt, (tt, tt)); halts = halts })
+
+-- a halt at the end
+pub halts_cut : (old new : Tape) (stop : Stop) → IfHalted (Halts old Cut new) stop → IfHalted (HaltsBrought old new) stop
+halts_cut old new stop =
+    if_halted (Halts old Cut new) (HaltsBrought old new) stop (λ halts. record { inputs = Cut ∷ []; brought = (tt, tt); halts = inl halts })
+
+among_behind : (first second : List Input) (old between new : Tape) → FoldsTo Hears old first between → HaltsAmong between second new
+    → HaltsAmong old (first ++ second) new
+among_behind [] second old between new same halts = rw same halts
+among_behind (input ∷ first) second old between new heard halts = inr (heard.0, heard.1, among_behind first second heard.0 between new heard.2 halts)
+
+brought_behind : (old between new : Tape) → Brings old between → HaltsBrought between new → HaltsBrought old new
+brought_behind old between new brings halts = record {
+  inputs = brings.inputs ++ halts.inputs;
+  brought = both_brought brings.inputs halts.inputs brings.brought halts.brought;
+  halts = among_behind brings.inputs halts.inputs old between new brings.heard halts.halts;
+}
+
+-- a halt behind what came
+pub halts_behind : (old between new : Tape) (stop : Stop) → Brings old between → IfHalted (HaltsBrought between new) stop → IfHalted (HaltsBrought old new) stop
+halts_behind old between new stop brings = if_halted (HaltsBrought between new) (HaltsBrought old new) stop (brought_behind old between new brings)
+
+-- a halt at the end, behind what came
+pub halts_ended : (old between new : Tape) (stop : Stop) → Brings old between → IfHalted (Halts between Cut new) stop → IfHalted (HaltsBrought old new) stop
+halts_ended old between new stop brings halts = halts_behind old between new stop brings (halts_cut between new stop halts)
+
+awaiting_first : (old new : Tape) (input : Input) → HaltsAmong old (input ∷ Cut ∷ []) new → HaltsAwaiting old input new
+awaiting_first old new input halts = record { inputs = Cut ∷ []; brought = (tt, tt); halts = halts }
+
+awaiting_behind : (old between new : Tape) (input : Input) → Takes old input between → HaltsBrought between new → HaltsAwaiting old input new
+awaiting_behind old between new input takes halts =
+    let rest : HaltsBrought takes.between new = brought_behind takes.between between new (may_end takes.between between takes.ends) halts in
+    record { inputs = rest.inputs; brought = rest.brought; halts = inr (takes.between, takes.hears, rest.halts) }
+
+-- a halt at a call
+pub halts_asked : (old new : Tape) (input : Input) (stop : Stop) → IfHalted (HaltsAmong old (input ∷ Cut ∷ []) new) stop
+    → IfHalted (HaltsAwaiting old input new) stop
+halts_asked old new input stop = if_halted (HaltsAmong old (input ∷ Cut ∷ []) new) (HaltsAwaiting old input new) stop (awaiting_first old new input)
+
+-- a halt at what is awaited
+pub halts_awaiting : (old between new : Tape) (input : Input) (stop : Stop) → Takes old input between → IfHalted (HaltsBrought between new) stop
+    → IfHalted (HaltsAwaiting old input new) stop
+halts_awaiting old between new input stop takes =
+    if_halted (HaltsBrought between new) (HaltsAwaiting old input new) stop (awaiting_behind old between new input takes)
+
+-- a halt where a connection begins
+pub halts_opened : (old ended new : Tape) (stop : Stop) → MayEnd old ended → IfHalted (HaltsAmong ended (Opened ∷ Cut ∷ []) new) stop
+    → IfHalted (HaltsConnecting old new) stop
+halts_opened old ended new stop ends =
+    if_halted (HaltsAmong ended (Opened ∷ Cut ∷ []) new) (HaltsConnecting old new) stop (λ halts. inr (ended, ends, awaiting_first ended new Opened halts))
+
+-- a halt before the server has answered
+pub halts_settling : (old ended between new : Tape) (stop : Stop) → MayEnd old ended → Takes ended Opened between → IfHalted (HaltsBrought between new) stop
+    → IfHalted (HaltsConnecting old new) stop
+halts_settling old ended between new stop ends takes =
+    if_halted (HaltsBrought between new) (HaltsConnecting old new) stop (λ halts. inr (ended, ends, awaiting_behind ended between new Opened takes halts))

@@ -12,12 +12,13 @@ use Rattle.zk_script.specs.Pieces.{words_of}
 use Rattle.zk_replay.specs.declared.stop.Stop.{Stop}
 use Rattle.zk_replay.specs.declared.stop.Stop.TheVariants as stops
 use Rattle.zk_replay.specs.declared.replay.End.{End}
+use Rattle.zk_replay.specs.declared.replay.End.TheVariants.{Taken, Refused, Halted, Memory}
 use Rattle.zk_replay.specs.ReplayLines.{BeginValue}
 use Rattle.zk_live.specs.Heard.{tape, Connects, Tape}
-use Rattle.zk_replay.specs.Played.{start_of, IsDue, IsWant}
+use Rattle.zk_replay.specs.Played.{start_of, IfHalted, IsDue, IsWant}
 use Rattle.zk_live.specs.Begins.{begun_by, end_at, Begins, Nothing}
-use Rattle.zk_live.specs.LiveLines.{LiveValue, says_at}
-use Rattle.zk_live.specs.Lives.{DoesLive, EndsFrom, Goes, IsOutcome, Prints, PrintsFirst, Progress, TakesLine, progress}
+use Rattle.zk_live.specs.LiveLines.{LiveValue, OpensLine, says_at}
+use Rattle.zk_live.specs.Lives.{DoesLive, EndsFrom, Goes, HaltsFirst, HaltsIn, HaltsLine, HaltsLive, IsOutcome, IsUnread, Prints, PrintsFirst, Progress, TakesLine, progress}
 
 or_false : (b : Bool) → b ≡ (b || false)
 or_false true = refl
@@ -60,12 +61,13 @@ parted lines at none within =
     ∙ (map-append (λ p. p.now) (take at lines) (drop at lines) ∙ ap (λ rest. map (λ p. p.now) (take at lines) ++ map (λ p. p.now) rest) left)
 
 -- what stands when the line behind those is not done
-pub stopped : (here : Progress) (lines : List (Bor Text)) (at : ℕ) (none : Bor Text) (view : View) (begun : Bool) (text : List ℕ) (stop : Stop)
+pub stopped : (here : Progress) (lines : List (Bor Text)) (at : ℕ) (none : Bor Text) (view after : View) (begun : Bool) (text : List ℕ) (stop : Stop)
     → at < length lines
     → FoldsTo Goes here (map (λ p. p.now) (take at lines)) (progress view begun text)
     → IsDue (says_at (words_of (get_or lines at none).now) begun) stop
+    → IfHalted (HaltsLine (get_or lines at none).now begun view after) stop
     → EndsFrom here (map (λ p. p.now) lines) text (end_at (at + 1) stop)
-stopped here lines at none view begun text stop within taken due = go stop due
+stopped here lines at none view after begun text stop within taken due halted = go stop due halted
   where
     prints : Prints here (map (λ p. p.now) (take at lines)) text
     prints = record { view = view; begun = begun; taken = taken }
@@ -78,8 +80,9 @@ stopped here lines at none view begun text stop within taken due = go stop due
       prints = prints;
     }
 
-    go : (s : Stop) → IsDue (says_at (words_of (get_or lines at none).now) begun) s → EndsFrom here (map (λ p. p.now) lines) text (end_at (at + 1) s)
-    go (stops.Refused why) refuses = record {
+    go : (s : Stop) → IsDue (says_at (words_of (get_or lines at none).now) begun) s → IfHalted (HaltsLine (get_or lines at none).now begun view after) s
+        → EndsFrom here (map (λ p. p.now) lines) text (end_at (at + 1) s)
+    go (stops.Refused why) refuses _ = record {
       before = map (λ p. p.now) (take at lines);
       line = (get_or lines at none).now;
       behind = map (λ p. p.now) (drop (at + 1) lines);
@@ -88,8 +91,16 @@ stopped here lines at none view begun text stop within taken due = go stop due
       prints = prints;
       refused = refuses;
     }
-    go stops.Halted h = first
-    go stops.Memory h = first
+    go stops.Halted _ halts = record {
+      before = map (λ p. p.now) (take at lines);
+      line = (get_or lines at none).now;
+      behind = map (λ p. p.now) (drop (at + 1) lines);
+      are = parted lines at none within;
+      prints = prints;
+      after = after;
+      halts = halts;
+    }
+    go stops.Memory _ _ = first
 
 -- a client that was connected
 pub lived : (lines : List Text) (start : BeginValue) (view : View) (told text : List ℕ) (end : End) → begun_by lines ≡ Begins start
@@ -98,14 +109,20 @@ pub lived : (lines : List Text) (start : BeginValue) (view : View) (told text : 
 lived lines start view told text end begins connects goes_on = inl (record { start = start; begins = begins; view = view; told = told; connects = connects; goes_on = goes_on })
 
 -- no client, and no text
-pub unlived : (lines : List Text) (text : List ℕ) (end : End) → text ≡ [] → Nothing lines end → IsOutcome lines text end
+pub unlived : (lines : List Text) (text : List ℕ) (end : End) → text ≡ [] → IsUnread lines end → IsOutcome lines text end
 unlived lines text end none why = inr (none, why)
 
+-- a halt of a client that was made
+first_halts : (lines : List Text) (start : BeginValue) (made after : View) → begun_by lines ≡ Begins start → made ≡ view_at (start_of start) []
+    → HaltsLive OpensLine made after → HaltsFirst lines
+first_halts lines start made after begins stands halts = record { start = start; begins = begins; after = after; halts = rw (sym stands) halts }
+
 -- want of memory
-pub want : (lines : List Text) (number : ℕ) (stop : Stop) → IsWant stop → Nothing lines (end_at number stop)
-want lines number (stops.Refused why) h = absurd h
-want lines number stops.Halted h = tt
-want lines number stops.Memory h = tt
+pub want : (lines : List Text) (start : BeginValue) (made after : View) (number : ℕ) (stop : Stop) → begun_by lines ≡ Begins start
+    → made ≡ view_at (start_of start) [] → IsWant stop → IfHalted (HaltsLive OpensLine made after) stop → IsUnread lines (end_at number stop)
+want lines start made after number (stops.Refused why) begins stands none halts = absurd none
+want lines start made after number stops.Halted begins stands none halts = first_halts lines start made after begins stands halts
+want lines start made after number stops.Memory begins stands none halts = tt
 
 -- the same, from the client that was made
 pub moved : (first second : View) (here : Tape) → first ≡ second → Connects (tape first []) here → Connects (tape second []) here

@@ -39,5 +39,5 @@ end_at number stops.Memory = Memory
 abbrev pub Nothing : List Text → End → Type 0
 Nothing lines Taken = ⊥
 Nothing lines (Refused number why) = begun_by lines ≡ Spoilt number why
-Nothing lines Halted = ⊤
+Nothing lines Halted = ⊥
 Nothing lines Memory = ⊤

@@ -7,6 +7,7 @@ use Rattle.zk_session.specs.declared.states.State.{State}
 use Rattle.zk_session.specs.declared.states.State.TheVariants.{Connecting}
 use Rattle.zk_turns.specs.Rule.{Rule}
 use Rattle.zk_replay.specs.Shown.{TellsOutput}
+use Rattle.zk_replay.specs.Played.{HaltsAt}
 
 -- What is printed of an output: one line, and nothing of what goes to the server.
 abbrev pub TellsHeard : Output → List ℕ → Type 0
@@ -85,3 +86,31 @@ pub record Connects (old new : Tape) : Type 0 where
   pub between : Tape
   pub ends : MayEnd old between
   pub begins : Begins between new ⊎ (new ≡ down between)
+
+-- Halts
+
+-- A client halts at an input of which something comes, and nothing is printed of it.
+pub record Halts (old : Tape) (input : Input) (new : Tape) : Type 0 where
+  pub halts : HaltsAt input old.view new.view
+  pub printed : new.printed ≡ old.printed
+
+-- It halts at one of these inputs, and takes those before it.
+abbrev pub HaltsAmong : Tape → List Input → Tape → Type 0
+HaltsAmong old [] new = ⊥
+HaltsAmong old (input ∷ inputs) new = Halts old input new ⊎ ((between : Tape) × Hears old input between × HaltsAmong between inputs new)
+
+-- It halts at an input that comes from the connection.
+pub record HaltsBrought (old new : Tape) : Type 0 where
+  pub inputs : List Input
+  pub brought : AllBrought inputs
+  pub halts : HaltsAmong old inputs new
+
+-- It halts at an input, or at one that comes from the connection behind it.
+pub record HaltsAwaiting (old : Tape) (input : Input) (new : Tape) : Type 0 where
+  pub inputs : List Input
+  pub brought : AllBrought inputs
+  pub halts : HaltsAmong old (input ∷ inputs) new
+
+-- It halts where the connection that is there ends, or where one begins.
+abbrev pub HaltsConnecting : Tape → Tape → Type 0
+HaltsConnecting old new = Halts old Cut new ⊎ ((between : Tape) × MayEnd old between × HaltsAwaiting between Opened new)

@@ -10,9 +10,9 @@ use Rattle.zk_replay.specs.declared.replay.End.{End}
 use Rattle.zk_replay.specs.declared.replay.End.TheVariants.{Taken, Refused, Halted, Memory}
 use Rattle.zk_replay.specs.ClientLines.{CutLine, NowLine, CallLine}
 use Rattle.zk_replay.specs.ReplayLines.{BeginValue}
-use Rattle.zk_replay.specs.Played.{start_of, DoesClient}
+use Rattle.zk_replay.specs.Played.{start_of, DoesClient, HaltsAt}
 use Rattle.zk_live.specs.Begins.{begun_by, Begins, Nothing}
-use Rattle.zk_live.specs.Heard.{tape, Awaits, Connects, Hears, Takes}
+use Rattle.zk_live.specs.Heard.{tape, Awaits, Connects, HaltsAmong, HaltsAwaiting, HaltsConnecting, Hears, Takes}
 use Rattle.zk_live.specs.LiveLines.{LiveValue, ResumesLine, OpensLine, DrivesLine, says_at}
 
 -- What a line makes of a client, and what it prints: each input is a turn by the rule, whatever the connection brings, and a
@@ -24,6 +24,20 @@ DoesLive (DrivesLine CutLine) old new text = Hears (tape old []) Cut (tape new t
 DoesLive (DrivesLine (NowLine moment)) old new text = Takes (tape old []) (Now moment) (tape new text)
 DoesLive (DrivesLine (CallLine asked)) old new text = Awaits (tape old []) (Call asked.ticket asked.call) (tape new text)
 DoesLive (DrivesLine value) old new text = DoesClient value old new text
+
+-- A client halts at what a line says: at an input, or at what the connection brings, and at no look-up.
+abbrev pub HaltsLive : LiveValue → View → View → Type 0
+HaltsLive OpensLine old new = (text : List ℕ) × HaltsConnecting (tape old []) (tape new text)
+HaltsLive (DrivesLine CutLine) old new = HaltsAt Cut old new
+HaltsLive (DrivesLine (NowLine moment)) old new = (text : List ℕ) × HaltsAmong (tape old []) (Now moment ∷ Cut ∷ []) (tape new text)
+HaltsLive (DrivesLine (CallLine asked)) old new = (text : List ℕ) × HaltsAwaiting (tape old []) (Call asked.ticket asked.call) (tape new text)
+HaltsLive value old new = ⊥
+
+-- So do the words of a line.
+pub record HaltsLine (line : Text) (begun : Bool) (old new : View) : Type 0 where
+  pub value : LiveValue
+  pub says : says_at (words_of line) begun ≡ Ok (Some value)
+  pub halts : HaltsLive value old new
 
 -- nothing changes nothing and prints nothing
 abbrev pub DoesSome : Option LiveValue → View → View → List ℕ → Type 0
@@ -73,11 +87,21 @@ pub record StopsAt (here : Progress) (lines : List Text) (number : ℕ) (fault :
   pub prints : Prints here before text
   pub refused : says_at (words_of line) prints.begun ≡ Err fault
 
+-- At one of these lines the client that stands there halts. The text is what the lines before it print.
+pub record HaltsIn (here : Progress) (lines : List Text) (text : List ℕ) : Type 0 where
+  pub before : List Text
+  pub line : Text
+  pub behind : List Text
+  pub are : lines ≡ before ++ line ∷ behind
+  pub prints : Prints here before text
+  pub after : View
+  pub halts : HaltsLine line prints.begun prints.view after
+
 -- what lines printed from here on, by how they ended
 abbrev pub EndsFrom : Progress → List Text → List ℕ → End → Type 0
 EndsFrom here lines text Taken = Prints here lines text
 EndsFrom here lines text (Refused number why) = StopsAt here lines number why text
-EndsFrom here lines text Halted = PrintsFirst here lines text
+EndsFrom here lines text Halted = HaltsIn here lines text
 EndsFrom here lines text Memory = PrintsFirst here lines text
 
 -- The client that lines ask for is connected, and then takes them. The text is what all this prints.
@@ -89,6 +113,18 @@ pub record Lives (lines : List Text) (text : List ℕ) (end : End) : Type 0 wher
   pub connects : Connects (tape (view_at (start_of start) []) []) (tape view told)
   pub goes_on : EndsFrom (progress view false told) lines text end
 
+-- The client that lines ask for halts while it is connected.
+pub record HaltsFirst (lines : List Text) : Type 0 where
+  pub start : BeginValue
+  pub begins : begun_by lines ≡ Begins start
+  pub after : View
+  pub halts : HaltsLive OpensLine (view_at (start_of start) []) after
+
+-- no line is read
+abbrev pub IsUnread : List Text → End → Type 0
+IsUnread lines Halted = HaltsFirst lines
+IsUnread lines end = Nothing lines end
+
 -- what lines printed, by how they ended
 abbrev pub IsOutcome : List Text → List ℕ → End → Type 0
-IsOutcome lines text end = Lives lines text end ⊎ ((text ≡ []) × Nothing lines end)
+IsOutcome lines text end = Lives lines text end ⊎ ((text ≡ []) × IsUnread lines end)

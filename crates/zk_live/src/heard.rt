@@ -3,8 +3,8 @@
 ghost use Rattle.std.specs.Prelude.{◌≡◌, ◌++◌, ℕ, List, IfOk, IfErr, OnOk, string_bytes};
 ghost use Rattle.zk_client.specs.Clients.{view_of};
 ghost use Rattle.zk_client.specs.Views.{input_view, output_view, said};
-ghost use Rattle.zk_replay.specs.Played.{IsWant};
-ghost use Rattle.zk_live.specs.Heard.{tape, Hears, TellsEach, TellsHeard};
+ghost use Rattle.zk_replay.specs.Played.{IfHalted, IsWant};
+ghost use Rattle.zk_live.specs.Heard.{tape, Halts, Hears, TellsEach, TellsHeard};
 
 use std::alloc::{AllocError, Allocator};
 use zk_client::{Client, Input, Output};
@@ -36,7 +36,7 @@ fn heard_text<A: Allocator + Copy>(alloc: A, outputs: &[Output<A>]) -> Result<St
     Ok(text)
 }
 
-/// Hands a client an input, and adds what is printed of what it says.
+/// Hands a client an input, and adds what is printed of what it says. Where that is answered by a halt, the client has halted.
 pub fn hear<A: Allocator + Copy>(
     alloc: A,
     client: &mut Client<A>,
@@ -45,6 +45,7 @@ pub fn hear<A: Allocator + Copy>(
 ) -> Result<Vec<Output<A>, A>, Stop>
     ensures ok { OnOk result (Hears (tape (view_of client.old) (string_bytes text.old)) (input_view input) (tape (view_of client.new) (string_bytes text.new))) }
     ensures err { IfErr result IsWant }
+    ensures halt { IfErr result (IfHalted (Halts (tape (view_of client.old) (string_bytes text.old)) (input_view input) (tape (view_of client.new) (string_bytes text.new)))) }
 {
     let outputs = client.step(input)?;
     let told = heard_text(alloc, outputs.as_slice())?;

@@ -1,12 +1,12 @@
 //! A client and the connection that it has.
 
-ghost use Rattle.std.specs.Prelude.{◌≡◌, false, IfErr, IfOk, OnOk, string_bytes};
+ghost use Rattle.std.specs.Prelude.{◌≡◌, [], ◌∷◌, false, IfErr, IfOk, OnOk, string_bytes};
 ghost use Rattle.zk_conversation.specs.Views.{call_view};
 ghost use Rattle.zk_client.specs.Clients.{view_of};
 ghost use Rattle.zk_client.specs.Views.{input_view};
-ghost use Rattle.zk_turns.specs.Turns.{Call, Cut};
-ghost use Rattle.zk_replay.specs.Played.{IsWant};
-ghost use Rattle.zk_live.specs.Heard.{is_waiting, tape, Awaits, Brings, Connects, Hears, MayEnd, Takes};
+ghost use Rattle.zk_turns.specs.Turns.{Call, Cut, Opened};
+ghost use Rattle.zk_replay.specs.Played.{IfHalted, IsWant};
+ghost use Rattle.zk_live.specs.Heard.{is_waiting, tape, Awaits, Brings, Connects, Halts, HaltsAmong, HaltsAwaiting, HaltsBrought, HaltsConnecting, Hears, MayEnd, Takes};
 
 use crate::dial::{Dial, Ring};
 use crate::heard::hear;
@@ -98,6 +98,7 @@ impl<A: Allocator + Copy, S: Read + Write + Drop> Link<A, S> {
     pub fn cut(&mut self, alloc: A, text: &mut String<A>) -> Result<Vec<Output<A>, A>, Stop>
         ensures ok { OnOk result (Hears (tape (view_of self.old.client) (string_bytes text.old)) Cut (tape (view_of self.new.client) (string_bytes text.new))) }
         ensures err { IfErr result IsWant }
+        ensures halt { IfErr result (IfHalted (Halts (tape (view_of self.old.client) (string_bytes text.old)) Cut (tape (view_of self.new.client) (string_bytes text.new)))) }
     {
         self.stream = None;
         hear(alloc, &mut self.client, Input::Cut, text)
@@ -118,6 +119,7 @@ impl<A: Allocator + Copy, S: Read + Write + Drop> Link<A, S> {
     fn deliver(&mut self, alloc: A, outputs: &[Output<A>], text: &mut String<A>) -> Result<(), Stop>
         ensures ok { OnOk result (MayEnd (tape (view_of self.old.client) (string_bytes text.old)) (tape (view_of self.new.client) (string_bytes text.new))) }
         ensures err { IfErr result IsWant }
+        ensures halt { IfErr result (IfHalted (Halts (tape (view_of self.old.client) (string_bytes text.old)) Cut (tape (view_of self.new.client) (string_bytes text.new)))) }
     {
         if !self.send(outputs) {
             self.cut(alloc, text)?;
@@ -138,6 +140,7 @@ impl<A: Allocator + Copy, S: Read + Write + Drop> Link<A, S> {
     ) -> Result<Vec<Output<A>, A>, Stop>
         ensures ok { OnOk result (Takes (tape (view_of self.old.client) (string_bytes text.old)) (input_view input) (tape (view_of self.new.client) (string_bytes text.new))) }
         ensures err { IfErr result IsWant }
+        ensures halt { IfErr result (IfHalted (HaltsAmong (tape (view_of self.old.client) (string_bytes text.old)) (input_view input ∷ Cut ∷ []) (tape (view_of self.new.client) (string_bytes text.new)))) }
     {
         let outputs = hear(alloc, &mut self.client, input, text)?;
         self.deliver(alloc, outputs.as_slice(), text)?;
@@ -158,6 +161,7 @@ impl<A: Allocator + Copy, S: Read + Write + Drop> Link<A, S> {
     fn bring(&mut self, alloc: A, text: &mut String<A>) -> Result<Vec<Output<A>, A>, Stop>
         ensures ok { OnOk result (Brings (tape (view_of self.old.client) (string_bytes text.old)) (tape (view_of self.new.client) (string_bytes text.new))) }
         ensures err { IfErr result IsWant }
+        ensures halt { IfErr result (IfHalted (HaltsBrought (tape (view_of self.old.client) (string_bytes text.old)) (tape (view_of self.new.client) (string_bytes text.new)))) }
     {
         match self.next_piece(alloc)? {
             Some(bytes) => {
@@ -184,6 +188,7 @@ impl<A: Allocator + Copy, S: Read + Write + Drop> Link<A, S> {
         ensures ok { OnOk result (Brings (tape (view_of self.old.client) (string_bytes text.old)) (tape (view_of self.new.client) (string_bytes text.new))) }
         ensures settled { OnOk result (is_waiting (view_of self.new.client).standing.state ≡ false) }
         ensures err { IfErr result IsWant }
+        ensures halt { IfErr result (IfHalted (HaltsBrought (tape (view_of self.old.client) (string_bytes text.old)) (tape (view_of self.new.client) (string_bytes text.new)))) }
     {
         for _ in 0..PIECES {
             if !self.is_connecting() {
@@ -209,6 +214,7 @@ impl<A: Allocator + Copy, S: Read + Write + Drop> Link<A, S> {
     ) -> Result<(), Stop>
         ensures ok { OnOk result (Brings (tape (view_of self.old.client) (string_bytes text.old)) (tape (view_of self.new.client) (string_bytes text.new))) }
         ensures err { IfErr result IsWant }
+        ensures halt { IfErr result (IfHalted (HaltsBrought (tape (view_of self.old.client) (string_bytes text.old)) (tape (view_of self.new.client) (string_bytes text.new)))) }
     {
         let mut outputs = first;
         for _ in 0..PIECES {
@@ -228,6 +234,7 @@ impl<A: Allocator + Copy, S: Read + Write + Drop> Link<A, S> {
     pub fn ask(&mut self, alloc: A, asked: Asked<A>, text: &mut String<A>) -> Result<(), Stop>
         ensures ok { OnOk result (Awaits (tape (view_of self.old.client) (string_bytes text.old)) (Call asked.ticket (call_view asked.call)) (tape (view_of self.new.client) (string_bytes text.new))) }
         ensures err { IfErr result IsWant }
+        ensures halt { IfErr result (IfHalted (HaltsAwaiting (tape (view_of self.old.client) (string_bytes text.old)) (Call asked.ticket (call_view asked.call)) (tape (view_of self.new.client) (string_bytes text.new)))) }
     {
         let ticket = asked.ticket;
         let outputs = self.take(alloc, Input::Call(ticket, asked.call), text)?;
@@ -239,6 +246,7 @@ impl<A: Allocator + Copy, S: Read + Write + Drop> Link<A, S> {
     fn give_up(&mut self, alloc: A, text: &mut String<A>) -> Result<(), Stop>
         ensures ok { OnOk result (MayEnd (tape (view_of self.old.client) (string_bytes text.old)) (tape (view_of self.new.client) (string_bytes text.new))) }
         ensures err { IfErr result IsWant }
+        ensures halt { IfErr result (IfHalted (Halts (tape (view_of self.old.client) (string_bytes text.old)) Cut (tape (view_of self.new.client) (string_bytes text.new)))) }
     {
         if self.stream.is_none() {
             return Ok(());
@@ -258,6 +266,7 @@ impl<A: Allocator + Copy, S: Read + Write + Drop> Link<A, S> {
     ) -> Result<(), Stop>
         ensures ok { OnOk result (Connects (tape (view_of self.old.client) (string_bytes text.old)) (tape (view_of self.new.client) (string_bytes text.new))) }
         ensures err { IfErr result IsWant }
+        ensures halt { IfErr result (IfHalted (HaltsConnecting (tape (view_of self.old.client) (string_bytes text.old)) (tape (view_of self.new.client) (string_bytes text.new)))) }
     {
         self.give_up(alloc, text)?;
         let Some(stream) = ring.connect(dial) else {

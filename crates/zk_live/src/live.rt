@@ -7,10 +7,10 @@ ghost use Rattle.zk_script.specs.Pieces.{words_of};
 ghost use Rattle.zk_script.specs.Scripts.{lines_of};
 ghost use Rattle.zk_replay.specs.Lines.{begin_value_of, client_value_of};
 ghost use Rattle.zk_replay.specs.ReplayLines.{CanBegin};
-ghost use Rattle.zk_replay.specs.Played.{start_of, IsDue, IsWant};
+ghost use Rattle.zk_replay.specs.Played.{start_of, IfHalted, IsDue, IsWant};
 ghost use Rattle.zk_live.specs.Lines.{live_value_of};
 ghost use Rattle.zk_live.specs.LiveLines.{DrivesLine, says_at};
-ghost use Rattle.zk_live.specs.Lives.{progress, DoesLive, EndsFrom, Goes, IsOutcome, TakesLine};
+ghost use Rattle.zk_live.specs.Lives.{progress, DoesLive, EndsFrom, Goes, HaltsLine, HaltsLive, IsOutcome, TakesLine};
 
 use crate::begun::{begin_of, end_at};
 use crate::dial::{Dial, Ring};
@@ -39,6 +39,7 @@ impl<'a, A: Allocator + Copy, S: Read + Write + Drop> Session<'a, A, S> {
     fn drive(&mut self, alloc: A, line: ClientLine<A>) -> Result<String<A>, Stop>
         ensures ok { IfOk result (λ text. DoesLive (DrivesLine (client_value_of line)) (view_of self.old.link.client) (view_of self.new.link.client) (string_bytes text)) }
         ensures err { IfErr result IsWant }
+        ensures halt { IfErr result (IfHalted (HaltsLive (DrivesLine (client_value_of line)) (view_of self.old.link.client) (view_of self.new.link.client))) }
         ensures begun { self.new.is_begun ≡ self.old.is_begun }
     {
         let mut text = String::new(alloc);
@@ -64,6 +65,7 @@ impl<'a, A: Allocator + Copy, S: Read + Write + Drop> Session<'a, A, S> {
     ) -> Result<String<A>, Stop>
         ensures ok { IfOk result (λ text. DoesLive (live_value_of line) (view_of self.old.link.client) (view_of self.new.link.client) (string_bytes text)) }
         ensures err { IfErr result IsWant }
+        ensures halt { IfErr result (IfHalted (HaltsLive (live_value_of line) (view_of self.old.link.client) (view_of self.new.link.client))) }
         ensures begun { self.new.is_begun ≡ self.old.is_begun }
     {
         let mut text = String::new(alloc);
@@ -85,6 +87,7 @@ impl<'a, A: Allocator + Copy, S: Read + Write + Drop> Session<'a, A, S> {
     ) -> Result<String<A>, Stop>
         ensures ok { IfOk result (λ text. TakesLine line.now self.old.is_begun (view_of self.old.link.client) self.new.is_begun (view_of self.new.link.client) (string_bytes text)) }
         ensures err { IfErr result (IsDue (says_at (words_of line.now) self.old.is_begun)) }
+        ensures halt { IfErr result (IfHalted (HaltsLine line.now self.old.is_begun (view_of self.old.link.client) (view_of self.new.link.client))) }
     {
         let Some(line) = said_line(alloc, line, self.is_begun)? else {
             return Ok(String::new(alloc));
@@ -104,6 +107,7 @@ impl<'a, A: Allocator + Copy, S: Read + Write + Drop> Session<'a, A, S> {
     ) -> Result<(), Stop>
         ensures ok { OnOk result (Goes (progress (view_of self.old.link.client) self.old.is_begun (string_bytes text.old)) line.now (progress (view_of self.new.link.client) self.new.is_begun (string_bytes text.new))) }
         ensures err { IfErr result (IsDue (says_at (words_of line.now) self.old.is_begun)) }
+        ensures halt { IfErr result (IfHalted (HaltsLine line.now self.old.is_begun (view_of self.old.link.client) (view_of self.new.link.client))) }
         ensures same { OnErr result (string_bytes text.new ≡ string_bytes text.old) }
     {
         let printed = self.read(alloc, dial, line)?;

@@ -8,7 +8,7 @@ use Rattle.zk_replay.specs.declared.replay.End.{End}
 use Rattle.zk_replay.specs.declared.replay.End.TheVariants.{Taken, Refused, Halted, Memory}
 use Rattle.zk_replay.specs.declared.stop.Stop.{Stop}
 use Rattle.zk_replay.specs.declared.stop.Stop.TheVariants as stops
-use Rattle.zk_replay.specs.Played.{TakesLine, RefusesLine}
+use Rattle.zk_replay.specs.Played.{HaltsLine, TakesLine, RefusesLine}
 use Rattle.zk_replay.specs.Courses.{Course, StandsBy, Moves, first_stage, stage}
 
 -- how far a script has come: the client, once there is one, and what was printed
@@ -49,6 +49,21 @@ pub record StopsAt (lines : List Text) (number : ℕ) (fault : ScriptFault) (tex
   pub told : FoldsTo Moves first_stage before (stage course text)
   pub stands : StandsBy course end
 
+-- One of these lines is an input of which something comes, and the client that stands there halts at it. The text is what the lines
+-- before it print.
+pub record HaltsIn (lines : List Text) (text : List ℕ) : Type 0 where
+  pub before : List Text
+  pub line : Text
+  pub behind : List Text
+  pub are : lines ≡ before ++ line ∷ behind
+  pub end : Option View
+  pub taken : FoldsTo Goes beginning before (progress end text)
+  pub after : Option View
+  pub halts : HaltsLine line end after
+  pub course : Option Course
+  pub told : FoldsTo Moves first_stage before (stage course text)
+  pub stands : StandsBy course end
+
 -- The text is what the first of these lines print: of no line a part.
 pub record PrintsFirst (lines : List Text) (text : List ℕ) : Type 0 where
   pub before : List Text
@@ -60,7 +75,7 @@ pub record PrintsFirst (lines : List Text) (text : List ℕ) : Type 0 where
 abbrev pub IsOutcome : List Text → List ℕ → End → Type 0
 IsOutcome lines text Taken = Prints lines text
 IsOutcome lines text (Refused number why) = StopsAt lines number why text
-IsOutcome lines text Halted = PrintsFirst lines text
+IsOutcome lines text Halted = HaltsIn lines text
 IsOutcome lines text Memory = PrintsFirst lines text
 
 -- how lines end at the line of this number, which is not done

@@ -30,4 +30,6 @@ returns g c =
     let lines : List Text = map (λ l. l.now) c.args.lines.now in
     let stop = c.in-Err-act.stop in
     rw (c.nothing-in-Err-act.ensures.end, c.end_at.ensures)
-    (unlived lines (string_bytes c.nothing-in-Err-act.result.text) (end_at 0 stop) c.nothing-in-Err-act.ensures.text (want lines 0 stop c.in-Err-act.ensures.err))
+    (unlived lines (string_bytes c.nothing-in-Err-act.result.text) (end_at 0 stop) c.nothing-in-Err-act.ensures.text
+    (want lines (begin_value_of c.in-Ok.begin) (view_of c.in-Ok-made.session.link.client) (view_of c.act.new.self.link.client) 0 stop c.in-Ok.ensures.value
+    c.in-Ok-made.ensures.view c.in-Err-act.ensures.err c.in-Err-act.ensures.halt))

@@ -10,7 +10,8 @@ returns-in-Err g c =
     let l = c.loop-index in
     let here = progress (view_of c.args.session.now.link.client) c.args.session.now.is_begun (string_bytes c.args.told) in
     rw (c.end_at-end.ensures, c.in-Err.ensures.same)
-    (stopped here c.args.lines.now l.index _ (view_of l.session.link.client) l.session.is_begun (string_bytes l.text) c.in-Err.stop (omega arith) l.invariant c.in-Err.ensures.err)
+    (stopped here c.args.lines.now l.index _ (view_of l.session.link.client) (view_of c.read_line.new.self.link.client) l.session.is_begun (string_bytes l.text) c.in-Err.stop (omega arith)
+    l.invariant c.in-Err.ensures.err c.in-Err.ensures.halt)
 
 pub loop-index-preserved : goal.loop-index-preserved
 loop-index-preserved g c =

@@ -8,7 +8,7 @@ use Rattle.zk_replay.proofs.replay.read_lines.Goals as goal
 pub returns-in-Err : goal.returns-in-Err
 returns-in-Err g c =
     rw (c.end_at-end.ensures, c.in-Err.ensures.same)
-    (stopped c.args.lines.now c.loop-index.index _ (standing_of c.loop-index.player) (string_bytes c.loop-index.text) c.in-Err.stop (omega arith) c.loop-index.invariant c.in-Err.ensures.err)
+    (stopped c.args.lines.now c.loop-index.index _ (standing_of c.loop-index.player) (standing_of c.read_line.new.player) (string_bytes c.loop-index.text) c.in-Err.stop (omega arith) c.loop-index.invariant c.in-Err.ensures.err c.in-Err.ensures.halt)
 
 pub loop-index-preserved : goal.loop-index-preserved
 loop-index-preserved g c =

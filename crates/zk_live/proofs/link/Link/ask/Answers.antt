@@ -1,9 +1,10 @@
+use Rattle.std.proofs.Common.{rules}
 use Rattle.std.specs.Prelude.{string_bytes}
 use Rattle.zk_conversation.specs.Views.{call_view}
 use Rattle.zk_turns.specs.Turns.{Call}
 use Rattle.zk_client.specs.Clients.{view_of}
 use Rattle.zk_live.specs.Heard.{tape}
-use Rattle.zk_live.proofs.HeardLemmas.{asks}
+use Rattle.zk_live.proofs.HeardLemmas.{asks, halts_asked, halts_awaiting}
 use Rattle.zk_live.proofs.link.Link.ask.Goals as goal
 
 pub returns-clause-ok : goal.returns-clause-ok
@@ -13,3 +14,19 @@ returns-clause-ok g c =
     asks (tape (view_of c.args.self.now.client) (string_bytes c.args.text.now)) (tape (view_of sent.self.client) (string_bytes sent.text))
     (tape (view_of new.self.client) (string_bytes new.text)) (Call c.args.asked.ticket (call_view c.args.asked.call)) c.in_ok-outputs.ensures.ok
     c.in_ok-wait.ensures.ok
+
+pub returns-in_err-outputs-clause-halt : goal.returns-in_err-outputs-clause-halt
+returns-in_err-outputs-clause-halt g c =
+    let new = c.take.new in
+    let halted = halts_asked (tape (view_of c.args.self.now.client) (string_bytes c.args.text.now)) (tape (view_of new.self.client) (string_bytes new.text))
+    (Call c.args.asked.ticket (call_view c.args.asked.call)) c.in_err-outputs.field-0.0 c.in_err-outputs.ensures.halt in
+    search rules
+
+pub returns-in_err-wait-clause-halt : goal.returns-in_err-wait-clause-halt
+returns-in_err-wait-clause-halt g c =
+    let sent = c.take.new in
+    let new = c.wait.new in
+    let halted = halts_awaiting (tape (view_of c.args.self.now.client) (string_bytes c.args.text.now)) (tape (view_of sent.self.client) (string_bytes sent.text))
+    (tape (view_of new.self.client) (string_bytes new.text)) (Call c.args.asked.ticket (call_view c.args.asked.call)) c.in_err-wait.field-0.0
+    c.in_ok-outputs.ensures.ok c.in_err-wait.ensures.halt in
+    search rules

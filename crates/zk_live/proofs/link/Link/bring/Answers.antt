@@ -1,8 +1,9 @@
+use Rattle.std.proofs.Common.{rules}
 use Rattle.std.specs.Prelude.{string_bytes}
 use Rattle.zk_turns.specs.Turns.{Cut}
 use Rattle.zk_client.specs.Clients.{view_of}
 use Rattle.zk_live.specs.Heard.{tape}
-use Rattle.zk_live.proofs.HeardLemmas.{one, piece}
+use Rattle.zk_live.proofs.HeardLemmas.{halts_cut, halts_piece, one, piece}
 use Rattle.zk_live.proofs.link.Link.bring.Goals as goal
 
 pub returns-in_ok-outputs-in-Some-clause-ok : goal.returns-in_ok-outputs-in-Some-clause-ok
@@ -18,3 +19,17 @@ returns-in_ok-outputs-in-None-clause-ok g c =
     rw (← c.next_piece.ensures)
     (one (tape (view_of c.next_piece.new.self.client) (string_bytes c.args.text.now)) (tape (view_of new.self.client) (string_bytes new.text))
     Cut tt c.in_ok-outputs-in-None.ensures.ok)
+
+pub returns-in_err-outputs-in-Some-clause-halt : goal.returns-in_err-outputs-in-Some-clause-halt
+returns-in_err-outputs-in-Some-clause-halt g c =
+    let new = c.take.new in
+    let halted = halts_piece (tape (view_of c.next_piece.new.self.client) (string_bytes c.args.text.now)) (tape (view_of new.self.client) (string_bytes new.text))
+    c.in-Some.bytes.items c.in_err-outputs-in-Some.field-0.0 c.in_err-outputs-in-Some.ensures.halt in
+    search rules
+
+pub returns-in_err-outputs-in-None-clause-halt : goal.returns-in_err-outputs-in-None-clause-halt
+returns-in_err-outputs-in-None-clause-halt g c =
+    let new = c.cut.new in
+    let halted = halts_cut (tape (view_of c.next_piece.new.self.client) (string_bytes c.args.text.now)) (tape (view_of new.self.client) (string_bytes new.text))
+    c.in_err-outputs-in-None.field-0.0 c.in_err-outputs-in-None.ensures.halt in
+    search rules
