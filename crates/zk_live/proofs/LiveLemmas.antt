@@ -12,13 +12,12 @@ use Rattle.zk_script.specs.Pieces.{words_of}
 use Rattle.zk_replay.specs.declared.stop.Stop.{Stop}
 use Rattle.zk_replay.specs.declared.stop.Stop.TheVariants as stops
 use Rattle.zk_replay.specs.declared.replay.End.{End}
-use Rattle.zk_replay.specs.declared.replay.End.TheVariants.{Taken, Refused, Halted, Memory}
 use Rattle.zk_replay.specs.ReplayLines.{BeginValue}
 use Rattle.zk_live.specs.Heard.{tape, Connects, Tape}
 use Rattle.zk_replay.specs.Played.{start_of, IfHalted, IsDue, IsWant}
-use Rattle.zk_live.specs.Begins.{begun_by, end_at, Begins, Nothing}
+use Rattle.zk_live.specs.Begins.{begun_by, end_at, Begins}
 use Rattle.zk_live.specs.LiveLines.{LiveValue, OpensLine, says_at}
-use Rattle.zk_live.specs.Lives.{DoesLive, EndsFrom, Goes, HaltsFirst, HaltsIn, HaltsLine, HaltsLive, IsOutcome, IsUnread, Prints, PrintsFirst, Progress, TakesLine, progress}
+use Rattle.zk_live.specs.Lives.{DoesLive, EndsFrom, Goes, HaltsFirst, HaltsLine, HaltsLive, IsOutcome, IsUnread, Prints, PrintsFirst, Progress, TakesLine, progress}
 
 or_false : (b : Bool) → b ≡ (b || false)
 or_false true = refl
