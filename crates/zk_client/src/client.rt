@@ -1,7 +1,8 @@
 //! The client.
 
-ghost use Rattle.std.specs.Prelude.{◌≡◌, false};
+ghost use Rattle.std.specs.Prelude.{◌≡◌, ◌≤◌, length, false};
 ghost use Rattle.std.proofs.Props.{props};
+ghost use Rattle.zk_session.specs.declared.fields.TheConstants.{LONGEST_PASSWORD};
 ghost use Rattle.zk_client.specs.Sound.{CoreIsSound, IsReading};
 
 use crate::fault::Halt;
@@ -27,6 +28,7 @@ pub struct Client<A: Allocator + Copy> {
     reader: FrameReader<A>,
     ghost sound: { core.halted ≡ false → CoreIsSound core } by { Prim.hlevel props },
     ghost reading: { core.halted ≡ false → IsReading reader } by { Prim.hlevel props },
+    ghost short: { length core.session.saved.session.password ≤ LONGEST_PASSWORD },
 }
 
 impl<A: Allocator + Copy> Client<A> {
@@ -150,8 +152,11 @@ impl<A: Allocator + Copy> Client<A> {
 
     /// What another client can be resumed from.
     pub fn saved(&self) -> Saved<'_>
-        ensures { Tells (view_of self.now).saved result }
+        ensures tells { Tells (view_of self.now).saved result }
+        ensures password { length result.password.now ≤ LONGEST_PASSWORD }
+        ensures last { pos 0 ≤ℤ result.last_zxid }
     {
+        let _last = self.core.session.last_zxid();
         self.core.session.saved()
     }
 

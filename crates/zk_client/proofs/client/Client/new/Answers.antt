@@ -11,8 +11,10 @@ use Rattle.zk_client.proofs.client.Client.new.Goals as goal
 pub invariant_of-result : goal.invariant_of-result
 invariant_of-result g c =
     let timeout : to_z w32 (of_z w32 c.args.timeout_ms) ≡ c.args.timeout_ms = omega (arith, ints) in
+    let sound = begins-sound (new_start (unsigned_abs c.args.timeout_ms)) c.new.result c.new-2.result c.new-3.result (omega arith) (rw timeout at c.new.ensures) c.new-2.ensures c.new-3.ensures in
     record {
-      sound = λ e. begins-sound (new_start (unsigned_abs c.args.timeout_ms)) c.new.result c.new-2.result c.new-3.result (omega arith) (rw timeout at c.new.ensures) c.new-2.ensures c.new-3.ensures;
+      sound = λ e. sound;
+      short = sound.tied.short;
       reading = λ e. begins-reading c.new-5.result c.new-5.ensures;
     }
 

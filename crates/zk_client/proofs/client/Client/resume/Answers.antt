@@ -10,8 +10,10 @@ use Rattle.zk_client.proofs.client.Client.resume.Goals as goal
 pub invariant_of-result : goal.invariant_of-result
 invariant_of-result g c =
     let timeout : to_z w32 (of_z w32 c.args.timeout_ms) ≡ c.args.timeout_ms = omega (arith, ints) in
+    let sound = begins-sound (saved_start c.args.timeout_ms c.args.saved.now) c.in_ok-resume.field-0 c.new.result c.new-2.result c.requires.password (rw timeout at c.in_ok-resume.ensures) c.new.ensures c.new-2.ensures in
     record {
-      sound = λ e. begins-sound (saved_start c.args.timeout_ms c.args.saved.now) c.in_ok-resume.field-0 c.new.result c.new-2.result c.requires.password (rw timeout at c.in_ok-resume.ensures) c.new.ensures c.new-2.ensures;
+      sound = λ e. sound;
+      short = sound.tied.short;
       reading = λ e. begins-reading c.new-4.result c.new-4.ensures;
     }
 
