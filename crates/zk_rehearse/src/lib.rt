@@ -2,6 +2,7 @@
 #![tactic(auto)]
 
 pub mod bench_line;
+mod called;
 pub mod good;
 pub mod heard;
 pub mod rehearsal;

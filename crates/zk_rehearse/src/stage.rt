@@ -1,34 +1,21 @@
 //! A client, and the servers over a history.
 
-ghost use Rattle.std.specs.Prelude.{◌≡◌, ◌≤◌, ◌<ℤ◌, pos, ℕ, List, [], map, IfOk, IfErr, OnOk, string_bytes};
-ghost use Rattle.std.specs.Option.{option_copied};
-ghost use Rattle.zk_client.specs.Clients.{view_of, saved_start};
-ghost use Rattle.zk_conversation.specs.Views.{call_view};
-ghost use Rattle.zk_history.specs.NamesKept.{names_of};
-ghost use Rattle.zk_turns.specs.View.{view_at};
-ghost use Rattle.zk_client.specs.Views.{input_view};
-ghost use Rattle.zk_replay.specs.ClientLines.{ClientValue};
-ghost use Rattle.zk_replay.specs.Lines.{client_value_of, asked_of};
-ghost use Rattle.zk_replay.specs.Played.{IsWant};
-ghost use Rattle.zk_rehearse.specs.BenchLines.{ProcessLine, bench_value_of, CanServe, IsServer};
-ghost use Rattle.zk_rehearse.specs.Good.{TellsPaths};
-ghost use Rattle.zk_rehearse.specs.Stages.{scene_of, first_scene, rejoined, taken_up, Plays, Delivers, Processes, TakesNext, Calls, named_path, with_path, TellsGood, DoesBench, DoesClientLine};
+ghost use Rattle.std.specs.Prelude.{◌<ℤ◌, pos};
 
 use crate::bench_line::BenchLine;
+use crate::called::add_path;
 use crate::good::push_paths;
 use crate::heard::hear_all;
 use std::alloc::{AllocError, Allocator};
 use std::collections::BTreeSet;
 use zk_bench::Bench;
 use zk_client::{Client, Input};
-use zk_conversation::{Call, LONGEST_PASSWORD};
 use zk_history::History;
 use zk_replay::call_line::Asked;
 use zk_replay::client_line::ClientLine;
 use zk_replay::driven::driven;
 use zk_replay::outputs::outputs_text;
 use zk_replay::stop::Stop;
-use zk_session::Saved;
 
 /// A client that asks for a timeout in milliseconds, the servers over a history, and the paths that calls named.
 #[derive(Drop)]
@@ -37,53 +24,19 @@ pub struct Stage<A: Allocator + Copy> {
     client: Client<A>,
     bench: Bench<A>,
     called: BTreeSet<String<A>, A>,
-}
-
-/// The path that a call names.
-fn named_path<A: Allocator>(call: &Call<A>) -> Option<&str>
-    ensures { option_copied result ≡ named_path (call_view call.now) }
-{
-    match call {
-        Call::Exists { path, .. } => Some(path.as_str()),
-        Call::GetData { path, .. } => Some(path.as_str()),
-        Call::GetChildren { path, .. } => Some(path.as_str()),
-        Call::SetData { path, .. } => Some(path.as_str()),
-        Call::Create { path, .. } => Some(path.as_str()),
-        Call::Delete { path, .. } => Some(path.as_str()),
-        Call::Close => None,
-    }
-}
-
-/// Adds the path that a call names.
-fn add_path<A: Allocator + Copy>(
-    alloc: A,
-    call: &Call<A>,
-    called: &mut BTreeSet<String<A>, A>,
-) -> Result<(), AllocError>
-    ensures { OnOk result (names_of called.new ≡ with_path (named_path (call_view call.now)) (names_of called.old)) }
-{
-    if let Some(path) = named_path(call) {
-        called.insert(String::from_str(alloc, path)?)?;
-    }
-    Ok(())
-}
-
-/// The client that takes up a session. One that is out of range is answered as want of memory; no client has such a session, but
-/// no contract of a client says so, and it is looked at here.
-fn taken_up<A: Allocator + Copy>(
-    alloc: A,
-    timeout: i32,
-    saved: &Saved<'_>,
-) -> Result<Client<A>, AllocError>
-    ensures { IfOk result (λ client. view_of client ≡ view_at (saved_start timeout saved.now) []) }
-{
-    if timeout <= 0 || saved.last_zxid < 0 || saved.password.len() > LONGEST_PASSWORD {
-        return Err(AllocError);
-    }
-    Client::resume(alloc, timeout, saved)
+    ghost above: { pos 0 <ℤ timeout },
 }
 
 impl<A: Allocator + Copy> Stage<A> {
+    ghost use Rattle.std.specs.Prelude.{◌≡◌, ◌≤◌, ◌<ℤ◌, pos, ℕ, List, [], IfOk, IfErr, string_bytes};
+    ghost use Rattle.zk_client.specs.Views.{input_view};
+    ghost use Rattle.zk_replay.specs.ClientLines.{ClientValue};
+    ghost use Rattle.zk_replay.specs.Lines.{client_value_of, asked_of};
+    ghost use Rattle.zk_replay.specs.Played.{IsWant};
+    ghost use Rattle.zk_rehearse.specs.BenchLines.{ProcessLine, bench_value_of, CanServe, IsServer};
+    ghost use Rattle.zk_rehearse.specs.Good.{TellsPaths};
+    ghost use Rattle.zk_rehearse.specs.Stages.{scene_of, first_scene, rejoined, Plays, Delivers, Processes, TakesNext, Calls, TellsGood, DoesBench, DoesClientLine};
+
     /// A new client, and servers over a history. None is connected.
     pub fn new(alloc: A, timeout: i32, history: History<A>) -> Stage<A>
         requires { pos 0 <ℤ timeout }
@@ -144,7 +97,7 @@ impl<A: Allocator + Copy> Stage<A> {
         ensures err { IfErr result IsWant }
     {
         self.bench.disconnect();
-        let client = taken_up(alloc, self.timeout, &self.client.saved())?;
+        let client = Client::resume(alloc, self.timeout, &self.client.saved())?;
         self.client = client;
         Ok(String::new(alloc))
     }
