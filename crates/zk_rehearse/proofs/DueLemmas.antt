@@ -9,10 +9,10 @@ use Rattle.zk_script.specs.declared.script_fault.ScriptFault.{ScriptFault}
 use Rattle.zk_script.specs.declared.script_fault.ScriptFault.TheVariants as fault
 use Rattle.zk_replay.specs.declared.stop.Stop.{Stop}
 use Rattle.zk_replay.specs.declared.stop.Stop.TheVariants.{Refused, Halted, Memory}
-use Rattle.zk_replay.specs.Played.{stop_of}
+use Rattle.zk_replay.specs.Played.{stop_of, IfHalted}
 use Rattle.zk_rehearse.specs.RehearseLines.{RehearseValue, HistoryLine, BeginLine, BenchValueLine, says_at}
 use Rattle.zk_rehearse.specs.Stages.{Scene}
-use Rattle.zk_rehearse.specs.Rehearsed.{Standing, Told, standing_by, is_begun, by_words, by_history, IsDue, IsDueOf, TakesLine, Does}
+use Rattle.zk_rehearse.specs.Rehearsed.{Standing, Told, standing_by, is_begun, by_words, by_history, HaltsLine, HaltsSaid, IsDue, IsDueOf, TakesLine, Does}
 
 abbrev is_memory : ScriptFault → Bool
 is_memory fault.Memory = true
@@ -58,3 +58,28 @@ due_by line value old Memory says due = tt
 
 pub taken : (line : Text) (value : RehearseValue) (old new : Standing) (text : List ℕ) → says_at (words_of line) (is_begun old) ≡ Ok (Some value) → Does line value old new text → TakesLine line old new text
 taken line value old new text says does = record { what = Some value; says = says; does = does }
+
+-- no fault of a script is a halt
+pub never_halts : (e : ScriptFault) → IfHalted ⊥ (stop_of e)
+never_halts fault.Unknown = tt
+never_halts fault.Place = tt
+never_halts fault.Words = tt
+never_halts fault.Number = tt
+never_halts fault.Hex = tt
+never_halts (fault.Path why) = tt
+never_halts fault.Order = tt
+never_halts fault.Illegal = tt
+never_halts fault.Memory = tt
+
+pub none_halts : (halts : Type 0) (stop : Stop) → IfHalted ⊥ stop → IfHalted halts stop
+none_halts halts (Refused e) none = tt
+none_halts halts Halted none = absurd none
+none_halts halts Memory none = tt
+
+pub halts_so : (line : Text) (value : RehearseValue) (old new : Standing) (stop : Stop) → says_at (words_of line) (is_begun old) ≡ Ok (Some value) → IfHalted (HaltsSaid value old new) stop
+    → IfHalted (HaltsLine line old new) stop
+halts_so line value old new (Refused e) says halts = tt
+halts_so line HistoryLine old new Halted says halts = absurd halts
+halts_so line (BeginLine timeout) old new Halted says halts = absurd halts
+halts_so line (BenchValueLine value) old new Halted says halts = record { value = value; says = says; halts = halts }
+halts_so line value old new Memory says halts = tt

@@ -1,9 +1,9 @@
 -- Names that are kept, and those that a history tells.
-use Rattle.std.proofs.Common.{◌≡◌, ◌≢◌, ℕ, ℤ, Bool, true, false, ◌||◌, cond, not, List, [], ◌∷◌, Bor, refl, sym, ap, subst, ◌∙◌}
+use Rattle.std.proofs.Common.{◌≡◌, ◌≢◌, ℕ, Bool, true, false, ◌||◌, cond, not, List, [], ◌∷◌, Bor, refl, sym, ap, subst, ◌∙◌}
 use Rattle.std.proofs.lemmas.Bool.{true≢false}
 use Rattle.std.proofs.lemmas.Slice.Eq.{bytes_eq-Decides}
 use Rattle.std.proofs.lemmas.Map.Text.{is_eq-slice_cmp}
-use Rattle.std.specs.Prelude.{String, string_bytes, IsTrue, ◌↔◌, bytes_eq, Option, Some, None, is_some}
+use Rattle.std.specs.Prelude.{String, string_bytes, IsTrue, ◌↔◌, Option, Some, None, is_some}
 use Rattle.std.specs.BTreeSet.{BTreeSet, contains_text, IsSymmetricDifference}
 use Rattle.std.specs.Cmp.{tied_itself}
 use Rattle.std.specs.Cmp.Lexicographic.{slice_cmp}

@@ -10,8 +10,9 @@ use Rattle.zk_script.specs.declared.script_fault.ScriptFault.{ScriptFault}
 use Rattle.zk_replay.specs.declared.stop.Stop.{Stop}
 use Rattle.zk_replay.specs.declared.stop.Stop.TheVariants as stops
 use Rattle.zk_replay.specs.Replays.{end_at}
-use Rattle.zk_rehearse.specs.Rehearsed.{Standing, IsDue, RefusesLine}
-use Rattle.zk_rehearse.specs.Scripts.{Progress, Prints, PrintsFirst, Goes, StopsAt, IsOutcome, beginning, progress}
+use Rattle.zk_replay.specs.Played.{IfHalted}
+use Rattle.zk_rehearse.specs.Rehearsed.{Standing, HaltsLine, IsDue, RefusesLine}
+use Rattle.zk_rehearse.specs.Scripts.{Progress, Prints, PrintsFirst, Goes, HaltsIn, StopsAt, IsOutcome, beginning, progress}
 
 -- one line further
 pub further : (lines : List (Bor Text)) (at : ℕ) (none : Bor Text) (old new : Progress) → at < length lines
@@ -36,11 +37,12 @@ parted lines at none within =
     ∙ (map-append (λ p. p.now) (take at lines) (drop at lines) ∙ ap (λ rest. map (λ p. p.now) (take at lines) ++ map (λ p. p.now) rest) left)
 
 -- what stands when the line behind those is not done
-pub stopped : (lines : List (Bor Text)) (at : ℕ) (none : Bor Text) (end : Standing) (text : List ℕ) (stop : Stop) → at < length lines
+pub stopped : (lines : List (Bor Text)) (at : ℕ) (none : Bor Text) (end after : Standing) (text : List ℕ) (stop : Stop) → at < length lines
     → FoldsTo Goes beginning (map (λ p. p.now) (take at lines)) (progress end text)
     → IsDue (get_or lines at none).now end stop
+    → IfHalted (HaltsLine (get_or lines at none).now end after) stop
     → IsOutcome (map (λ p. p.now) lines) text (end_at (at + 1) stop)
-stopped lines at none end text stop within taken due = go stop due
+stopped lines at none end after text stop within taken due halted = go stop due halted
   where
     first : PrintsFirst (map (λ p. p.now) lines) text
     first = record {
@@ -62,10 +64,22 @@ stopped lines at none end text stop within taken due = go stop due
       refused = refuses;
     }
 
-    go : (s : Stop) → IsDue (get_or lines at none).now end s → IsOutcome (map (λ p. p.now) lines) text (end_at (at + 1) s)
-    go (stops.Refused why) h = stops_at why h
-    go stops.Halted h = first
-    go stops.Memory h = first
+    halts_in : HaltsLine (get_or lines at none).now end after → HaltsIn (map (λ p. p.now) lines) text
+    halts_in halts = record {
+      before = map (λ p. p.now) (take at lines);
+      line = (get_or lines at none).now;
+      behind = map (λ p. p.now) (drop (at + 1) lines);
+      are = parted lines at none within;
+      end = end;
+      taken = taken;
+      after = after;
+      halts = halts;
+    }
+
+    go : (s : Stop) → IsDue (get_or lines at none).now end s → IfHalted (HaltsLine (get_or lines at none).now end after) s → IsOutcome (map (λ p. p.now) lines) text (end_at (at + 1) s)
+    go (stops.Refused why) due none = stops_at why due
+    go stops.Halted due halts = halts_in halts
+    go stops.Memory due none = first
 
 -- nothing is what the first lines print
 pub none_yet : (lines : List Text) → PrintsFirst lines []

@@ -1,5 +1,5 @@
 -- What a rehearsal is made of when its client is made, and when another one takes the session up.
-use Rattle.std.proofs.Common.{◌≡◌, ℤ, true, false, [], refl, ap, ap₂, ◌∙◌}
+use Rattle.std.proofs.Common.{◌≡◌, ℤ, false, [], refl, ap, ap₂, ◌∙◌}
 use Rattle.std.proofs.lemmas.Bool.{true≢false}
 use Rattle.std.specs.Prelude.{Option, Some, None}
 use Rattle.zk_bench.specs.Served.{Served, disconnected}

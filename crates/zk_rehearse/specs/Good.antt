@@ -1,5 +1,5 @@
 -- The good answers of a client, each compared with the history at its last seen zxid.
-use Rattle.std.specs.Prelude.{◌≡◌, ◌↔◌, IsTrue, ℕ, ℤ, Bool, true, false, ◌&&◌, if◌then◌else◌, List, [], ◌∷◌, ◌++◌, codes, Option, Some, None, bytes_eq}
+use Rattle.std.specs.Prelude.{◌≡◌, ◌↔◌, IsTrue, ℕ, Bool, true, false, ◌&&◌, List, [], ◌∷◌, ◌++◌, codes, Option, Some, None, bytes_eq}
 use Rattle.std.specs.FinSet as set
 use Rattle.zk_history.specs.History.{Text, View as Sight, Absence, Contents, Children, path_of, tree_at, view}
 use Rattle.zk_history.specs.Kept.{Kept as History, history_of, natural}
@@ -11,8 +11,7 @@ use Rattle.zk_cache.specs.declared.held.Kept.{Kept}
 use Rattle.zk_cache.specs.declared.held.Mark.{Mark}
 use Rattle.zk_cache.specs.declared.held.Mark.TheVariants.{Good, Stale}
 use Rattle.zk_turns.specs.View.{View}
-use Rattle.zk_script.specs.Answers.{spaced, name_text}
-use Rattle.zk_replay.specs.Shown.{side_word}
+use Rattle.zk_script.specs.Answers.{name_text}
 
 -- both null, or the same bytes
 abbrev pub same_content : Option (List ℕ) → Option (List ℕ) → Bool

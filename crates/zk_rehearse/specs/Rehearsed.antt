@@ -10,7 +10,7 @@ use Rattle.zk_replay.specs.declared.stop.Stop.TheVariants.{Refused, Halted, Memo
 use Rattle.zk_rehearse.specs.declared.rehearsal.Rehearsal.{Rehearsal}
 use Rattle.zk_rehearse.specs.BenchLines.{BenchValue}
 use Rattle.zk_rehearse.specs.RehearseLines.{RehearseValue, HistoryLine, BeginLine, BenchValueLine, says_at}
-use Rattle.zk_rehearse.specs.Stages.{Scene, scene_of, first_scene, DoesBench}
+use Rattle.zk_rehearse.specs.Stages.{Scene, scene_of, first_scene, DoesBench, HaltsBench}
 
 -- A history is told, and from the line on that makes the client there is a scene.
 pub data Standing : Type 0 where
@@ -58,6 +58,21 @@ pub record TakesLine (line : Text) (old new : Standing) (text : List ℕ) : Type
   pub what : Option RehearseValue
   pub says : says_at (words_of line) (is_begun old) ≡ Ok what
   pub does : DoesSome line what old new text
+
+-- The client halts at what a line says that is one behind the line that makes it.
+abbrev pub HaltsBenchLine : BenchValue → Standing → Standing → Type 0
+HaltsBenchLine value (Staged old) (Staged new) = HaltsBench value old new
+HaltsBenchLine value old new = ⊥
+
+abbrev pub HaltsSaid : RehearseValue → Standing → Standing → Type 0
+HaltsSaid (BenchValueLine value) old new = HaltsBenchLine value old new
+HaltsSaid value old new = ⊥
+
+-- So it does at a line.
+pub record HaltsLine (line : Text) (old new : Standing) : Type 0 where
+  pub value : BenchValue
+  pub says : says_at (words_of line) (is_begun old) ≡ Ok (Some (BenchValueLine value))
+  pub halts : HaltsBenchLine value old new
 
 -- A line of the history is refused as in a script of its own.
 abbrev pub RefusesHistory : Text → Standing → ScriptFault → Type 0

@@ -6,7 +6,7 @@ use Rattle.zk_script.specs.declared.script_fault.ScriptFault.{ScriptFault}
 use Rattle.zk_replay.specs.declared.replay.End.{End}
 use Rattle.zk_replay.specs.declared.replay.End.TheVariants.{Taken, Refused, Halted, Memory}
 use Rattle.zk_script.specs.Stories.{first_standing}
-use Rattle.zk_rehearse.specs.Rehearsed.{Standing, Told, TakesLine, RefusesLine}
+use Rattle.zk_rehearse.specs.Rehearsed.{Standing, Told, HaltsLine, TakesLine, RefusesLine}
 
 -- how far a script has come: where it stands, and what was printed
 pub record Progress : Type 0 where
@@ -39,6 +39,18 @@ pub record StopsAt (lines : List Text) (number : ℕ) (fault : ScriptFault) (tex
   pub taken : FoldsTo Goes beginning before (progress end text)
   pub refused : RefusesLine line end fault
 
+-- One of these lines is an input of which something comes, and the client that stands there halts at it. The text is what the lines
+-- before it print.
+pub record HaltsIn (lines : List Text) (text : List ℕ) : Type 0 where
+  pub before : List Text
+  pub line : Text
+  pub behind : List Text
+  pub are : lines ≡ before ++ line ∷ behind
+  pub end : Standing
+  pub taken : FoldsTo Goes beginning before (progress end text)
+  pub after : Standing
+  pub halts : HaltsLine line end after
+
 -- The text is what the first of these lines print: of no line a part.
 pub record PrintsFirst (lines : List Text) (text : List ℕ) : Type 0 where
   pub before : List Text
@@ -50,5 +62,5 @@ pub record PrintsFirst (lines : List Text) (text : List ℕ) : Type 0 where
 abbrev pub IsOutcome : List Text → List ℕ → End → Type 0
 IsOutcome lines text Taken = Prints lines text
 IsOutcome lines text (Refused number why) = StopsAt lines number why text
-IsOutcome lines text Halted = PrintsFirst lines text
+IsOutcome lines text Halted = HaltsIn lines text
 IsOutcome lines text Memory = PrintsFirst lines text

@@ -1,5 +1,5 @@
 -- What the lines behind the one that makes the client make of it and of the servers, and what they print.
-use Rattle.std.specs.Prelude.{◌≡◌, ◌≢◌, ◌≤◌, ◌-◌, ◌+◌, unsigned_abs, ℕ, ℤ, Bool, true, false, List, [], ◌∷◌, take, drop, length, Option, Some, None}
+use Rattle.std.specs.Prelude.{◌≡◌, ◌≢◌, ◌-◌, ◌+◌, unsigned_abs, ℕ, ℤ, true, false, List, [], ◌∷◌, take, drop, Option, Some, None}
 use Rattle.std.specs.FinSet as set
 use Rattle.zk_frames.specs.Frame.{IsNegative}
 use Rattle.zk_history.specs.History.{Text}
@@ -16,7 +16,7 @@ use Rattle.zk_bench.specs.Served.{Served, started, connected, disconnected, ende
 use Rattle.zk_script.specs.Answers.{AreNames}
 use Rattle.zk_replay.specs.CallLines.{Asked}
 use Rattle.zk_replay.specs.ClientLines.{ClientValue, CutLine, NowLine, CallLine}
-use Rattle.zk_replay.specs.Played.{DoesClient}
+use Rattle.zk_replay.specs.Played.{DoesClient, HaltsAt, HaltsClient}
 use Rattle.zk_replay.specs.Shown.{TellsAll}
 use Rattle.zk_rehearse.specs.declared.stage.Stage.{Stage}
 use Rattle.zk_rehearse.specs.BenchLines.{BenchValue, OpenLine, TakeLine, ProcessLine, DeliverLine, ExpireLine, GoodLine, RejoinLine, ClientValueLine}
@@ -125,3 +125,10 @@ DoesBench ExpireLine old new text = (new ≡ with_bench old (record old.bench { 
 DoesBench GoodLine old new text = (new ≡ old) × TellsGood old text
 DoesBench RejoinLine old new text = (new ≡ rejoined old) × (text ≡ [])
 DoesBench (ClientValueLine value) old new text = DoesClientLine value old new text
+
+-- The client halts at what a line says: at an input of which something comes, and at nothing else.
+abbrev pub HaltsBench : BenchValue → Scene → Scene → Type 0
+HaltsBench (OpenLine server) old new = HaltsAt Opened old.view new.view
+HaltsBench (DeliverLine most) old new = HaltsAt (Bytes (take most old.bench.connection.output)) old.view new.view
+HaltsBench (ClientValueLine value) old new = HaltsClient value old.view new.view
+HaltsBench value old new = ⊥

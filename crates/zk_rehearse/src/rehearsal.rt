@@ -4,10 +4,10 @@ ghost use Rattle.std.specs.Prelude.{◌≡◌, ◌<ℤ◌, pos, true, false, Ok,
 ghost use Rattle.std.specs.Option.{option_map};
 ghost use Rattle.zk_script.specs.Pieces.{words_of};
 ghost use Rattle.zk_script.specs.Stories.{first_standing};
-ghost use Rattle.zk_replay.specs.Played.{IsWant};
+ghost use Rattle.zk_replay.specs.Played.{IfHalted, IsWant};
 ghost use Rattle.zk_rehearse.specs.BenchLines.{bench_value_of, CanServe};
 ghost use Rattle.zk_rehearse.specs.RehearseLines.{said_value, says_at, BenchValueLine, HistoryLine, CanPlay};
-ghost use Rattle.zk_rehearse.specs.Rehearsed.{standing_of, is_begun, Told, Begins, Does, DoesBenchLine, DoesHistory, IsDue, IsDueOf, TakesLine};
+ghost use Rattle.zk_rehearse.specs.Rehearsed.{standing_of, is_begun, Told, Begins, Does, DoesBenchLine, DoesHistory, HaltsBenchLine, HaltsLine, HaltsSaid, IsDue, IsDueOf, TakesLine};
 
 use crate::bench_line::BenchLine;
 use crate::said::{Said, said_at};
@@ -60,6 +60,7 @@ impl<A: Allocator + Copy> Rehearsal<A> {
         requires begun { is_begun (standing_of self.old) ≡ true }
         ensures ok { IfOk result (λ text. DoesBenchLine (bench_value_of line) (standing_of self.old) (standing_of self.new) (string_bytes text)) }
         ensures err { IfErr result IsWant }
+        ensures halt { IfErr result (IfHalted (HaltsBenchLine (bench_value_of line) (standing_of self.old) (standing_of self.new))) }
     {
         match &mut self.stage {
             Some(stage) => stage.perform(alloc, line),
@@ -68,10 +69,12 @@ impl<A: Allocator + Copy> Rehearsal<A> {
     }
 
     /// Reads a line of the history.
+    #[tactic(auto, using(crate::proofs::DueLemmas::never_halts))]
     fn tell(&mut self, alloc: A, line: &[u8]) -> Result<String<A>, Stop>
         requires { is_begun (standing_of self.old) ≡ false }
         ensures ok { IfOk result (λ text. DoesHistory line.now (standing_of self.old) (standing_of self.new) (string_bytes text)) }
         ensures err { IfErr result (IsDueOf line.now HistoryLine (standing_of self.old)) }
+        ensures halt { IfErr result (IfHalted ⊥) }
     {
         match self.story.read(alloc, line) {
             Ok(text) => Ok(text),
@@ -84,6 +87,7 @@ impl<A: Allocator + Copy> Rehearsal<A> {
         requires { CanPlay (is_begun (standing_of self.old)) (said_value said) }
         ensures ok { IfOk result (λ text. Does line.now (said_value said) (standing_of self.old) (standing_of self.new) (string_bytes text)) }
         ensures err { IfErr result (IsDueOf line.now (said_value said) (standing_of self.old)) }
+        ensures halt { IfErr result (IfHalted (HaltsSaid (said_value said) (standing_of self.old) (standing_of self.new))) }
     {
         match said {
             Said::History => self.tell(alloc, line),
@@ -96,11 +100,12 @@ impl<A: Allocator + Copy> Rehearsal<A> {
     }
 
     /// What a line says, if it says something.
-    #[tactic(auto, using(crate::proofs::DueLemmas::says_due))]
+    #[tactic(auto, using(crate::proofs::DueLemmas::says_due, crate::proofs::DueLemmas::never_halts))]
     fn said(&self, alloc: A, line: &[u8]) -> Result<Option<Said<A>>, Stop>
         ensures says { IfOk result (λ said. says_at (words_of line.now) (is_begun (standing_of self.now)) ≡ Ok (option_map said_value said)) }
         ensures can { IfOk result (λ said. IfSome said (λ one. CanPlay (is_begun (standing_of self.now)) (said_value one))) }
         ensures err { IfErr result (IsDue line.now (standing_of self.now)) }
+        ensures halt { IfErr result (IfHalted ⊥) }
     {
         let words = words_of(alloc, line)?;
         match said_at(alloc, words.as_slice(), self.is_begun()) {
@@ -110,11 +115,13 @@ impl<A: Allocator + Copy> Rehearsal<A> {
     }
 
     /// Does what a line says, and gives what is to be printed: the lines of what the client says, or of a look-up. An empty line
-    /// and one that begins with `#` say nothing. The first reason that applies refuses a line.
-    #[tactic(auto, using(crate::proofs::DueLemmas::due_by, crate::proofs::DueLemmas::taken))]
+    /// and one that begins with `#` say nothing. The first reason that applies refuses a line. A halt is the answer only where the
+    /// line brings an input, and the client has halted at it.
+    #[tactic(auto, using(crate::proofs::DueLemmas::due_by, crate::proofs::DueLemmas::taken, crate::proofs::DueLemmas::none_halts, crate::proofs::DueLemmas::halts_so))]
     pub fn read(&mut self, alloc: A, line: &[u8]) -> Result<String<A>, Stop>
         ensures ok { IfOk result (λ text. TakesLine line.now (standing_of self.old) (standing_of self.new) (string_bytes text)) }
         ensures err { IfErr result (IsDue line.now (standing_of self.old)) }
+        ensures halt { IfErr result (IfHalted (HaltsLine line.now (standing_of self.old) (standing_of self.new))) }
     {
         match self.said(alloc, line)? {
             Some(said) => self.take(alloc, line, said),

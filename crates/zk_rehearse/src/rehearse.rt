@@ -2,8 +2,9 @@
 
 ghost use Rattle.std.specs.Prelude.{◌≡◌, IfErr, OnErr, OnOk, map, string_bytes};
 ghost use Rattle.zk_script.specs.Scripts.{lines_of};
+ghost use Rattle.zk_replay.specs.Played.{IfHalted};
 ghost use Rattle.zk_replay.specs.Replays.{end_at};
-ghost use Rattle.zk_rehearse.specs.Rehearsed.{standing_of, IsDue};
+ghost use Rattle.zk_rehearse.specs.Rehearsed.{standing_of, HaltsLine, IsDue};
 ghost use Rattle.zk_rehearse.specs.Scripts.{progress, Goes, IsOutcome};
 
 use crate::rehearsal::Rehearsal;
@@ -21,6 +22,7 @@ fn read_line<A: Allocator + Copy>(
 ) -> Result<(), Stop>
     ensures ok { OnOk result (Goes (progress (standing_of rehearsal.old) (string_bytes text.old)) line.now (progress (standing_of rehearsal.new) (string_bytes text.new))) }
     ensures err { IfErr result (IsDue line.now (standing_of rehearsal.old)) }
+    ensures halt { IfErr result (IfHalted (HaltsLine line.now (standing_of rehearsal.old) (standing_of rehearsal.new))) }
     ensures same { OnErr result (string_bytes text.new ≡ string_bytes text.old) }
 {
     let printed = rehearsal.read(alloc, line)?;

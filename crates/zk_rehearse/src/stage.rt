@@ -28,14 +28,15 @@ pub struct Stage<A: Allocator + Copy> {
 }
 
 impl<A: Allocator + Copy> Stage<A> {
-    ghost use Rattle.std.specs.Prelude.{◌≡◌, ◌≤◌, ◌<ℤ◌, pos, ℕ, List, [], IfOk, IfErr, string_bytes};
+    ghost use Rattle.std.specs.Prelude.{◌≡◌, ◌≤◌, ◌<ℤ◌, pos, ℕ, List, [], IfOk, IfErr, take, string_bytes};
     ghost use Rattle.zk_client.specs.Views.{input_view};
+    ghost use Rattle.zk_turns.specs.Turns.{Bytes, Call};
     ghost use Rattle.zk_replay.specs.ClientLines.{ClientValue};
     ghost use Rattle.zk_replay.specs.Lines.{client_value_of, asked_of};
-    ghost use Rattle.zk_replay.specs.Played.{IsWant};
+    ghost use Rattle.zk_replay.specs.Played.{HaltsAt, HaltsClient, IfHalted, IsWant};
     ghost use Rattle.zk_rehearse.specs.BenchLines.{ProcessLine, bench_value_of, CanServe, IsServer};
     ghost use Rattle.zk_rehearse.specs.Good.{TellsPaths};
-    ghost use Rattle.zk_rehearse.specs.Stages.{scene_of, first_scene, rejoined, Plays, Delivers, Processes, TakesNext, Calls, TellsGood, DoesBench, DoesClientLine};
+    ghost use Rattle.zk_rehearse.specs.Stages.{scene_of, first_scene, rejoined, Plays, Delivers, Processes, TakesNext, Calls, TellsGood, DoesBench, DoesClientLine, HaltsBench};
 
     /// A new client, and servers over a history. None is connected.
     pub fn new(alloc: A, timeout: i32, history: History<A>) -> Stage<A>
@@ -54,6 +55,7 @@ impl<A: Allocator + Copy> Stage<A> {
     fn play(&mut self, alloc: A, input: Input<A>) -> Result<String<A>, Stop>
         ensures ok { IfOk result (λ text. Plays (input_view input) (scene_of self.old) (scene_of self.new) (string_bytes text)) }
         ensures err { IfErr result IsWant }
+        ensures halt { IfErr result (IfHalted (HaltsAt (input_view input) (scene_of self.old).view (scene_of self.new).view)) }
     {
         let outputs = self.client.step(input)?;
         hear_all(&mut self.bench, outputs.as_slice())?;
@@ -65,6 +67,7 @@ impl<A: Allocator + Copy> Stage<A> {
     fn process(&mut self, alloc: A) -> Result<String<A>, Stop>
         ensures ok { IfOk result (λ text. DoesBench ProcessLine (scene_of self.old) (scene_of self.new) (string_bytes text)) }
         ensures err { IfErr result IsWant }
+        ensures halt { IfErr result (IfHalted ⊥) }
     {
         self.bench.process()?;
         Ok(String::new(alloc))
@@ -74,6 +77,7 @@ impl<A: Allocator + Copy> Stage<A> {
     fn deliver(&mut self, alloc: A, most: usize) -> Result<String<A>, Stop>
         ensures ok { IfOk result (λ text. Delivers most (scene_of self.old) (scene_of self.new) (string_bytes text)) }
         ensures err { IfErr result IsWant }
+        ensures halt { IfErr result (IfHalted (HaltsAt (Bytes (take most (scene_of self.old).bench.connection.output)) (scene_of self.old).view (scene_of self.new).view)) }
     {
         let bytes = self.bench.output(most)?;
         if bytes.is_empty() {
@@ -86,6 +90,7 @@ impl<A: Allocator + Copy> Stage<A> {
     fn call(&mut self, alloc: A, asked: Asked<A>) -> Result<String<A>, Stop>
         ensures ok { IfOk result (λ text. Calls (asked_of asked) (scene_of self.old) (scene_of self.new) (string_bytes text)) }
         ensures err { IfErr result IsWant }
+        ensures halt { IfErr result (IfHalted (HaltsAt (Call (asked_of asked).ticket (asked_of asked).call) (scene_of self.old).view (scene_of self.new).view)) }
     {
         add_path(alloc, &asked.call, &mut self.called)?;
         self.play(alloc, Input::Call(asked.ticket, asked.call))
@@ -95,6 +100,7 @@ impl<A: Allocator + Copy> Stage<A> {
     fn rejoin(&mut self, alloc: A) -> Result<String<A>, Stop>
         ensures ok { IfOk result (λ text. (scene_of self.new ≡ rejoined (scene_of self.old)) × (string_bytes text ≡ [])) }
         ensures err { IfErr result IsWant }
+        ensures halt { IfErr result (IfHalted ⊥) }
     {
         self.bench.disconnect();
         let client = Client::resume(alloc, self.timeout, &self.client.saved())?;
@@ -116,6 +122,7 @@ impl<A: Allocator + Copy> Stage<A> {
     fn drive(&mut self, alloc: A, line: ClientLine<A>) -> Result<String<A>, Stop>
         ensures ok { IfOk result (λ text. DoesClientLine (client_value_of line) (scene_of self.old) (scene_of self.new) (string_bytes text)) }
         ensures err { IfErr result IsWant }
+        ensures halt { IfErr result (IfHalted (HaltsClient (client_value_of line) (scene_of self.old).view (scene_of self.new).view)) }
     {
         match line {
             ClientLine::Cut => {
@@ -131,11 +138,13 @@ impl<A: Allocator + Copy> Stage<A> {
         }
     }
 
-    /// Does what a line says, and gives what is to be printed.
+    /// Does what a line says, and gives what is to be printed. Where that is answered by a halt, the line brings an input, and the
+    /// client has halted at it.
     pub fn perform(&mut self, alloc: A, line: BenchLine<A>) -> Result<String<A>, Stop>
         requires { CanServe (bench_value_of line) }
         ensures ok { IfOk result (λ text. DoesBench (bench_value_of line) (scene_of self.old) (scene_of self.new) (string_bytes text)) }
         ensures err { IfErr result IsWant }
+        ensures halt { IfErr result (IfHalted (HaltsBench (bench_value_of line) (scene_of self.old) (scene_of self.new))) }
     {
         match line {
             BenchLine::Open(server) => {

@@ -8,7 +8,7 @@ use Rattle.zk_rehearse.proofs.rehearse.read_lines.Goals as goal
 pub returns-in-Err : goal.returns-in-Err
 returns-in-Err g c =
     rw (c.end_at-end.ensures, c.in-Err.ensures.same)
-    (stopped c.args.lines.now c.loop-index.index _ (standing_of c.loop-index.rehearsal) (string_bytes c.loop-index.text) c.in-Err.stop (omega arith) c.loop-index.invariant c.in-Err.ensures.err)
+    (stopped c.args.lines.now c.loop-index.index _ (standing_of c.loop-index.rehearsal) (standing_of c.read_line.new.rehearsal) (string_bytes c.loop-index.text) c.in-Err.stop (omega arith) c.loop-index.invariant c.in-Err.ensures.err c.in-Err.ensures.halt)
 
 pub loop-index-preserved : goal.loop-index-preserved
 loop-index-preserved g c =
