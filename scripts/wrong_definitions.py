@@ -101,8 +101,8 @@ EDITS = [
      "place = map Notifies sent ++ Watches_set is_last (zxid_held h place) ∷ []",
      "place = (Watches_set is_last (zxid_held h place) ∷ []) ++ map Notifies sent"),
     ("a read is answered from any tree", LAWS, SERVER,
-     "Gives h place (Exists path watch) (Found stat) = Fits (Known (data_stat_of stat)) (view Data (tree_held h place) (path_of path))",
-     "Gives h place (Exists path watch) (Found stat) = ⊤"),
+     "Reads tree (Exists path watch) (Found stat) = Fits (Known (data_stat_of stat)) (view Data tree (path_of path))",
+     "Reads tree (Exists path watch) (Found stat) = ⊤"),
 ]
 
 

@@ -2,10 +2,10 @@
 use Rattle.std.proofs.Common.{ℕ, ◌≡◌, max, Bool, true, false, List, [], ◌∷◌, ◌++◌, refl, sym, ◌∙◌, subst, inl, inr, ◌⊎◌, arith, Option, None, ap, if◌then◌else◌, map}
 use Rattle.zk_history.specs.History.{Text, text_of, path_of, History, tree_at, view}
 use Rattle.zk_history.specs.declared.side.Side.{Side}
-use Rattle.zk_laws.specs.Server.{Watches, Notice, tells_of, Answer, Fits}
+use Rattle.zk_laws.specs.Server.{Watches, Notice}
 use Rattle.zk_turns.specs.Meaning.{Among}
 use Rattle.zk_laws.specs.Messages.{Message, Replies, Notifies, Request}
-use Rattle.zk_laws.specs.Log.{Item, Took, zxid_in, last, good, kept_after}
+use Rattle.zk_laws.specs.Log.{Item, Took, zxid_in, last, good, kept_after, tells_of, Answer, Suits}
 use Rattle.zk_laws.specs.Steps.{is_behind}
 use Rattle.zk_laws.specs.Invariant.{IsRight, Ahead, IsSettled, IsSure}
 use Rattle.zk_laws.proofs.Firing.{IsTold}
@@ -34,9 +34,9 @@ IsLess side path new old = (last new ≡ last old) × ((good side path new ≡ N
 pub right_less : (h : History) (side : Side) (path : Text) (new old : List Item) → IsLess side path new old → IsRight h side path old → IsRight h side path new
 right_less h side path new old less right answer e = go less.1
   where
-    go : (good side path new ≡ None) ⊎ (good side path new ≡ good side path old) → Fits answer (view side (tree_at h (last new)) (path_of path)) × (text_of (path_of path) ≡ path)
+    go : (good side path new ≡ None) ⊎ (good side path new ≡ good side path old) → Suits answer (view side (tree_at h (last new)) (path_of path)) × (text_of (path_of path) ≡ path)
     go (inl none) = absurd (cc (none, e))
-    go (inr same) = let f = right answer (sym same ∙ e) in (subst (λ (z : ℕ). Fits answer (view side (tree_at h z) (path_of path))) (sym less.0) f.0, f.1)
+    go (inr same) = let f = right answer (sym same ∙ e) in (subst (λ (z : ℕ). Suits answer (view side (tree_at h z) (path_of path))) (sym less.0) f.0, f.1)
 
 pub max_zero : (n : ℕ) → max 0 n ≡ n
 max_zero n = omega arith

@@ -6,8 +6,10 @@ use Rattle.zk_history.specs.History.{Text, Name, NodePath, path_eq, text_of, pat
 use Rattle.zk_records.specs.declared.event.Event.{Event}
 use Rattle.zk_records.specs.declared.event.Event.TheVariants.{Created, Deleted, DataChanged, ChildrenChanged}
 use Rattle.std.specs.Prelude.{bytes_eq}
+use Rattle.std.specs.Ordering.{int_eq}
+use Rattle.zk_records.specs.Events.{event_number}
 use Rattle.zk_turns.specs.Meaning.{Among}
-use Rattle.zk_laws.specs.Server.{Notice, event_eq, times, AreSent}
+use Rattle.zk_laws.specs.Server.{Notice, times, AreSent}
 
 pub text_eq-true : (x y : Name) → bytes_eq x y ≡ true → x ≡ y
 text_eq-true x y h = same_text x y h
@@ -84,6 +86,10 @@ Among-left x (z ∷ xs) ys (inr h) = inr (Among-left x xs ys h)
 pub Among-right : {A : Type 0} (x : A) (xs ys : List A) → Among x ys → Among x (xs ++ ys)
 Among-right x [] ys h = h
 Among-right x (z ∷ xs) ys h = inr (Among-right x xs ys h)
+
+-- the same event
+abbrev event_eq : Event → Event → Bool
+event_eq one other = int_eq (event_number one) (event_number other)
 
 event_eq-refl : (e : Event) → event_eq e e ≡ true
 event_eq-refl Created = refl

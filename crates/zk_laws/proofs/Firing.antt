@@ -10,7 +10,8 @@ use Rattle.zk_records.specs.declared.event.Event.TheVariants.{Created, Deleted, 
 use Rattle.zk_records.specs.Events.{concerns}
 use Rattle.std.specs.Prelude.{bytes_eq}
 use Rattle.zk_turns.specs.Meaning.{Among}
-use Rattle.zk_laws.specs.Server.{Notice, tells_of, Watches, told, fires, leaves_set, fires_all, leaves_set_all}
+use Rattle.zk_laws.specs.Log.{tells_of}
+use Rattle.zk_laws.specs.Server.{Notice, Watches, told, fires, leaves_set, fires_all, leaves_set_all}
 use Rattle.zk_laws.specs.Invariant.{is_seen, IsThere}
 use Rattle.zk_laws.proofs.Basics.{text_eq_from, path_eq-true, Among-left, Among-right}
 

@@ -34,7 +34,8 @@ use Rattle.zk_turns.specs.Kept.{Took, Dropped, Accepted as Accepts, Expiry, Repl
 use Rattle.zk_session.specs.Kept.{Welcome}
 use Rattle.zk_frames.specs.declared.reader.TheConstants.{LONGEST_INCOMING}
 use Rattle.zk_turns.proofs.Pieces.{cut_there, cut_short, same_field, length-frame, drop-frame}
-use Rattle.zk_laws.specs.Server.{Notice as Notified, left_by}
+use Rattle.zk_laws.specs.Log.{left_by}
+use Rattle.zk_laws.specs.Server.{Notice as Notified}
 use Rattle.zk_laws.specs.Messages.{Accepted, Expired, Replies, Watches_set, Notifies, Pong, from_zero}
 use Rattle.zk_laws.specs.Flight.{HasCode}
 

@@ -1,14 +1,15 @@
 -- The laws of a client that is served.
 use Rattle.zk_laws.proofs.Outputs.{among_split, given_answers, given_drops}
 use Rattle.zk_turns.specs.Rule.{AllAsked, Stands, IsOpen}
-use Rattle.zk_laws.specs.Laws.{IsTrueRead, IsTrueWrite, AreRestored}
+use Rattle.zk_laws.specs.Laws.{IsTrueWrite, AreRestored}
 use Rattle.zk_laws.specs.Headline.{AnswersFirst, WritesAreTrue, NoneIsNegative, Headline, IsTrueOf, IsCoherentWith, ReadsAreTrue, RepliesAreAbove, DropsAreDue, IsQuietAt, tree_of}
 use Rattle.zk_conversation.specs.Questions.{question_of, Question}
 use Rattle.zk_conversation.specs.Calls.{Call, call_payload, ping_payload}
-use Rattle.zk_history.specs.History.{Text, path_of, Tree, History, IsHistory, tree_at, view as to_see}
+use Rattle.zk_history.specs.History.{Text, path_of, Tree, History, IsHistory, tree_at, View as SeenView, view as to_see}
 use Rattle.zk_turns.specs.Kept.{Asking, For_part, For_call, parts_asked, questions, awaited, answered, is_talking, state_of, xid_of, Asked, Began, lists_of, Happening, Dropped, Past, Pinged, Skipped, Expiry, held_of, kept_data, kept_names, last_of, Took as Takes_in, Accepted as Accepts, Replies as Answers_call, Watches_set as Sets_watches, Notifies as Tells, Pong as Echo}
 use Rattle.zk_watches.specs.Parts.{parts}
 use Rattle.zk_cache.specs.declared.held.Kept.{Kept}
+use Rattle.zk_cache.specs.Kept.{Answer as Kept_answer, Absent as Kept_absent, Known as Kept_known, Full as Kept_full}
 use Rattle.zk_cache.specs.declared.held.Mark.TheVariants.{Good}
 use Rattle.zk_watches.specs.Lists.{Lists}
 use Rattle.zk_turns.specs.Turns.{Framed, Start, Item, Silent, Fault}
@@ -24,9 +25,9 @@ use Rattle.zk_turns.specs.Sent.{sends, outputs_of, sent, part_of}
 use Rattle.zk_turns.proofs.Pieces.{length-frame}
 use Rattle.zk_turns.proofs.Sending.{sent_is}
 use Rattle.zk_turns.specs.Meaning.{Among}
-use Rattle.zk_laws.specs.Server.{Fits, Answer, tree_held}
+use Rattle.zk_laws.specs.Server.{Fits, Reads, tree_held}
 use Rattle.zk_laws.specs.Messages.{Replies, from_zero}
-use Rattle.zk_laws.specs.Log.{Took, last, good}
+use Rattle.zk_laws.specs.Log.{Took, last, good, Answer, Suits}
 use Rattle.zk_laws.specs.Steps.{World, Connection, Link}
 use Rattle.zk_laws.specs.Seen.{seen, item_of, node_answer, names_answer, if_good}
 use Rattle.zk_frames.specs.declared.reader.TheConstants.{LONGEST_INCOMING}
@@ -45,12 +46,17 @@ use Rattle.zk_laws.proofs.Moving.{schedule_here}
 if_good_is : {A : Type 0} (word : A → Answer) (k : Kept A) → k.mark ≡ Good → if_good word (Some k) ≡ Some (word k.answer)
 if_good_is word k e = ap (λ m. if_good word (Some (record { answer = k.answer; mark = m }))) e
 
+suits_node : (answer : Kept_answer) (seen : SeenView) → Suits (node_answer answer) seen → Fits answer seen
+suits_node Kept_absent seen f = f
+suits_node (Kept_known fields) seen f = f
+suits_node (Kept_full bytes fields) seen f = f
+
 -- a tree that all good answers of a run fit
-cache_true : (start : Start) (past : Past) (tree : Tree) → ((path : Text) (a : Answer) → good Data path (seen start past) ≡ Some a → Fits a (to_see Data tree (path_of path)))
-    → ((path : Text) (a : Answer) → good Child path (seen start past) ≡ Some a → Fits a (to_see Child tree (path_of path)))
+cache_true : (start : Start) (past : Past) (tree : Tree) → ((path : Text) (a : Answer) → good Data path (seen start past) ≡ Some a → Suits a (to_see Data tree (path_of path)))
+    → ((path : Text) (a : Answer) → good Child path (seen start past) ≡ Some a → Suits a (to_see Child tree (path_of path)))
     → IsTrueOf tree (record { nodes = λ path. kept_data path past; children = λ path. kept_names path past })
 cache_true start past tree f g = record {
-  nodes = λ path kept e m. f path (node_answer kept.answer) (good_node start path past ∙ ap (if_good node_answer) e ∙ if_good_is node_answer kept m);
+  nodes = λ path kept e m. suits_node kept.answer (to_see Data tree (path_of path)) (f path (node_answer kept.answer) (good_node start path past ∙ ap (if_good node_answer) e ∙ if_good_is node_answer kept m));
   children = λ path kept e m. g path (names_answer kept.answer) (good_names start path past ∙ ap (if_good names_answer) e ∙ if_good_is names_answer kept m);
 }
 
@@ -190,7 +196,7 @@ module _ (h : History) (is : IsHistory h) (start : Start) where
   pub coherent_client : (items : List Item) (view : View) → Stands start items view → Served h start items → IsCoherentWith h view
   coherent_client items view s served = sim_coherent (WasSent served.entries) items view (line_of h served.entries) s (served_sim items s.asked served)
 
-  reached_reads : (w : World) → Reached h (from_zero start.last) w → (q : Question) (z : ℕ) (r : Result) → Among (Took (Replies q z r)) w.log → IsTrueRead h q z r
+  reached_reads : (w : World) → Reached h (from_zero start.last) w → (q : Question) (z : ℕ) (r : Result) → Among (Took (Replies q z r)) w.log → Reads (tree_at h z) q r
   reached_reads w r q z res a = reads_true h is (from_zero start.last) r.moves r.may q z res (subst (λ v. Among (Took (Replies q z res)) v.log) (sym r.is) a)
 
   pub true_reads : (items : List Item) → AllAsked items → Served h start items → ReadsAreTrue h (past_of start items)
@@ -267,7 +273,7 @@ module _ (h : History) (is : IsHistory h) (start : Start) where
           w.0,
           w.1,
           subst (λ q. Among (Takes_in (Answers_call ticket q zxid result)) (past_of start items)) (sym w.2) t.1,
-          subst (λ q. IsTrueRead h q (from_zero zxid) result) (sym w.2) (true_reads items s.asked served ticket t.0 zxid result t.1),
+          subst (λ q. Reads (tree_at h (from_zero zxid)) q result) (sym w.2) (true_reads items s.asked served ticket t.0 zxid result t.1),
           w.3,
           above_saved items s.asked served ticket t.0 zxid result t.1,
           signed_all (past_of start items) (served_sim items s.asked served).calm.1 ticket t.0 zxid result t.1,

@@ -8,9 +8,9 @@ use Rattle.zk_history.specs.declared.side.Side.TheVariants.{Data, Child}
 use Rattle.zk_conversation.specs.Questions.{Question, Exists, GetData, GetChildren}
 use Rattle.zk_conversation.specs.Results.{Result, NoNode, Found, Read, Listing}
 use Rattle.std.specs.Prelude.{bytes_eq}
-use Rattle.zk_laws.specs.Server.{tells_of, same_side, Watches, leaves, Answer, Absent, Known, Full, Names, is_listed, zxid_held}
+use Rattle.zk_laws.specs.Server.{same_side, Watches, zxid_held}
 use Rattle.zk_laws.specs.Messages.{Accepted, Expired, Replies, Notifies}
-use Rattle.zk_laws.specs.Log.{Item, Halted, Took, last, good, kept_after, refreshed, answer_of, Kind, Of_data, Of_absence, Of_children, side_of, is_of, is_kind, paths_in, listed, AreParts}
+use Rattle.zk_laws.specs.Log.{Item, Halted, Took, last, good, kept_after, refreshed, answer_of, Kind, Of_data, Of_absence, Of_children, side_of, is_of, is_kind, paths_in, listed, AreParts, tells_of, leaves, Answer, Absent, Known, Full, Names, is_listed}
 use Rattle.zk_laws.specs.Steps.{restores}
 use Rattle.zk_conversation.specs.Pending.{closes}
 use Rattle.zk_laws.proofs.Basics.{text_eq-true}

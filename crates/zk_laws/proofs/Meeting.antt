@@ -19,9 +19,8 @@ use Rattle.zk_turns.proofs.Stepped.{Counted, talks_in}
 use Rattle.zk_turns.proofs.Pieces.{byte_happens}
 use Rattle.zk_history.specs.History.{History, IsHistory}
 use Rattle.zk_laws.specs.Invariant.{IsKeptUp, IsStarting, IsOpening}
-use Rattle.zk_laws.specs.Server.{left_by}
 use Rattle.zk_laws.specs.Messages.{Message, Accepted, Replies, Watches_set, Notifies, Pong, Request, Expired as Expires, from_zero}
-use Rattle.zk_laws.specs.Log.{Item as Log_item, last}
+use Rattle.zk_laws.specs.Log.{Item as Log_item, last, left_by}
 use Rattle.zk_laws.specs.Steps.{Connection, Link, Up, Down, World, Joins, Takes, is_behind, restores}
 use Rattle.zk_laws.specs.ServerSteps.{Stage, Waiting, Serving, Ended}
 use Rattle.zk_laws.specs.Run.{Goes}

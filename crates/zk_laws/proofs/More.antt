@@ -1,23 +1,23 @@
 -- The other laws of a run.
-use Rattle.std.specs.FinSet as set
 use Rattle.std.proofs.Common.{ℕ, zero, suc, ◌≡◌, ◌≤◌, Bool, true, false, List, [], ◌∷◌, ◌++◌, refl, sym, subst, inl, inr, arith, Option, Some, None, if◌then◌else◌, map, take}
 use Rattle.std.specs.Bool.{⊤}
 use Rattle.zk_history.specs.DataStats.{data_stat_of}
-use Rattle.zk_history.specs.History.{Text, path_of, Tree, Change, Creates, Sets, Deletes, Transaction, History, IsHistory, newest, view}
+use Rattle.zk_history.specs.History.{Text, path_of, tree_at, Tree, Change, Creates, Sets, Deletes, Transaction, History, IsHistory, newest, view}
 use Rattle.zk_conversation.specs.Calls.{Call, Exists, GetData, GetChildren, SetData, Create, Delete}
 use Rattle.zk_history.specs.declared.side.Side.{Side}
 use Rattle.zk_history.specs.declared.side.Side.TheVariants.{Data, Child}
 use Rattle.zk_conversation.specs.Questions.{Question, question_of}
 use Rattle.zk_conversation.specs.Results.{Result, NoNode, Found, Read, Listing, Made, Done}
+use Rattle.zk_turns.specs.Kept.{names_of}
 use Rattle.zk_turns.specs.Meaning.{Among}
-use Rattle.zk_laws.specs.Server.{Notice, Answer, Absent, Known, Full, Names, Fits, held, tree_held, zxid_held, LastHolds, Gives}
+use Rattle.zk_laws.specs.Server.{Reads, FitsNames, Notice, held, tree_held, zxid_held, LastHolds, Gives}
 use Rattle.zk_laws.specs.Messages.{Message, Accepted, Expired, Replies, Watches_set, Notifies, Pong, Request, Connect, Restore, Ask, Ping}
-use Rattle.zk_laws.specs.Log.{Item, Lost, Took, last, good}
+use Rattle.zk_laws.specs.Log.{Item, Lost, Took, last, good, Answer, Absent, Known, Full, Suits}
 use Rattle.zk_laws.specs.Steps.{is_behind, ends, Connection, Link, Down, Up, World, Step, Asks, Pings, Joins, Takes, rest_of, MayStep, stepped, By_server}
 use Rattle.zk_laws.specs.ServerSteps.{Stage, Waiting, Serving, Ended, Advances, Admits, Refuses, Answers, Restores, Pongs, IsNext}
 use Rattle.zk_laws.specs.Run.{start, Move, Opens, Loses, Halts, Forgets_stale, Goes, MayGo, gone, May, moved, IsSchedule, run, NoneBehind, AgreesWhenQuiet}
 use Rattle.zk_laws.specs.Invariant.{Ahead, IsAwaited, IsSure, IsSettled, IsOpening, IsTalking, IsKeptUp, IsKeptBy, IsKept}
-use Rattle.zk_laws.specs.Laws.{IsTrueRead, IsTrueWrite, HasChange, AreRestored}
+use Rattle.zk_laws.specs.Laws.{IsTrueWrite, HasChange, AreRestored}
 use Rattle.zk_laws.proofs.Stamps.{tree_at_held}
 use Rattle.zk_laws.proofs.Whole.{next_is, start_kept, run_kept}
 
@@ -94,9 +94,9 @@ agrees h w k c e talking none restored side path answer g = go (good side path w
     settled : IsSettled h side path c.requests c.place c.watches w.log
     settled = (subst (λ (ms : List Message). Ahead h side path ms w.log (IsSettled h side path c.requests c.place c.watches)) none (t.ahead side path)).1
 
-    go : (k : Option Answer) → k ≡ Some answer → IsSure h side path c.requests c.place c.watches (last w.log) k → Fits answer (view side (tree_held h c.place) (path_of path))
+    go : (k : Option Answer) → k ≡ Some answer → IsSure h side path c.requests c.place c.watches (last w.log) k → Suits answer (view side (tree_held h c.place) (path_of path))
     go None f s = absurd cc
-    go (Some a) f (inl covered) = let same : a ≡ answer = cc in subst (λ (b : Answer). Fits b (view side (tree_held h c.place) (path_of path))) same covered.fits
+    go (Some a) f (inl covered) = let same : a ≡ answer = cc in subst (λ (b : Answer). Suits b (view side (tree_held h c.place) (path_of path))) same covered.fits
     go (Some a) f (inr x) = absurd (not_awaited side path a (last w.log) c.requests restored x)
 
 pub agrees_when_quiet : (h : History) → IsHistory h → (saved : ℕ) (moves : List Move) → IsSchedule h moves (start saved) → AgreesWhenQuiet h (run h moves (start saved))
@@ -182,13 +182,13 @@ taken_given h m [] a t = absurd a
 taken_given h m (item ∷ log) (inl e) t = subst (λ (i : Item). IsGivenItem h i) (sym e) t.0
 taken_given h m (item ∷ log) (inr a) t = taken_given h m log a t.1
 
-given_read : (h : History) (is : IsHistory h) (n : ℕ) (q : Call) (r : Result) → Gives h n q r → IsTrueRead h (question_of q) (zxid_held h n) r
-given_read h is n (Exists p w) NoNode g = subst (λ (t : Tree). Fits Absent (view Data t (path_of p))) (sym (tree_at_held h n is)) g
-given_read h is n (Exists p w) (Found f) g = subst (λ (t : Tree). Fits (Known (data_stat_of f)) (view Data t (path_of p))) (sym (tree_at_held h n is)) g
-given_read h is n (GetData p w) NoNode g = subst (λ (t : Tree). Fits Absent (view Data t (path_of p))) (sym (tree_at_held h n is)) g
-given_read h is n (GetData p w) (Read b f) g = subst (λ (t : Tree). Fits (Full b (data_stat_of f)) (view Data t (path_of p))) (sym (tree_at_held h n is)) g
-given_read h is n (GetChildren p w) NoNode g = subst (λ (t : Tree). Fits Absent (view Child t (path_of p))) (sym (tree_at_held h n is)) g
-given_read h is n (GetChildren p w) (Listing ns z) g = subst (λ (t : Tree). Fits (Names (set.from_list ns) z.pzxid) (view Child t (path_of p))) (sym (tree_at_held h n is)) g
+given_read : (h : History) (is : IsHistory h) (n : ℕ) (q : Call) (r : Result) → Gives h n q r → Reads (tree_at h (zxid_held h n)) (question_of q) r
+given_read h is n (Exists p w) NoNode g = subst (λ (t : Tree). Suits Absent (view Data t (path_of p))) (sym (tree_at_held h n is)) g
+given_read h is n (Exists p w) (Found f) g = subst (λ (t : Tree). Suits (Known (data_stat_of f)) (view Data t (path_of p))) (sym (tree_at_held h n is)) g
+given_read h is n (GetData p w) NoNode g = subst (λ (t : Tree). Suits Absent (view Data t (path_of p))) (sym (tree_at_held h n is)) g
+given_read h is n (GetData p w) (Read b f) g = subst (λ (t : Tree). Suits (Full b (data_stat_of f)) (view Data t (path_of p))) (sym (tree_at_held h n is)) g
+given_read h is n (GetChildren p w) NoNode g = subst (λ (t : Tree). Suits Absent (view Child t (path_of p))) (sym (tree_at_held h n is)) g
+given_read h is n (GetChildren p w) (Listing ns z) g = subst (λ (t : Tree). FitsNames (names_of ns z) (view Child t (path_of p))) (sym (tree_at_held h n is)) g
 given_read h is n _ _ g = tt
 
 -- the last of some transactions is one of them, with the newest zxid
@@ -213,11 +213,11 @@ given_write h n (Delete p v) Done g = holds_change h n (Deletes (path_of p)) g
 given_write h n _ _ g = tt
 
 pub reads_true : (h : History) → IsHistory h → (saved : ℕ) (moves : List Move) → IsSchedule h moves (start saved) → (question : Question) (zxid : ℕ) (result : Result)
-    → Among (Took (Replies question zxid result)) (run h moves (start saved)).log → IsTrueRead h question zxid result
+    → Among (Took (Replies question zxid result)) (run h moves (start saved)).log → Reads (tree_at h zxid) question result
 reads_true h is saved moves may q z r a =
     let k = honest_run h moves (start saved) may ((tt, tt), tt) in
     let g = taken_given h (Replies q z r) (run h moves (start saved)).log a k.0 in
-    subst (λ (x : Question). IsTrueRead h x z r) g.2 (subst (λ (y : ℕ). IsTrueRead h (question_of g.1) y r) (sym g.3) (given_read h is g.0 g.1 r g.4))
+    subst (λ (x : Question). Reads (tree_at h z) x r) g.2 (subst (λ (y : ℕ). Reads (tree_at h y) (question_of g.1) r) (sym g.3) (given_read h is g.0 g.1 r g.4))
 
 -- a write that a server answers with 0 is a change of its last transaction
 pub writes_true : (h : History) (step : Step) (c : Connection) (log : List Item) (call : Call) (result : Result) → step ≡ By_server (Answers call result) → MayStep h step c log → IsTrueWrite h call (zxid_held h c.place) result

@@ -4,7 +4,7 @@ use Rattle.zk_watches.specs.Lists.{Lists}
 use Rattle.zk_cache.specs.Kept.{same_fields}
 use Rattle.std.proofs.Common.{ℕ, pos, ◌≡◌, ◌≤◌, max, Bool, true, false, ◌&&◌, ◌||◌, List, [], ◌∷◌, ◌++◌, refl, ap, sym, ◌∙◌, subst, inl, inr, ◌⊎◌, arith, Option, Some, None, is_some, if◌then◌else◌, map, flat_map, suc, nat_lt, append-nil, int_eq}
 use Rattle.std.proofs.lemmas.Bool.Decides.{nat_tests, Decides-int_eq}
-use Rattle.std.proofs.lemmas.Bool.{and_parts, and_from, and_right, or_left, or_right, or_cases}
+use Rattle.std.proofs.lemmas.Bool.{and_parts, and_right, or_left, or_right, or_cases}
 use Rattle.std.specs.Bool.{⊤}
 use Rattle.zk_history.specs.DataStats.{data_stat_of}
 use Rattle.zk_history.specs.History.{Text, Name, NodePath, path_eq, text_of, path_of, Node, Tree, Transaction, apply_all, History, IsHistory, tree_at, node_fields, View, Absence, Contents, Children, view, contents_of, children_of}
@@ -14,14 +14,17 @@ use Rattle.zk_history.specs.declared.side.Side.{Side}
 use Rattle.zk_history.specs.declared.side.Side.TheVariants.{Data, Child}
 use Rattle.zk_records.specs.declared.event.Event.{Event}
 use Rattle.zk_records.specs.declared.event.Event.TheVariants.{Created, Deleted, DataChanged, ChildrenChanged}
-use Rattle.zk_conversation.specs.Questions.{question_of}
+use Rattle.zk_conversation.specs.Questions.{Question, question_of}
+use Rattle.zk_turns.specs.Kept.{Left, leaves_data, leaves_child}
+use Rattle.zk_cache.specs.Kept.{Answer as Kept_answer, Names as Kept_names}
 use Rattle.zk_conversation.specs.Results.{Result, NoNode, Found, Read, Listing}
-use Rattle.std.specs.Prelude.{bytes_eq}
+use Rattle.std.specs.Prelude.{bytes_eq, not}
+use Rattle.std.specs.List.{list_any}
 use Rattle.zk_turns.specs.Meaning.{Among}
-use Rattle.zk_laws.specs.Server.{Notice, tells_of, Watches, fires_all, leaves_set_all, AreSent, left_by, is_place, leaves, sets_at, sets, is_listed, Answer, Absent, Known, Full, Names, Fits, tree_held, zxid_held, Gives, part_tells, part_sets, both, is_among, Tells, known_check, missing_check, parent_check, tells, watches_again, same_side}
+use Rattle.zk_laws.specs.Server.{sets_at, Notice, Watches, fires_all, leaves_set_all, AreSent, sets, tree_held, zxid_held, Gives, part_tells, part_sets, both, known_check, missing_check, parent_check, tells, same_side}
 use Rattle.zk_turns.specs.Turns.{IsAskable}
 use Rattle.zk_laws.specs.Messages.{Message, Replies, Watches_set, Notifies, Pong, Request, Restore, Ask, Ping}
-use Rattle.zk_laws.specs.Log.{Item, Took, last, good, zxid_in, refreshed, answer_of}
+use Rattle.zk_laws.specs.Log.{place_left, Item, Took, last, good, zxid_in, refreshed, answer_of, tells_of, left_by, is_place, leaves, is_listed, Answer, Absent, Known, Full, Names, Suits}
 use Rattle.zk_laws.specs.Steps.{is_behind}
 use Rattle.zk_conversation.specs.Pending.{closes}
 use Rattle.zk_laws.specs.Invariant.{IsThere, is_seen, IsRight, Ahead, is_in, IsAwaited, IsCovered, IsSure, IsSettled}
@@ -49,7 +52,7 @@ module _ (h : History) (is : IsHistory h) (side : Side) (path : Text) (requests 
       go (inl t) = inl (next_told (subst (λ (p : Text). IsTold (fires_all x.changes watches) side p) named t))
       go (inr s) =
           let e : view side (tree_held h (suc place)) (path_of path) ≡ view side (tree_held h place) (path_of path) = ap (λ (t : Tree). view side t (path_of path)) next.tree ∙ s.1 in
-          inr (record { watched = s.0; fits = subst (λ (v : View). Fits a v) (sym e) c.fits; there = subst (λ (v : View). IsThere side v) (sym e) c.there })
+          inr (record { watched = s.0; fits = subst (λ (v : View). Suits a v) (sym e) c.fits; there = subst (λ (v : View). IsThere side v) (sym e) c.there })
 
   next_sure : (log : List Item) → IsRight h side path log → (k : Option Answer) → good side path log ≡ k → IsSure h side path requests place watches (last log) k
       → IsSure h side path requests (suc place) (leaves_set_all x.changes watches) (last (told_log sent log)) (good side path (told_log sent log))
@@ -88,20 +91,20 @@ module _ (h : History) (is : IsHistory h) (side : Side) (path : Text) (requests 
 
 -- A reply that leaves a watch gives what there is to see, at a path that can be watched so.
 fits_left : (h : History) (place : ℕ) (side : Side) (path : Text) (q : Call) (r : Result) → Gives h place q r → leaves (question_of q) r side path ≡ true
-    → Fits (answer_of r) (view side (tree_held h place) (path_of path)) × IsThere side (view side (tree_held h place) (path_of path))
-fits_left h place Data path (Exists at true) NoNode g e = let p = text_eq-true path at e in (subst (λ (q : Text). Fits Absent (view Data (tree_held h place) (path_of q))) (sym p) g, tt)
+    → Suits (answer_of r) (view side (tree_held h place) (path_of path)) × IsThere side (view side (tree_held h place) (path_of path))
+fits_left h place Data path (Exists at true) NoNode g e = let p = text_eq-true path at e in (subst (λ (q : Text). Suits Absent (view Data (tree_held h place) (path_of q))) (sym p) g, tt)
 fits_left h place Child path (Exists at true) NoNode g e = absurd cc
-fits_left h place Data path (Exists at true) (Found stat) g e = let p = text_eq-true path at e in (subst (λ (q : Text). Fits (Known (data_stat_of stat)) (view Data (tree_held h place) (path_of q))) (sym p) g, tt)
+fits_left h place Data path (Exists at true) (Found stat) g e = let p = text_eq-true path at e in (subst (λ (q : Text). Suits (Known (data_stat_of stat)) (view Data (tree_held h place) (path_of q))) (sym p) g, tt)
 fits_left h place Child path (Exists at true) (Found stat) g e = absurd cc
-fits_left h place Data path (GetData at true) (Read bytes stat) g e = let p = text_eq-true path at e in (subst (λ (q : Text). Fits (Full bytes (data_stat_of stat)) (view Data (tree_held h place) (path_of q))) (sym p) g, tt)
+fits_left h place Data path (GetData at true) (Read bytes stat) g e = let p = text_eq-true path at e in (subst (λ (q : Text). Suits (Full bytes (data_stat_of stat)) (view Data (tree_held h place) (path_of q))) (sym p) g, tt)
 fits_left h place Child path (GetData at true) (Read bytes stat) g e = absurd cc
 fits_left h place Data path (GetChildren at true) (Listing names stat) g e = absurd cc
 fits_left h place Child path (GetChildren at true) (Listing names stat) g e =
     let p = text_eq-true path at e in
-    let f : Fits (Names (set.from_list names) stat.pzxid) (view Child (tree_held h place) (path_of path)) = subst (λ (q : Text). Fits (Names (set.from_list names) stat.pzxid) (view Child (tree_held h place) (path_of q))) (sym p) g in
+    let f : Suits (Names (set.from_list names) stat.pzxid) (view Child (tree_held h place) (path_of path)) = subst (λ (q : Text). Suits (Names (set.from_list names) stat.pzxid) (view Child (tree_held h place) (path_of q))) (sym p) g in
     (f, seen (view Child (tree_held h place) (path_of path)) f)
   where
-    seen : (v : View) → Fits (Names (set.from_list names) stat.pzxid) v → is_seen v ≡ true
+    seen : (v : View) → Suits (Names (set.from_list names) stat.pzxid) v → is_seen v ≡ true
     seen Absence f = absurd f
     seen (Contents content fields) f = absurd f
     seen (Children present z) f = refl
@@ -116,11 +119,19 @@ asked_named (GetChildren at true) (Listing names pzxid) side path asked e = let 
 asked_named _ _ side path asked e = absurd cc
 
 -- and the server sets the watch there
-sets_left : (o : Option (Side × Text)) (side : Side) (path : Text) → is_place o side path ≡ true → sets_at o side (path_of path) ≡ true
-sets_left None side path e = absurd cc
-sets_left (Some at) side path e =
-    let parts = and_parts (same_side side at.0) (bytes_eq path at.1) e in
-    and_from (same_side side at.0) (path_eq (path_of path) (path_of at.1)) parts.0 (path_eq_from (path_of path) (path_of at.1) (ap path_of (text_eq-true path at.1 parts.1)))
+sets_data : (node : Option (Left Kept_answer)) (children : Option (Left Kept_names)) (path : Text) → is_place (place_left node children) Data path ≡ true → sets_at node (path_of path) ≡ true
+sets_data (Some left) children path e = path_eq_from (path_of path) (path_of left.path) (ap path_of (text_eq-true path left.path e))
+sets_data None (Some left) path e = absurd cc
+sets_data None None path e = absurd cc
+
+sets_child : (node : Option (Left Kept_answer)) (children : Option (Left Kept_names)) (path : Text) → is_place (place_left node children) Child path ≡ true → sets_at children (path_of path) ≡ true
+sets_child (Some left) children path e = absurd cc
+sets_child None (Some left) path e = path_eq_from (path_of path) (path_of left.path) (ap path_of (text_eq-true path left.path e))
+sets_child None None path e = absurd cc
+
+sets_left : (question : Question) (result : Result) (side : Side) (path : Text) → leaves question result side path ≡ true → sets question result side (path_of path) ≡ true
+sets_left question result Data path e = sets_data (leaves_data question result) (leaves_child question result) path e
+sets_left question result Child path e = sets_child (leaves_data question result) (leaves_child question result) path e
 
 pub fields_eq-refl : (a : DataStat) → same_fields a a ≡ true
 fields_eq-refl a =
@@ -168,16 +179,16 @@ same_contents h path z0 z c c0 g is le e e0 =
     let both : Contents c g ≡ Contents c0 g = sym e ∙ (same ∙ e0) in
     cc
 
-not_known : (f : DataStat) (names : Name → Bool) (o : Option Node) → Fits (Known f) (children_of names o) → ⊥
+not_known : (f : DataStat) (names : Name → Bool) (o : Option Node) → Suits (Known f) (children_of names o) → ⊥
 not_known f names None h = h
 not_known f names (Some n) h = h
 
-refreshed_fits : (h : History) (is : IsHistory h) (side : Side) (path : NodePath) (z0 z : ℕ) (new : Answer) (old : Option Answer) → z0 ≤ z → Fits new (view side (tree_at h z) path)
-    → ((a : Answer) → old ≡ Some a → Fits a (view side (tree_at h z0) path)) → Fits (refreshed new old) (view side (tree_at h z) path)
+refreshed_fits : (h : History) (is : IsHistory h) (side : Side) (path : NodePath) (z0 z : ℕ) (new : Answer) (old : Option Answer) → z0 ≤ z → Suits new (view side (tree_at h z) path)
+    → ((a : Answer) → old ≡ Some a → Suits a (view side (tree_at h z0) path)) → Suits (refreshed new old) (view side (tree_at h z) path)
 refreshed_fits h is Child path z0 z (Known f) (Some (Full bytes kept)) le fits right = absurd (not_known f (λ name. is_some (tree_at h z (name ∷ path))) (tree_at h z path) fits)
 refreshed_fits h is Data path z0 z (Known f) (Some (Full bytes kept)) le fits right = go (same_fields f kept) refl
   where
-    here : (v v0 : View) → view Data (tree_at h z) path ≡ v → view Data (tree_at h z0) path ≡ v0 → Fits (Known f) v → Fits (Full bytes kept) v0 → f ≡ kept → Fits (Full bytes f) v
+    here : (v v0 : View) → view Data (tree_at h z) path ≡ v → view Data (tree_at h z0) path ≡ v0 → Suits (Known f) v → Suits (Full bytes kept) v0 → f ≡ kept → Suits (Full bytes f) v
     here Absence v0 e e0 a b k = absurd a
     here (Children ns p) v0 e e0 a b k = absurd a
     here (Contents c g) Absence e e0 a b k = absurd b
@@ -188,14 +199,14 @@ refreshed_fits h is Data path z0 z (Known f) (Some (Full bytes kept)) le fits ri
         let c' = same_contents h path z0 z c c0 g is le e e0' in
         (b.0 ∙ sym c', a)
 
-    go : (b : Bool) → same_fields f kept ≡ b → Fits (if b then Full bytes f else Known f) (view Data (tree_at h z) path)
+    go : (b : Bool) → same_fields f kept ≡ b → Suits (if b then Full bytes f else Known f) (view Data (tree_at h z) path)
     go true e = here (view Data (tree_at h z) path) (view Data (tree_at h z0) path) refl refl fits (right (Full bytes kept) refl) (fields_eq-true f kept e)
     go false e = fits
 refreshed_fits h is side path z0 z new old le fits right = fits
 
 -- what is to hold once a message is taken, in terms of the last seen zxid and of what is good then
 abbrev IsAfter : History → Side → Text → List Request → ℕ → Watches → ℕ → Option Answer → Type 0
-IsAfter h side path requests place watches z k = ((answer : Answer) → k ≡ Some answer → Fits answer (view side (tree_at h z) (path_of path)) × (text_of (path_of path) ≡ path))
+IsAfter h side path requests place watches z k = ((answer : Answer) → k ≡ Some answer → Suits answer (view side (tree_at h z) (path_of path)) × (text_of (path_of path) ≡ path))
     × ((z ≤ zxid_held h place) × IsSure h side path requests place watches z k)
 
 after_none : (h : History) (side : Side) (path : Text) (requests : List Request) (place : ℕ) (watches : Watches) (z : ℕ) → z ≤ zxid_held h place → IsAfter h side path requests place watches z None
@@ -206,8 +217,8 @@ after_covered : (h : History) (is : IsHistory h) (side : Side) (path : Text) (re
     → IsCovered h side (path_of path) place watches a → IsAfter h side path requests place watches z (Some a)
 after_covered h is side path requests place watches z a e named c =
     let here : tree_held h place ≡ tree_at h z = sym (ap (λ (n : ℕ). tree_at h n) e ∙ tree_at_held h place is) in
-    let f : Fits a (view side (tree_at h z) (path_of path)) = subst (λ (t : Tree). Fits a (view side t (path_of path))) here c.fits in
-    (λ answer s. let same : a ≡ answer = cc in (subst (λ (b : Answer). Fits b (view side (tree_at h z) (path_of path))) same f, named), (omega arith, inl c))
+    let f : Suits a (view side (tree_at h z) (path_of path)) = subst (λ (t : Tree). Suits a (view side t (path_of path))) here c.fits in
+    (λ answer s. let same : a ≡ answer = cc in (subst (λ (b : Answer). Suits b (view side (tree_at h z) (path_of path))) same f, named), (omega arith, inl c))
 
 -- more watches cover as much
 covered_more : (h : History) (side : Side) (path : NodePath) (place : ℕ) (watches more : Watches) (a : Answer) → IsCovered h side path place watches a → IsCovered h side path place (both watches more) a
@@ -234,11 +245,11 @@ module _ (h : History) (is : IsHistory h) (side : Side) (path : Text) (rest : Li
       go true d f k g sure = after_none h side path rest place (both watches (sets (question_of q) r)) (max (zxid_held h place) (last log)) (omega arith)
       go false true f k g sure =
           let left = fits_left h place side path q r gives f in
-          let fits : Fits (answer_of r) (view side (tree_at h (max (zxid_held h place) (last log))) (path_of path)) = subst (λ (t : Tree). Fits (answer_of r) (view side t (path_of path))) (sym here) left.0 in
+          let fits : Suits (answer_of r) (view side (tree_at h (max (zxid_held h place) (last log))) (path_of path)) = subst (λ (t : Tree). Suits (answer_of r) (view side t (path_of path))) (sym here) left.0 in
           let fresh = refreshed_fits h is side (path_of path) (last log) (max (zxid_held h place) (last log)) (answer_of r) k (omega arith) fits (λ a e. (right a (g ∙ e)).0) in
-          let fresh' : Fits (refreshed (answer_of r) k) (view side (tree_held h place) (path_of path)) = subst (λ (t : Tree). Fits (refreshed (answer_of r) k) (view side t (path_of path))) here fresh in
+          let fresh' : Suits (refreshed (answer_of r) k) (view side (tree_held h place) (path_of path)) = subst (λ (t : Tree). Suits (refreshed (answer_of r) k) (view side t (path_of path))) here fresh in
           after_covered h is side path rest place (both watches (sets (question_of q) r)) (max (zxid_held h place) (last log)) (refreshed (answer_of r) k) seen (asked_named q r side path asked f)
-          (record { watched = or_right (watches side (path_of path)) (sets (question_of q) r side (path_of path)) (sets_left (left_by (question_of q) r) side path f); fits = fresh'; there = left.1 })
+          (record { watched = or_right (watches side (path_of path)) (sets (question_of q) r side (path_of path)) (sets_left (question_of q) r side path f); fits = fresh'; there = left.1 })
       go false false f None g sure = after_none h side path rest place (both watches (sets (question_of q) r)) (max (zxid_held h place) (last log)) (omega arith)
       go false false f (Some a) g (inl c) =
           after_covered h is side path rest place (both watches (sets (question_of q) r)) (max (zxid_held h place) (last log)) a seen (right a g).1 (covered_more h side (path_of path) place watches (sets (question_of q) r) a c)
@@ -274,13 +285,13 @@ among_flat f path (p ∷ ps) n e m = go (λ e'. among_flat f path ps n e' m) (or
     go more (inl s) = Among-left n (f p) (flat_map f ps) (subst (λ (q : Text). Among n (f q)) (text_eq-true path p s) m)
     go more (inr k) = Among-right n (f p) (flat_map f ps) (more k)
 
-listed_among : (path : Text) (ps : List Text) → is_listed path ps ≡ true → is_among (path_of path) (map path_of ps) ≡ true
+listed_among : (path : Text) (ps : List Text) → is_listed path ps ≡ true → list_any (path_eq (path_of path)) (map path_of ps) ≡ true
 listed_among path [] e = absurd cc
 listed_among path (p ∷ ps) e = go (λ k. listed_among path ps k) (or_cases (bytes_eq path p) (is_listed path ps) e)
   where
-    go : (is_listed path ps ≡ true → is_among (path_of path) (map path_of ps) ≡ true) → (bytes_eq path p ≡ true) ⊎ (is_listed path ps ≡ true) → (path_eq (path_of path) (path_of p) || is_among (path_of path) (map path_of ps)) ≡ true
-    go more (inl h) = or_left (path_eq (path_of path) (path_of p)) (is_among (path_of path) (map path_of ps)) (path_eq_from (path_of path) (path_of p) (ap path_of (text_eq-true path p h)))
-    go more (inr k) = or_right (path_eq (path_of path) (path_of p)) (is_among (path_of path) (map path_of ps)) (more k)
+    go : (is_listed path ps ≡ true → list_any (path_eq (path_of path)) (map path_of ps) ≡ true) → (bytes_eq path p ≡ true) ⊎ (is_listed path ps ≡ true) → (path_eq (path_of path) (path_of p) || list_any (path_eq (path_of path)) (map path_of ps)) ≡ true
+    go more (inl h) = or_left (path_eq (path_of path) (path_of p)) (list_any (path_eq (path_of path)) (map path_of ps)) (path_eq_from (path_of path) (path_of p) (ap path_of (text_eq-true path p h)))
+    go more (inr k) = or_right (path_eq (path_of path) (path_of p)) (list_any (path_eq (path_of path)) (map path_of ps)) (more k)
 
 -- what stands with an old stamp where the server is stood so at the relative zxid
 same_held : (h : History) (is : IsHistory h) (side : Side) (path : NodePath) (place relative : ℕ) → relative ≤ zxid_held h place → IsOld side relative (tree_held h place path)
@@ -293,15 +304,15 @@ same_held h is side path place relative le old =
 -- a listed path is told about, or watched again and right
 abbrev IsRestored : History → Side → Text → ℕ → ℕ → Lists → Answer → Type 0
 IsRestored h side path place relative part a =
-    (part_sets relative (tree_held h place) part side (path_of path) ≡ true) × Fits a (view side (tree_held h place) (path_of path)) × IsThere side (view side (tree_held h place) (path_of path))
+    (part_sets relative (tree_held h place) part side (path_of path) ≡ true) × Suits a (view side (tree_held h place) (path_of path)) × IsThere side (view side (tree_held h place) (path_of path))
 
 module _ (h : History) (is : IsHistory h) (path : Text) (place relative : ℕ) (part : Lists) (low : relative ≤ zxid_held h place) where
   missing_restored : is_listed path part.exist_watches ≡ true → IsTold (part_tells relative (tree_held h place) part) Data path ⊎ IsRestored h Data path place relative part Absent
   missing_restored e = go (tree_held h place (path_of path)) refl
     where
       go : (o : Option Node) → tree_held h place (path_of path) ≡ o → IsTold (part_tells relative (tree_held h place) part) Data path
-          ⊎ ((part_sets relative (tree_held h place) part Data (path_of path) ≡ true) × Fits Absent (view Data (tree_held h place) (path_of path)) × ⊤)
-      go None f = inr (or_right (is_among (path_of path) (map path_of part.data_watches) && watches_again (known_check relative (tree_held h place (path_of path)))) (is_among (path_of path) (map path_of part.exist_watches) && watches_again (missing_check (tree_held h place (path_of path)))) (let e' = listed_among path part.exist_watches e in rw (e', f) refl), rw f tt, tt)
+          ⊎ ((part_sets relative (tree_held h place) part Data (path_of path) ≡ true) × Suits Absent (view Data (tree_held h place) (path_of path)) × ⊤)
+      go None f = inr (or_right (list_any (path_eq (path_of path)) (map path_of part.data_watches) && not (is_some (known_check relative (tree_held h place (path_of path))))) (list_any (path_eq (path_of path)) (map path_of part.exist_watches) && not (is_some (missing_check (tree_held h place (path_of path))))) (let e' = listed_among path part.exist_watches e in rw (e', f) refl), rw f tt, tt)
       go (Some n) f = inl (
         record { event = Created; path = path },
         Among-left (record { event = Created; path = path }) (flat_map (λ p. tells p (known_check relative (tree_held h place (path_of p)))) part.data_watches ++ flat_map (λ p. tells p (missing_check (tree_held h place (path_of p)))) part.exist_watches) (flat_map (λ p. tells p (parent_check relative (tree_held h place (path_of p)))) part.child_watches)
@@ -310,11 +321,11 @@ module _ (h : History) (is : IsHistory h) (path : Text) (place relative : ℕ) (
         text_eq-refl path,
       )
 
-  known_restored : (a : Answer) → Fits a (view Data (tree_at h relative) (path_of path)) → is_listed path part.data_watches ≡ true
+  known_restored : (a : Answer) → Suits a (view Data (tree_at h relative) (path_of path)) → is_listed path part.data_watches ≡ true
       → IsTold (part_tells relative (tree_held h place) part) Data path ⊎ IsRestored h Data path place relative part a
   known_restored a fits e = go (tree_held h place (path_of path)) refl
     where
-      told : (event : Event) → (event ≡ Deleted) ⊎ (event ≡ DataChanged) → known_check relative (tree_held h place (path_of path)) ≡ Tells event → IsTold (part_tells relative (tree_held h place) part) Data path
+      told : (event : Event) → (event ≡ Deleted) ⊎ (event ≡ DataChanged) → known_check relative (tree_held h place (path_of path)) ≡ Some event → IsTold (part_tells relative (tree_held h place) part) Data path
       told event which f = (
         record { event = event; path = path },
         Among-left (record { event = event; path = path }) (flat_map (λ p. tells p (known_check relative (tree_held h place (path_of p)))) part.data_watches ++ flat_map (λ p. tells p (missing_check (tree_held h place (path_of p)))) part.exist_watches) (flat_map (λ p. tells p (parent_check relative (tree_held h place (path_of p)))) part.child_watches)
@@ -328,27 +339,27 @@ module _ (h : History) (is : IsHistory h) (path : Text) (place relative : ℕ) (
           about (inr d) = rw (d, text_eq-refl path) refl
 
       go : (o : Option Node) → tree_held h place (path_of path) ≡ o → IsTold (part_tells relative (tree_held h place) part) Data path
-          ⊎ ((part_sets relative (tree_held h place) part Data (path_of path) ≡ true) × Fits a (view Data (tree_held h place) (path_of path)) × ⊤)
+          ⊎ ((part_sets relative (tree_held h place) part Data (path_of path) ≡ true) × Suits a (view Data (tree_held h place) (path_of path)) × ⊤)
       go None f = inl (told Deleted (inl refl) (rw f refl))
       go (Some n) f = on (nat_lt relative n.mzxid) refl
         where
           on : (b : Bool) → nat_lt relative n.mzxid ≡ b → IsTold (part_tells relative (tree_held h place) part) Data path
-              ⊎ ((part_sets relative (tree_held h place) part Data (path_of path) ≡ true) × Fits a (view Data (tree_held h place) (path_of path)) × ⊤)
+              ⊎ ((part_sets relative (tree_held h place) part Data (path_of path) ≡ true) × Suits a (view Data (tree_held h place) (path_of path)) × ⊤)
           on true t = inl (told DataChanged (inr refl) (rw (f, t) refl))
           on false t =
               let old : n.mzxid ≤ relative = grind (arith, nat_tests) in
               let old' : IsOld Data relative (tree_held h place (path_of path)) = rw f old in
               inr (
-                or_left (is_among (path_of path) (map path_of part.data_watches) && watches_again (known_check relative (tree_held h place (path_of path)))) (is_among (path_of path) (map path_of part.exist_watches) && watches_again (missing_check (tree_held h place (path_of path)))) (let e' = listed_among path part.data_watches e in rw (e', f, t) refl),
-                subst (λ (v : View). Fits a v) (sym (same_held h is Data (path_of path) place relative low old')) fits,
+                or_left (list_any (path_eq (path_of path)) (map path_of part.data_watches) && not (is_some (known_check relative (tree_held h place (path_of path))))) (list_any (path_eq (path_of path)) (map path_of part.exist_watches) && not (is_some (missing_check (tree_held h place (path_of path))))) (let e' = listed_among path part.data_watches e in rw (e', f, t) refl),
+                subst (λ (v : View). Suits a v) (sym (same_held h is Data (path_of path) place relative low old')) fits,
                 tt,
               )
 
-  parents_restored : (a : Answer) → Fits a (view Child (tree_at h relative) (path_of path)) → is_listed path part.child_watches ≡ true
+  parents_restored : (a : Answer) → Suits a (view Child (tree_at h relative) (path_of path)) → is_listed path part.child_watches ≡ true
       → IsTold (part_tells relative (tree_held h place) part) Child path ⊎ IsRestored h Child path place relative part a
   parents_restored a fits e = go (tree_held h place (path_of path)) refl
     where
-      told : (event : Event) → (event ≡ Deleted) ⊎ (event ≡ ChildrenChanged) → parent_check relative (tree_held h place (path_of path)) ≡ Tells event → IsTold (part_tells relative (tree_held h place) part) Child path
+      told : (event : Event) → (event ≡ Deleted) ⊎ (event ≡ ChildrenChanged) → parent_check relative (tree_held h place (path_of path)) ≡ Some event → IsTold (part_tells relative (tree_held h place) part) Child path
       told event which f = (
         record { event = event; path = path },
         Among-right (record { event = event; path = path }) (flat_map (λ p. tells p (known_check relative (tree_held h place (path_of p)))) part.data_watches ++ flat_map (λ p. tells p (missing_check (tree_held h place (path_of p)))) part.exist_watches) (flat_map (λ p. tells p (parent_check relative (tree_held h place (path_of p)))) part.child_watches)
@@ -361,19 +372,19 @@ module _ (h : History) (is : IsHistory h) (path : Text) (place relative : ℕ) (
           about (inr d) = rw (d, text_eq-refl path) refl
 
       go : (o : Option Node) → tree_held h place (path_of path) ≡ o → IsTold (part_tells relative (tree_held h place) part) Child path
-          ⊎ ((part_sets relative (tree_held h place) part Child (path_of path) ≡ true) × Fits a (view Child (tree_held h place) (path_of path)) × (is_seen (view Child (tree_held h place) (path_of path)) ≡ true))
+          ⊎ ((part_sets relative (tree_held h place) part Child (path_of path) ≡ true) × Suits a (view Child (tree_held h place) (path_of path)) × (is_seen (view Child (tree_held h place) (path_of path)) ≡ true))
       go None f = inl (told Deleted (inl refl) (rw f refl))
       go (Some n) f = on (nat_lt relative n.pzxid) refl
         where
           on : (b : Bool) → nat_lt relative n.pzxid ≡ b → IsTold (part_tells relative (tree_held h place) part) Child path
-              ⊎ ((part_sets relative (tree_held h place) part Child (path_of path) ≡ true) × Fits a (view Child (tree_held h place) (path_of path)) × (is_seen (view Child (tree_held h place) (path_of path)) ≡ true))
+              ⊎ ((part_sets relative (tree_held h place) part Child (path_of path) ≡ true) × Suits a (view Child (tree_held h place) (path_of path)) × (is_seen (view Child (tree_held h place) (path_of path)) ≡ true))
           on true t = inl (told ChildrenChanged (inr refl) (rw (f, t) refl))
           on false t =
               let old : n.pzxid ≤ relative = grind (arith, nat_tests) in
               let old' : IsOld Child relative (tree_held h place (path_of path)) = rw f old in
-              inr (let e' = listed_among path part.child_watches e in rw (e', f, t) refl, subst (λ (v : View). Fits a v) (sym (same_held h is Child (path_of path) place relative low old')) fits, rw f refl)
+              inr (let e' = listed_among path part.child_watches e in rw (e', f, t) refl, subst (λ (v : View). Suits a v) (sym (same_held h is Child (path_of path) place relative low old')) fits, rw f refl)
 
-  restored : (side : Side) (a : Answer) → Fits a (view side (tree_at h relative) (path_of path)) → is_in side a path part ≡ true
+  restored : (side : Side) (a : Answer) → Suits a (view side (tree_at h relative) (path_of path)) → is_in side a path part ≡ true
       → IsTold (part_tells relative (tree_held h place) part) side path ⊎ IsRestored h side path place relative part a
   restored Data Absent fits e = missing_restored e
   restored Data (Known f) fits e = known_restored (Known f) fits e
@@ -406,8 +417,8 @@ module _ (h : History) (is : IsHistory h) (side : Side) (path : Text) (is_last :
   part_sure log a g right low (inl c) = inr (inl (covered_more h side (path_of path) place watches (part_sets relative (tree_held h place) part) a c))
   part_sure log a g right low (inr w) = go w.1
     where
-      fits : Fits a (view side (tree_at h relative) (path_of path))
-      fits = subst (λ (z : ℕ). Fits a (view side (tree_at h z) (path_of path))) (sym w.0) (right a g).0
+      fits : Suits a (view side (tree_at h relative) (path_of path))
+      fits = subst (λ (z : ℕ). Suits a (view side (tree_at h z) (path_of path))) (sym w.0) (right a g).0
 
       low' : relative ≤ zxid_held h place
       low' = let e = w.0 in omega arith

@@ -2,8 +2,8 @@
 use Rattle.std.proofs.Common.{◌≡◌, List, [], ◌∷◌, refl, ap, sym, inl, arith, Option, Some, None}
 use Rattle.zk_history.specs.declared.side.Side.TheVariants.{Data}
 use Rattle.zk_history.specs.History.{NodePath, Node, IsHistory, view, tree_at, path_of}
-use Rattle.zk_laws.specs.Server.{Notice, AreSent, Full, Fits}
-use Rattle.zk_laws.specs.Log.{last, good}
+use Rattle.zk_laws.specs.Server.{Notice, AreSent}
+use Rattle.zk_laws.specs.Log.{last, good, Full, Suits}
 use Rattle.zk_laws.specs.Run.{start, run, IsSchedule}
 use Rattle.zk_laws.specs.Example.{root_alone, two_changes, at_a, fields_at_five, until_restored, until_told, a_changed, two_nodes, at_b, until_first_part}
 
@@ -121,7 +121,7 @@ b_good = refl
 pub b_seen : last (run two_nodes until_first_part (start 0)).log ≡ 5
 b_seen = refl
 
-pub b_not_at_six : Fits (Full (Some (104 ∷ 105 ∷ [])) fields_at_five) (view Data (tree_at two_nodes 6) (path_of at_b)) → ⊥
+pub b_not_at_six : Suits (Full (Some (104 ∷ 105 ∷ [])) fields_at_five) (view Data (tree_at two_nodes 6) (path_of at_b)) → ⊥
 b_not_at_six f = let e = f.0 in cc
 
 pub two_nodes_history : IsHistory two_nodes

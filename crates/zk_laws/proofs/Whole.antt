@@ -9,10 +9,10 @@ use Rattle.zk_history.specs.declared.side.Side.TheVariants.{Data, Child}
 use Rattle.zk_conversation.specs.Results.{Result}
 use Rattle.zk_records.specs.declared.event.Event.{Event}
 use Rattle.zk_records.specs.declared.event.Event.TheVariants.{DataChanged}
-use Rattle.zk_laws.specs.Server.{Notice, Watches, fires, leaves_set, fires_all, leaves_set_all, AreSent, sets, Answer, tree_held, zxid_held, Gives, part_tells, part_sets, both, without, told, same_side}
+use Rattle.zk_laws.specs.Server.{Notice, Watches, fires, leaves_set, fires_all, leaves_set_all, AreSent, sets, tree_held, zxid_held, Gives, part_tells, part_sets, both, without, told, same_side}
 use Rattle.zk_turns.specs.Turns.{IsAskable}
 use Rattle.zk_laws.specs.Messages.{Message, Accepted, Expired, Replies, Watches_set, Notifies, Pong, Request, Connect, Restore, Ask, Ping}
-use Rattle.zk_laws.specs.Log.{Item, Opened, Lost, Forgets, Took, last, good, AreParts, IsCoherent}
+use Rattle.zk_laws.specs.Log.{Item, Opened, Lost, Forgets, Took, last, good, AreParts, IsCoherent, Answer}
 use Rattle.zk_laws.specs.Steps.{is_behind, ends, Connection, Link, Down, Up, World, restores, Step, Asks, Pings, Joins, Takes, rest_of, MayStep, stepped, By_server}
 use Rattle.zk_laws.specs.ServerSteps.{Stage, Waiting, Serving, Ended, changes_next, Advances, Admits, Refuses, Answers, Restores, Pongs, IsNext}
 use Rattle.zk_laws.specs.Run.{start, Move, Opens, Loses, Halts, Forgets_stale, Goes, May, moved, MayGo, gone, IsSchedule, run}

@@ -17,17 +17,16 @@ use Rattle.zk_turns.specs.Taken.{past_of}
 use Rattle.zk_frames.specs.declared.reader.TheConstants.{LONGEST_INCOMING}
 use Rattle.zk_frames.specs.Frame.{length_field}
 use Rattle.zk_turns.specs.Meaning.{Among}
-use Rattle.zk_laws.specs.Server.{Fits, tree_held}
-use Rattle.zk_laws.specs.Laws.{IsTrueRead, IsTrueWrite, AreRestored}
+use Rattle.zk_laws.specs.Server.{Fits, FitsNames, Reads, tree_held}
+use Rattle.zk_laws.specs.Laws.{IsTrueWrite, AreRestored}
 use Rattle.zk_laws.specs.Messages.{from_zero}
-use Rattle.zk_laws.specs.Seen.{node_answer, names_answer}
 use Rattle.zk_laws.specs.Served.{WasSent, Entry, items_in, line_of, is_going, unread}
 
 -- Each answer marked good is what there is to see in the tree: a node's absence, its seven fields, or these with its data;
 -- the set of its children's names with the pzxid.
 pub record IsTrueOf (tree : Tree) (cache : Cache) : Type 0 where
-  pub nodes : (path : Text) (kept : Kept Answer) → cache.nodes path ≡ Some kept → kept.mark ≡ Good → Fits (node_answer kept.answer) (to_see Data tree (path_of path))
-  pub children : (path : Text) (kept : Kept Names) → cache.children path ≡ Some kept → kept.mark ≡ Good → Fits (names_answer kept.answer) (to_see Child tree (path_of path))
+  pub nodes : (path : Text) (kept : Kept Answer) → cache.nodes path ≡ Some kept → kept.mark ≡ Good → Fits kept.answer (to_see Data tree (path_of path))
+  pub children : (path : Text) (kept : Kept Names) → cache.children path ≡ Some kept → kept.mark ≡ Good → FitsNames kept.answer (to_see Child tree (path_of path))
 
 -- Each answer marked good is the history's answer at the client's last seen zxid.
 abbrev pub IsCoherentWith : History → View → Type 0
@@ -35,7 +34,7 @@ IsCoherentWith h view = IsTrueOf (tree_at h (from_zero view.saved.last)) view.ca
 
 -- Each read that was answered with 0 or -101 tells what there was to see at its reply's zxid.
 abbrev pub ReadsAreTrue : History → Past → Type 0
-ReadsAreTrue h past = (ticket : ℕ) (question : Question) (zxid : ℤ) (result : Result) → Among (Takes_in (Answers_call ticket question zxid result)) past → IsTrueRead h question (from_zero zxid) result
+ReadsAreTrue h past = (ticket : ℕ) (question : Question) (zxid : ℤ) (result : Result) → Among (Takes_in (Answers_call ticket question zxid result)) past → Reads (tree_at h (from_zero zxid)) question result
 
 -- The reply is to the call that waits first, which has its ticket; a write that was answered with 0 is a change of the transaction
 -- with the reply's zxid.
@@ -91,5 +90,5 @@ pub record Headline (h : History) (start : Start) (items : List Item) (view : Vi
   pub coherent : IsCoherentWith h view
   pub answers : (ticket : ℕ) (zxid : ℤ) (result : Result) → Among (Answers ticket (Replied zxid result)) (outputs_of items)
       → (call : Call) × Among (Asked ticket call) (past_of start items) × Among (Takes_in (Answers_call ticket (question_of call) zxid result)) (past_of start items)
-      × IsTrueRead h (question_of call) (from_zero zxid) result × IsTrueWrite h call (from_zero zxid) result × (from_zero start.last ≤ from_zero zxid) × (zxid ≡ pos (from_zero zxid))
+      × Reads (tree_at h (from_zero zxid)) (question_of call) result × IsTrueWrite h call (from_zero zxid) result × (from_zero start.last ≤ from_zero zxid) × (zxid ≡ pos (from_zero zxid))
   pub drops : (fault : Fault) → Among (Drop fault) (outputs_of items) → (fault ≡ Silent) ⊎ ((fault ≡ Framed TooLong) × ((payload : List ℕ) × WasSent entries payload × (LONGEST_INCOMING < length payload)))

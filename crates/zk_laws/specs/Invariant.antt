@@ -4,10 +4,10 @@ use Rattle.std.specs.Prelude.{ℕ, ◌≡◌, ◌≢◌, ◌≤◌, Bool, true, 
 use Rattle.zk_history.specs.History.{Text, NodePath, text_of, path_of, History, tree_at, View, Absence, Contents, Children, view}
 use Rattle.zk_history.specs.declared.side.Side.{Side}
 use Rattle.zk_history.specs.declared.side.Side.TheVariants.{Data, Child}
-use Rattle.zk_laws.specs.Server.{Watches, Answer, Absent, Known, Full, Names, Fits, tree_held, zxid_held, is_listed}
+use Rattle.zk_laws.specs.Server.{Watches, tree_held, zxid_held}
 use Rattle.zk_turns.specs.Turns.{IsAskable}
 use Rattle.zk_laws.specs.Messages.{Message, Accepted, Expired, Request, Connect, Restore, Ask, Ping}
-use Rattle.zk_laws.specs.Log.{Item, Took, last, good}
+use Rattle.zk_laws.specs.Log.{Item, Took, last, good, Answer, Absent, Known, Full, Names, Suits, is_listed}
 use Rattle.zk_laws.specs.Steps.{is_behind, Connection, Link, Down, Up, World}
 use Rattle.zk_laws.specs.ServerSteps.{Stage, Waiting, Serving, Ended}
 
@@ -24,7 +24,7 @@ IsThere Child seen = is_seen seen ≡ true
 
 -- what is good of one side of one path is right at the last seen zxid
 abbrev pub IsRight : History → Side → Text → List Item → Type 0
-IsRight h side path log = (answer : Answer) → good side path log ≡ Some answer → Fits answer (view side (tree_at h (last log)) (path_of path)) × (text_of (path_of path) ≡ path)
+IsRight h side path log = (answer : Answer) → good side path log ≡ Some answer → Suits answer (view side (tree_at h (last log)) (path_of path)) × (text_of (path_of path) ≡ path)
 
 -- As the messages are taken in turn, what is good is right after each, no reply is behind, and at the end End holds.
 abbrev pub Ahead : History → Side → Text → List Message → List Item → (List Item → Type 0) → Type 0
@@ -55,7 +55,7 @@ IsAwaited side path answer seen (Ping ∷ requests) = ⊥
 -- the server watches the path, and the answer is right where it stands
 pub record IsCovered (h : History) (side : Side) (path : NodePath) (place : ℕ) (watches : Watches) (answer : Answer) : Type 0 where
   pub watched : watches side path ≡ true
-  pub fits : Fits answer (view side (tree_held h place) path)
+  pub fits : Suits answer (view side (tree_held h place) path)
   pub there : IsThere side (view side (tree_held h place) path)
 
 -- what is good is covered or awaited

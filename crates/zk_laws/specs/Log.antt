@@ -2,16 +2,21 @@
 -- beside the one of bytes.
 use Rattle.zk_conversation.specs.Pending.{closes}
 use Rattle.std.specs.FinSet as set
-use Rattle.zk_conversation.specs.Questions.{Exists, GetData, GetChildren}
-use Rattle.zk_history.specs.History.{Text, path_of, History, tree_at, view}
+use Rattle.zk_conversation.specs.Questions.{Question, Exists, GetData, GetChildren}
+use Rattle.zk_history.specs.History.{Text, path_of, History, tree_at, View, view}
 use Rattle.zk_watches.specs.Lists.{Lists}
-use Rattle.zk_cache.specs.Kept.{same_fields}
-use Rattle.std.specs.Prelude.{ℕ, ◌≡◌, max, Bool, true, false, ◌&&◌, not, if◌then◌else◌, List, [], ◌∷◌, ◌++◌, filter, flat_map, Option, Some, None}
+use Rattle.zk_cache.specs.Kept.{same_fields, Answer as Kept_answer, Names as Kept_names, Absent as Kept_absent, Known as Kept_known, Full as Kept_full}
+use Rattle.zk_turns.specs.Kept.{Left, leaves_data, leaves_child}
+use Rattle.zk_records.specs.Events.{concerns}
+use Rattle.zk_history.specs.Replay.{Names as NameSet}
+use Rattle.zk_history.specs.declared.data_stat.DataStat.{DataStat}
+use Rattle.zk_watches.specs.Lists.{has}
+use Rattle.std.specs.Prelude.{ℕ, ℤ, bytes_eq, ◌≡◌, max, Bool, true, false, ◌&&◌, not, if◌then◌else◌, List, [], ◌∷◌, ◌++◌, filter, flat_map, Option, Some, None}
 use Rattle.zk_history.specs.DataStats.{data_stat_of}
 use Rattle.zk_history.specs.declared.side.Side.{Side}
 use Rattle.zk_history.specs.declared.side.Side.TheVariants.{Data, Child}
 use Rattle.zk_conversation.specs.Results.{Result, Found, Read, Listing}
-use Rattle.zk_laws.specs.Server.{tells_of, leaves, Answer, Absent, Known, Full, Names, Fits}
+use Rattle.zk_laws.specs.Server.{Notice, same_side, Fits, FitsNames}
 use Rattle.zk_laws.specs.Messages.{Message, Expired, Replies, Watches_set, Notifies}
 
 -- What happens to a client: it starts, opens a connection, loses one, halts, is told to forget what is stale, takes a message.
@@ -38,6 +43,47 @@ last [] = 0
 last (item ∷ older) = max (zxid_in item) (last older)
 
 -- What is kept of a path on a side
+
+-- an answer of one side
+pub data Answer : Type 0 where
+  Absent : Answer
+  Known : DataStat → Answer
+  Full : Option (List ℕ) → DataStat → Answer
+  Names : NameSet → ℤ → Answer
+
+-- it is what there is to see
+abbrev pub Suits : Answer → View → Type 0
+Suits Absent seen = Fits Kept_absent seen
+Suits (Known fields) seen = Fits (Kept_known fields) seen
+Suits (Full bytes fields) seen = Fits (Kept_full bytes fields) seen
+Suits (Names names pzxid) seen = FitsNames (record { names = names; pzxid = pzxid }) seen
+
+-- the notice is about that side of that path
+abbrev pub tells_of : Notice → Side → Text → Bool
+tells_of notice side path = concerns notice.event side && bytes_eq path notice.path
+
+-- the side and the path of what a reply leaves
+abbrev pub place_left : Option (Left Kept_answer) → Option (Left Kept_names) → Option (Side × Text)
+place_left (Some left) children = Some (Data, left.path)
+place_left None (Some left) = Some (Child, left.path)
+place_left None None = None
+
+-- where a reply leaves a watch
+abbrev pub left_by : Question → Result → Option (Side × Text)
+left_by question result = place_left (leaves_data question result) (leaves_child question result)
+
+-- it is that side of that path
+abbrev pub is_place : Option (Side × Text) → Side → Text → Bool
+is_place None side path = false
+is_place (Some at) side path = same_side side at.0 && bytes_eq path at.1
+
+-- the reply leaves a watch on that side of that path
+abbrev pub leaves : Question → Result → Side → Text → Bool
+leaves question result side path = is_place (left_by question result) side path
+
+-- whether the text is in the list
+abbrev pub is_listed : Text → List Text → Bool
+is_listed text texts = has texts text
 
 -- the answer that a reply holds
 abbrev pub answer_of : Result → Answer
@@ -68,7 +114,7 @@ good side path (item ∷ older) = kept_after side path item (good side path olde
 
 -- Each answer marked good is what there is to see at the last seen zxid.
 abbrev pub IsCoherent : History → List Item → Type 0
-IsCoherent h log = (side : Side) (path : Text) (answer : Answer) → good side path log ≡ Some answer → Fits answer (view side (tree_at h (last log)) (path_of path))
+IsCoherent h log = (side : Side) (path : Text) (answer : Answer) → good side path log ≡ Some answer → Suits answer (view side (tree_at h (last log)) (path_of path))
 
 -- What is listed for setWatches
 

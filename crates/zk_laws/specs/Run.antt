@@ -2,9 +2,9 @@
 use Rattle.zk_history.specs.History.{Text, path_of, History, view}
 use Rattle.zk_history.specs.declared.side.Side.{Side}
 use Rattle.std.specs.Prelude.{ℕ, ◌≡◌, ◌≤◌, false, List, [], ◌∷◌, length, Some, IsTrue, ⊤}
-use Rattle.zk_laws.specs.Server.{no_watches, Answer, Fits, tree_held}
+use Rattle.zk_laws.specs.Server.{no_watches, tree_held}
 use Rattle.zk_laws.specs.Messages.{Message, Connect}
-use Rattle.zk_laws.specs.Log.{Item, last, good, Starts, Opened, Lost, Halted, Forgets}
+use Rattle.zk_laws.specs.Log.{Item, last, good, Starts, Opened, Lost, Halted, Forgets, Answer, Suits}
 use Rattle.zk_laws.specs.Steps.{is_behind, Connection, Link, World, Step, MayStep, stepped, Down, Up}
 use Rattle.zk_laws.specs.ServerSteps.{Waiting, IsNext}
 use Rattle.zk_laws.specs.Laws.{AreRestored}
@@ -72,4 +72,4 @@ NoneBehind w = (c : Connection) (message : Message) → w.link ≡ Up c → IsNe
 -- server would answer where it stands.
 abbrev pub AgreesWhenQuiet : History → World → Type 0
 AgreesWhenQuiet h w = (c : Connection) → w.link ≡ Up c → IsTrue c.talking → c.messages ≡ [] → AreRestored c.requests
-    → (side : Side) (path : Text) (answer : Answer) → good side path w.log ≡ Some answer → Fits answer (view side (tree_held h c.place) (path_of path))
+    → (side : Side) (path : Text) (answer : Answer) → good side path w.log ≡ Some answer → Suits answer (view side (tree_held h c.place) (path_of path))

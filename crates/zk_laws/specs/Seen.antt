@@ -5,9 +5,8 @@ use Rattle.zk_turns.specs.Kept.{Happening, Began, Dropped, Forgot, Past, Skipped
 use Rattle.zk_cache.specs.declared.held.Mark.TheVariants.{Good, Stale}
 use Rattle.zk_cache.specs.declared.held.Kept.{Kept}
 use Rattle.zk_cache.specs.Kept.{Answer as Kept_answer, Absent as Kept_absent, Known as Kept_known, Full as Kept_full, Names as Kept_names}
-use Rattle.zk_laws.specs.Server.{Answer, Absent, Known, Full, Names}
 use Rattle.zk_laws.specs.Messages.{from_zero, Accepted, Expired, Replies, Watches_set, Notifies, Pong}
-use Rattle.zk_laws.specs.Log.{Item, Starts, Opened, Lost, Halted, Forgets, Took}
+use Rattle.zk_laws.specs.Log.{Item, Starts, Opened, Lost, Halted, Forgets, Took, Answer, Absent, Known, Full, Names}
 
 -- the message of a payload that was taken; what was skipped is none
 abbrev pub item_of_reading : Reading → List Item

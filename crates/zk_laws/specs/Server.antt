@@ -1,23 +1,23 @@
 -- A server on one connection: what its watches fire, what it answers, and what a setWatches request does.
-use Rattle.zk_turns.specs.Kept.{Left, leaves_data, leaves_child}
-use Rattle.zk_cache.specs.Kept.{Answer as Kept_answer, Names as Kept_names}
-use Rattle.zk_watches.specs.Lists.{has}
+use Rattle.zk_turns.specs.Kept.{Left, leaves_data, leaves_child, names_of}
+use Rattle.zk_cache.specs.Kept.{Answer, Absent, Known, Full, Names}
 use Rattle.std.specs.FinSet as set
-use Rattle.zk_history.specs.Replay.{Names as NameSet}
 use Rattle.zk_turns.specs.Meaning.{Among}
-use Rattle.std.specs.Prelude.{ℕ, ℤ, pos, negsuc, ◌≡◌, ◌≢◌, ◌<◌, ◌≤◌, ◌+◌, nat_lt, Bool, true, false, ◌&&◌, ◌||◌, if◌then◌else◌, List, [], ◌∷◌, ◌++◌, take, map, flat_map, Option, Some, None, ⊤, bytes_eq}
+use Rattle.std.specs.Prelude.{ℕ, ℤ, pos, negsuc, ◌≡◌, ◌≢◌, ◌<◌, ◌≤◌, ◌+◌, nat_lt, Bool, true, false, ◌&&◌, ◌||◌, if◌then◌else◌, List, [], ◌∷◌, ◌++◌, take, map, flat_map, Option, Some, None, ⊤, bytes_eq, is_some, not}
+use Rattle.std.specs.List.{list_any}
+use Rattle.std.specs.Ordering.{int_eq}
 use mathlib.Core.List.{IsPrefix}
 use Rattle.zk_history.specs.History.{Text, Name, NodePath, path_eq, text_of, path_of, Node, Tree, Change, Creates, Sets, Deletes, Transaction, History, after, newest, View, Absence, Contents, Children, view}
-use Rattle.zk_conversation.specs.Calls.{Call, Exists, GetData, GetChildren, SetData, Create, Delete, Close}
+use Rattle.zk_conversation.specs.Calls.{Call}
+use Rattle.zk_conversation.specs.Calls as call
 use Rattle.zk_history.specs.declared.side.Side.{Side}
 use Rattle.zk_history.specs.declared.side.Side.TheVariants.{Data, Child}
-use Rattle.zk_history.specs.declared.data_stat.DataStat.{DataStat}
 use Rattle.zk_history.specs.DataStats.{data_stat_of}
 use Rattle.zk_records.specs.declared.event.Event.{Event}
 use Rattle.zk_records.specs.declared.event.Event.TheVariants.{Created, Deleted, DataChanged, ChildrenChanged}
-use Rattle.zk_conversation.specs.Questions.{Question}
+use Rattle.zk_conversation.specs.Questions.{Question, Exists, GetData, GetChildren, question_of}
 use Rattle.zk_conversation.specs.Results.{Result, NoNode, Refused, Found, Read, Listing, Made, Done}
-use Rattle.zk_records.specs.Events.{concerns}
+use Rattle.zk_records.specs.Events.{event_number}
 use Rattle.zk_watches.specs.Lists.{Lists}
 
 -- Notices, and what they end (Guide, "Semantics of Watches")
@@ -26,10 +26,6 @@ use Rattle.zk_watches.specs.Lists.{Lists}
 pub record Notice : Type 0 where
   pub event : Event
   pub path : Text
-
--- the notice is about that side of that path
-abbrev pub tells_of : Notice → Side → Text → Bool
-tells_of notice side path = concerns notice.event side && bytes_eq path notice.path
 
 -- both the same
 abbrev pub same_side : Side → Side → Bool
@@ -81,18 +77,10 @@ abbrev pub leaves_set_all : List Change → Watches → Watches
 leaves_set_all [] watches = watches
 leaves_set_all (change ∷ changes) watches = leaves_set_all changes (leaves_set change watches)
 
--- the same event
-abbrev pub event_eq : Event → Event → Bool
-event_eq Created Created = true
-event_eq Deleted Deleted = true
-event_eq DataChanged DataChanged = true
-event_eq ChildrenChanged ChildrenChanged = true
-event_eq _ _ = false
-
 -- how often the notice stands in the list
 abbrev pub times : Notice → List Notice → ℕ
 times notice [] = 0
-times notice (one ∷ more) = (if event_eq notice.event one.event && bytes_eq notice.path one.path then 1 else 0) + times notice more
+times notice (one ∷ more) = (if int_eq (event_number notice.event) (event_number one.event) && bytes_eq notice.path one.path then 1 else 0) + times notice more
 
 -- What is fired is sent in any order. What two sides fire alike, a deletion, is sent once or twice.
 abbrev pub AreSent : List Notice → List Notice → Type 0
@@ -100,48 +88,37 @@ AreSent fired sent = (notice : Notice) → (times notice sent ≤ times notice f
 
 -- Questions and results
 
--- the side and the path of what a reply leaves
-abbrev pub place_left : Option (Left Kept_answer) → Option (Left Kept_names) → Option (Side × Text)
-place_left (Some left) children = Some (Data, left.path)
-place_left None (Some left) = Some (Child, left.path)
-place_left None None = None
+-- the path is the one at which something is left
+abbrev pub sets_at : {A : Type 0} → Option (Left A) → NodePath → Bool
+sets_at None path = false
+sets_at (Some left) path = path_eq path (path_of left.path)
 
--- Where a reply leaves a watch (Guide, "ZooKeeper Watches"): exists in any case, getData and getChildren where the node is there.
-abbrev pub left_by : Question → Result → Option (Side × Text)
-left_by question result = place_left (leaves_data question result) (leaves_child question result)
-
--- it is that side of that path
-abbrev pub is_place : Option (Side × Text) → Side → Text → Bool
-is_place None side path = false
-is_place (Some at) side path = same_side side at.0 && bytes_eq path at.1
-
--- the reply leaves a watch on that side of that path
-abbrev pub leaves : Question → Result → Side → Text → Bool
-leaves question result side path = is_place (left_by question result) side path
-
--- the watch that the server sets with such a reply
-abbrev pub sets_at : Option (Side × Text) → Watches
-sets_at None side path = false
-sets_at (Some at) side path = same_side side at.0 && path_eq path (path_of at.1)
-
--- the watches that the reply sets
+-- The watches that a reply sets (Guide, "ZooKeeper Watches"): exists in any case, getData and getChildren where the node is there.
 abbrev pub sets : Question → Result → Watches
-sets question result = sets_at (left_by question result)
+sets question result Data path = sets_at (leaves_data question result) path
+sets question result Child path = sets_at (leaves_child question result) path
 
--- An answer of one side, as a reply gives it and as a client keeps it.
-pub data Answer : Type 0 where
-  Absent : Answer
-  Known : DataStat → Answer
-  Full : Option (List ℕ) → DataStat → Answer
-  Names : NameSet → ℤ → Answer
-
--- The answer is what there is to see: names are a set, and Known says the seven fields alone.
+-- The answer about a node is what there is to see: Known says the seven fields alone.
 abbrev pub Fits : Answer → View → Type 0
 Fits Absent Absence = ⊤
 Fits (Known fields) (Contents content seen) = fields ≡ seen
 Fits (Full bytes fields) (Contents content seen) = (bytes ≡ content) × (fields ≡ seen)
-Fits (Names names pzxid) (Children present seen) = (pzxid ≡ seen) × ((name : Name) → set.contains names name ≡ present name)
 Fits _ _ = ⊥
+
+-- The names are those of the children that there are to see, as a set.
+abbrev pub FitsNames : Names → View → Type 0
+FitsNames names (Children present seen) = (names.pzxid ≡ seen) × ((name : Name) → set.contains names.names name ≡ present name)
+FitsNames names _ = ⊥
+
+-- What a read is answered with 0 or -101 is what there is to see in the tree.
+abbrev pub Reads : Tree → Question → Result → Type 0
+Reads tree (Exists path watch) NoNode = Fits Absent (view Data tree (path_of path))
+Reads tree (Exists path watch) (Found stat) = Fits (Known (data_stat_of stat)) (view Data tree (path_of path))
+Reads tree (GetData path watch) NoNode = Fits Absent (view Data tree (path_of path))
+Reads tree (GetData path watch) (Read bytes stat) = Fits (Full bytes (data_stat_of stat)) (view Data tree (path_of path))
+Reads tree (GetChildren path watch) NoNode = Fits Absent (view Child tree (path_of path))
+Reads tree (GetChildren path watch) (Listing names stat) = FitsNames (names_of names stat) (view Child tree (path_of path))
+Reads tree _ _ = ⊤
 
 -- a code that is neither 0 nor -101
 abbrev pub IsOther : ℤ → Type 0
@@ -177,54 +154,35 @@ IsMadeOf asked true at = IsPrefix asked at
 -- The answer of a server that stands at place, processing the call whole between two transactions. A read is answered
 -- from the tree there. A write that succeeds is a change of the last transaction.
 abbrev pub Gives : History → ℕ → Call → Result → Type 0
-Gives h place (Exists path watch) NoNode = Fits Absent (view Data (tree_held h place) (path_of path))
-Gives h place (Exists path watch) (Found stat) = Fits (Known (data_stat_of stat)) (view Data (tree_held h place) (path_of path))
-Gives h place (GetData path watch) NoNode = Fits Absent (view Data (tree_held h place) (path_of path))
-Gives h place (GetData path watch) (Read bytes stat) = Fits (Full bytes (data_stat_of stat)) (view Data (tree_held h place) (path_of path))
-Gives h place (GetChildren path watch) NoNode = Fits Absent (view Child (tree_held h place) (path_of path))
-Gives h place (GetChildren path watch) (Listing names stat) = Fits (Names (set.from_list names) stat.pzxid) (view Child (tree_held h place) (path_of path))
-Gives h place (SetData path content version) NoNode = ⊤
-Gives h place (SetData path content version) (Found stat) = LastHolds (Sets (path_of path) content) (held h place) × Fits (Known (data_stat_of stat)) (view Data (tree_held h place) (path_of path))
-Gives h place (Create path content mode) NoNode = ⊤
-Gives h place (Create path content mode) (Made at) = (owner : ℤ) × IsMadeOf path (is_sequential mode) at × LastHolds (Creates (path_of at) content owner) (held h place)
-Gives h place (Delete path version) NoNode = ⊤
-Gives h place (Delete path version) Done = LastHolds (Deletes (path_of path)) (held h place)
-Gives h place Close NoNode = ⊤
-Gives h place Close Done = ⊤
-Gives h place call (Refused code) = IsOther code
-Gives h place _ _ = ⊥
+Gives h place (call.SetData path content version) (Found stat) = LastHolds (Sets (path_of path) content) (held h place) × Fits (Known (data_stat_of stat)) (view Data (tree_held h place) (path_of path))
+Gives h place (call.Create path content mode) (Made at) = (owner : ℤ) × IsMadeOf path (is_sequential mode) at × LastHolds (Creates (path_of at) content owner) (held h place)
+Gives h place (call.Delete path version) Done = LastHolds (Deletes (path_of path)) (held h place)
+Gives h place asked (Refused code) = IsOther code
+Gives h place asked result = Reads (tree_held h place) (question_of asked) result
 
 -- Setting watches again after a reconnect (zookeeper.jute, SetWatches; Guide, "What ZooKeeper Guarantees about Watches")
 
--- a listed path is told about where it differs, and watched again where it does not
-pub data Check : Type 0 where
-  Tells : Event → Check
-  Watches_again : Check
+-- A listed path is told about where it differs, by an event, and watched again where it does not.
 
 -- a path whose data are known: it is gone, or was written since, or is as it was
-abbrev pub known_check : ℕ → Option Node → Check
-known_check relative None = Tells Deleted
-known_check relative (Some node) = if nat_lt relative node.mzxid then Tells DataChanged else Watches_again
+abbrev pub known_check : ℕ → Option Node → Option Event
+known_check relative None = Some Deleted
+known_check relative (Some node) = if nat_lt relative node.mzxid then Some DataChanged else None
 
 -- a path that is known to be absent: it still is, or it is there
-abbrev pub missing_check : Option Node → Check
-missing_check None = Watches_again
-missing_check (Some node) = Tells Created
+abbrev pub missing_check : Option Node → Option Event
+missing_check None = None
+missing_check (Some node) = Some Created
 
 -- a path whose children are known: it is gone, or they changed since, or they are as they were
-abbrev pub parent_check : ℕ → Option Node → Check
-parent_check relative None = Tells Deleted
-parent_check relative (Some node) = if nat_lt relative node.pzxid then Tells ChildrenChanged else Watches_again
+abbrev pub parent_check : ℕ → Option Node → Option Event
+parent_check relative None = Some Deleted
+parent_check relative (Some node) = if nat_lt relative node.pzxid then Some ChildrenChanged else None
 
 -- the notice of a check
-abbrev pub tells : Text → Check → List Notice
-tells path (Tells event) = record { event = event; path = path } ∷ []
-tells path Watches_again = []
-
--- whether a check sets the watch
-abbrev pub watches_again : Check → Bool
-watches_again (Tells event) = false
-watches_again Watches_again = true
+abbrev pub tells : Text → Option Event → List Notice
+tells path None = []
+tells path (Some event) = record { event = event; path = path } ∷ []
 
 -- what the part makes the server tell, in the tree where it stands
 abbrev pub part_tells : ℕ → Tree → Lists → List Notice
@@ -233,20 +191,11 @@ part_tells relative tree part =
     ++ flat_map (λ path. tells path (missing_check (tree (path_of path)))) part.exist_watches
     ++ flat_map (λ path. tells path (parent_check relative (tree (path_of path)))) part.child_watches
 
--- whether the path is in the list
-abbrev pub is_among : NodePath → List NodePath → Bool
-is_among path [] = false
-is_among path (one ∷ more) = path_eq path one || is_among path more
-
--- whether the text is in the list
-abbrev pub is_listed : Text → List Text → Bool
-is_listed text texts = has texts text
-
 -- which watches the part sets
 abbrev pub part_sets : ℕ → Tree → Lists → Watches
 part_sets relative tree part Data path =
-    (is_among path (map path_of part.data_watches) && watches_again (known_check relative (tree path))) || (is_among path (map path_of part.exist_watches) && watches_again (missing_check (tree path)))
-part_sets relative tree part Child path = is_among path (map path_of part.child_watches) && watches_again (parent_check relative (tree path))
+    (list_any (path_eq path) (map path_of part.data_watches) && not (is_some (known_check relative (tree path)))) || (list_any (path_eq path) (map path_of part.exist_watches) && not (is_some (missing_check (tree path))))
+part_sets relative tree part Child path = list_any (path_eq path) (map path_of part.child_watches) && not (is_some (parent_check relative (tree path)))
 
 -- these watches and those
 abbrev pub both : Watches → Watches → Watches

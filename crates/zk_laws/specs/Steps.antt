@@ -5,11 +5,11 @@ use Rattle.zk_conversation.specs.Calls.{Call}
 use Rattle.zk_history.specs.History.{History}
 use Rattle.zk_watches.specs.Lists.{Lists}
 use Rattle.std.specs.Prelude.{ℕ, ◌≡◌, nat_lt, Bool, true, false, ◌&&◌, if◌then◌else◌, List, [], ◌∷◌, ◌++◌, is_some, IsTrue, ◌⊎◌}
-use Rattle.zk_laws.specs.Server.{Watches, left_by}
+use Rattle.zk_laws.specs.Server.{Watches}
 use Rattle.zk_turns.specs.Turns.{IsAskable}
 use Rattle.zk_laws.specs.Messages.{Message, Request, Accepted, Expired, Replies, Restore, Ask, Ping}
 use Rattle.zk_laws.specs.ServerSteps.{Stage, ServerEnd, ServerStep, Advances, IsNext, MayDo, messages_by, end_after}
-use Rattle.zk_laws.specs.Log.{Item, last, AreParts, Lost, Took}
+use Rattle.zk_laws.specs.Log.{Item, last, AreParts, Lost, Took, left_by}
 
 -- the requests that carry the parts
 abbrev pub restores : ℕ → List Lists → List Request

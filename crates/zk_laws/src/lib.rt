@@ -9,7 +9,7 @@ ghost use Rattle.zk_records.specs.Layouts.{connect_request};
 ghost use Rattle.zk_conversation.specs.Pending.{Pending, Call_waits, part_waits};
 ghost use Rattle.zk_turns.specs.Kept.{Accepted as Takes_acceptance, Expiry, Notifies as Takes_notice, Pong as Takes_pong, Watches_set as Takes_part, kept_data, kept_names, last_of, session_of, Began, Happening, Past, lists_of, Dropped, Took as Takes_in, Replies as Answers_call};
 ghost use Rattle.zk_turns.specs.Taken.{cut, Payload, reading, past_of};
-ghost use Rattle.zk_laws.specs.Server.{left_by, Notice, Fits, Full, zxid_held};
+ghost use Rattle.zk_laws.specs.Server.{Reads, Notice, zxid_held};
 ghost use Rattle.zk_laws.specs.Messages.{Accepted, Expired as Expired_session, Notifies, Pong, Watches_set, Replies, from_zero};
 ghost use Rattle.zk_laws.specs.Served.{IsPayload, WasSent, Served, Entry, items_in, requests, IsServing, MayEnter, Line, no_line, line_of};
 ghost use Rattle.zk_laws.specs.Flight.{HasCode, Matches};
@@ -19,9 +19,9 @@ ghost use Rattle.zk_conversation.specs.Questions.{Question};
 ghost use Rattle.zk_conversation.specs.Results.{Result};
 ghost use Rattle.zk_turns.specs.Turns.{Start, Fault, Drop, Replied, Answer as Given_answer, Item as Client_item};
 ghost use Rattle.zk_laws.specs.Invariant.{IsKept};
-ghost use Rattle.zk_laws.specs.Laws.{IsTrueRead, IsTrueWrite};
+ghost use Rattle.zk_laws.specs.Laws.{IsTrueWrite};
 ghost use Rattle.zk_laws.specs.Example.{at_a, at_b, fields_at_five, two_changes, two_nodes, until_first_part, until_restored, until_told};
-ghost use Rattle.zk_laws.specs.Log.{good, IsCoherent, last, Took, listed, Of_data, Of_absence, Of_children, Item};
+ghost use Rattle.zk_laws.specs.Log.{good, IsCoherent, last, Took, listed, Of_data, Of_absence, Of_children, Item, left_by, Suits, Full};
 ghost use Rattle.zk_laws.specs.Run.{IsSchedule, May, Move, moved, run, start, AgreesWhenQuiet, NoneBehind};
 ghost use Rattle.zk_laws.specs.Steps.{World, By_server, Connection, MayStep};
 ghost use Rattle.zk_laws.specs.ServerSteps.{Answers};
@@ -195,7 +195,7 @@ pub fn coherent_runs()
 #[tactic(auto, using(crate::proofs::More::reads_true))]
 pub fn true_replies()
     ensures reads { (h : History) → IsHistory h → (saved : ℕ) (moves : List Move) → IsSchedule h moves (start saved)
-        → (question : Question) (zxid : ℕ) (result : Result) → Among (Took (Replies question zxid result)) (run h moves (start saved)).log → IsTrueRead h question zxid result }
+        → (question : Question) (zxid : ℕ) (result : Result) → Among (Took (Replies question zxid result)) (run h moves (start saved)).log → Reads (tree_at h zxid) question result }
     ensures writes { (h : History) (call : Call) (result : Result) (c : Connection) (log : List Item) → MayStep h (By_server (Answers call result)) c log → IsTrueWrite h call (zxid_held h c.place) result }
 {}
 
@@ -235,5 +235,5 @@ pub fn first_of_two_parts()
     ensures schedule { IsSchedule two_nodes until_first_part (start 0) }
     ensures kept { good Data at_b (run two_nodes until_first_part (start 0)).log ≡ Some (Full (Some (104 ∷ 105 ∷ [])) fields_at_five) }
     ensures seen { last (run two_nodes until_first_part (start 0)).log ≡ 5 }
-    ensures not_six { Fits (Full (Some (104 ∷ 105 ∷ [])) fields_at_five) (view Data (tree_at two_nodes 6) (path_of at_b)) → ⊥ }
+    ensures not_six { Suits (Full (Some (104 ∷ 105 ∷ [])) fields_at_five) (view Data (tree_at two_nodes 6) (path_of at_b)) → ⊥ }
 {}
