@@ -18,7 +18,7 @@ use Rattle.zk_watches.specs.Parts.{parts}
 use Rattle.zk_conversation.specs.Pending.{Pending, Waiting, Part_waits, Call_waits}
 use Rattle.zk_turns.specs.View.{View, view_at}
 use Rattle.zk_turns.specs.Taken.{Cutting, Unfinished, Bad, Payload, cut, of_cutting, comes, opens, if_open, due, timeout_of, calls, refusal, refusal_in, caused, happenings, joined, past_after, past_of}
-use Rattle.zk_turns.specs.Rule.{says, says_message, loss, part_frame, report, closing, due_happenings, due_signals, AllSaid, Stands}
+use Rattle.zk_turns.specs.Rule.{says, loss, part_frame, report, closing, due_happenings, due_signals, AllSaid, Stands}
 use Rattle.zk_turns.specs.Sent.{onto, outputs_of}
 use Rattle.zk_turns.proofs.Stream.{of_reading}
 use Rattle.zk_turns.specs.Meaning.{Among}
@@ -111,7 +111,7 @@ module _ (fault : Fault) where
   no_closing Close (inr a) = a
   no_closing _ a = a
 
-  no_message : (view : View) (m : Message) → Among (Drop fault) (says_message view m) → ⊥
+  no_message : (view : View) (m : Message) → Among (Drop fault) (says view (Took m)) → ⊥
   no_message view (Accepted w) (inl e) = cc
   no_message view (Accepted w) (inr a) = no_part view.saved.last (parts view.lists) a
   no_message view Expiry (inl e) = cc
@@ -275,7 +275,7 @@ module _ (ticket : ℕ) (zxid : ℤ) (result : Result) where
   abbrev IsReply : Happening → Type 0
   IsReply x = (q : Question) × (Took (Replies ticket q zxid result) ≡ x)
 
-  message_cause : (view : View) (m : Message) → Among the_answer (says_message view m) → IsReply (Took m)
+  message_cause : (view : View) (m : Message) → Among the_answer (says view (Took m)) → IsReply (Took m)
   message_cause view (Accepted w) (inl e) = absurd cc
   message_cause view (Accepted w) (inr a) = absurd (not_part view.saved.last (parts view.lists) a)
   message_cause view Expiry (inl e) = absurd cc

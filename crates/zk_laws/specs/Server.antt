@@ -30,9 +30,8 @@ pub record Notice : Type 0 where
 -- both the same
 abbrev pub same_side : Side → Side → Bool
 same_side Data Data = true
-same_side Data Child = false
-same_side Child Data = false
 same_side Child Child = true
+same_side _ _ = false
 
 -- The watches of one connection: whether a path is watched on a side. They are set on this connection alone, and fire once.
 abbrev pub Watches : Type 0
@@ -53,19 +52,17 @@ told side path event watches = if watches side path then record { event = event;
 -- What a change fires: a created, set or deleted path its own watches, a created or deleted one also the child watch of its
 -- parent. A deleted path tells each of its two sides.
 abbrev pub fires : Change → Watches → List Notice
-fires (Creates [] content owner) watches = []
 fires (Creates (name ∷ path) content owner) watches = told Data (name ∷ path) Created watches ++ told Child path ChildrenChanged watches
 fires (Sets path content) watches = told Data path DataChanged watches
-fires (Deletes []) watches = []
 fires (Deletes (name ∷ path)) watches = told Data (name ∷ path) Deleted watches ++ told Child (name ∷ path) Deleted watches ++ told Child path ChildrenChanged watches
+fires _ watches = []
 
 -- the watches that a change leaves
 abbrev pub leaves_set : Change → Watches → Watches
-leaves_set (Creates [] content owner) watches = watches
 leaves_set (Creates (name ∷ path) content owner) watches = without Child path (without Data (name ∷ path) watches)
 leaves_set (Sets path content) watches = without Data path watches
-leaves_set (Deletes []) watches = watches
 leaves_set (Deletes (name ∷ path)) watches = without Child path (without Child (name ∷ path) (without Data (name ∷ path) watches))
+leaves_set _ watches = watches
 
 -- The changes of a transaction are gone through in order: a watch that fires is gone for the later ones.
 abbrev pub fires_all : List Change → Watches → List Notice

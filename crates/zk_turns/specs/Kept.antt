@@ -58,20 +58,12 @@ Past = List Happening
 
 -- The state
 
-abbrev pub state_after_reply : Question → State → State
-state_after_reply Close state = Closed
-state_after_reply _ state = state
-
-abbrev pub state_after_message : Message → State → State
-state_after_message (Accepted welcome) state = Connected
-state_after_message Expiry state = Expired
-state_after_message (Replies ticket question zxid result) state = state_after_reply question state
-state_after_message _ state = state
-
 abbrev pub state_of : Past → State
 state_of [] = Idle
 state_of (Began ∷ past) = Connecting
-state_of (Took message ∷ past) = state_after_message message (state_of past)
+state_of (Took (Accepted welcome) ∷ past) = Connected
+state_of (Took Expiry ∷ past) = Expired
+state_of (Took (Replies ticket Close zxid result) ∷ past) = Closed
 state_of (Dropped fault ∷ past) = Idle
 state_of (Lost ∷ past) = Idle
 state_of (_ ∷ past) = state_of past
@@ -178,33 +170,24 @@ reply_word _ left path = if_at left path
 abbrev pub notice_word : {A : Type 0} → Bool → Text → Text → Word A
 notice_word about at path = if about && bytes_eq at path then Ends else Nothing
 
-abbrev pub message_word_data : Message → Text → Word Answer
-message_word_data (Replies ticket question zxid result) path = reply_word question (leaves_data question result) path
-message_word_data (Notifies event at) path = notice_word (concerns event Data) at path
-message_word_data Expiry path = Empties
-message_word_data _ path = Nothing
-
-abbrev pub message_word_child : Message → Text → Word Names
-message_word_child (Replies ticket question zxid result) path = reply_word question (leaves_child question result) path
-message_word_child (Notifies event at) path = notice_word (concerns event Child) at path
-message_word_child Expiry path = Empties
-message_word_child _ path = Nothing
+-- the word on a side, by what replies leave there
+abbrev pub word_on : {A : Type 0} → Side → (Question → Result → Option (Left A)) → Text → Happening → Word A
+word_on side leaves path (Took (Replies ticket question zxid result)) = reply_word question (leaves question result) path
+word_on side leaves path (Took (Notifies event at)) = notice_word (concerns event side) at path
+word_on side leaves path (Took Expiry) = Empties
+word_on side leaves path Halted = Empties
+word_on side leaves path _ = Nothing
 
 abbrev pub word_data : Text → Happening → Word Answer
-word_data path (Took message) = message_word_data message path
-word_data path Halted = Empties
-word_data path _ = Nothing
+word_data path happening = word_on Data leaves_data path happening
 
 abbrev pub word_child : Text → Happening → Word Names
-word_child path (Took message) = message_word_child message path
-word_child path Halted = Empties
-word_child path _ = Nothing
+word_child path happening = word_on Child leaves_child path happening
 
 abbrev pub after_word : {A : Type 0} → Word A → Option A → Option A
 after_word (Says answer) before = Some answer
-after_word Ends before = None
-after_word Empties before = None
 after_word Nothing before = before
+after_word _ before = None
 
 -- what the newest reply that leaves a watch said, if since then nothing ended it
 abbrev pub standing : {A : Type 0} → (Happening → Word A) → Past → Option A
@@ -230,10 +213,8 @@ pub record IsMarked {A : Type 0} (word : Happening → Word A) (past : Past) (an
 abbrev pub data_by : Word Answer → DataStat → Option (Option (List ℕ)) → Option (Option (List ℕ))
 data_by (Says (Full bytes others)) fields before = if same_fields others fields then Some bytes else None
 data_by (Says (Known others)) fields before = if same_fields others fields then before else None
-data_by (Says Absent) fields before = None
-data_by Ends fields before = None
-data_by Empties fields before = None
 data_by Nothing fields before = before
+data_by _ fields before = None
 
 -- The data that go with these fields: those of the newest getData since the answer last became good, if that and all
 -- later replies gave the same seven fields.

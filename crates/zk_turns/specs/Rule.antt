@@ -94,28 +94,19 @@ abbrev pub closing : Question → List Output
 closing Close = Enters Closed ∷ []
 closing _ = []
 
-abbrev pub says_message : View → Message → List Output
-says_message view (Accepted welcome) = Enters Connected ∷ map (part_frame view.saved.last) (parts view.lists)
-says_message view Expiry = Enters Expired ∷ []
-says_message view (Replies ticket question zxid result) = Answer ticket (Replied zxid result) ∷ closing question
-says_message view (Watches_set last zxid) = []
-says_message view (Notifies event path) = report view event path Data ++ report view event path Child
-says_message view Pong = []
-says_message view Skipped = []
-
 -- the outputs of one happening
 abbrev pub says : View → Happening → List Output
 says view Began = Send (frame (connect_payload view.saved.last (pos view.saved.asked) view.saved.session.session view.saved.session.password)) ∷ Enters Connecting ∷ []
-says view (Came byte) = []
-says view (Took message) = says_message view message
+says view (Took (Accepted welcome)) = Enters Connected ∷ map (part_frame view.saved.last) (parts view.lists)
+says view (Took Expiry) = Enters Expired ∷ []
+says view (Took (Replies ticket question zxid result)) = Answer ticket (Replied zxid result) ∷ closing question
+says view (Took (Notifies event path)) = report view event path Data ++ report view event path Child
 says view (Dropped fault) = Drop fault ∷ losses view
 says view Lost = losses view
 says view (Asked ticket call) = Send (frame (call_payload (pos view.xid) call)) ∷ []
 says view (Denied ticket why) = Answer ticket why ∷ []
 says view Pinged = Send (frame ping_payload) ∷ []
-says view (Ticked moment) = []
-says view Forgot = []
-says view Halted = []
+says view _ = []
 
 -- What is changed
 
