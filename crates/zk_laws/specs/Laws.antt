@@ -23,6 +23,4 @@ IsTrueWrite h _ zxid _ = ⊤
 abbrev pub AreRestored : List Request → Type 0
 AreRestored [] = ⊤
 AreRestored (Restore is_last relative part ∷ requests) = ⊥
-AreRestored (Connect seen ∷ requests) = AreRestored requests
-AreRestored (Ask question ∷ requests) = AreRestored requests
-AreRestored (Ping ∷ requests) = AreRestored requests
+AreRestored (_ ∷ requests) = AreRestored requests
