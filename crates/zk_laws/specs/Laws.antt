@@ -6,7 +6,7 @@ use Rattle.std.specs.Prelude.{ℕ, ℤ, ◌≡◌, List, [], ◌∷◌, ⊤}
 use Rattle.zk_conversation.specs.Results.{Result, Found, Made, Done}
 use Rattle.zk_turns.specs.Meaning.{Among}
 use Rattle.zk_laws.specs.Server.{IsMadeOf, is_sequential}
-use Rattle.zk_laws.specs.Messages.{Request, Connect, Restore, Ask, Ping}
+use Rattle.zk_laws.specs.Messages.{Request, Restore}
 
 -- the change is one of the transaction with this zxid
 abbrev pub HasChange : History → ℕ → Change → Type 0

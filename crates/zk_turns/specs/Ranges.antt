@@ -1,10 +1,11 @@
 -- What a client is handed by its callers, in range: a session to begin with, and what is asked.
-use Rattle.std.specs.Prelude.{◌≡◌, ◌<◌, ◌≤◌, ◌≤ℤ◌, ◌^◌, pos, length, true, List, [], ◌∷◌, ⊤, FitsSigned}
+use Rattle.std.specs.Prelude.{◌≡◌, ◌<◌, ◌≤◌, ◌≤ℤ◌, ◌^◌, pos, length, true, ⊤, FitsSigned}
 use Rattle.std.specs.Int.{w32, w64}
 use Rattle.std.specs.Str.{is_utf8}
 use Rattle.zk_session.specs.declared.fields.TheConstants.{LONGEST_PASSWORD}
 use Rattle.zk_conversation.specs.Calls as call
-use Rattle.zk_turns.specs.Turns.{Start, Input, Call, Item, Turned}
+use Rattle.zk_turns.specs.Turns.{Start}
+pub use Rattle.zk_turns.specs.Turns.{AsksOf, AllAskOf}
 
 -- What may be taken up: the numbers are of their types and the last seen zxid is not below 0, and the password is not longer
 -- than is admitted.
@@ -24,13 +25,3 @@ IsTyped (call.SetData path bytes version) = (is_utf8 path ≡ true) × FitsSigne
 IsTyped (call.Create path bytes mode) = (is_utf8 path ≡ true) × (mode ≤ 3)
 IsTyped (call.Delete path version) = (is_utf8 path ≡ true) × FitsSigned w32 version
 IsTyped call.Close = ⊤
-
--- this holds of each call of the items
-abbrev pub AsksOf : (call.Call → Type 0) → Input → Type 0
-AsksOf P (Call ticket asked) = P asked
-AsksOf P _ = ⊤
-
-abbrev pub AllAskOf : (call.Call → Type 0) → List Item → Type 0
-AllAskOf P [] = ⊤
-AllAskOf P (Turned turn ∷ items) = AsksOf P turn.input × AllAskOf P items
-AllAskOf P (_ ∷ items) = AllAskOf P items

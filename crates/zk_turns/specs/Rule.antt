@@ -3,7 +3,7 @@
 use Rattle.zk_cache.specs.Kept.{merged, Absent, Known, Full, Names, good, stale, without_stale, Answer as Kept_answer}
 use Rattle.zk_cache.specs.declared.held.Kept.{Kept}
 use Rattle.zk_watches.specs.Lists.{Lists, registered, fired, fires, no_lists}
-use Rattle.zk_turns.specs.Turns.{IsAsked, Replied, ConnectionLoss, Output, Send, Answer, Report, Enters, Drop, Turn, Item, Turned, Start, Signal, signals_of}
+use Rattle.zk_turns.specs.Turns.{IsAskable, AllAskOf, IsAsked, Replied, ConnectionLoss, Output, Send, Answer, Report, Enters, Drop, Turn, Item, Turned, Start, Signal, signals_of}
 use Rattle.zk_records.specs.Events.{concerns}
 use Rattle.zk_turns.specs.Kept.{pending_for, Happening, Began, Came, Took, Dropped, Lost, Asked, Denied, Pinged, Ticked, Forgot, Halted, Past, Message, Accepted, Expiry, Replies, Watches_set, Notifies, Pong, Skipped, Left, leaves_data, leaves_child, parts_asked, if_any, later, has_halted, pending_of, held_of, xid_of, lists_of}
 use Rattle.zk_watches.specs.Parts.{parts}
@@ -229,9 +229,7 @@ pub record Rule (view : View) (turn : Turn) (after : View) : Type 0 where
 
 -- each caller asked about paths
 abbrev pub AllAsked : List Item → Type 0
-AllAsked [] = Unit {0}
-AllAsked (Turned turn ∷ items) = IsAsked turn.input × AllAsked items
-AllAsked (_ ∷ items) = AllAsked items
+AllAsked items = AllAskOf IsAskable items
 
 module _ (start : Start) where
   -- what is said while a past grows by signals, by the definitions alone
@@ -266,7 +264,7 @@ module _ (start : Start) where
     pub cache : view.cache ≡ cache_at start (past_of start items)
     pub going : has_halted (past_of start items) ≡ false → IsGoing (past_of start items) view
     pub said : AllSaid items
-    pub asked : AllAsked items
+    pub asked : AllAskOf IsAskable items
 
 -- what a halt leaves of a view: of its connection nothing is said
 pub record HaltsAs (view after : View) : Type 0 where

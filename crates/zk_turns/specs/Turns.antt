@@ -46,10 +46,6 @@ IsAskable (call.Create path bytes mode) = IsPathText path
 IsAskable (call.Delete path version) = IsPathText path
 IsAskable call.Close = ⊤
 
-abbrev pub IsAsked : Input → Type 0
-IsAsked (Call ticket asked) = IsAskable asked
-IsAsked _ = ⊤
-
 pub data Output : Type 0 where
   Send : List ℕ → Output
   Answer : (ticket : ℕ) → Outcome → Output
@@ -67,6 +63,20 @@ pub data Item : Type 0 where
   Turned : Turn → Item
   Forgets : Item
   Halts : Item
+
+-- this holds of each call of the items
+abbrev pub AsksOf : (call.Call → Type 0) → Input → Type 0
+AsksOf P (Call ticket asked) = P asked
+AsksOf P _ = ⊤
+
+abbrev pub AllAskOf : (call.Call → Type 0) → List Item → Type 0
+AllAskOf P [] = ⊤
+AllAskOf P (Turned turn ∷ items) = AsksOf P turn.input × AllAskOf P items
+AllAskOf P (_ ∷ items) = AllAskOf P items
+
+-- what a caller asks is about a path
+abbrev pub IsAsked : Input → Type 0
+IsAsked input = AsksOf IsAskable input
 
 -- What a client begins with: the timeout to ask for, and a saved session, or 0, sixteen zero bytes and 0 for a new one.
 pub record Start : Type 0 where
