@@ -103,6 +103,8 @@ EDITS = [
     ("a read is answered from any tree", LAWS, SERVER,
      "Reads tree (Exists path watch) (Found stat) = Fits (Known (data_stat_of stat)) (view Data tree (path_of path))",
      "Reads tree (Exists path watch) (Found stat) = ⊤"),
+    ("a node that is there is told absent", LAWS, SERVER,
+     "Reads tree (GetData path watch) NoNode = Fits Absent (view Data tree (path_of path))", "Reads tree (GetData path watch) NoNode = ⊤"),
 ]
 
 

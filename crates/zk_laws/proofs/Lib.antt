@@ -22,3 +22,4 @@ pub mod Meeting_shown
 pub mod Resumed
 pub mod Outputs
 pub mod Ordering
+pub mod Reading_trees

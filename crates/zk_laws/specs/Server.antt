@@ -149,7 +149,8 @@ IsMadeOf asked false at = at ≡ asked
 IsMadeOf asked true at = IsPrefix asked at
 
 -- The answer of a server that stands at place, processing the call whole between two transactions. A read is answered
--- from the tree there. A write that succeeds is a change of the last transaction.
+-- from the tree there. A write that succeeds is a change of the last transaction. Of a result of another kind than the call's
+-- nothing is said, since no payload spells it (`HasResult`).
 abbrev pub Gives : History → ℕ → Call → Result → Type 0
 Gives h place (call.SetData path content version) (Found stat) = LastHolds (Sets (path_of path) content) (held h place) × Fits (Known (data_stat_of stat)) (view Data (tree_held h place) (path_of path))
 Gives h place (call.Create path content mode) (Made at) = (owner : ℤ) × IsMadeOf path (is_sequential mode) at × LastHolds (Creates (path_of at) content owner) (held h place)

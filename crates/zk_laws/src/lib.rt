@@ -1,22 +1,25 @@
 //! Laws over the definitions of histories, servers and runs. The functions have empty bodies: their contracts are the laws.
 #![tactic(auto)]
 
-ghost use Rattle.std.specs.Prelude.{◌<◌, ◌^◌, ◌&&◌, ◌++◌, false, Bool, length, is_some, nat_lt, ◌≡◌, ◌≤◌, Some, None, ℕ, ◌∷◌, [], List, if◌then◌else◌, ℤ, pos, map};
+ghost use Rattle.std.specs.Prelude.{◌<◌, ◌^◌, ◌&&◌, ◌++◌, false, Bool, length, is_some, nat_lt, ◌≡◌, ◌≤◌, ◌↔◌, Option, Some, None, ℕ, ◌∷◌, [], List, if◌then◌else◌, ℤ, pos, map};
 ghost use Rattle.zk_session.specs.Kept.{Welcome};
 ghost use Rattle.zk_session.specs.declared.states.State.TheVariants.{Connecting, Connected};
 ghost use Rattle.zk_conversation.specs.Calls.{part_xid, connect_payload, Call};
 ghost use Rattle.zk_records.specs.Layouts.{connect_request};
 ghost use Rattle.zk_conversation.specs.Pending.{Pending, Call_waits, part_waits};
-ghost use Rattle.zk_turns.specs.Kept.{Accepted as Takes_acceptance, Expiry, Notifies as Takes_notice, Pong as Takes_pong, Watches_set as Takes_part, kept_data, kept_names, last_of, session_of, Began, Happening, Past, lists_of, Dropped, Took as Takes_in, Replies as Answers_call};
+ghost use Rattle.zk_turns.specs.Kept.{Accepted as Takes_acceptance, Expiry, Notifies as Takes_notice, Pong as Takes_pong, Watches_set as Takes_part, kept_data, kept_names, names_of, last_of, session_of, Began, Happening, Past, lists_of, Dropped, Took as Takes_in, Replies as Answers_call};
 ghost use Rattle.zk_turns.specs.Taken.{cut, Payload, reading, past_of};
 ghost use Rattle.zk_laws.specs.Server.{Reads, Notice, zxid_held};
 ghost use Rattle.zk_laws.specs.Messages.{Accepted, Expired as Expired_session, Notifies, Pong, Watches_set, Replies, from_zero};
 ghost use Rattle.zk_laws.specs.Served.{IsPayload, WasSent, Served, Entry, items_in, requests, IsServing, MayEnter, Line, no_line, line_of};
 ghost use Rattle.zk_laws.specs.Flight.{HasCode, Matches};
 ghost use Rattle.zk_history.specs.declared.side.Side.TheVariants.{Child, Data};
-ghost use Rattle.zk_history.specs.History.{Text, History, IsHistory, path_of, tree_at, view};
-ghost use Rattle.zk_conversation.specs.Questions.{Question};
-ghost use Rattle.zk_conversation.specs.Results.{Result};
+ghost use Rattle.zk_history.specs.History.{Text, Name, Node, Tree, History, IsHistory, path_of, tree_at, view, node_fields};
+ghost use Rattle.zk_history.specs.DataStats.{data_stat_of};
+ghost use Rattle.zk_history.specs.declared.stat.Stat.{Stat};
+ghost use Rattle.std.specs.FinSet as set;
+ghost use Rattle.zk_conversation.specs.Questions.{Question, Exists, GetData, GetChildren};
+ghost use Rattle.zk_conversation.specs.Results.{Result, NoNode, Found, Read, Listing};
 ghost use Rattle.zk_turns.specs.Turns.{Start, Fault, Drop, Replied, Answer as Given_answer, Item as Client_item};
 ghost use Rattle.zk_laws.specs.Invariant.{IsKept};
 ghost use Rattle.zk_laws.specs.Laws.{IsTrueWrite};
@@ -40,6 +43,20 @@ ghost use Rattle.zk_laws.specs.Parsed.{AreTold, IsCutInto, IsRecord, AreReadAs, 
 ghost use Rattle.zk_turns.specs.Ranges.{IsResumable, IsTyped, AllAskOf};
 ghost use Rattle.zk_laws.specs.Seen.{seen, node_answer, names_answer, if_good};
 ghost use Rattle.zk_laws.specs.Headline.{Headline, IsCoherentWith, ReadsAreTrue, WritesAreTrue, RepliesAreAbove, DropsAreDue, IsQuietAt, IsTrueOf, tree_of};
+
+/// What a read is answered: code -101 exactly where no node is there; the seven fields of the node that is there, with its data
+/// where they were read; and with the names of its children, as a set, its pzxid.
+pub fn read_answers()
+    ensures absent { (tree : Tree) (path : Text) (watch : Bool) → Reads tree (Exists path watch) NoNode ↔ (tree (path_of path) ≡ None) }
+    ensures absent_data { (tree : Tree) (path : Text) (watch : Bool) → Reads tree (GetData path watch) NoNode ↔ (tree (path_of path) ≡ None) }
+    ensures absent_parent { (tree : Tree) (path : Text) (watch : Bool) → Reads tree (GetChildren path watch) NoNode ↔ (tree (path_of path) ≡ None) }
+    ensures fields { (tree : Tree) (path : Text) (watch : Bool) (stat : Stat) →
+        Reads tree (Exists path watch) (Found stat) ↔ ((node : Node) × (tree (path_of path) ≡ Some node) × (data_stat_of stat ≡ node_fields node)) }
+    ensures data { (tree : Tree) (path : Text) (watch : Bool) (bytes : Option (List ℕ)) (stat : Stat) →
+        Reads tree (GetData path watch) (Read bytes stat) ↔ ((node : Node) × (tree (path_of path) ≡ Some node) × (bytes ≡ node.content) × (data_stat_of stat ≡ node_fields node)) }
+    ensures children { (tree : Tree) (path : Text) (watch : Bool) (names : List Text) (stat : Stat) →
+        Reads tree (GetChildren path watch) (Listing names stat) ↔ ((node : Node) × (tree (path_of path) ≡ Some node) × (stat.pzxid ≡ pos node.pzxid) × ((name : Name) → set.contains (names_of names stat).names name ≡ is_some (tree (name ∷ path_of path)))) }
+{}
 
 /// The headline: a client that stands at its items and was served keeps good answers that are the history's at its last
 /// seen zxid, was answered what is true, and gave no connection up but for silence or a message that is too long.
