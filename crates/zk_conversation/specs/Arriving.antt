@@ -28,8 +28,7 @@ pub data Arrived : Type 0 where
   -- the reply to a part of setWatches
   Watches_set : (last : Bool) → (zxid err : ℤ) → Arrived
   Notice : Event → (path : Text) → Arrived
-  Pong : Arrived
-  Skipped : Arrived
+  Pong Skipped : Arrived
 
 abbrev pub header_of : Value reply_header → ReplyHeader
 header_of v = record { xid = v.0; zxid = v.1.0; err = v.1.1 }

@@ -11,9 +11,7 @@ use Rattle.zk_records.specs.Operations.{operation_number, body_layout, request_l
 
 -- What a caller asks. A read says whether it is to leave a watch; data may be null; a create has a mode from 0 to 3.
 pub data Call : Type 0 where
-  Exists : (path : Text) → (watch : Bool) → Call
-  GetData : (path : Text) → (watch : Bool) → Call
-  GetChildren : (path : Text) → (watch : Bool) → Call
+  Exists GetData GetChildren : (path : Text) → (watch : Bool) → Call
   SetData : (path : Text) → (bytes : Option (List ℕ)) → (version : ℤ) → Call
   Create : (path : Text) → (bytes : Option (List ℕ)) → (mode : ℕ) → Call
   Delete : (path : Text) → (version : ℤ) → Call

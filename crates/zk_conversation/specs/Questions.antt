@@ -8,12 +8,8 @@ use Rattle.zk_conversation.specs.Calls as call
 
 -- the kind of a call, its path and whether it is to leave a watch
 pub data Question : Type 0 where
-  Exists : (path : Text) → (watch : Bool) → Question
-  GetData : (path : Text) → (watch : Bool) → Question
-  GetChildren : (path : Text) → (watch : Bool) → Question
-  SetData : (path : Text) → Question
-  Create : (path : Text) → Question
-  Delete : (path : Text) → Question
+  Exists GetData GetChildren : (path : Text) → (watch : Bool) → Question
+  SetData Create Delete : (path : Text) → Question
   Close : Question
 
 abbrev pub question_of : Call → Question

@@ -1,8 +1,9 @@
 -- What a sound history keeps is a history: the first tree has a root, is closed under parents and has zxids 0, zxids rise, and each change is legal.
+use Rattle.std.specs.Option.{option_map}
 use Rattle.std.proofs.Common.{◌≡◌, ℕ, ℤ, pos, Bool, true, false, cond, eqb, List, [], ◌∷◌, Option, Some, None, is_some, refl, sym, ap, subst, ◌∙◌, arith}
 use Rattle.std.proofs.lemmas.Bool.{eqb-true, false≢true}
 use Rattle.std.specs.List.{list_all}
-use Rattle.zk_history.specs.History.{Name, NodePath, path_eq, Node, Tree, Change, Creates, Sets, Deletes, Transaction, IsHistory, on_node, made, regrouped, apply, apply_all, after, IsLegal, AreLegal, AllLegal}
+use Rattle.zk_history.specs.History.{Name, NodePath, path_eq, Node, Tree, Change, Creates, Sets, Deletes, Transaction, IsHistory, made, regrouped, apply, apply_all, after, IsLegal, AreLegal, AllLegal}
 use Rattle.zk_history.specs.Kept.{Kept, history_of, first_tree, AreAccepted, AllAccepted, root_tree, is_first, is_creation, IsSound}
 use Rattle.zk_history.proofs.PathTexts.{path_eq-true}
 
@@ -12,14 +13,14 @@ record IsFirst (tree : Tree) : Type 0 where
   parents : (name : Name) (path : NodePath) → is_some (tree (name ∷ path)) ≡ true → is_some (tree path) ≡ true
   zeros : (path : NodePath) (node : Node) → tree path ≡ Some node → (node.czxid ≡ 0) × (node.mzxid ≡ 0) × (node.pzxid ≡ 0)
 
-there_after : (a b : Bool) (n : Node) (f : Node → Node) (held : Option Node) → is_some (cond a (Some n) (cond b (on_node f held) held)) ≡ cond a true (is_some held)
+there_after : (a b : Bool) (n : Node) (f : Node → Node) (held : Option Node) → is_some (cond a (Some n) (cond b (option_map f held) held)) ≡ cond a true (is_some held)
 there_after true b n f held = refl
 there_after false true n f None = refl
 there_after false true n f (Some held) = refl
 there_after false false n f held = refl
 
 zeros_after : (a b : Bool) (t : ℤ) (content : Option (List ℕ)) (owner : ℤ) (held : Option Node) → ((n : Node) → held ≡ Some n → (n.czxid ≡ 0) × (n.mzxid ≡ 0) × (n.pzxid ≡ 0))
-    → (n : Node) → cond a (Some (made 0 t content owner)) (cond b (on_node (regrouped 0) held) held) ≡ Some n → (n.czxid ≡ 0) × (n.mzxid ≡ 0) × (n.pzxid ≡ 0)
+    → (n : Node) → cond a (Some (made 0 t content owner)) (cond b (option_map (regrouped 0) held) held) ≡ Some n → (n.czxid ≡ 0) × (n.mzxid ≡ 0) × (n.pzxid ≡ 0)
 zeros_after true b t content owner held h n e =
     let P : Node → Type 0 = λ m. (m.czxid ≡ 0) × (m.mzxid ≡ 0) × (m.pzxid ≡ 0) in
     let is : made 0 t content owner ≡ n = cc in

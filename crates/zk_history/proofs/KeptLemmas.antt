@@ -1,4 +1,5 @@
 -- What a sound history gives at each path, and that what is added keeps it sound.
+use Rattle.std.specs.Prelude.{slice_get}
 use Rattle.std.proofs.Common.{◌≡◌, ℕ, zero, suc, ◌+◌, ◌<◌, ◌≤◌, ◌==◌, ◌^◌, ℤ, pos, negsuc, ◌<ℤ◌, Result, Ok, Err, OnOk, OnErr, Bool, true, false, ◌&&◌, not, eqb, leb, ltb, List, [], ◌∷◌, ◌++◌, length, get_or, take, map, option_map, Option, Some, None, is_some, refl, sym, ap, subst, ◌∙◌, arith, Decides}
 use Rattle.std.proofs.lemmas.Bool.{leb-true, ltb-true, eqb-true, false≢true}
 use Rattle.std.proofs.lemmas.Bool.Decides.{nat_tests}
@@ -9,7 +10,7 @@ use Rattle.std.proofs.lemmas.List.{take-append-drop, drop_more, drop_all, map-ap
 use Rattle.zk_history.proofs.NamesLemmas.{same_names}
 use Rattle.std.specs.List.{list_all}
 use Rattle.std.specs.FinSet as set
-use Rattle.zk_history.specs.History.{Name, NodePath, Node, Tree, Change, Creates, Sets, Deletes, Transaction, apply, apply_all, after, tree_at, size_of, AreRising, newest, nth}
+use Rattle.zk_history.specs.History.{Name, NodePath, Node, Tree, Change, Creates, Sets, Deletes, Transaction, apply, apply_all, after, tree_at, size_of, AreRising, newest}
 use Rattle.zk_history.specs.Replay.{Names, name_cmp, node_at, CanRiseAt, children_at, count_at, IsCountedAt}
 use Rattle.zk_history.specs.Kept.{Kept, history_of, first_tree, newest_tree, newest_count, HasChildren, HasRoom, IsAccepted, AreAccepted, AllAccepted, root_tree, is_first, IsSound, natural, last_with, with_one, with_change, with_transaction, with_node}
 use Rattle.zk_history.specs.Accepting.{accepts, can_rise}
@@ -284,12 +285,12 @@ pub natural_above : (n : ℕ) (z : ℤ) → pos n <ℤ z → n < natural z
 natural_above n (pos m) h = omega (arith, ints, h)
 natural_above n (negsuc m) h = absurd (omega (arith, ints, h))
 
-pub nth-mapped : {X : Type 0} (f : X → Transaction) (xs : List X) (n : ℕ) (x : X) → n < length xs → x ≡ get_or xs n x → nth n (map f xs) ≡ Some (f x)
+pub nth-mapped : {X : Type 0} (f : X → Transaction) (xs : List X) (n : ℕ) (x : X) → n < length xs → x ≡ get_or xs n x → slice_get (map f xs) n ≡ Some (f x)
 nth-mapped f [] n x l e = absurd (omega arith)
 nth-mapped f (y ∷ xs) zero x l e = ap (λ o. Some (f o)) (sym e)
 nth-mapped f (y ∷ xs) (suc n) x l e = nth-mapped f xs n x (omega arith) e
 
-pub nth-past : {X : Type 0} (f : X → Transaction) (xs : List X) (n : ℕ) → length xs ≤ n → nth n (map f xs) ≡ None
+pub nth-past : {X : Type 0} (f : X → Transaction) (xs : List X) (n : ℕ) → length xs ≤ n → slice_get (map f xs) n ≡ None
 nth-past f [] n l = refl
 nth-past f (y ∷ xs) zero l = absurd (omega arith)
 nth-past f (y ∷ xs) (suc n) l = nth-past f xs n (omega arith)

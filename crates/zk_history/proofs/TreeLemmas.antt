@@ -8,11 +8,11 @@ use Rattle.std.specs.FinSet as set
 use Rattle.std.specs.Ordering.{nat_cmp, eq_by_cmp}
 use Rattle.std.specs.Cmp.Lexicographic.{slice_cmp}
 use Rattle.std.proofs.lemmas.Cmp.{nat_list_cmp_total}
-use Rattle.zk_history.specs.History.{Name, NodePath, path_eq, Node, Tree, Change, Creates, Sets, Deletes, Transaction, on_node, made, written, regrouped, apply, apply_all, after, up_to, AreRising}
+use Rattle.zk_history.specs.History.{Name, NodePath, path_eq, Node, Tree, Change, Creates, Sets, Deletes, Transaction, made, written, regrouped, apply, apply_all, after, up_to, AreRising}
 use Rattle.zk_history.specs.Replay.{Names, name_cmp, node_after, node_after_all, node_at, CanRise, CanRiseAll, CanRiseAt, children_after, children_after_all, children_at, count_after, count_after_all, count_at, IsCounted, IsCountedAt}
 use Rattle.zk_history.specs.Kept.{HasChildren, IsAccepted, AreAccepted, AllAccepted, root_tree}
 use Rattle.zk_history.proofs.PathTexts.{path_eq-true}
-use Rattle.std.specs.Prelude.{bytes_eq}
+use Rattle.std.specs.Prelude.{bytes_eq, option_map}
 use Rattle.zk_history.proofs.NamesLemmas.{tested}
 
 -- one path
@@ -110,24 +110,24 @@ rises_at z (one ∷ more) tree p h = (
 
 -- the names of children
 
-is_some-on_node : (f : Node → Node) (held : Option Node) → is_some (on_node f held) ≡ is_some held
-is_some-on_node f None = refl
-is_some-on_node f (Some held) = refl
+is_some-on_option : (f : Node → Node) (held : Option Node) → is_some (option_map f held) ≡ is_some held
+is_some-on_option f None = refl
+is_some-on_option f (Some held) = refl
 
-maybe_regrouped : (b : Bool) (f : Node → Node) (held : Option Node) → is_some (cond b (on_node f held) held) ≡ is_some held
-maybe_regrouped true f held = is_some-on_node f held
+maybe_regrouped : (b : Bool) (f : Node → Node) (held : Option Node) → is_some (cond b (option_map f held) held) ≡ is_some held
+maybe_regrouped true f held = is_some-on_option f held
 maybe_regrouped false f held = refl
 
 -- whether a child is there after a creation, and after a deletion
 created : (same below : Bool) (b : Bool) (n : Node) (f : Node → Node) (held : Option Node) (old : Bool) → old ≡ is_some held
-    → cond below (same || old) old ≡ is_some (cond (same && below) (Some n) (cond b (on_node f held) held))
+    → cond below (same || old) old ≡ is_some (cond (same && below) (Some n) (cond b (option_map f held) held))
 created true true b n f held old e = refl
 created true false b n f held old e = e ∙ sym (maybe_regrouped b f held)
 created false true b n f held old e = e ∙ sym (maybe_regrouped b f held)
 created false false b n f held old e = e ∙ sym (maybe_regrouped b f held)
 
 deleted : (same below : Bool) (b : Bool) (f : Node → Node) (held : Option Node) (old : Bool) → old ≡ is_some held
-    → cond below (not same && old) old ≡ is_some (cond (same && below) None (cond b (on_node f held) held))
+    → cond below (not same && old) old ≡ is_some (cond (same && below) None (cond b (option_map f held) held))
 deleted true true b f held old e = refl
 deleted true false b f held old e = e ∙ sym (maybe_regrouped b f held)
 deleted false true b f held old e = e ∙ sym (maybe_regrouped b f held)

@@ -1,6 +1,6 @@
 -- The data model: names, paths, nodes and trees, and the history of transactions of which each server holds a beginning.
 -- The sections named are those of the ZooKeeper Programmer's Guide.
-use Rattle.std.specs.Prelude.{ℕ, zero, suc, ℤ, pos, ◌≡◌, ◌==◌, ◌<◌, ◌+◌, ◌^◌, nat_le, Bool, true, false, ◌&&◌, if◌then◌else◌, List, [], ◌∷◌, ◌++◌, fold, length, filter, bytes_eq, Option, Some, None, is_some, IsTrue, ⊤}
+use Rattle.std.specs.Prelude.{ℕ, ℤ, pos, ◌≡◌, ◌==◌, ◌<◌, ◌+◌, ◌^◌, nat_le, Bool, true, false, ◌&&◌, if◌then◌else◌, List, [], ◌∷◌, ◌++◌, fold, length, filter, bytes_eq, Option, Some, None, is_some, option_map, IsTrue, ⊤}
 use Rattle.zk_history.specs.declared.data_stat.DataStat.{DataStat}
 use Rattle.zk_history.specs.declared.side.Side.{Side}
 use Rattle.zk_history.specs.declared.side.Side.TheVariants.{Data, Child}
@@ -21,9 +21,8 @@ NodePath = List Name
 -- The same names, byte for byte ("The ZooKeeper Data Model": paths are canonical and absolute).
 abbrev pub path_eq : NodePath → NodePath → Bool
 path_eq [] [] = true
-path_eq [] (y ∷ ys) = false
-path_eq (x ∷ xs) [] = false
 path_eq (x ∷ xs) (y ∷ ys) = bytes_eq x y && path_eq xs ys
+path_eq _ _ = false
 
 -- The text of a path: a slash for the root, else a slash before each name ("The ZooKeeper Data Model").
 abbrev pub text_of : NodePath → Text
@@ -82,16 +81,10 @@ pub record Transaction : Type 0 where
 -- What a transaction may do: a node is made where there is none, below one that is there; a node that is there is
 -- written, while its version can still rise; a node without children is deleted, and never the root ("ZNodes").
 abbrev pub IsLegal : Change → Tree → Type 0
-IsLegal (Creates [] content owner) tree = ⊥
 IsLegal (Creates (name ∷ path) content owner) tree = (tree (name ∷ path) ≡ None) × IsTrue (is_some (tree path))
 IsLegal (Sets path content) tree = (node : Node) × (tree path ≡ Some node) × (node.version < 2147483647)
-IsLegal (Deletes []) tree = ⊥
 IsLegal (Deletes (name ∷ path)) tree = IsTrue (is_some (tree (name ∷ path))) × ((child : Name) → tree (child ∷ name ∷ path) ≡ None)
-
--- the node, changed, where there is one ("ZNodes")
-abbrev pub on_node : (Node → Node) → Option Node → Option Node
-on_node change None = None
-on_node change (Some node) = Some (change node)
+IsLegal _ tree = ⊥
 
 -- a new node: its three zxids are the transaction's, its times too, its version is 0 ("ZooKeeper Stat Structure")
 abbrev pub made : ℕ → ℤ → Option (List ℕ) → ℤ → Node
@@ -109,13 +102,12 @@ regrouped zxid node = record node { pzxid = zxid }
 -- The tree after a change: the node of its path is made, written or gone, a creation or a deletion changes the set of
 -- the parent's children too, and all other nodes stay ("ZooKeeper Stat Structure").
 abbrev pub apply : ℕ → ℤ → Change → Tree → Tree
-apply zxid time (Creates [] content owner) tree = tree
 apply zxid time (Creates (name ∷ path) content owner) tree =
-    λ p. if path_eq p (name ∷ path) then Some (made zxid time content owner) else (if path_eq p path then on_node (regrouped zxid) (tree p) else tree p)
-apply zxid time (Sets path content) tree = λ p. if path_eq p path then on_node (written zxid time content) (tree p) else tree p
-apply zxid time (Deletes []) tree = tree
+    λ p. if path_eq p (name ∷ path) then Some (made zxid time content owner) else (if path_eq p path then option_map (regrouped zxid) (tree p) else tree p)
+apply zxid time (Sets path content) tree = λ p. if path_eq p path then option_map (written zxid time content) (tree p) else tree p
 apply zxid time (Deletes (name ∷ path)) tree =
-    λ p. if path_eq p (name ∷ path) then None else (if path_eq p path then on_node (regrouped zxid) (tree p) else tree p)
+    λ p. if path_eq p (name ∷ path) then None else (if path_eq p path then option_map (regrouped zxid) (tree p) else tree p)
+apply zxid time _ tree = tree
 
 -- the tree after these changes, in order ("Time in ZooKeeper": a transaction has one zxid)
 abbrev pub apply_all : ℕ → ℤ → List Change → Tree → Tree
@@ -161,12 +153,6 @@ pub record IsHistory (h : History) : Type 0 where
 abbrev pub up_to : ℕ → List Transaction → List Transaction
 up_to zxid transactions = filter (λ one. nat_le one.zxid zxid) transactions
 
--- the transaction after the first n ("Time in ZooKeeper")
-abbrev pub nth : ℕ → List Transaction → Option Transaction
-nth n [] = None
-nth zero (one ∷ more) = Some one
-nth (suc n) (one ∷ more) = nth n more
-
 -- The tree at a zxid: the first tree after every transaction with at most that zxid ("Time in ZooKeeper").
 abbrev pub tree_at : History → ℕ → Tree
 tree_at h zxid = after (up_to zxid h.transactions) h.first
@@ -184,13 +170,8 @@ size_of (Some bytes) = length bytes
 -- the seven fields of a node that change only where a data watch fires, as numbers of the wire ("ZooKeeper Stat Structure")
 abbrev pub node_fields : Node → DataStat
 node_fields node = record {
-  czxid = pos node.czxid;
-  mzxid = pos node.mzxid;
-  ctime = node.ctime;
-  mtime = node.mtime;
-  version = pos node.version;
-  ephemeral_owner = node.owner;
-  data_length = pos (size_of node.content);
+  czxid = pos node.czxid; mzxid = pos node.mzxid; ctime = node.ctime; mtime = node.mtime;
+  version = pos node.version; ephemeral_owner = node.owner; data_length = pos (size_of node.content);
 }
 
 -- What there is to see of a path on one side: that it is absent, its data with the seven fields, or the set of its

@@ -1,10 +1,10 @@
 -- What a history makes of one path: its node, and the set of its children's names, change by change.
-use Rattle.std.specs.Prelude.{ℕ, ℤ, ◌≡◌, ◌<◌, ◌≤◌, ◌+◌, ◌-◌, nat_le, true, if◌then◌else◌, List, [], ◌∷◌, Option, Some, None, ⊤}
+use Rattle.std.specs.Prelude.{ℕ, ℤ, ◌≡◌, ◌<◌, ◌≤◌, ◌+◌, ◌-◌, nat_le, true, if◌then◌else◌, List, [], ◌∷◌, Option, Some, None, ⊤, option_map}
 use Rattle.std.specs.Ordering.{nat_cmp}
 use Rattle.std.specs.declared.cmp.Ordering.{Ordering}
 use Rattle.std.specs.Cmp.Lexicographic.{slice_cmp}
 use Rattle.std.specs.FinSet as set
-use Rattle.zk_history.specs.History.{Name, NodePath, path_eq, Node, Change, Creates, Sets, Deletes, Transaction, on_node, made, written, regrouped, size_of}
+use Rattle.zk_history.specs.History.{Name, NodePath, path_eq, Node, Change, Creates, Sets, Deletes, Transaction, made, written, regrouped, size_of}
 
 -- the names of children, as a set in byte order
 abbrev pub name_cmp : Name → Name → Ordering
@@ -18,10 +18,10 @@ Names = set.FinSet name_cmp
 abbrev pub node_after : ℕ → ℤ → NodePath → Change → Option Node → Option Node
 node_after zxid time p (Creates [] content owner) held = held
 node_after zxid time p (Creates (name ∷ path) content owner) held =
-    if path_eq p (name ∷ path) then Some (made zxid time content owner) else (if path_eq p path then on_node (regrouped zxid) held else held)
-node_after zxid time p (Sets path content) held = if path_eq p path then on_node (written zxid time content) held else held
+    if path_eq p (name ∷ path) then Some (made zxid time content owner) else (if path_eq p path then option_map (regrouped zxid) held else held)
+node_after zxid time p (Sets path content) held = if path_eq p path then option_map (written zxid time content) held else held
 node_after zxid time p (Deletes []) held = held
-node_after zxid time p (Deletes (name ∷ path)) held = if path_eq p (name ∷ path) then None else (if path_eq p path then on_node (regrouped zxid) held else held)
+node_after zxid time p (Deletes (name ∷ path)) held = if path_eq p (name ∷ path) then None else (if path_eq p path then option_map (regrouped zxid) held else held)
 
 -- the same after changes
 abbrev pub node_after_all : ℕ → ℤ → NodePath → List Change → Option Node → Option Node

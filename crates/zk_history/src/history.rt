@@ -1,8 +1,8 @@
 //! The history of a data tree, and what each path held at each zxid.
 
-ghost use Rattle.std.specs.Prelude.{◌≡◌, ◌≢◌, ◌≤◌, ◌<◌, ◌<ℤ◌, ◌^◌, IfErr, pos, [], ◌∷◌, map, IfOk, OnOk, OnErr, MatchOption, Some, None, is_some, ℤ};
+ghost use Rattle.std.specs.Prelude.{◌≡◌, ◌≢◌, ◌≤◌, ◌<◌, ◌<ℤ◌, ◌^◌, IfErr, pos, [], ◌∷◌, map, IfOk, OnOk, OnErr, MatchOption, Some, None, is_some, ℤ, slice_get};
 ghost use Rattle.std.specs.Option.{option_map};
-ghost use Rattle.zk_history.specs.History.{path_of, view as view_of, tree_at, IsHistory, newest, nth, Name, Creates};
+ghost use Rattle.zk_history.specs.History.{path_of, view as view_of, tree_at, IsHistory, newest, Name, Creates};
 ghost use Rattle.zk_history.specs.declared.side.Side.TheVariants.{Data as OnData, Child};
 ghost use Rattle.zk_history.specs.PathFault.{IsPath};
 ghost use Rattle.zk_history.specs.Replay.{Names as NameSet};
@@ -209,7 +209,7 @@ impl<A: Allocator + Copy> History<A> {
 
     /// The n-th transaction, from 0 on: its zxid, its time and its changes.
     pub fn transaction(&self, n: usize) -> Option<(i64, i64, &[Change<A>])>
-        ensures { MatchOption result (nth n self.now.transactions ≡ None) (λ t. nth n self.now.transactions ≡ Some (transaction_told t.0 t.1 t.2.now)) }
+        ensures { MatchOption result (slice_get self.now.transactions n ≡ None) (λ t. slice_get self.now.transactions n ≡ Some (transaction_told t.0 t.1 t.2.now)) }
     {
         if n < self.transactions.len() {
             let transaction = &self.transactions[n];

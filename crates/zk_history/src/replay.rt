@@ -2,7 +2,7 @@
 
 ghost use Rattle.std.specs.Prelude.{◌≡◌, ◌<◌, ◌≤◌, ◌^◌, ℤ, map};
 ghost use Rattle.std.specs.Option.{option_map, option_copied};
-ghost use Rattle.zk_history.specs.History.{on_node, regrouped as node_regrouped, path_of, size_of, Creates, Sets, Deletes};
+ghost use Rattle.zk_history.specs.History.{regrouped as node_regrouped, path_of, size_of, Creates, Sets, Deletes};
 ghost use Rattle.zk_history.specs.PathFault.{IsPath};
 ghost use Rattle.zk_history.specs.Replay.{node_after, node_after_all, node_at, CanRise, CanRiseAll, CanRiseAt};
 ghost use Rattle.zk_history.specs.Made.{change_of, transaction_of, node_of};
@@ -24,7 +24,7 @@ fn lent<A: Allocator>(bytes: &Option<Vec<u8, A>>) -> Option<&[u8]>
 // A node whose children changed.
 fn regrouped(zxid: u64, found: Option<Found<'_>>) -> Option<Found<'_>>
     requires { zxid < 2 ^ 63 }
-    ensures { option_map node_of result ≡ on_node (node_regrouped zxid) (option_map node_of found.entry) }
+    ensures { option_map node_of result ≡ option_map (node_regrouped zxid) (option_map node_of found.entry) }
 {
     match found {
         Some(found) => Some(Found {

@@ -24,9 +24,7 @@ event_of (negsuc n) = None
 -- child watches that its children changed or that it was deleted.
 abbrev pub concerns : Event → Side → Bool
 concerns Created Data = true
-concerns Created Child = false
 concerns Deleted side = true
 concerns DataChanged Data = true
-concerns DataChanged Child = false
-concerns ChildrenChanged Data = false
 concerns ChildrenChanged Child = true
+concerns _ _ = false

@@ -28,15 +28,13 @@ EndsPayload None ignored = ignored ≡ []
 EndsPayload (Some flag) ignored = Unit {0}
 
 pub record IsPayload (bytes : List ℕ) (r : Response) (ignored : List ℕ) : Type 0 where
-  pub fits : ResponseFits r
+  pub fits : Fits connect_response_front r.front
   pub whole : bytes ≡ response_spelling r ++ ignored
   pub ends : EndsPayload r.read_only ignored
 
 unfoldable pub flag_at : ℕ → List ℕ → Result (Option Bool × List ℕ) TakeError
 flag_at end [] = Ok (None, [])
-flag_at end (byte ∷ bytes) = do
-  flag ← reading boolean end (byte ∷ bytes)
-  Ok (Some flag.0, flag.1)
+flag_at end (byte ∷ bytes) = reading boolean end (byte ∷ bytes) >>= λ flag. Ok (Some flag.0, flag.1)
 
 unfoldable pub response_at : ℕ → List ℕ → Result (Response × List ℕ) TakeError
 response_at end bytes = do

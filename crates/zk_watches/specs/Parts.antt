@@ -5,9 +5,7 @@ use Rattle.zk_watches.specs.Lists.{Lists, no_lists}
 
 -- a path of one of the three lists
 pub data Watch : Type 0 where
-  OnData : (path : Text) → Watch
-  OnExist : (path : Text) → Watch
-  OnChild : (path : Text) → Watch
+  OnData OnExist OnChild : (path : Text) → Watch
 
 abbrev pub path_of : Watch → Text
 path_of (OnData path) = path
