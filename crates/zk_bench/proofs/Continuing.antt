@@ -1,9 +1,9 @@
 -- How a history goes on.
 use Rattle.std.proofs.Common.{◌≡◌, ◌<◌, ◌+◌, ◌^◌, ℕ, zero, suc, ℤ, List, [], ◌∷◌, ◌++◌, Option, Some, None, refl, sym, ap, subst, ◌∙◌, arith}
-use Rattle.std.specs.Prelude.{unwrap_or}
+use Rattle.std.specs.Prelude.{unwrap_or, slice_get}
 use Rattle.std.proofs.lemmas.List.{append-nil}
 use Rattle.std.proofs.lemmas.Option.{none-some}
-use Rattle.zk_history.specs.History.{Transaction, Change, AreRising, nth}
+use Rattle.zk_history.specs.History.{Transaction, Change, AreRising}
 use Rattle.zk_history.specs.Kept.{Kept, with_change, with_transaction, with_one, last_with, made_transaction}
 use Rattle.zk_bench.specs.Served.{Continues}
 
@@ -40,7 +40,7 @@ changed_goes_on old mid new zxid time c begun changed =
     }
 
 -- The n-th of rising transactions has a zxid above n more than the bound.
-above : (ts : List Transaction) (low n : ℕ) (t : Transaction) → AreRising low ts → nth n ts ≡ Some t → (low + n < t.zxid) × (t.zxid < 2 ^ 63)
+above : (ts : List Transaction) (low n : ℕ) (t : Transaction) → AreRising low ts → slice_get ts n ≡ Some t → (low + n < t.zxid) × (t.zxid < 2 ^ 63)
 above [] low n t rising is = absurd (none-some t is)
 above (one ∷ more) low zero t rising is =
     let e : one ≡ t = ap (λ (o : Option Transaction). unwrap_or o one) is in
@@ -51,5 +51,5 @@ above (one ∷ more) low (suc n) t rising is =
     (omega (arith, rest.0, rising.0), rest.1)
 
 -- There are fewer transactions than zxids.
-pub few : (ts : List Transaction) (n : ℕ) (t : Transaction) → AreRising 0 ts → nth n ts ≡ Some t → n < 2 ^ 63
+pub few : (ts : List Transaction) (n : ℕ) (t : Transaction) → AreRising 0 ts → slice_get ts n ≡ Some t → n < 2 ^ 63
 few ts n t rising is = let h = above ts 0 n t rising is in omega (arith, h.0, h.1)

@@ -1,7 +1,7 @@
 -- What there is to see of a bench: servers over one history, and the connection to one of them.
-use Rattle.std.specs.Prelude.{ℕ, zero, suc, ◌+◌, ◌≡◌, Bool, true, false, List, [], ◌∷◌, ◌++◌, drop, length, slice_index, slice_set, Option, None, Some}
+use Rattle.std.specs.Prelude.{ℕ, zero, suc, ◌+◌, ◌≡◌, Bool, true, false, List, [], ◌∷◌, ◌++◌, drop, length, slice_index, slice_set, Option, None, Some, slice_get}
 use Rattle.zk_history.specs.Kept.{Kept}
-use Rattle.zk_history.specs.History.{Text, Transaction, nth}
+use Rattle.zk_history.specs.History.{Text, Transaction}
 use Rattle.zk_bench.specs.declared.phase.Phase.{Phase}
 use Rattle.zk_bench.specs.declared.phase.Phase.TheVariants.{Apart, Opening, Accepted, Ended}
 
@@ -71,7 +71,7 @@ advanced_by None taken server = taken
 advanced_by (Some one) taken server = slice_set taken server (slice_index taken server + 1)
 
 abbrev pub advanced : Served → ℕ → List ℕ
-advanced served server = advanced_by (nth (slice_index served.taken server) served.history.transactions) served.taken server
+advanced served server = advanced_by (slice_get served.history.transactions (slice_index served.taken server)) served.taken server
 
 -- The history goes on: the same first tree, and transactions behind those that were there.
 pub record Continues (old new : Kept) : Type 0 where

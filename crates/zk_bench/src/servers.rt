@@ -1,7 +1,6 @@
 //! How far each server is in the history.
 
-ghost use Rattle.std.specs.Prelude.{◌≡◌, ◌<◌, ◌^◌, IfSome, is_some};
-ghost use Rattle.zk_history.specs.History.{nth};
+ghost use Rattle.std.specs.Prelude.{◌≡◌, ◌<◌, ◌^◌, IfSome, is_some, slice_get};
 
 use crate::connection::Connection;
 use crate::notices::tell_changes;
@@ -25,7 +24,7 @@ pub(crate) fn next_changes<A: Allocator + Copy>(
     history: &History<A>,
     taken: usize,
 ) -> Option<&[Change<A>]>
-    ensures there { is_some result ≡ is_some (nth taken history.now.transactions) }
+    ensures there { is_some result ≡ is_some (slice_get history.now.transactions taken) }
     // Zxids rise, so there are fewer transactions than zxids.
     ensures small { IfSome result (λ _. taken < 2 ^ 63) }
 {

@@ -2,13 +2,13 @@
 use Rattle.std.proofs.Common.{ℕ, ℤ, ◌≡◌, Bool, true, false, List, [], ◌∷◌, ◌++◌, refl, ap, sym, ◌∙◌, subst, inl, inr, ◌⊎◌, Option, Some, None, is_some, if◌then◌else◌}
 use mathlib.Core.Path.{fun_ext}
 use mathlib.Core.Bool.{and-false}
-use Rattle.zk_history.specs.History.{Text, Name, NodePath, path_eq, text_of, Node, Tree, Change, Creates, Sets, Deletes, IsLegal, AreLegal, apply, apply_all, on_node, written, regrouped, View, view, contents_of, children_of}
+use Rattle.zk_history.specs.History.{Text, Name, NodePath, path_eq, text_of, Node, Tree, Change, Creates, Sets, Deletes, IsLegal, AreLegal, apply, apply_all, written, regrouped, View, view, contents_of, children_of}
 use Rattle.zk_history.specs.declared.side.Side.{Side}
 use Rattle.zk_history.specs.declared.side.Side.TheVariants.{Data, Child}
 use Rattle.zk_records.specs.declared.event.Event.{Event}
 use Rattle.zk_records.specs.declared.event.Event.TheVariants.{Created, Deleted, DataChanged, ChildrenChanged}
 use Rattle.zk_records.specs.Events.{concerns}
-use Rattle.std.specs.Prelude.{bytes_eq}
+use Rattle.std.specs.Prelude.{bytes_eq, option_map}
 use Rattle.zk_turns.specs.Meaning.{Among}
 use Rattle.zk_laws.specs.Log.{tells_of}
 use Rattle.zk_laws.specs.Server.{Notice, Watches, told, fires, leaves_set, fires_all, leaves_set_all}
@@ -41,15 +41,15 @@ told_right one more side path t = (t.0, Among-right t.0 one more t.1, t.2)
 told_first : (one more : List Notice) (side : Side) (path : Text) → IsTold one side path → IsTold (one ++ more) side path
 told_first one more side path t = (t.0, Among-left t.0 one more t.1, t.2)
 
-contents_regrouped : (z : ℕ) (o : Option Node) → contents_of (on_node (regrouped z) o) ≡ contents_of o
+contents_regrouped : (z : ℕ) (o : Option Node) → contents_of (option_map (regrouped z) o) ≡ contents_of o
 contents_regrouped z None = refl
 contents_regrouped z (Some n) = refl
 
-pub some_on : (f : Node → Node) (o : Option Node) → is_some (on_node f o) ≡ is_some o
+pub some_on : (f : Node → Node) (o : Option Node) → is_some (option_map f o) ≡ is_some o
 some_on f None = refl
 some_on f (Some n) = refl
 
-pub children_written : (names : Name → Bool) (z : ℕ) (t : ℤ) (content : Option (List ℕ)) (o : Option Node) → children_of names (on_node (written z t content) o) ≡ children_of names o
+pub children_written : (names : Name → Bool) (z : ℕ) (t : ℤ) (content : Option (List ℕ)) (o : Option Node) → children_of names (option_map (written z t content) o) ≡ children_of names o
 children_written names z t content None = refl
 children_written names z t content (Some n) = refl
 
@@ -87,16 +87,16 @@ child_view path new old e each =
     let names : (λ (m : Name). is_some (new (m ∷ path))) ≡ (λ (m : Name). is_some (old (m ∷ path))) = fun_ext each in
     λ i. children_of (names i) (e i)
 
-pub some_if : (b : Bool) (f : Node → Node) (o : Option Node) → is_some (if b then on_node f o else o) ≡ is_some o
+pub some_if : (b : Bool) (f : Node → Node) (o : Option Node) → is_some (if b then option_map f o else o) ≡ is_some o
 some_if true f o = some_on f o
 some_if false f o = refl
 
-pub written_if : (b : Bool) (names : Name → Bool) (z : ℕ) (t : ℤ) (content : Option (List ℕ)) (o : Option Node) → children_of names (if b then on_node (written z t content) o else o) ≡ children_of names o
+pub written_if : (b : Bool) (names : Name → Bool) (z : ℕ) (t : ℤ) (content : Option (List ℕ)) (o : Option Node) → children_of names (if b then option_map (written z t content) o else o) ≡ children_of names o
 written_if true names z t content o = children_written names z t content o
 written_if false names z t content o = refl
 
 pub set_children : (path at : NodePath) (content : Option (List ℕ)) (z : ℕ) (t : ℤ) (tree : Tree) → view Child (apply z t (Sets at content) tree) path ≡ view Child tree path
-set_children path at content z t tree = ap (λ (f : Name → Bool). children_of f (if path_eq path at then on_node (written z t content) (tree path) else tree path)) (fun_ext (λ m. some_if (path_eq (m ∷ path) at) (written z t content) (tree (m ∷ path)))) ∙ written_if (path_eq path at) (λ m. is_some (tree (m ∷ path))) z t content (tree path)
+set_children path at content z t tree = ap (λ (f : Name → Bool). children_of f (if path_eq path at then option_map (written z t content) (tree path) else tree path)) (fun_ext (λ m. some_if (path_eq (m ∷ path) at) (written z t content) (tree (m ∷ path)))) ∙ written_if (path_eq path at) (λ m. is_some (tree (m ∷ path))) z t content (tree path)
 
 -- the child side, one change
 child_spared : (path : NodePath) (c : Change) (z : ℕ) (t : ℤ) (w : Watches) (tree : Tree) → IsLegal c tree → is_seen (view Child tree path) ≡ true → w Child path ≡ true → IsTold (fires c w) Child (text_of path) ⊎ IsSpared Child path (leaves_set c w) (apply z t c tree) tree

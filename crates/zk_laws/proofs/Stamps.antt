@@ -1,10 +1,12 @@
 -- A node whose stamp is old has not changed since.
+use Rattle.std.specs.Prelude.{slice_get}
+use Rattle.std.specs.Option.{option_map}
 use Rattle.std.proofs.Common.{ℕ, ℤ, ◌≡◌, ◌<◌, ◌≤◌, Bool, true, false, cond, List, [], ◌∷◌, ◌++◌, refl, ap, sym, ◌∙◌, subst, arith, Option, Some, None, if◌then◌else◌, take, length, zero, suc, nat_le}
 use Rattle.std.proofs.lemmas.Bool.Decides.{nat_tests}
 use Rattle.std.specs.Bool.{⊤}
 use Rattle.zk_history.specs.declared.side.Side.{Side}
 use Rattle.zk_history.specs.declared.side.Side.TheVariants.{Data, Child}
-use Rattle.zk_history.specs.History.{NodePath, path_eq, Node, Tree, Change, Creates, Sets, Deletes, Transaction, AreLegal, apply, apply_all, after, AllLegal, AreRising, History, IsHistory, up_to, nth, tree_at, newest, on_node, made, written, regrouped, view, contents_of}
+use Rattle.zk_history.specs.History.{NodePath, path_eq, Node, Tree, Change, Creates, Sets, Deletes, Transaction, AreLegal, apply, apply_all, after, AllLegal, AreRising, History, IsHistory, up_to, tree_at, newest, made, written, regrouped, view, contents_of}
 use Rattle.zk_laws.specs.Server.{tree_held, zxid_held}
 use Rattle.zk_laws.proofs.Firing.{below_other, child_view, some_if, set_children}
 
@@ -18,19 +20,19 @@ IsOld Child z (Some node) = node.pzxid ≤ z
 abbrev pub IsSame : Side → ℕ → NodePath → Tree → Tree → Type 0
 IsSame side z path new old = (view side new path ≡ view side old path) × IsOld side z (old path)
 
-old_regrouped : (z0 z : ℕ) (o : Option Node) → IsOld Data z0 (on_node (regrouped z) o) → (contents_of (on_node (regrouped z) o) ≡ contents_of o) × IsOld Data z0 o
+old_regrouped : (z0 z : ℕ) (o : Option Node) → IsOld Data z0 (option_map (regrouped z) o) → (contents_of (option_map (regrouped z) o) ≡ contents_of o) × IsOld Data z0 o
 old_regrouped z0 z None h = absurd h
 old_regrouped z0 z (Some n) h = (refl, h)
 
-new_written : (z0 z : ℕ) (t : ℤ) (content : Option (List ℕ)) (o : Option Node) → z0 < z → IsOld Data z0 (on_node (written z t content) o) → ⊥
+new_written : (z0 z : ℕ) (t : ℤ) (content : Option (List ℕ)) (o : Option Node) → z0 < z → IsOld Data z0 (option_map (written z t content) o) → ⊥
 new_written z0 z t content None lt h = h
 new_written z0 z t content (Some n) lt h = omega arith
 
-new_regrouped : (z0 z : ℕ) (o : Option Node) → z0 < z → IsOld Child z0 (on_node (regrouped z) o) → ⊥
+new_regrouped : (z0 z : ℕ) (o : Option Node) → z0 < z → IsOld Child z0 (option_map (regrouped z) o) → ⊥
 new_regrouped z0 z None lt h = h
 new_regrouped z0 z (Some n) lt h = omega arith
 
-old_written : (z0 z : ℕ) (t : ℤ) (content : Option (List ℕ)) (o : Option Node) → IsOld Child z0 (on_node (written z t content) o) → IsOld Child z0 o
+old_written : (z0 z : ℕ) (t : ℤ) (content : Option (List ℕ)) (o : Option Node) → IsOld Child z0 (option_map (written z t content) o) → IsOld Child z0 o
 old_written z0 z t content None h = absurd h
 old_written z0 z t content (Some n) h = h
 
@@ -165,12 +167,12 @@ pub after-append : (xs ys : List Transaction) (tree : Tree) → after (xs ++ ys)
 after-append [] ys tree = refl
 after-append (x ∷ xs) ys tree = after-append xs ys (apply_all x.zxid x.time x.changes tree)
 
-take_next : (n : ℕ) (txs : List Transaction) (x : Transaction) → nth n txs ≡ Some x → take (suc n) txs ≡ take n txs ++ x ∷ []
+take_next : (n : ℕ) (txs : List Transaction) (x : Transaction) → slice_get txs n ≡ Some x → take (suc n) txs ≡ take n txs ++ x ∷ []
 take_next n [] x h = absurd cc
 take_next zero (y ∷ ys) x h = cc
 take_next (suc n) (y ∷ ys) x h = ap (λ (l : List Transaction). y ∷ l) (take_next n ys x h)
 
-pub nth_is : (n : ℕ) (txs : List Transaction) → n < length txs → (x : Transaction) × (nth n txs ≡ Some x)
+pub nth_is : (n : ℕ) (txs : List Transaction) → n < length txs → (x : Transaction) × (slice_get txs n ≡ Some x)
 nth_is n [] h = absurd (omega arith)
 nth_is zero (y ∷ ys) h = (y, refl)
 nth_is (suc n) (y ∷ ys) h = nth_is n ys (omega arith)
@@ -179,19 +181,19 @@ newest_last : (low : ℕ) (txs : List Transaction) (x : Transaction) → newest 
 newest_last low [] x = refl
 newest_last low (y ∷ ys) x = newest_last y.zxid ys x
 
-legal_next : (n : ℕ) (txs : List Transaction) (tree : Tree) (x : Transaction) → AllLegal txs tree → nth n txs ≡ Some x → AreLegal x.zxid x.time x.changes (after (take n txs) tree)
+legal_next : (n : ℕ) (txs : List Transaction) (tree : Tree) (x : Transaction) → AllLegal txs tree → slice_get txs n ≡ Some x → AreLegal x.zxid x.time x.changes (after (take n txs) tree)
 legal_next n [] tree x legal h = absurd cc
 legal_next zero (y ∷ ys) tree x legal h = let e : y ≡ x = cc in subst (λ (z : Transaction). AreLegal z.zxid z.time z.changes tree) e legal.0
 legal_next (suc n) (y ∷ ys) tree x legal h = legal_next n ys (apply_all y.zxid y.time y.changes tree) x legal.1 h
 
-newer_next : (low n : ℕ) (txs : List Transaction) (x : Transaction) → AreRising low txs → nth n txs ≡ Some x → newest low (take n txs) < x.zxid
+newer_next : (low n : ℕ) (txs : List Transaction) (x : Transaction) → AreRising low txs → slice_get txs n ≡ Some x → newest low (take n txs) < x.zxid
 newer_next low n [] x rising h = absurd cc
 newer_next low zero (y ∷ ys) x rising h = let e : y ≡ x = cc in subst (λ (z : Transaction). low < z.zxid) e rising.0
 newer_next low (suc n) (y ∷ ys) x rising h = newer_next y.zxid n ys x rising.2 h
 
 -- What the next transaction is.
 pub record IsNextAt (h : History) (n : ℕ) (x : Transaction) : Type 0 where
-  pub nth : nth n h.transactions ≡ Some x
+  pub nth : slice_get h.transactions n ≡ Some x
   pub tree : tree_held h (suc n) ≡ apply_all x.zxid x.time x.changes (tree_held h n)
   pub legal : AreLegal x.zxid x.time x.changes (tree_held h n)
   pub zxid : zxid_held h (suc n) ≡ x.zxid
@@ -231,11 +233,11 @@ abbrev pub IsBelow : ℕ → Option Node → Type 0
 IsBelow z None = ⊤
 IsBelow z (Some node) = node.mzxid ≤ z
 
-below_regrouped : (z x : ℕ) (o : Option Node) → IsBelow z o → IsBelow z (on_node (regrouped x) o)
+below_regrouped : (z x : ℕ) (o : Option Node) → IsBelow z o → IsBelow z (option_map (regrouped x) o)
 below_regrouped z x None h = tt
 below_regrouped z x (Some n) h = h
 
-below_written : (z x : ℕ) (t : ℤ) (content : Option (List ℕ)) (o : Option Node) → x ≤ z → IsBelow z (on_node (written x t content) o)
+below_written : (z x : ℕ) (t : ℤ) (content : Option (List ℕ)) (o : Option Node) → x ≤ z → IsBelow z (option_map (written x t content) o)
 below_written z x t content None le = tt
 below_written z x t content (Some n) le = le
 
@@ -243,19 +245,19 @@ below_one : (z : ℕ) (path : NodePath) (c : Change) (x : ℕ) (t : ℤ) (tree :
 below_one z path (Creates [] content owner) x t tree le h = h
 below_one z path (Creates (name ∷ above) content owner) x t tree le h = go (path_eq path (name ∷ above)) (path_eq path above)
   where
-    go : (b d : Bool) → IsBelow z (if b then Some (made x t content owner) else (if d then on_node (regrouped x) (tree path) else tree path))
+    go : (b d : Bool) → IsBelow z (if b then Some (made x t content owner) else (if d then option_map (regrouped x) (tree path) else tree path))
     go true d = le
     go false true = below_regrouped z x (tree path) h
     go false false = h
 below_one z path (Sets at content) x t tree le h = go (path_eq path at)
   where
-    go : (b : Bool) → IsBelow z (if b then on_node (written x t content) (tree path) else tree path)
+    go : (b : Bool) → IsBelow z (if b then option_map (written x t content) (tree path) else tree path)
     go true = below_written z x t content (tree path) le
     go false = h
 below_one z path (Deletes []) x t tree le h = h
 below_one z path (Deletes (name ∷ above)) x t tree le h = go (path_eq path (name ∷ above)) (path_eq path above)
   where
-    go : (b d : Bool) → IsBelow z (if b then None else (if d then on_node (regrouped x) (tree path) else tree path))
+    go : (b d : Bool) → IsBelow z (if b then None else (if d then option_map (regrouped x) (tree path) else tree path))
     go true d = tt
     go false true = below_regrouped z x (tree path) h
     go false false = h

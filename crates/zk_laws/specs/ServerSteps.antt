@@ -1,6 +1,6 @@
 -- The steps of a server on a connection: when it may take each, what it sends, and where it stands then.
-use Rattle.std.specs.Prelude.{ℕ, suc, ◌≡◌, ◌≢◌, ◌<◌, ◌≤◌, Bool, if◌then◌else◌, List, [], ◌∷◌, ◌++◌, map, length, Some, None}
-use Rattle.zk_history.specs.History.{Change, History, nth}
+use Rattle.std.specs.Prelude.{ℕ, suc, ◌≡◌, ◌≢◌, ◌<◌, ◌≤◌, Bool, if◌then◌else◌, List, [], ◌∷◌, ◌++◌, map, length, Some, None, slice_get}
+use Rattle.zk_history.specs.History.{Change, History}
 use Rattle.zk_watches.specs.Lists.{Lists}
 use Rattle.zk_conversation.specs.Pending.{closes}
 use Rattle.zk_conversation.specs.Questions.{question_of}
@@ -38,7 +38,7 @@ IsNext x (y ∷ ys) = x ≡ y
 
 -- the changes of the transaction after the first place ones
 abbrev pub changes_next : History → ℕ → List Change
-changes_next h place = elim (nth place h.transactions) [ None ↦ [] | Some one ↦ one.changes ]
+changes_next h place = elim (slice_get h.transactions place) [ None ↦ [] | Some one ↦ one.changes ]
 
 -- The steps that may be taken, with these requests to process (Guide, "ZooKeeper Sessions", "ZooKeeper Watches"; requests are
 -- processed in the order sent, and a server whose zxid is below that of the ConnectRequest gives no answer).
