@@ -9,12 +9,10 @@ use Rattle.zk_laws.specs.Server.{Notice}
 -- What a server sends: the two answers to a ConnectRequest, the reply to a question with its zxid, the reply to a
 -- setWatches request, a notice, the reply to a ping.
 pub data Message : Type 0 where
-  Accepted : Message
-  Expired : Message
+  Accepted Expired Pong : Message
   Replies : Question → ℕ → Result → Message
   Watches_set : (is_last : Bool) → ℕ → Message
   Notifies : Notice → Message
-  Pong : Message
 
 -- What a client sends: the ConnectRequest with the last seen zxid, a setWatches request with its relative zxid, a call, a ping.
 pub data Request : Type 0 where

@@ -11,9 +11,7 @@ use Rattle.zk_laws.specs.Messages.{Message, Request, Accepted, Expired, Replies,
 
 -- how far a server is on a connection: it has no request processed, or serves, or has given its last message
 pub data Stage : Type 0 where
-  Waiting : Stage
-  Serving : Stage
-  Ended : Stage
+  Waiting Serving Ended : Stage
 
 -- the server's end of a connection: how many transactions it holds, the watches that are set there, its stage
 pub record ServerEnd : Type 0 where
@@ -25,8 +23,7 @@ pub record ServerEnd : Type 0 where
 -- answers a question, sets watches again, or answers a ping.
 pub data ServerStep : Type 0 where
   Advances : List Notice → ServerStep
-  Admits : ℕ → ServerStep
-  Refuses : ℕ → ServerStep
+  Admits Refuses : ℕ → ServerStep
   Answers : Call → Result → ServerStep
   Restores : (is_last : Bool) → ℕ → Lists → List Notice → ServerStep
   Pongs : ServerStep

@@ -26,32 +26,25 @@ use Rattle.zk_session.specs.declared.states.State.TheVariants.{Idle, Connecting,
 -- a payload as it is read
 pub data Message : Type 0 where
   Accepted : Welcome → Message
-  Expiry : Message
+  Expiry Pong Skipped : Message
   -- the reply to a question, with its ticket and the reply's zxid
   Replies : (ticket : ℕ) → Question → ℤ → Result → Message
   -- the reply to a setWatches part
   Watches_set : (last : Bool) → ℤ → Message
   Notifies : Event → Text → Message
-  Pong : Message
-  Skipped : Message
 
 pub data Happening : Type 0 where
-  -- a connection begins
-  Began : Happening
-  -- its next byte
-  Came : ℕ → Happening
+  -- a connection began or was lost, a ping was sent, stale answers were forgotten, the client halted
+  Began Lost Pinged Forgot Halted : Happening
+  -- the connection's next byte; a moment
+  Came Ticked : ℕ → Happening
   -- the bytes since the last payload were a payload, which was taken
   Took : Message → Happening
-  -- the connection was given up, or lost
+  -- the connection was given up
   Dropped : Fault → Happening
-  Lost : Happening
   -- a call was sent, or refused
   Asked : (ticket : ℕ) → Call → Happening
   Denied : (ticket : ℕ) → Outcome → Happening
-  Pinged : Happening
-  Ticked : ℕ → Happening
-  Forgot : Happening
-  Halted : Happening
 
 abbrev pub Past : Type 0
 Past = List Happening
@@ -153,11 +146,8 @@ leaves_child _ _ = None
 pub data Word (A : Type 0) : Type 0 where
   -- a reply that leaves a watch says this
   Says : A → Word A
-  -- a notice ends what was known
-  Ends : Word A
-  -- nothing is kept any more
-  Empties : Word A
-  Nothing : Word A
+  -- a notice ends what was known; nothing is kept any more; it says nothing of that path and side
+  Ends Empties Nothing : Word A
 
 abbrev pub if_at : {A : Type 0} → Option (Left A) → Text → Word A
 if_at None path = Nothing

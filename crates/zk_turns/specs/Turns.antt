@@ -12,13 +12,7 @@ use Rattle.zk_conversation.specs.Calls as call
 -- What a call is answered: its reply, with the zxid of the reply, or why there is none.
 pub data Outcome : Type 0 where
   Replied : ℤ → Result → Outcome
-  ConnectionLoss : Outcome
-  SessionExpired : Outcome
-  SessionClosed : Outcome
-  NotConnected : Outcome
-  TooManyWatches : Outcome
-  TooLarge : Outcome
-  TooManyPending : Outcome
+  ConnectionLoss SessionExpired SessionClosed NotConnected TooManyWatches TooLarge TooManyPending : Outcome
 
 -- Why a client gives its connection up: a length that is not admitted, a payload that does not read, silence, a reply that is
 -- behind what was seen, or setWatches refused.
@@ -30,9 +24,8 @@ pub data Fault : Type 0 where
   WatchesRefused : (code : ℤ) → Fault
 
 pub data Input : Type 0 where
-  Opened : Input
+  Opened Cut : Input
   Bytes : List ℕ → Input
-  Cut : Input
   Now : ℕ → Input
   Call : (ticket : ℕ) → call.Call → Input
 
@@ -61,8 +54,7 @@ pub record Turn : Type 0 where
 -- What a client has gone through: turns, calls of forget_stale, and a halt.
 pub data Item : Type 0 where
   Turned : Turn → Item
-  Forgets : Item
-  Halts : Item
+  Forgets Halts : Item
 
 -- this holds of each call of the items
 abbrev pub AsksOf : (call.Call → Type 0) → Input → Type 0
@@ -90,13 +82,9 @@ new_start timeout = record { timeout = timeout; session = ℤ.pos 0; password = 
 
 -- What happens to a client, one thing at a time: bytes come one by one.
 pub data Signal : Type 0 where
-  Opens : Signal
-  Comes : ℕ → Signal
-  Cuts : Signal
-  Ticks : ℕ → Signal
+  Opens Cuts Forget Halt : Signal
+  Comes Ticks : ℕ → Signal
   Calls : (ticket : ℕ) → call.Call → Signal
-  Forget : Signal
-  Halt : Signal
 
 abbrev pub signals_of : Input → List Signal
 signals_of Opened = Opens ∷ []

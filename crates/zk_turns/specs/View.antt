@@ -46,12 +46,6 @@ module _ (start : Start) where
   -- what the definitions give
   abbrev pub view_at : Past → View
   view_at past = record {
-    standing = standing_at past;
-    saved = saved_at past;
-    moments = moments_at past;
-    pending = pending_of past;
-    held = held_of past;
-    xid = xid_of past;
-    lists = lists_of past;
-    cache = cache_at past;
+    standing = standing_at past; saved = saved_at past; moments = moments_at past; pending = pending_of past;
+    held = held_of past; xid = xid_of past; lists = lists_of past; cache = cache_at past;
   }
