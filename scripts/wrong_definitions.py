@@ -63,7 +63,7 @@ EDITS = [
      "map (part_frame view.saved.last) (parts view.lists)", "map (part_frame (pos 0)) (parts view.lists)"),
     # what is looked back for
     ("all parts count", TURNS, KEPT,
-     "zxids (Took (Watches_set true zxid) ∷ past) = zxid ∷ zxids past", "zxids (Took (Watches_set last zxid) ∷ past) = zxid ∷ zxids past"),
+     "last_of start (Took (Watches_set true zxid) ∷ past) =", "last_of start (Took (Watches_set last zxid) ∷ past) ="),
     ("data stay whatever fields come", TURNS, KEPT,
      "data_by (Says (Known others)) fields before = if same_fields others fields then before else None",
      "data_by (Says (Known others)) fields before = before"),

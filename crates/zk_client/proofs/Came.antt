@@ -119,9 +119,9 @@ while-connecting arrived kept talk lists payload sound at are le e =
 open-state : (state : State) → IsOpen state → (P : Type 0) → (state ≡ Connecting → P) → (state ≡ Is_connected → P) → P
 open-state Connecting up P a b = a refl
 open-state Is_connected up P a b = b refl
-open-state Idle up P a b = absurd up
-open-state Expired up P a b = absurd up
-open-state Is_closed up P a b = absurd up
+open-state Idle up P a b = absurd cc
+open-state Expired up P a b = absurd cc
+open-state Is_closed up P a b = absurd cc
 
 pub comes : (arrived : Arrived) (kept : Kept) (talk : Talk) (lists : Lists) (payload : List ℕ) → IsSound kept talk lists → IsOpen kept.state → IsBytes payload → length payload ≤ LONGEST_INCOMING
     → arriving talk.phase talk.pending payload ≡ Ok arrived → Comes arrived kept talk lists

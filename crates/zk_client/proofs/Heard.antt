@@ -179,9 +179,9 @@ hears-moments moments = let latest : max 0 moments.now ≡ moments.now = omega a
 hears-state : (state : State) (saved : Saved) (moments : Moments) → IsOpen state → session.next (session.Hears 0) (record { state = state; saved = saved; moments = moments }) ≡ record { state = state; saved = saved; moments = record { now = moments.now; heard = moments.now; sent = moments.sent } }
 hears-state Connecting saved moments up = ap (λ (m : Moments). let k : Kept = record { state = Connecting; saved = saved; moments = m } in k) (hears-moments moments)
 hears-state Connected saved moments up = ap (λ (m : Moments). let k : Kept = record { state = Connected; saved = saved; moments = m } in k) (hears-moments moments)
-hears-state Idle saved moments up = absurd up
-hears-state Expired saved moments up = absurd up
-hears-state Closed saved moments up = absurd up
+hears-state Idle saved moments up = absurd cc
+hears-state Expired saved moments up = absurd cc
+hears-state Closed saved moments up = absurd cc
 
 pub hears-session : (kept new : Kept) → IsOpen kept.state → new ≡ session.next (session.Hears 0) kept → new ≡ record { state = kept.state; saved = kept.saved; moments = record { now = kept.moments.now; heard = kept.moments.now; sent = kept.moments.sent } }
 hears-session kept new up e = e ∙ hears-state kept.state kept.saved kept.moments up

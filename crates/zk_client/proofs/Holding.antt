@@ -17,7 +17,7 @@ use Rattle.zk_turns.proofs.Over.{nothing_kept, last_rises}
 use Rattle.zk_turns.proofs.Reporting.{reports_are}
 use Rattle.zk_turns.proofs.Stepped.{halt_stands}
 use Rattle.zk_laws.proofs.Headlines.{headline_here, quiet_client}
-use Rattle.zk_client.specs.Outsides.{Told, HandsOut, IsGiven, TellsAll, TellsAllButOne, NoneIsLeft, inputs_then}
+use Rattle.zk_client.specs.Outsides.{Told, HandsOut, IsGiven, TellsAll, NoneIsLeft, inputs_then}
 use Rattle.zk_client.specs.Runs.{Holds, IsExact, RanWhole, RanUntilHalt}
 
 -- ---- one view
@@ -70,9 +70,9 @@ rising_here start turns marks items before after s t =
 pub record HasCome (before now : View) (told told_now : Option Told) : Type 0 where
   pub turns : List Turn
   pub stands : (start : Start) (items : List Item) → Stands start items before → Stands start (map Turned turns ++ items) now
-  pub tells : TellsAll told turns told_now
+  pub tells : TellsAll told turns [] told_now
 
-tells_none : (told : Option Told) → TellsAll told [] told
+tells_none : (told : Option Told) → TellsAll told [] [] told
 tells_none None = refl
 tells_none (Some old) = (refl, refl)
 
@@ -80,8 +80,8 @@ pub at_first : (before : View) (told : Option Told) → HasCome before before to
 at_first before told = record { turns = []; stands = λ start items s. s; tells = tells_none told }
 
 -- one more turn is told
-tells_more : (told now mid new : Option Told) (turns : List Turn) (input : Input) (outputs : List Output) → TellsAll told turns now → HandsOut now (Some input) mid → IsGiven mid outputs new
-    → TellsAll told (record { input = input; outputs = outputs } ∷ turns) new
+tells_more : (told now mid new : Option Told) (turns : List Turn) (input : Input) (outputs : List Output) → TellsAll told turns [] now → HandsOut now (Some input) mid → IsGiven mid outputs new
+    → TellsAll told (record { input = input; outputs = outputs } ∷ turns) [] new
 tells_more None None None None turns input outputs t hands given = refl
 tells_more None None None (Some new) turns input outputs t hands given = given
 tells_more None None (Some mid) new turns input outputs t hands given = absurd cc
@@ -108,7 +108,7 @@ further before now after told told_now mid new input outputs come hands step giv
 }
 
 -- no input is left
-tells_same : (told now new : Option Told) (turns : List Turn) → TellsAll told turns now → HandsOut now None new → TellsAll told turns new × NoneIsLeft new
+tells_same : (told now new : Option Told) (turns : List Turn) → TellsAll told turns [] now → HandsOut now None new → TellsAll told turns [] new × NoneIsLeft new
 tells_same None None None turns t hands = (refl, tt)
 tells_same None None (Some new) turns t hands = absurd cc
 tells_same None (Some now) new turns t hands = absurd cc
@@ -116,7 +116,7 @@ tells_same (Some old) None new turns t hands = absurd t
 tells_same (Some old) (Some now) None turns t hands = let n = hands.1 in absurd cc
 tells_same (Some old) (Some now) (Some new) turns t hands =
     let n : new ≡ now = cc in
-    (subst (λ d. TellsAll (Some old) turns (Some d)) (sym n) t, ap (λ (d : Told). d.coming) n ∙ hands.0)
+    (subst (λ d. TellsAll (Some old) turns [] (Some d)) (sym n) t, ap (λ (d : Told). d.coming) n ∙ hands.0)
 
 pub ended : (before now : View) (told told_now new : Option Told) → HasCome before now told told_now → HandsOut told_now None new → RanWhole before told now new
 ended before now told told_now new come hands =
@@ -132,14 +132,14 @@ ended before now told told_now new come hands =
     }
 
 -- the last input is no turn
-tells_last : (told now new : Option Told) (turns : List Turn) (input : Input) → TellsAll told turns now → HandsOut now (Some input) new → TellsAllButOne told turns new
+tells_last : (told now new : Option Told) (turns : List Turn) (input : Input) → TellsAll told turns [] now → HandsOut now (Some input) new → TellsAll told turns (input ∷ []) new
 tells_last None None new turns input t hands = hands
 tells_last None (Some now) new turns input t hands = absurd cc
 tells_last (Some old) None new turns input t hands = absurd t
 tells_last (Some old) (Some now) None turns input t hands = let n = hands.2 in absurd cc
 tells_last (Some old) (Some now) (Some new) turns input t hands =
     let n : new ≡ record { coming = hands.0; asked = Some input; turns = now.turns } = cc in
-    (input, t.0 ∙ ap (λ l. inputs_then turns l) hands.1 ∙ ap (λ (d : Told). inputs_then turns (input ∷ d.coming)) (sym n), ap (λ (d : Told). d.turns) n ∙ t.1)
+    (t.0 ∙ ap (λ l. inputs_then turns l) hands.1 ∙ ap (λ (d : Told). inputs_then turns (input ∷ d.coming)) (sym n), ap (λ (d : Told). d.turns) n ∙ t.1)
 
 pub halted : (before now after : View) (told told_now new : Option Told) (input : Input) → HasCome before now told told_now → HandsOut told_now (Some input) new → HaltsAs now after → RanUntilHalt before told after new
 halted before now after told told_now new input come hands h = record {
@@ -148,7 +148,7 @@ halted before now after told told_now new input come hands h = record {
     holds = λ start items s. holds_here start (Halts ∷ (map Turned come.turns ++ items)) after (stands start items s);
     rising = λ start items s. rising_here start (map Turned come.turns) (Halts ∷ []) items before after s (stands start items s);
   };
-  tells = tells_last told told_now new come.turns input come.tells hands;
+  tells = (input, tells_last told told_now new come.turns input come.tells hands);
 } where
   stands : (start : Start) (items : List Item) → Stands start items before → Stands start (Halts ∷ (map Turned come.turns ++ items)) after
   stands start items s = halt_stands start (map Turned come.turns ++ items) now after (come.stands start items s) h

@@ -40,16 +40,16 @@ two-says view before mid after h k e f =
 pub open-causes : (state : State) (hs : List Happening) → IsOpen state → if_open state hs ≡ hs
 open-causes Connecting hs up = refl
 open-causes Connected hs up = refl
-open-causes Idle hs up = absurd up
-open-causes Expired hs up = absurd up
-open-causes Closed hs up = absurd up
+open-causes Idle hs up = absurd cc
+open-causes Expired hs up = absurd cc
+open-causes Closed hs up = absurd cc
 
 pub open-begins : (state : State) → IsOpen state → opens state ≡ opens Connected
 open-begins Connecting up = refl
 open-begins Connected up = refl
-open-begins Idle up = absurd up
-open-begins Expired up = absurd up
-open-begins Closed up = absurd up
+open-begins Idle up = absurd cc
+open-begins Expired up = absurd cc
+open-begins Closed up = absurd cc
 
 -- ---- what is due
 
@@ -90,4 +90,4 @@ ticked-view held halted kept new talk lists answers moment e = ap (λ (k : Kept)
 -- ---- where a connection is open
 
 pub either-open : (state result : State) → (result ≡ Connecting) ⊎ (result ≡ Connected) → result ≡ state → IsOpen state
-either-open state result which e = elim which [ inl h ↦ subst IsOpen (sym h ∙ e) tt | inr h ↦ subst IsOpen (sym h ∙ e) tt ]
+either-open state result which e = elim which [ inl h ↦ subst IsOpen (sym h ∙ e) refl | inr h ↦ subst IsOpen (sym h ∙ e) refl ]

@@ -31,22 +31,16 @@ abbrev pub inputs_then : List Turn → List Input → List Input
 inputs_then [] rest = rest
 inputs_then (turn ∷ turns) rest = inputs_then turns (turn.input ∷ rest)
 
--- Each input that was handed out is one of these turns, and they are told.
-abbrev pub TellsAll : Option Told → List Turn → Option Told → Type 0
-TellsAll None turns new = new ≡ None
-TellsAll (Some old) turns None = ⊥
-TellsAll (Some old) turns (Some new) = (old.coming ≡ inputs_then turns new.coming) × (new.turns ≡ turns ++ old.turns)
+-- The inputs that were handed out are those of these turns, which are told, and then these, which are no turns.
+abbrev pub TellsAll : Option Told → List Turn → List Input → Option Told → Type 0
+TellsAll None turns others new = new ≡ None
+TellsAll (Some old) turns others None = ⊥
+TellsAll (Some old) turns others (Some new) = (old.coming ≡ inputs_then turns (others ++ new.coming)) × (new.turns ≡ turns ++ old.turns)
 
--- And none is left.
+-- none is left
 abbrev pub NoneIsLeft : Option Told → Type 0
 NoneIsLeft None = ⊤
 NoneIsLeft (Some told) = told.coming ≡ []
-
--- Each input that was handed out is one of these turns, which are told, but the last, which is no turn.
-abbrev pub TellsAllButOne : Option Told → List Turn → Option Told → Type 0
-TellsAllButOne None turns new = new ≡ None
-TellsAllButOne (Some old) turns None = ⊥
-TellsAllButOne (Some old) turns (Some new) = (input : Input) × (old.coming ≡ inputs_then turns (input ∷ new.coming)) × (new.turns ≡ turns ++ old.turns)
 
 -- one more turn is to be told
 abbrev pub asked_count : {X : Type 0} → Option X → ℕ

@@ -3,7 +3,7 @@ use Rattle.std.specs.Prelude.{◌≡◌, ◌≤ℤ◌, ◌↔◌, List, [], ◌�
 use Rattle.zk_history.specs.History.{Text, History, IsHistory}
 use Rattle.zk_history.specs.declared.side.Side.TheVariants.{Data, Child}
 use Rattle.zk_cache.specs.Kept.{is_marked_good}
-use Rattle.zk_turns.specs.Turns.{Start, Item, Turned, Halts, Turn}
+use Rattle.zk_turns.specs.Turns.{Start, Input, Item, Turned, Halts, Turn}
 use Rattle.zk_turns.specs.View.{View}
 use Rattle.zk_turns.specs.Kept.{is_over}
 use Rattle.zk_turns.specs.Taken.{past_of}
@@ -13,7 +13,7 @@ use Rattle.zk_turns.specs.Reported.{reports_in, reports_of}
 use Rattle.zk_turns.specs.Meaning.{IsGoodSince, IsLastSeen}
 use Rattle.zk_laws.specs.Served.{Served, Entry, items_in, IsServing}
 use Rattle.zk_laws.specs.Headline.{Headline, IsQuietAt, IsTrueOf, tree_of}
-use Rattle.zk_client.specs.Outsides.{Told, TellsAll, TellsAllButOne, NoneIsLeft}
+use Rattle.zk_client.specs.Outsides.{Told, TellsAll, NoneIsLeft}
 
 -- Whatever transactions a history holds, and however turns and moves of servers that hold its beginnings fall: the good answers are
 -- the history's at the last seen zxid, what was answered is true, and no connection was given up but for silence or a message that is
@@ -44,15 +44,15 @@ pub record LeadsTo (before : View) (turns : List Turn) (marks : List Item) (afte
   pub holds : (start : Start) (items : List Item) → Stands start items before → Holds start (marks ++ (map Turned turns ++ items)) after
   pub rising : (start : Start) (items : List Item) → Stands start items before → before.saved.last ≤ℤ after.saved.last
 
--- A run that went to the end of its inputs.
+-- A run that went to the end of its inputs: each is one of these turns.
 pub record RanWhole (before : View) (told : Option Told) (after : View) (told_after : Option Told) : Type 0 where
   pub turns : List Turn
   pub leads : LeadsTo before turns [] after
-  pub tells : TellsAll told turns told_after
+  pub tells : TellsAll told turns [] told_after
   pub ended : NoneIsLeft told_after
 
--- A run that halted.
+-- A run that halted: each input that was handed out is one of these turns, but the last, which is no turn.
 pub record RanUntilHalt (before : View) (told : Option Told) (after : View) (told_after : Option Told) : Type 0 where
   pub turns : List Turn
   pub leads : LeadsTo before turns (Halts ∷ []) after
-  pub tells : TellsAllButOne told turns told_after
+  pub tells : (input : Input) × TellsAll told turns (input ∷ []) told_after

@@ -2,7 +2,7 @@
 use Rattle.zk_laws.proofs.Outputs.{among_split, given_answers, given_drops}
 use Rattle.zk_turns.specs.Rule.{AllAsked, Stands, IsOpen}
 use Rattle.zk_laws.specs.Laws.{IsTrueWrite, AreRestored}
-use Rattle.zk_laws.specs.Headline.{AnswersFirst, WritesAreTrue, NoneIsNegative, Headline, IsTrueOf, IsCoherentWith, ReadsAreTrue, RepliesAreAbove, DropsAreDue, IsQuietAt, tree_of}
+use Rattle.zk_laws.specs.Headline.{Headline, IsTrueOf, IsCoherentWith, IsQuietAt, tree_of}
 use Rattle.zk_conversation.specs.Questions.{question_of, Question}
 use Rattle.zk_conversation.specs.Calls.{Call, call_payload, ping_payload}
 use Rattle.zk_history.specs.History.{Text, path_of, Tree, History, IsHistory, tree_at, View as SeenView, view as to_see}
@@ -13,7 +13,7 @@ use Rattle.zk_cache.specs.Kept.{Answer as Kept_answer, Absent as Kept_absent, Kn
 use Rattle.zk_cache.specs.declared.held.Mark.TheVariants.{Good}
 use Rattle.zk_watches.specs.Lists.{Lists}
 use Rattle.zk_turns.specs.Turns.{Framed, Start, Item, Silent, Fault}
-use Rattle.std.proofs.Common.{drop, suc, zero, ◌<◌, pos, ◌≡◌, ℕ, ℤ, Bool, true, false, cond, List, [], ◌∷◌, ◌++◌, map, length, refl, sym, ap, subst, ◌∙◌, arith, inl, inr, ◌⊎◌, Some}
+use Rattle.std.proofs.Common.{◌≤◌, drop, suc, zero, ◌<◌, pos, ◌≡◌, ℕ, ℤ, Bool, true, false, cond, List, [], ◌∷◌, ◌++◌, map, length, refl, sym, ap, subst, ◌∙◌, arith, inl, inr, ◌⊎◌, Some}
 use Rattle.std.proofs.lemmas.List.{length-append, map-append}
 use Rattle.zk_conversation.specs.Results.{Result}
 use Rattle.zk_frames.specs.declared.fault.FrameFault.TheVariants.{TooLong}
@@ -36,7 +36,7 @@ use Rattle.zk_laws.proofs.Basics.{Among-left, Among-right}
 use Rattle.zk_laws.proofs.Whole.{kept_coherent}
 use Rattle.zk_laws.proofs.More.{reads_true, agrees}
 use Rattle.zk_laws.proofs.Seeing.{last_is, good_node, good_names}
-use Rattle.zk_laws.specs.Flight.{Reached, Letter, frames, messages, connection, Going, Matches}
+use Rattle.zk_laws.specs.Flight.{IsDue, DropsAreDue, NoneIsNegative, WritesAreTrue, AnswersFirst, Reached, Letter, frames, messages, connection, Going, Matches}
 use Rattle.zk_laws.proofs.Reaching.{reached_kept}
 use Rattle.zk_laws.proofs.Resumed.{replies_above}
 use Rattle.zk_laws.proofs.Moving.{schedule_here}
@@ -166,6 +166,19 @@ write_at h [] w ticket q z r a = absurd a
 write_at h (x ∷ past) w ticket q z r (inl e) = call_more h x past ticket q z r (write_head h x past ticket q z r e w)
 write_at h (x ∷ past) w ticket q z r (inr a) = call_more h x past ticket q z r (write_at h past (writes_rest h x past w) ticket q z r a)
 
+-- the call that waited first
+abbrev CallFirst : History → Past → ℕ → Question → ℤ → Result → Type 0
+CallFirst h before ticket q z r = (xid : ℕ) × (call : Call) × (more : List Asking) × (awaited before ≡ For_call xid ticket call ∷ more) × (question_of call ≡ q) × IsTrueWrite h call (from_zero z) r
+
+call_first : (h : History) (before : Past) (ticket : ℕ) (q : Question) (z : ℤ) (r : Result) (asked : List Asking) → awaited before ≡ asked → AnswersFirst h ticket q (from_zero z) r asked → CallFirst h before ticket q z r
+call_first h before ticket q z r [] e a = absurd a
+call_first h before ticket q z r (For_part b ∷ more) e a = absurd a
+call_first h before ticket q z r (For_call xid other call ∷ more) e a = (xid, call, more, subst (λ t. awaited before ≡ For_call xid t call ∷ more) a.0 e, a.1, a.2)
+
+write_before : (h : History) (since : List Happening) (ticket : ℕ) (q : Question) (z : ℤ) (r : Result) (before : Past) → WritesAreTrue h (since ++ Takes_in (Answers_call ticket q z r) ∷ before) → CallFirst h before ticket q z r
+write_before h [] ticket q z r before w = call_first h before ticket q z r (awaited before) refl w.0
+write_before h (x ∷ since) ticket q z r before w = write_before h since ticket q z r before (writes_rest h x (since ++ Takes_in (Answers_call ticket q z r) ∷ before) w)
+
 -- ---- the laws
 
 nothing_in_flight : (letters : List Letter) → frames letters ≡ [] → letters ≡ []
@@ -199,7 +212,8 @@ module _ (h : History) (is : IsHistory h) (start : Start) where
   reached_reads : (w : World) → Reached h (from_zero start.last) w → (q : Question) (z : ℕ) (r : Result) → Among (Took (Replies q z r)) w.log → Reads (tree_at h z) q r
   reached_reads w r q z res a = reads_true h is (from_zero start.last) r.moves r.may q z res (subst (λ v. Among (Took (Replies q z res)) v.log) (sym r.is) a)
 
-  pub true_reads : (items : List Item) → AllAsked items → Served h start items → ReadsAreTrue h (past_of start items)
+  pub true_reads : (items : List Item) → AllAsked items → Served h start items
+      → (ticket : ℕ) (q : Question) (z : ℤ) (r : Result) → Among (Takes_in (Answers_call ticket q z r)) (past_of start items) → Reads (tree_at h (from_zero z)) q r
   true_reads items asked served ticket q z r a =
       let sim = served_sim items asked served in
       reached_reads (record { log = seen start (past_of start items); link = sim.link }) sim.reached q (from_zero z) r (among_item ticket q z r start (past_of start items) a)
@@ -207,10 +221,15 @@ module _ (h : History) (is : IsHistory h) (start : Start) where
   pub true_writes : (items : List Item) → AllAsked items → Served h start items → WritesAreTrue h (past_of start items)
   true_writes items asked served = (served_sim items asked served).calm.2
 
+  pub first_writes : (items : List Item) → AllAsked items → Served h start items
+      → (since : List Happening) (ticket : ℕ) (q : Question) (z : ℤ) (r : Result) (before : Past) → past_of start items ≡ since ++ Takes_in (Answers_call ticket q z r) ∷ before → CallFirst h before ticket q z r
+  first_writes items asked served since ticket q z r before e = write_before h since ticket q z r before (subst (λ p. WritesAreTrue h p) e (true_writes items asked served))
+
   pub due_drops : (items : List Item) → AllAsked items → (served : Served h start items) → DropsAreDue (WasSent served.entries) (past_of start items)
   due_drops items asked served = (served_sim items asked served).calm.0
 
-  pub above_saved : (items : List Item) → AllAsked items → Served h start items → RepliesAreAbove start (past_of start items)
+  pub above_saved : (items : List Item) → AllAsked items → Served h start items
+      → (ticket : ℕ) (q : Question) (z : ℤ) (r : Result) → Among (Takes_in (Answers_call ticket q z r)) (past_of start items) → from_zero start.last ≤ from_zero z
   above_saved items asked served ticket q z r a =
       let sim = served_sim items asked served in
       replies_above (from_zero start.last) h is (record { log = seen start (past_of start items); link = sim.link }) sim.reached q (from_zero z) r (among_item ticket q z r start (past_of start items) a)
@@ -262,6 +281,13 @@ module _ (h : History) (is : IsHistory h) (start : Start) where
   signed_all [] c t q z r a = absurd a
   signed_all (x ∷ past) c t q z r (inl e) = (subst (λ y. NoneIsNegative (y ∷ past)) (sym e) c).0
   signed_all (x ∷ past) c t q z r (inr a) = signed_all past (signed_rest x past c) t q z r a
+
+  due_before : (Was : List ℕ → Type 0) (since : List Happening) (fault : Fault) (before : Past) → DropsAreDue Was (since ++ Dropped fault ∷ before) → IsDue Was fault before
+  due_before Was [] fault before c = c.0
+  due_before Was (x ∷ since) fault before c = due_before Was since fault before (due_rest Was x (since ++ Dropped fault ∷ before) c)
+
+  pub drops_before : (items : List Item) → AllAsked items → (served : Served h start items) → (since : List Happening) (fault : Fault) (before : Past) → past_of start items ≡ since ++ Dropped fault ∷ before → IsDue (WasSent served.entries) fault before
+  drops_before items asked served since fault before e = due_before (WasSent served.entries) since fault before (subst (λ p. DropsAreDue (WasSent served.entries) p) e (due_drops items asked served))
 
   -- The headline.
   pub headline_here : (items : List Item) (view : View) → Stands start items view → (served : Served h start items) → Headline h start items view served.entries

@@ -2,11 +2,11 @@
 use Rattle.zk_turns.specs.Turns.{Framed, IsAsked, Start, Outcome, Silent, Input, Bytes, Cut, Now, Call, Turned, Turn, Comes, signals_of, signals, Opened as Opening, IsAskable}
 use Rattle.zk_frames.specs.declared.fault.FrameFault.{FrameFault}
 use Rattle.zk_conversation.specs.Calls.{Call as Asked_call, part_xid}
-use Rattle.zk_turns.specs.Kept.{Asking, For_call, For_part, parts_asked, awaited, pending_for, Happening, Past, Came, Dropped, Pinged, Ticked, is_talking, state_of, has_halted, held_of, pending_of, lists_of, last_of, Took as Takes_in, Lost as Loses_it, Accepted as Accepts, Expiry}
+use Rattle.zk_turns.specs.Kept.{is_open, Asking, For_call, For_part, parts_asked, awaited, pending_for, Happening, Past, Came, Dropped, Pinged, Ticked, is_talking, state_of, has_halted, held_of, pending_of, lists_of, last_of, Took as Takes_in, Lost as Loses_it, Accepted as Accepts, Expiry}
 use Rattle.zk_watches.specs.Lists.{Lists}
 use Rattle.zk_watches.specs.Parts.{parts}
 use Rattle.std.proofs.Common.{◌≡◌, ℕ, zero, suc, ◌≤◌, ℤ, pos, Bool, true, false, cond, ◌&&◌, List, [], ◌∷◌, ◌++◌, map, drop, length, refl, sym, ap, subst, ◌∙◌, arith, inl, inr, Option, Some, None}
-use Rattle.std.specs.Prelude.{nat_lt, nat_le, is_some, if◌then◌else◌, not, ◌*◌, ◌-◌, max}
+use Rattle.std.specs.Prelude.{⊤, nat_lt, nat_le, is_some, if◌then◌else◌, not, ◌*◌, ◌-◌, max}
 use Rattle.std.proofs.lemmas.List.{length-append, map-append}
 use Rattle.zk_session.specs.declared.states.State.{State}
 use Rattle.zk_session.specs.declared.states.State.TheVariants.{Idle, Connecting, Connected, Expired, Closed}
@@ -25,7 +25,7 @@ use Rattle.zk_laws.specs.Steps.{Connection, Link, Up, Down, World, Joins, Takes,
 use Rattle.zk_laws.specs.ServerSteps.{Stage, Waiting, Serving, Ended}
 use Rattle.zk_laws.specs.Run.{Goes}
 use Rattle.zk_laws.specs.Seen.{seen}
-use Rattle.zk_laws.specs.Served.{Sent, requests, part_requests, unread, Line, new_line, no_line, is_open, is_going, IsPayload, MayTurn, line_after, line_past}
+use Rattle.zk_laws.specs.Served.{MayEnter, Goes_on, Sent, requests, part_requests, unread, Line, new_line, no_line, is_going, IsPayload, line_past}
 use Rattle.zk_laws.proofs.More.{none_behind}
 use Rattle.zk_laws.proofs.Seeing.{last_is}
 use Rattle.zk_laws.proofs.Ordering.{are_parts}
@@ -44,11 +44,7 @@ not_true true e = absurd cc
 not_true false e = refl
 
 open_is : (s : State) → is_open s ≡ true → IsOpen s
-open_is Connecting e = tt
-open_is Connected e = tt
-open_is Idle e = absurd cc
-open_is Expired e = absurd cc
-open_is Closed e = absurd cc
+open_is s e = e
 
 drop_less : (n : ℕ) (xs : List ℕ) → drop n (drop 1 xs) ≡ drop (suc n) xs
 drop_less zero [] = refl
@@ -283,10 +279,10 @@ module _ (h : History) (is : IsHistory h) (start : Start) (Was : List ℕ → Ty
   due_here view now past line s Closed v f e = s
   due_here view now past line s Connecting v f e =
       cond_here (nat_le (2 * timeout_of view) (3 * (now - view.moments.heard))) (Dropped Silent ∷ []) _ past line (dropped h start Was Silent past line (inl refl) s)
-      (subst (λ t. Matches h start Was (joined past (elim t [ Connected ↦ if nat_le (timeout_of view) (3 * (now - view.moments.sent)) then Pinged ∷ [] else [] | _ ↦ [] ])) line) (sym v) s)
+      (subst (λ t. Matches h start Was (joined past (if is_talking t && nat_le (timeout_of view) (3 * (now - view.moments.sent)) then Pinged ∷ [] else [])) line) (sym v) s)
   due_here view now past line s Connected v f e =
       cond_here (nat_le (2 * timeout_of view) (3 * (now - view.moments.heard))) (Dropped Silent ∷ []) _ past line (dropped h start Was Silent past line (inl refl) s)
-      (subst (λ t. Matches h start Was (joined past (elim t [ Connected ↦ if nat_le (timeout_of view) (3 * (now - view.moments.sent)) then Pinged ∷ [] else [] | _ ↦ [] ])) line) (sym v)
+      (subst (λ t. Matches h start Was (joined past (if is_talking t && nat_le (timeout_of view) (3 * (now - view.moments.sent)) then Pinged ∷ [] else [])) line) (sym v)
       (cond_here (nat_le (timeout_of view) (3 * (now - view.moments.sent))) (Pinged ∷ []) [] past line (pinged h start Was past line (going_by false Connected past e f) (ap is_talking f) s) s))
 
   ticks_here : (moment : ℕ) (past : Past) (line : Line) → Matches h start Was past line → (b : Bool) → has_halted past ≡ b
@@ -313,7 +309,15 @@ module _ (h : History) (is : IsHistory h) (start : Start) (Was : List ℕ → Ty
   called_here ticket question past line may s true e = s
   called_here ticket question past line may s false e = calls_here ticket question past line may s e (refusal (view_at start past) question) refl
 
-  turn_here : (place : ℕ) (input : Input) (past : Past) (line : Line) → IsAsked input → MayTurn h place input past line → Matches h start Was past line → Matches h start Was (past_after start past (signals_of input)) (line_after place input line)
+  -- what a turn asks of the servers, and the server after it
+  abbrev MayTurn : ℕ → Input → Past → Line → Type 0
+  MayTurn place input past line =
+      elim input [ Opening ↦ place ≤ length h.transactions | Bytes bytes ↦ is_going past ≡ true → (rest : List ℕ) × (line.coming ≡ bytes ++ rest) | _ ↦ ⊤ ]
+
+  abbrev line_after : ℕ → Input → Line → Line
+  line_after place input line = elim input [ Opening ↦ new_line place | Bytes bytes ↦ record line { coming = drop (length bytes) line.coming } | _ ↦ line ]
+
+  turn_here : (place : ℕ) (input : Input) (past : Past) (line : Line) → IsAsked input → MayTurn place input past line → Matches h start Was past line → Matches h start Was (past_after start past (signals_of input)) (line_after place input line)
   turn_here place Opening past line ask may s = opens_here place past line may s (has_halted past) (state_of past) refl refl
   turn_here place (Bytes bytes) past line ask may s = bytes_come bytes past line may s
   turn_here place Cut past line ask may s = cuts_here past line s (has_halted past) (state_of past)
@@ -325,5 +329,5 @@ module _ (h : History) (is : IsHistory h) (start : Start) (Was : List ℕ → Ty
   first_here = record { link = Down; reached = reach_start h (from_zero start.last); going = λ e. absurd cc; calm = (tt, tt, tt); counted = omega arith }
 
   -- A turn.
-  pub turned_here : (place : ℕ) (turn : Turn) (past : Past) (line : Line) → IsAsked turn.input → MayTurn h place turn.input past line → Matches h start Was past line → Matches h start Was (past_after start past (signals (Turned turn))) (line_past place (Turned turn) line)
+  pub turned_here : (place : ℕ) (turn : Turn) (past : Past) (line : Line) → IsAsked turn.input → MayEnter h start (Goes_on place (Turned turn)) past line → Matches h start Was past line → Matches h start Was (past_after start past (signals (Turned turn))) (line_past place (Turned turn) line)
   turned_here place turn past line ask may s = turn_here place turn.input past line ask may s

@@ -116,7 +116,7 @@ stands_then = record {
   saved = refl;
   lists = refl;
   cache = refl;
-  going = λ on. record { moments = refl; pending = refl; held = refl; xid = refl };
+  going = λ on. refl;
   said = (refl, (refl, (refl, (refl, (refl, (refl, (refl, tt)))))));
   asked = (tt, (tt, (tt, (tt, (refl, (tt, (tt, tt)))))));
 }

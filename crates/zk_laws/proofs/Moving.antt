@@ -21,8 +21,7 @@ use Rattle.zk_laws.specs.ServerSteps.{ServerStep, MayDo, messages_by, Waiting, A
 use Rattle.zk_laws.specs.Run.{Goes}
 use Rattle.zk_laws.specs.Seen.{seen}
 use Rattle.zk_laws.specs.Served.{WasSent, Sent, requests, unread, Line, ArePayloads, first_xid, line_on, Entry, Goes_on, Serves, items_in, line_of, MayEnter, IsServing}
-use Rattle.zk_laws.specs.Headline.{IsDue, DropsAreDue}
-use Rattle.zk_laws.specs.Flight.{HasCode, Reached, Letter, IsFor, AreLetters, frames, messages, answers, AreLater, WaitsFor, Owes, connection, Going, Matches}
+use Rattle.zk_laws.specs.Flight.{DropsAreDue, IsDue, HasCode, Reached, Letter, IsFor, AreLetters, frames, messages, answers, AreLater, WaitsFor, Owes, connection, Going, Matches}
 use Rattle.zk_laws.proofs.Reaching.{reach, reached_kept}
 use Rattle.zk_laws.proofs.Flight.{drop_one}
 use Rattle.zk_laws.proofs.Taking.{up_reached, forgot, halted}

@@ -2,7 +2,7 @@
 use Rattle.zk_conversation.specs.Calls.{Call}
 use Rattle.zk_history.specs.History.{Text}
 use Rattle.std.proofs.Common.{◌≡◌, ℕ, Option, Some, None, ap, ℤ, Bool, true, false, cond, List, [], ◌∷◌, ◌++◌, map, refl, sym, subst, inl, inr, ◌⊎◌}
-use Rattle.std.specs.Prelude.{if◌then◌else◌, nat_le, ◌*◌, ◌-◌}
+use Rattle.std.specs.Prelude.{◌&&◌, if◌then◌else◌, nat_le, ◌*◌, ◌-◌}
 use Rattle.std.specs.List.{flat_map}
 use Rattle.zk_session.specs.declared.states.State.{State}
 use Rattle.zk_conversation.specs.Results.{Result}
@@ -12,14 +12,15 @@ use Rattle.zk_history.specs.declared.side.Side.{Side}
 use Rattle.zk_history.specs.declared.side.Side.TheVariants.{Data, Child}
 use Rattle.zk_records.specs.declared.event.Event.{Event}
 use Rattle.zk_session.specs.declared.states.State.TheVariants.{Idle, Connecting, Connected, Expired, Closed}
-use Rattle.zk_turns.specs.Kept.{Past, Happening, Began, Came, Took, Dropped, Lost, Asked, Denied, Pinged, Ticked, Forgot, Halted, Message, Accepted, Expiry, Replies, Watches_set, Notifies, Pong, Skipped}
+use Rattle.zk_turns.specs.Kept.{is_talking, Past, Happening, Began, Came, Took, Dropped, Lost, Asked, Denied, Pinged, Ticked, Forgot, Halted, Message, Accepted, Expiry, Replies, Watches_set, Notifies, Pong, Skipped}
 use Rattle.zk_watches.specs.Lists.{Lists}
 use Rattle.zk_watches.specs.Parts.{parts}
 use Rattle.zk_conversation.specs.Pending.{Pending, Waiting, Part_waits, Call_waits}
 use Rattle.zk_turns.specs.View.{View, view_at}
 use Rattle.zk_turns.specs.Taken.{Cutting, Unfinished, Bad, Payload, cut, of_cutting, comes, opens, if_open, due, timeout_of, calls, refusal, refusal_in, caused, happenings, joined, past_after, past_of}
 use Rattle.zk_turns.specs.Rule.{says, loss, part_frame, report, closing, due_happenings, due_signals, AllSaid, Stands}
-use Rattle.zk_turns.specs.Sent.{onto, outputs_of}
+use Rattle.zk_turns.specs.Sent.{outputs_of}
+use Rattle.zk_turns.proofs.Sending.{onto, outputs_onto}
 use Rattle.zk_turns.proofs.Stream.{of_reading}
 use Rattle.zk_turns.specs.Meaning.{Among}
 use Rattle.zk_laws.proofs.Basics.{Among-left}
@@ -68,7 +69,7 @@ module _ (start : Start) (o : Output) (P : Happening → Type 0) (caused : (past
 
   pub in_items : (items : List Item) → AllSaid start items → Among o (outputs_of items) → Has (past_of start items)
   in_items [] said a = absurd a
-  in_items (Turned turn ∷ items) said a = elim (among_onto o turn.outputs (outputs_of items) a) [
+  in_items (Turned turn ∷ items) said a = elim (among_onto o turn.outputs (outputs_of items) (subst (λ l. Among o l) (outputs_onto turn items) a)) [
     | inl b ↦ in_signals (signals_of turn.input) (past_of start items) (subst (λ t. Among o t) said.0 b)
     | inr b ↦ has_signals (signals_of turn.input) (past_of start items) (in_items items said.1 b)
   ]
@@ -253,7 +254,7 @@ module _ (ticket : ℕ) (zxid : ℤ) (result : Result) where
   due_plain : (view : View) (now : ℕ) → Among the_denial (due view now) → ⊥
   due_plain view now a = cond_plain (nat_le (2 * timeout_of view) (3 * (now - view.moments.heard))) (Dropped Silent ∷ []) _ (one_plain (Dropped Silent) (λ e. cc)) (by view.standing.state) a
     where
-      by : (st : State) → Among the_denial (elim st [ Connected ↦ if nat_le (timeout_of view) (3 * (now - view.moments.sent)) then Pinged ∷ [] else [] | _ ↦ [] ]) → ⊥
+      by : (st : State) → Among the_denial (if is_talking st && nat_le (timeout_of view) (3 * (now - view.moments.sent)) then Pinged ∷ [] else []) → ⊥
       by Connected b = cond_plain (nat_le (timeout_of view) (3 * (now - view.moments.sent))) (Pinged ∷ []) [] (one_plain Pinged (λ e. cc)) (λ c. c) b
       by _ b = b
 

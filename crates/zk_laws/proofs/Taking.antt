@@ -1,8 +1,7 @@
 -- Each happening of a client that is served is a move of a run.
-use Rattle.zk_laws.specs.Headline.{AnswersFirst, IsDue}
 use Rattle.zk_laws.proofs.Flight.{awaited_less, awaited_more, owes_append, owes_one, unread_more}
 use Rattle.zk_conversation.specs.Calls.{Call, call_payload, ping_payload}
-use Rattle.zk_turns.specs.Kept.{Asking, For_call, For_part, awaited, pending_for, Past, Began, Came, Dropped, Asked, Denied, Pinged, Ticked, Forgot, is_talking, state_of, held_of, xid_of, answered, questions, Took as Takes_in, Lost as Loses_it, Halted as Halts_now, Replies as Answers_call, Watches_set as Sets_watches, Notifies as Tells, Pong as Echo}
+use Rattle.zk_turns.specs.Kept.{is_open, Asking, For_call, For_part, awaited, pending_for, Past, Began, Came, Dropped, Asked, Denied, Pinged, Ticked, Forgot, is_talking, state_of, held_of, xid_of, answered, questions, Took as Takes_in, Lost as Loses_it, Halted as Halts_now, Replies as Answers_call, Watches_set as Sets_watches, Notifies as Tells, Pong as Echo}
 use Rattle.std.proofs.Common.{◌≡◌, ℕ, ◌≤◌, ◌<◌, ℤ, pos, negsuc, Bool, true, false, cond, ◌&&◌, List, [], ◌∷◌, ◌++◌, map, drop, length, refl, sym, ap, subst, ◌∙◌, arith, append_assoc, inl}
 use Rattle.std.specs.Prelude.{if◌then◌else◌}
 use Rattle.std.proofs.lemmas.List.{length-append, append-nil, map-append}
@@ -17,9 +16,9 @@ use Rattle.zk_laws.specs.Log.{Lost, Took, last}
 use Rattle.zk_laws.specs.Steps.{Connection, Link, Up, Down, World, Asks, Pings, Takes, is_behind, ends}
 use Rattle.zk_laws.specs.Run.{Opens, Loses, Halts, Forgets_stale, Goes, opened}
 use Rattle.zk_laws.specs.Seen.{seen}
-use Rattle.zk_laws.specs.Served.{Sent, requests, unread, Line, new_line, is_open, is_going}
+use Rattle.zk_laws.specs.Served.{Sent, requests, unread, Line, new_line, is_going}
 use Rattle.zk_laws.proofs.Seeing.{last_is}
-use Rattle.zk_laws.specs.Flight.{IsCalm, Reached, Letter, frames, messages, answers, Owes, connection, Going, Matches}
+use Rattle.zk_laws.specs.Flight.{IsDue, AnswersFirst, IsCalm, Reached, Letter, frames, messages, answers, Owes, connection, Going, Matches}
 use Rattle.zk_laws.proofs.Reaching.{reach, reach_as}
 
 module _ (h : History) (start : Start) (Was : List ℕ → Type 0) where

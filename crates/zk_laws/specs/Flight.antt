@@ -1,15 +1,16 @@
 -- The invariant between a client that is served and a run: what is in flight, what is awaited, and that a run has come as far.
-use Rattle.zk_laws.specs.Headline.{WritesAreTrue, DropsAreDue, NoneIsNegative}
 use Rattle.zk_laws.specs.Laws.{IsTrueWrite}
 use Rattle.zk_conversation.specs.Calls.{Call, part_xid}
-use Rattle.zk_conversation.specs.Questions.{question_of}
-use Rattle.zk_turns.specs.Kept.{Asking, For_part, For_call, awaited, Past, is_talking, state_of, held_of, answered, questions}
-use Rattle.std.specs.Prelude.{◌≡◌, ℕ, ℤ, pos, ◌^◌, ◌≤◌, ◌<◌, true, List, [], ◌∷◌, ◌++◌, map, length}
+use Rattle.zk_conversation.specs.Questions.{Question, question_of}
+use Rattle.zk_turns.specs.Kept.{Asking, For_part, For_call, awaited, Past, Dropped, is_talking, state_of, held_of, answered, questions, Took as Takes_in, Replies as Answers_call}
+use Rattle.std.specs.Prelude.{◌⊎◌, ⊤, ◌≡◌, ℕ, ℤ, pos, ◌^◌, ◌≤◌, ◌<◌, true, List, [], ◌∷◌, ◌++◌, map, length}
 use Rattle.std.specs.List.{flat_map}
-use Rattle.zk_turns.specs.Turns.{Start}
+use Rattle.zk_turns.specs.Turns.{Silent, Framed, Fault, Start}
 use Rattle.zk_conversation.specs.Results.{Result, Refused}
-use Rattle.zk_frames.specs.Frame.{frame}
+use Rattle.zk_frames.specs.Frame.{length_field, frame}
 use Rattle.zk_history.specs.History.{History}
+use Rattle.zk_frames.specs.declared.reader.TheConstants.{LONGEST_INCOMING}
+use Rattle.zk_frames.specs.declared.fault.FrameFault.TheVariants.{TooLong}
 use Rattle.zk_laws.specs.Server.{IsOther}
 use Rattle.zk_laws.specs.Messages.{Message, Accepted, Expired, Replies, Watches_set, Request, Ask, Restore, from_zero}
 use Rattle.zk_laws.specs.Steps.{Connection, Link, Up, World}
@@ -105,6 +106,36 @@ pub record Going (h : History) (start : Start) (Was : List ℕ → Type 0) (past
   pub owes : Owes (unread start past line) owed
   pub pending : awaited past ≡ answers letters ++ owed
   pub later : is_talking (state_of past) ≡ true → AreLater (messages letters)
+
+-- The reply is to the call that waits first, which has its ticket; a write that was answered with 0 is a change of the transaction
+-- with the reply's zxid.
+abbrev pub AnswersFirst : History → (ticket : ℕ) → Question → ℕ → Result → List Asking → Type 0
+AnswersFirst h ticket question zxid result (For_call xid other call ∷ more) = (other ≡ ticket) × (question_of call ≡ question) × IsTrueWrite h call zxid result
+AnswersFirst h ticket question zxid result _ = ⊥
+
+-- So it is with each reply.
+abbrev pub WritesAreTrue : History → Past → Type 0
+WritesAreTrue h [] = ⊤
+WritesAreTrue h (Takes_in (Answers_call ticket question zxid result) ∷ past) = AnswersFirst h ticket question (from_zero zxid) result (awaited past) × WritesAreTrue h past
+WritesAreTrue h (_ ∷ past) = WritesAreTrue h past
+
+-- No reply was taken with a zxid below 0.
+abbrev pub NoneIsNegative : Past → Type 0
+NoneIsNegative [] = ⊤
+NoneIsNegative (Takes_in (Answers_call ticket question zxid result) ∷ past) = (zxid ≡ pos (from_zero zxid)) × NoneIsNegative past
+NoneIsNegative (_ ∷ past) = NoneIsNegative past
+
+-- Silence, or a message that is longer than is admitted: one of those that were sent has the length that stands next.
+abbrev pub IsDue : (List ℕ → Type 0) → Fault → Past → Type 0
+IsDue Was fault past =
+    (fault ≡ Silent)
+    ⊎ ((fault ≡ Framed TooLong) × ((payload : List ℕ) × Was payload × (LONGEST_INCOMING < length payload) × (length_field (held_of past) ≡ length payload)))
+
+-- A connection was given up for silence alone, or for a message longer than is admitted.
+abbrev pub DropsAreDue : (List ℕ → Type 0) → Past → Type 0
+DropsAreDue Was [] = ⊤
+DropsAreDue Was (Dropped fault ∷ past) = IsDue Was fault past × DropsAreDue Was past
+DropsAreDue Was (_ ∷ past) = DropsAreDue Was past
 
 -- what was dropped and taken so far is in order
 abbrev pub IsCalm : History → (List ℕ → Type 0) → Past → Type 0

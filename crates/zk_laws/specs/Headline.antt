@@ -1,13 +1,13 @@
 -- What holds of a client that is served by servers which hold beginnings of a history.
 use Rattle.zk_conversation.specs.Calls.{Call}
 use Rattle.zk_history.specs.History.{Text, path_of, Tree, History, tree_at, view as to_see}
-use Rattle.zk_conversation.specs.Questions.{question_of, Question}
-use Rattle.zk_turns.specs.Kept.{Asking, For_call, awaited, Asked, Past, Dropped, is_talking, state_of, held_of, Took as Takes_in, Replies as Answers_call}
+use Rattle.zk_conversation.specs.Questions.{question_of}
+use Rattle.zk_turns.specs.Kept.{Asked, is_talking, state_of, held_of, Took as Takes_in, Replies as Answers_call}
 use Rattle.zk_cache.specs.declared.held.Kept.{Kept}
 use Rattle.zk_cache.specs.Kept.{Answer, Names}
 use Rattle.zk_cache.specs.declared.held.Mark.TheVariants.{Good}
 use Rattle.zk_turns.specs.Turns.{Framed, Start, Fault, Silent, Item, Replied, Drop, Answer as Answers}
-use Rattle.std.specs.Prelude.{length, ℕ, ℤ, pos, ◌≡◌, ◌<◌, ◌≤◌, true, List, [], ◌∷◌, map, Some, ◌⊎◌, ⊤}
+use Rattle.std.specs.Prelude.{length, ℕ, ℤ, pos, ◌≡◌, ◌<◌, ◌≤◌, true, List, [], map, Some, ◌⊎◌}
 use Rattle.zk_conversation.specs.Results.{Result}
 use Rattle.zk_frames.specs.declared.fault.FrameFault.TheVariants.{TooLong}
 use Rattle.zk_history.specs.declared.side.Side.TheVariants.{Data, Child}
@@ -15,7 +15,6 @@ use Rattle.zk_turns.specs.Sent.{outputs_of}
 use Rattle.zk_turns.specs.View.{View, Cache}
 use Rattle.zk_turns.specs.Taken.{past_of}
 use Rattle.zk_frames.specs.declared.reader.TheConstants.{LONGEST_INCOMING}
-use Rattle.zk_frames.specs.Frame.{length_field}
 use Rattle.zk_turns.specs.Meaning.{Among}
 use Rattle.zk_laws.specs.Server.{Fits, FitsNames, Reads, tree_held}
 use Rattle.zk_laws.specs.Laws.{IsTrueWrite, AreRestored}
@@ -31,44 +30,6 @@ pub record IsTrueOf (tree : Tree) (cache : Cache) : Type 0 where
 -- Each answer marked good is the history's answer at the client's last seen zxid.
 abbrev pub IsCoherentWith : History → View → Type 0
 IsCoherentWith h view = IsTrueOf (tree_at h (from_zero view.saved.last)) view.cache
-
--- Each read that was answered with 0 or -101 tells what there was to see at its reply's zxid.
-abbrev pub ReadsAreTrue : History → Past → Type 0
-ReadsAreTrue h past = (ticket : ℕ) (question : Question) (zxid : ℤ) (result : Result) → Among (Takes_in (Answers_call ticket question zxid result)) past → Reads (tree_at h (from_zero zxid)) question result
-
--- The reply is to the call that waits first, which has its ticket; a write that was answered with 0 is a change of the transaction
--- with the reply's zxid.
-abbrev pub AnswersFirst : History → (ticket : ℕ) → Question → ℕ → Result → List Asking → Type 0
-AnswersFirst h ticket question zxid result (For_call xid other call ∷ more) = (other ≡ ticket) × (question_of call ≡ question) × IsTrueWrite h call zxid result
-AnswersFirst h ticket question zxid result _ = ⊥
-
--- So it is with each reply.
-abbrev pub WritesAreTrue : History → Past → Type 0
-WritesAreTrue h [] = ⊤
-WritesAreTrue h (Takes_in (Answers_call ticket question zxid result) ∷ past) = AnswersFirst h ticket question (from_zero zxid) result (awaited past) × WritesAreTrue h past
-WritesAreTrue h (_ ∷ past) = WritesAreTrue h past
-
--- Each reply has a zxid of at least the one that the client began with.
-abbrev pub RepliesAreAbove : Start → Past → Type 0
-RepliesAreAbove start past = (ticket : ℕ) (question : Question) (zxid : ℤ) (result : Result) → Among (Takes_in (Answers_call ticket question zxid result)) past → from_zero start.last ≤ from_zero zxid
-
--- No reply was taken with a zxid below 0.
-abbrev pub NoneIsNegative : Past → Type 0
-NoneIsNegative [] = ⊤
-NoneIsNegative (Takes_in (Answers_call ticket question zxid result) ∷ past) = (zxid ≡ pos (from_zero zxid)) × NoneIsNegative past
-NoneIsNegative (_ ∷ past) = NoneIsNegative past
-
--- Silence, or a message that is longer than is admitted: one of those that were sent has the length that stands next.
-abbrev pub IsDue : (List ℕ → Type 0) → Fault → Past → Type 0
-IsDue Was fault past =
-    (fault ≡ Silent)
-    ⊎ ((fault ≡ Framed TooLong) × ((payload : List ℕ) × Was payload × (LONGEST_INCOMING < length payload) × (length_field (held_of past) ≡ length payload)))
-
--- A connection was given up for silence alone, or for a message longer than is admitted.
-abbrev pub DropsAreDue : (List ℕ → Type 0) → Past → Type 0
-DropsAreDue Was [] = ⊤
-DropsAreDue Was (Dropped fault ∷ past) = IsDue Was fault past × DropsAreDue Was past
-DropsAreDue Was (_ ∷ past) = DropsAreDue Was past
 
 -- The client talks, all that the server of the connection has sent was taken, and the server has no setWatches request to process.
 pub record IsQuietAt (h : History) (start : Start) (entries : List Entry) : Type 0 where

@@ -9,11 +9,9 @@ use Rattle.zk_records.specs.Response.{Response, IsPayload as IsResponse}
 use Rattle.zk_records.specs.Layouts.{watcher_event}
 use Rattle.std.specs.Prelude.{Option, ℕ, ℤ, pos, negsuc, ◌≡◌, ◌<◌, ◌≤◌, ◌+◌, ◌^◌, int_lt, Bool, true, false, not, ◌&&◌, List, [], ◌∷◌, ◌++◌, map, drop, length, ⊤, ◌⊎◌}
 use Rattle.std.specs.List.{flat_map}
-use Rattle.zk_turns.specs.Turns.{Start, Item, Turned, Input, Bytes, Opened as Opening}
-use Rattle.zk_session.specs.declared.states.State.{State}
-use Rattle.zk_session.specs.declared.states.State.TheVariants.{Connecting, Connected}
+use Rattle.zk_turns.specs.Turns.{Start, Item, Turned, Bytes, Opened as Opening}
 use Rattle.zk_frames.specs.Frame.{frame}
-use Rattle.zk_turns.specs.Kept.{Past, Began, Asked, Pinged, last_of, session_of, lists_of, xid_of, state_of, has_halted, Took as Takes_in, Accepted as Accepts}
+use Rattle.zk_turns.specs.Kept.{Past, Began, Asked, Pinged, last_of, session_of, lists_of, xid_of, state_of, is_open, has_halted, Took as Takes_in, Accepted as Accepts}
 use Rattle.zk_watches.specs.Lists.{Lists}
 use Rattle.zk_watches.specs.Parts.{parts}
 use Rattle.zk_turns.specs.Taken.{past_of}
@@ -73,9 +71,8 @@ IsPayload xid Pong payload = (zxid : ℤ) × (err : ℤ) × (behind : List ℕ) 
 -- The payloads are those of the messages, each of a length that a frame can tell.
 abbrev pub ArePayloads : ℤ → List Message → List (List ℕ) → Type 0
 ArePayloads xid [] [] = ⊤
-ArePayloads xid [] (payload ∷ payloads) = ⊥
-ArePayloads xid (message ∷ messages) [] = ⊥
 ArePayloads xid (message ∷ messages) (payload ∷ payloads) = (length payload < 2 ^ 31) × IsPayload xid message payload × ArePayloads xid messages payloads
+ArePayloads xid _ _ = ⊥
 
 -- A server on the open connection
 
@@ -93,12 +90,6 @@ new_line place = record { server = record { place = place; watches = no_watches;
 abbrev pub no_line : Line
 no_line = record { server = record { place = 0; watches = no_watches; stage = Ended }; processed = 0; coming = [] }
 
--- a client that takes bytes
-abbrev pub is_open : State → Bool
-is_open Connecting = true
-is_open Connected = true
-is_open _ = false
-
 -- there is an open connection
 abbrev pub is_going : Past → Bool
 is_going past = is_open (state_of past) && not (has_halted past)
@@ -112,11 +103,6 @@ abbrev pub first_xid : List Sent → ℤ
 first_xid [] = pos 0
 first_xid (sent ∷ more) = sent.xid
 
--- all steps of a server but the next transaction process a request
-abbrev pub processes : ServerStep → ℕ
-processes (Advances sent) = 0
-processes _ = 1
-
 -- A server's move on the open connection: a step with the requests that stand whole in the bytes sent, whose messages have
 -- these payloads.
 pub record MayServe (h : History) (start : Start) (step : ServerStep) (payloads : List (List ℕ)) (past : Past) (line : Line) : Type 0 where
@@ -124,21 +110,10 @@ pub record MayServe (h : History) (start : Start) (step : ServerStep) (payloads 
   pub may : MayDo h step line.server (map (λ sent. sent.request) (unread start past line))
   pub told : ArePayloads (first_xid (unread start past line)) (messages_by h step line.server.place) payloads
 
--- the server afterwards
+-- The server afterwards: all steps but the next transaction have processed a request.
 abbrev pub line_on : History → ServerStep → List (List ℕ) → Line → Line
-line_on h step payloads line = record { server = end_after h step line.server; processed = line.processed + processes step; coming = line.coming ++ flat_map frame payloads }
-
--- What a turn asks of the servers: a connection begins at any place, what is received is a beginning of what was sent.
-abbrev pub MayTurn : History → ℕ → Input → Past → Line → Type 0
-MayTurn h place Opening past line = place ≤ length h.transactions
-MayTurn h place (Bytes bytes) past line = is_going past ≡ true → (rest : List ℕ) × (line.coming ≡ bytes ++ rest)
-MayTurn h place _ past line = ⊤
-
--- the server after a turn
-abbrev pub line_after : ℕ → Input → Line → Line
-line_after place Opening line = new_line place
-line_after place (Bytes bytes) line = record line { coming = drop (length bytes) line.coming }
-line_after place _ line = line
+line_on h step payloads line =
+    record { server = end_after h step line.server; processed = line.processed + (elim step [ Advances sent ↦ 0 | _ ↦ 1 ]); coming = line.coming ++ flat_map frame payloads }
 
 -- Schedules
 
@@ -154,9 +129,9 @@ items_in [] = []
 items_in (Goes_on place item ∷ earlier) = item ∷ items_in earlier
 items_in (Serves step payloads ∷ earlier) = items_in earlier
 
--- the server after an item
+-- the server after an item: a connection begins, or bytes are received
 abbrev pub line_past : ℕ → Item → Line → Line
-line_past place (Turned turn) line = line_after place turn.input line
+line_past place (Turned turn) line = elim turn.input [ Opening ↦ new_line place | Bytes bytes ↦ record line { coming = drop (length bytes) line.coming } | _ ↦ line ]
 line_past place _ line = line
 
 -- the server after these entries
@@ -171,9 +146,10 @@ WasSent [] payload = ⊥
 WasSent (Goes_on place item ∷ earlier) payload = WasSent earlier payload
 WasSent (Serves step payloads ∷ earlier) payload = Among payload payloads ⊎ WasSent earlier payload
 
--- what may come in a schedule
+-- What may come in a schedule: a connection begins at any place, what is received is a beginning of what was sent.
 abbrev pub MayEnter : History → Start → Entry → Past → Line → Type 0
-MayEnter h start (Goes_on place (Turned turn)) past line = MayTurn h place turn.input past line
+MayEnter h start (Goes_on place (Turned turn)) past line =
+    elim turn.input [ Opening ↦ place ≤ length h.transactions | Bytes bytes ↦ is_going past ≡ true → (rest : List ℕ) × (line.coming ≡ bytes ++ rest) | _ ↦ ⊤ ]
 MayEnter h start (Goes_on place _) past line = ⊤
 MayEnter h start (Serves step payloads) past line = MayServe h start step payloads past line
 

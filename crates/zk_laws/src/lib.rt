@@ -1,13 +1,13 @@
 //! Laws over the definitions of histories, servers and runs. The functions have empty bodies: their contracts are the laws.
 #![tactic(auto)]
 
-ghost use Rattle.std.specs.Prelude.{◌<◌, ◌^◌, ◌&&◌, ◌++◌, false, Bool, length, is_some, nat_lt, ◌≡◌, ◌≤◌, ◌↔◌, Option, Some, None, ℕ, ◌∷◌, [], List, if◌then◌else◌, ℤ, pos, map};
+ghost use Rattle.std.specs.Prelude.{◌⊎◌, ◌<◌, ◌^◌, ◌&&◌, ◌++◌, false, Bool, length, is_some, nat_lt, ◌≡◌, ◌≤◌, ◌↔◌, Option, Some, None, ℕ, ◌∷◌, [], List, if◌then◌else◌, ℤ, pos, map};
 ghost use Rattle.zk_session.specs.Kept.{Welcome};
 ghost use Rattle.zk_session.specs.declared.states.State.TheVariants.{Connecting, Connected};
 ghost use Rattle.zk_conversation.specs.Calls.{part_xid, connect_payload, Call};
 ghost use Rattle.zk_records.specs.Layouts.{connect_request};
 ghost use Rattle.zk_conversation.specs.Pending.{Pending, Call_waits, part_waits};
-ghost use Rattle.zk_turns.specs.Kept.{Accepted as Takes_acceptance, Expiry, Notifies as Takes_notice, Pong as Takes_pong, Watches_set as Takes_part, kept_data, kept_names, names_of, last_of, session_of, Began, Happening, Past, lists_of, Dropped, Took as Takes_in, Replies as Answers_call};
+ghost use Rattle.zk_turns.specs.Kept.{held_of, awaited, For_call, Asking, Accepted as Takes_acceptance, Expiry, Notifies as Takes_notice, Pong as Takes_pong, Watches_set as Takes_part, kept_data, kept_names, names_of, last_of, session_of, Began, Happening, Past, lists_of, Dropped, Took as Takes_in, Replies as Answers_call};
 ghost use Rattle.zk_turns.specs.Taken.{cut, Payload, reading, past_of};
 ghost use Rattle.zk_laws.specs.Server.{Reads, Notice, zxid_held};
 ghost use Rattle.zk_laws.specs.Messages.{Accepted, Expired as Expired_session, Notifies, Pong, Watches_set, Replies, from_zero};
@@ -18,9 +18,9 @@ ghost use Rattle.zk_history.specs.History.{Text, Name, Node, Tree, History, IsHi
 ghost use Rattle.zk_history.specs.DataStats.{data_stat_of};
 ghost use Rattle.zk_history.specs.declared.stat.Stat.{Stat};
 ghost use Rattle.std.specs.FinSet as set;
-ghost use Rattle.zk_conversation.specs.Questions.{Question, Exists, GetData, GetChildren};
+ghost use Rattle.zk_conversation.specs.Questions.{question_of, Question, Exists, GetData, GetChildren};
 ghost use Rattle.zk_conversation.specs.Results.{Result, NoNode, Found, Read, Listing};
-ghost use Rattle.zk_turns.specs.Turns.{Start, Fault, Drop, Replied, Answer as Given_answer, Item as Client_item};
+ghost use Rattle.zk_turns.specs.Turns.{Framed, Silent, Start, Fault, Drop, Replied, Answer as Given_answer, Item as Client_item};
 ghost use Rattle.zk_laws.specs.Invariant.{IsKept};
 ghost use Rattle.zk_laws.specs.Laws.{IsTrueWrite};
 ghost use Rattle.zk_laws.specs.Example.{at_a, at_b, fields_at_five, two_changes, two_nodes, until_first_part, until_restored, until_told};
@@ -38,11 +38,13 @@ ghost use Rattle.std.specs.List.{flat_map};
 ghost use Rattle.zk_laws.specs.Meeting_example.{new_client, until_cut};
 ghost use Rattle.zk_turns.specs.Rule.{AllAsked, Stands, IsOpen};
 ghost use Rattle.zk_turns.specs.Sent.{sends, outputs_of};
-ghost use Rattle.zk_frames.specs.Frame.{frame, joined};
+ghost use Rattle.zk_frames.specs.declared.fault.FrameFault.TheVariants.{TooLong};
+ghost use Rattle.zk_frames.specs.declared.reader.TheConstants.{LONGEST_INCOMING};
+ghost use Rattle.zk_frames.specs.Frame.{length_field, frame, joined};
 ghost use Rattle.zk_laws.specs.Parsed.{AreTold, IsCutInto, IsRecord, AreReadAs, stream_of, payloads_of};
 ghost use Rattle.zk_turns.specs.Ranges.{IsResumable, IsTyped, AllAskOf};
 ghost use Rattle.zk_laws.specs.Seen.{seen, node_answer, names_answer, if_good};
-ghost use Rattle.zk_laws.specs.Headline.{Headline, IsCoherentWith, ReadsAreTrue, WritesAreTrue, RepliesAreAbove, DropsAreDue, IsQuietAt, IsTrueOf, tree_of};
+ghost use Rattle.zk_laws.specs.Headline.{Headline, IsCoherentWith, IsQuietAt, IsTrueOf, tree_of};
 
 /// What a read is answered: code -101 exactly where no node is there; the seven fields of the node that is there, with its data
 /// where they were read; and with the names of its children, as a set, its pzxid.
@@ -82,21 +84,27 @@ pub fn one_entry()
 {}
 
 /// Under such servers each read that was answered with 0 or -101 tells what there was at its reply's zxid, and each write
-/// that was answered with 0 is a change of the transaction with that zxid.
+/// that was answered with 0 is a change of the transaction with that zxid: of the call that waited first, which has the reply's ticket.
 pub fn answers_are_true()
-    ensures reads { (h : History) → IsHistory h → (start : Start) (items : List Client_item) (view : View) → Stands start items view → Served h start items → ReadsAreTrue h (past_of start items) }
-    ensures writes { (h : History) → IsHistory h → (start : Start) (items : List Client_item) (view : View) → Stands start items view → Served h start items → WritesAreTrue h (past_of start items) }
+    ensures reads { (h : History) → IsHistory h → (start : Start) (items : List Client_item) (view : View) → Stands start items view → Served h start items
+        → (ticket : ℕ) (question : Question) (zxid : ℤ) (result : Result) → Among (Takes_in (Answers_call ticket question zxid result)) (past_of start items) → Reads (tree_at h (from_zero zxid)) question result }
+    ensures writes { (h : History) → IsHistory h → (start : Start) (items : List Client_item) (view : View) → Stands start items view → Served h start items
+        → (since : List Happening) (ticket : ℕ) (question : Question) (zxid : ℤ) (result : Result) (before : Past) → past_of start items ≡ since ++ Takes_in (Answers_call ticket question zxid result) ∷ before
+        → (xid : ℕ) × (call : Call) × (more : List Asking) × (awaited before ≡ For_call xid ticket call ∷ more) × (question_of call ≡ question) × IsTrueWrite h call (from_zero zxid) result }
 {}
 
 /// Under such servers no connection is given up but for silence, or for a message that was sent and is longer than is admitted:
 /// its length is the one that stands next.
 pub fn drops_are_due()
-    ensures { (h : History) → IsHistory h → (start : Start) (items : List Client_item) (view : View) → Stands start items view → (served : Served h start items) → DropsAreDue (WasSent served.entries) (past_of start items) }
+    ensures { (h : History) → IsHistory h → (start : Start) (items : List Client_item) (view : View) → Stands start items view → (served : Served h start items)
+        → (since : List Happening) (fault : Fault) (before : Past) → past_of start items ≡ since ++ Dropped fault ∷ before
+        → (fault ≡ Silent) ⊎ ((fault ≡ Framed TooLong) × ((payload : List ℕ) × WasSent served.entries payload × (LONGEST_INCOMING < length payload) × (length_field (held_of before) ≡ length payload))) }
 {}
 
 /// Under such servers each reply has a zxid of at least the one that the client began with, a saved one or 0.
 pub fn above_the_saved()
-    ensures { (h : History) → IsHistory h → (start : Start) (items : List Client_item) (view : View) → Stands start items view → Served h start items → RepliesAreAbove start (past_of start items) }
+    ensures { (h : History) → IsHistory h → (start : Start) (items : List Client_item) (view : View) → Stands start items view → Served h start items
+        → (ticket : ℕ) (question : Question) (zxid : ℤ) (result : Result) → Among (Takes_in (Answers_call ticket question zxid result)) (past_of start items) → from_zero start.last ≤ from_zero zxid }
 {}
 
 /// Where the client has taken all that the server of its connection sent, and no watches are still to be set again, each

@@ -24,7 +24,7 @@ first start = record {
   saved = refl;
   lists = refl;
   cache = refl;
-  going = λ on. record { moments = refl; pending = refl; held = refl; xid = refl };
+  going = λ on. refl;
   said = tt;
   asked = tt;
 }
@@ -37,7 +37,7 @@ forgets start items view s = record {
   saved = s.saved;
   lists = s.lists;
   cache = ap forgotten s.cache;
-  going = λ on. record { moments = (s.going on).moments; pending = (s.going on).pending; held = (s.going on).held; xid = (s.going on).xid };
+  going = λ on. ap (λ v. record v { cache = forgotten v.cache }) (s.going on);
   said = s.said;
   asked = s.asked;
 }

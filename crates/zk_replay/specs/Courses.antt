@@ -5,7 +5,7 @@ use Rattle.zk_history.specs.History.{Text}
 use Rattle.zk_history.specs.declared.side.Side.TheVariants.{Data, Child}
 use Rattle.zk_turns.specs.Turns.{Input, Opened, Bytes, Cut, Now, Call, Output, Start, Item, Turned, Forgets, signals_of}
 use Rattle.zk_turns.specs.Kept.{Past, kept_data, kept_names}
-use Rattle.zk_turns.specs.View.{View, saved_at}
+use Rattle.zk_turns.specs.View.{View, view_at}
 use Rattle.zk_turns.specs.Taken.{past_of}
 use Rattle.zk_turns.specs.Rule.{Stands, due_signals}
 use Rattle.zk_script.specs.Pieces.{words_of}
@@ -41,9 +41,9 @@ AddsClient (NowLine moment) old new text = AddsTurn (Now moment) old new text
 AddsClient (CallLine asked) old new text = AddsTurn (Call asked.ticket asked.call) old new text
 AddsClient (PeekLine Data path) old new text = (new ≡ old) × (text ≡ kept_line (kept_data path (past_in old)))
 AddsClient (PeekLine Child path) old new text = (new ≡ old) × TellsKept (kept_names path (past_in old)) text
-AddsClient LastLine old new text = (new ≡ old) × (text ≡ last_line (saved_at old.start (past_in old)).last)
+AddsClient LastLine old new text = (new ≡ old) × (text ≡ last_line (view_at old.start (past_in old)).saved.last)
 AddsClient SavedLine old new text =
-    (new ≡ old) × (text ≡ saved_line (saved_at old.start (past_in old)).session.session (saved_at old.start (past_in old)).session.password (saved_at old.start (past_in old)).last)
+    (new ≡ old) × (text ≡ saved_line (view_at old.start (past_in old)).saved.session.session (view_at old.start (past_in old)).saved.session.password (view_at old.start (past_in old)).saved.last)
 AddsClient ForgetLine old new text = (new ≡ and_then old Forgets) × (text ≡ [])
 
 abbrev pub AddsDrive : DriveValue → Course → Course → List ℕ → Type 0

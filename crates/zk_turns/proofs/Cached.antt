@@ -16,7 +16,7 @@ use Rattle.zk_cache.specs.declared.held.Kept.{Kept}
 use Rattle.zk_cache.specs.declared.held.Mark.{Mark}
 use Rattle.zk_cache.specs.declared.held.Mark.TheVariants.{Good, Stale}
 use Rattle.zk_records.specs.Events.{concerns}
-use Rattle.zk_turns.specs.View.{Cache, cache_at}
+use Rattle.zk_turns.specs.View.{Cache, view_at}
 use Rattle.zk_turns.specs.Rule.{keep_node, keep_children, kept_after, spoilt}
 use Rattle.zk_turns.proofs.Registered.{IsClose}
 
@@ -149,7 +149,7 @@ plain Nothing known message kept = refl
 
 module _ (start : Start) where
   pub reply_cache : (ticket : ℕ) (question : Question) (zxid : ℤ) (result : Result) (past : Past) → ¬ (IsClose question)
-      → kept_after question result (cache_at start past) ≡ cache_at start (Took (Replies ticket question zxid result) ∷ past)
+      → kept_after question result (view_at start past).cache ≡ (view_at start (Took (Replies ticket question zxid result) ∷ past)).cache
   reply_cache ticket Close zxid result past n = absurd (n tt)
   reply_cache ticket question zxid result past n =
       cache_ext _ _
@@ -163,7 +163,7 @@ notice_by true known message kept = refl
 notice_by false known message kept = refl
 
 module _ (start : Start) where
-  pub notice_cache : (event : Event) (at : Text) (past : Past) → spoilt event at (cache_at start past) ≡ cache_at start (Took (Notifies event at) ∷ past)
+  pub notice_cache : (event : Event) (at : Text) (past : Past) → spoilt event at (view_at start past).cache ≡ (view_at start (Took (Notifies event at) ∷ past)).cache
   notice_cache event at past =
       cache_ext _ _
       (λ path. notice_by (concerns event Data && bytes_eq at path) (λ answer. good_answer path answer past) (Notifies event at) (kept_data path past))

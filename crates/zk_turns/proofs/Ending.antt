@@ -17,7 +17,7 @@ use Rattle.zk_conversation.specs.Results.{Result}
 use Rattle.zk_conversation.specs.Calls.{Call}
 use Rattle.zk_conversation.specs.Arriving.{Arrived, Connected as Welcomed, Replied, Watches_set as Part_set, Notice, Pong as Ponged, Skipped as Passed, arriving}
 use Rattle.zk_turns.specs.Turns.{Outcome, Fault, Framed, Talked, Silent, Behind, WatchesRefused, Signal, Opens, Comes, Cuts, Ticks, Calls, Forget, Halt}
-use Rattle.zk_turns.specs.Kept.{Happening, Took, Dropped, Lost, Pinged, Replies, Watches_set}
+use Rattle.zk_turns.specs.Kept.{is_talking, Happening, Took, Dropped, Lost, Pinged, Replies, Watches_set}
 use Rattle.zk_turns.specs.View.{View}
 use Rattle.zk_turns.specs.Taken.{Cutting, Unfinished, Bad, Payload, cut, of_cutting, phase_of, taken_of, happening_of, reading, leaves_watch, opens, if_open, due, timeout_of, calls, refusal, caused, happenings, comes}
 use Rattle.zk_turns.specs.Rule.{IsOpen}
@@ -180,8 +180,8 @@ no_opening Expired fault a = a
 no_opening Closed fault a = a
 
 open_among : (state : State) (x : Happening) (xs : List Happening) → Among x (if_open state xs) → IsOpen state × Among x xs
-open_among Connecting x xs a = (tt, a)
-open_among Connected x xs a = (tt, a)
+open_among Connecting x xs a = (refl, a)
+open_among Connected x xs a = (refl, a)
 open_among Idle x xs a = absurd a
 open_among Expired x xs a = absurd a
 open_among Closed x xs a = absurd a
@@ -189,9 +189,9 @@ open_among Closed x xs a = absurd a
 among_open : (state : State) (x : Happening) (xs : List Happening) → IsOpen state → Among x xs → Among x (if_open state xs)
 among_open Connecting x xs o a = a
 among_open Connected x xs o a = a
-among_open Idle x xs o a = absurd o
-among_open Expired x xs o a = absurd o
-among_open Closed x xs o a = absurd o
+among_open Idle x xs o a = absurd cc
+among_open Expired x xs o a = absurd cc
+among_open Closed x xs o a = absurd cc
 
 no_call : (ticket : ℕ) (call : Call) (why : Option Outcome) (fault : Fault) → Among (Dropped fault) (calls ticket call why) → ⊥
 no_call ticket call None fault (inl e) = cc
@@ -203,14 +203,14 @@ silence : (view : View) (now : ℕ) (fault : Fault) → Among (Dropped fault) (d
 silence view now fault a = by (nat_le (2 * timeout_of view) (3 * (now - view.moments.heard))) refl a
   where
     pings : List Happening
-    pings = elim view.standing.state [ Connected ↦ cond (nat_le (timeout_of view) (3 * (now - view.moments.sent))) (Pinged ∷ []) [] | _ ↦ [] ]
+    pings = cond (is_talking view.standing.state && nat_le (timeout_of view) (3 * (now - view.moments.sent))) (Pinged ∷ []) []
 
     no_ping : (b : Bool) → Among (Dropped fault) (cond b (Pinged ∷ []) []) → ⊥
     no_ping true (inl e) = cc
     no_ping true (inr a) = a
     no_ping false a = a
 
-    none : (state : State) → Among (Dropped fault) (elim state [ Connected ↦ cond (nat_le (timeout_of view) (3 * (now - view.moments.sent))) (Pinged ∷ []) [] | _ ↦ [] ]) → ⊥
+    none : (state : State) → Among (Dropped fault) (cond (is_talking state && nat_le (timeout_of view) (3 * (now - view.moments.sent))) (Pinged ∷ []) []) → ⊥
     none Connected a = no_ping (nat_le (timeout_of view) (3 * (now - view.moments.sent))) a
     none Idle a = a
     none Connecting a = a
@@ -218,7 +218,7 @@ silence view now fault a = by (nat_le (2 * timeout_of view) (3 * (now - view.mom
     none Closed a = a
 
     by : (b : Bool) → nat_le (2 * timeout_of view) (3 * (now - view.moments.heard)) ≡ b
-        → Among (Dropped fault) (cond b (Dropped Silent ∷ []) (elim view.standing.state [ Connected ↦ cond (nat_le (timeout_of view) (3 * (now - view.moments.sent))) (Pinged ∷ []) [] | _ ↦ [] ]))
+        → Among (Dropped fault) (cond b (Dropped Silent ∷ []) (cond (is_talking view.standing.state && nat_le (timeout_of view) (3 * (now - view.moments.sent))) (Pinged ∷ []) []))
         → (fault ≡ Silent) × (2 * timeout_of view ≤ 3 * (now - view.moments.heard))
     by true e (inl d) = (cc, grind (arith, nat_tests))
     by true e (inr a) = absurd a
@@ -227,7 +227,7 @@ silence view now fault a = by (nat_le (2 * timeout_of view) (3 * (now - view.mom
 silent : (view : View) (now : ℕ) → 2 * timeout_of view ≤ 3 * (now - view.moments.heard) → Among (Dropped Silent) (due view now)
 silent view now le =
     let t : nat_le (2 * timeout_of view) (3 * (now - view.moments.heard)) ≡ true = grind (arith, nat_tests) in
-    subst (λ b. Among (Dropped Silent) (cond b (Dropped Silent ∷ []) (elim view.standing.state [ Connected ↦ cond (nat_le (timeout_of view) (3 * (now - view.moments.sent))) (Pinged ∷ []) [] | _ ↦ [] ]))) (sym t) (inl refl)
+    subst (λ b. Among (Dropped Silent) (cond b (Dropped Silent ∷ []) (cond (is_talking view.standing.state && nat_le (timeout_of view) (3 * (now - view.moments.sent))) (Pinged ∷ []) []))) (sym t) (inl refl)
 
 caused_ends : (view : View) (signal : Signal) (fault : Fault) → Among (Dropped fault) (caused view signal) → IsGivenUp view signal fault
 caused_ends view Opens fault a = absurd (no_opening view.standing.state fault a)

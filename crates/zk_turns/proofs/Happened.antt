@@ -9,7 +9,7 @@ use Rattle.zk_conversation.specs.Results.{Result}
 use Rattle.zk_watches.specs.Lists.{Lists}
 use Rattle.zk_watches.specs.Parts.{parts}
 use Rattle.zk_conversation.specs.Pending.{next_xid}
-use Rattle.zk_turns.specs.View.{View, view_at, moments_at}
+use Rattle.zk_turns.specs.View.{View, view_at}
 use Rattle.zk_turns.specs.Rule.{next, sent_now}
 use Rattle.zk_turns.proofs.Registered.{reply_lists, notice_lists, empty_lists}
 use Rattle.zk_turns.proofs.Cached.{reply_cache, notice_cache}
@@ -57,7 +57,7 @@ next_xid_is n = by (eqb (n % 2147483647 + 1) 2147483647) refl
 -- ---- the theorem
 
 module _ (start : Start) where
-  any_moments : (ps : List Lists) (past : Past) → if_any ps (moments_at start past) (sent_now (view_at start past)) ≡ record { now = now_of past; heard = heard_of past; sent = if_any ps (sent_of past) (now_of past) }
+  any_moments : (ps : List Lists) (past : Past) → if_any ps (view_at start past).moments (sent_now (view_at start past)) ≡ record { now = now_of past; heard = heard_of past; sent = if_any ps (sent_of past) (now_of past) }
   any_moments [] past = refl
   any_moments (p ∷ ps) past = refl
 

@@ -11,6 +11,7 @@ pub mod Over
 pub mod Tickets
 pub mod Stream
 pub mod Sending
+pub mod Counting
 pub mod Reporting
 pub mod Placed
 pub mod Meant

@@ -1,13 +1,13 @@
 -- After an expiry, a close or a halt nothing is kept. The last seen zxid never falls.
 use Rattle.zk_conversation.specs.Calls.{Call}
 use Rattle.std.proofs.Common.{◌≡◌, ℕ, ℤ, Bool, true, false, cond, ◌||◌, List, [], ◌∷◌, ◌++◌, Option, Some, None, refl, sym, ap, arith}
-use Rattle.std.specs.Prelude.{if◌then◌else◌, ◌≤ℤ◌, nat_le, ◌*◌, ◌-◌}
+use Rattle.std.specs.Prelude.{◌&&◌, if◌then◌else◌, ◌≤ℤ◌, nat_le, ◌*◌, ◌-◌}
 use Rattle.std.proofs.lemmas.Int.{ints}
 use Rattle.zk_turns.specs.Turns.{Start, Outcome, Signal, Opens, Comes, Cuts, Ticks, Calls, Forget, Halt, Item, signals}
 use Rattle.zk_conversation.specs.Questions.{Close}
 use Rattle.zk_session.specs.declared.states.State.{State}
 use Rattle.zk_session.specs.declared.states.State.TheVariants.{Idle, Connecting, Connected, Expired, Closed}
-use Rattle.zk_turns.specs.Kept.{Past, Happening, Began, Came, Took, Dropped, Lost, Denied, Pinged, Ticked, Forgot, Halted, Accepted, Expiry, Replies, Watches_set, is_final, is_over, has_halted, state_of, KeepsNothing, later, last_of, held_of}
+use Rattle.zk_turns.specs.Kept.{is_talking, Past, Happening, Began, Came, Took, Dropped, Lost, Denied, Pinged, Ticked, Forgot, Halted, Accepted, Expiry, Replies, Watches_set, is_final, is_over, has_halted, state_of, KeepsNothing, later, last_of, held_of}
 use Rattle.zk_cache.specs.Kept.{without_stale}
 use Rattle.zk_turns.specs.View.{View, view_at}
 use Rattle.zk_turns.specs.Taken.{happenings, caused, opens, if_open, of_cutting, cut, Cutting, Unfinished, Bad, Payload, due, timeout_of, calls, refusal_in, refusal_when_connected, joined, past_after, past_of}
@@ -87,7 +87,7 @@ module _ (start : Start) where
   due_quiet view now moment past n =
       quiet_cond (nat_le (2 * timeout_of view) (3 * (now - view.moments.heard))) _ _ (Ticked moment ∷ past) (λ f. absurd (n f), tt) (by view.standing.state)
     where
-      by : (state : State) → AllQuiet (elim state [ Connected ↦ if nat_le (timeout_of view) (3 * (now - view.moments.sent)) then Pinged ∷ [] else [] | _ ↦ [] ]) (Ticked moment ∷ past)
+      by : (state : State) → AllQuiet (if is_talking state && nat_le (timeout_of view) (3 * (now - view.moments.sent)) then Pinged ∷ [] else []) (Ticked moment ∷ past)
       by Connected = quiet_cond (nat_le (timeout_of view) (3 * (now - view.moments.sent))) (Pinged ∷ []) [] (Ticked moment ∷ past) (λ f. absurd (n f), tt) tt
       by _ = tt
 

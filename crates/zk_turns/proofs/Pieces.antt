@@ -128,9 +128,9 @@ begins_frame a b payload le more e =
 if_open_is : (state : State) (more : List Happening) → IsOpen state → if_open state more ≡ more
 if_open_is Connecting more o = refl
 if_open_is Connected more o = refl
-if_open_is Idle more o = elim o [ ]
-if_open_is Expired more o = elim o [ ]
-if_open_is Closed more o = elim o [ ]
+if_open_is Idle more o = absurd cc
+if_open_is Expired more o = absurd cc
+if_open_is Closed more o = absurd cc
 
 pub byte_happens : (view : View) (byte : ℕ) (cutting : Cutting) → Hears view → cut (view.held ++ byte ∷ []) ≡ cutting → happenings view (Comes byte) ≡ Came byte ∷ of_cutting view cutting
 byte_happens view byte cutting h e =
@@ -241,8 +241,8 @@ bad_says piece view fault h some bad =
 -- ---- bytes that nobody hears
 
 if_open_not : (state : State) (more : List Happening) → ¬ (IsOpen state) → if_open state more ≡ []
-if_open_not Connecting more n = absurd (n tt)
-if_open_not Connected more n = absurd (n tt)
+if_open_not Connecting more n = absurd (n refl)
+if_open_not Connected more n = absurd (n refl)
 if_open_not _ more n = refl
 
 cond_nil : (b : Bool) → cond {A = List Happening} b [] [] ≡ []
@@ -386,7 +386,7 @@ bad_of bytes four rest TooLong n e bad =
 bad_of bytes four rest _ n e bad = elim bad [ ]
 
 not_idle : ¬ (IsOpen Idle)
-not_idle o = o
+not_idle o = cc
 
 record Split (view : View) (left : List ℕ) (fault : FrameFault) : Type 0 where
   first : List ℕ

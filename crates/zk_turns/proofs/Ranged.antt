@@ -302,7 +302,7 @@ module _ (P : Call → Type 0) where
     due_ranged : (view : View) (now : ℕ) (past : Past) → AreRanged past → AreRanged (joined past (due view now))
     due_ranged view now past r = ranged_cond (nat_le (2 * timeout_of view) (3 * (now - view.moments.heard))) _ _ past (tt, r) (by view.standing.state)
       where
-        by : (state : State) → AreRanged (joined past (elim state [ Connected ↦ if nat_le (timeout_of view) (3 * (now - view.moments.sent)) then Pinged ∷ [] else [] | _ ↦ [] ]))
+        by : (state : State) → AreRanged (joined past (if is_talking state && nat_le (timeout_of view) (3 * (now - view.moments.sent)) then Pinged ∷ [] else []))
         by Connected = ranged_cond (nat_le (timeout_of view) (3 * (now - view.moments.sent))) (Pinged ∷ []) [] past (tt, r) r
         by _ = r
 

@@ -16,10 +16,10 @@ use Rattle.zk_records.specs.Events.{concerns}
 use Rattle.zk_turns.specs.View.{View, view_at}
 use Rattle.zk_turns.specs.Taken.{happenings, joined, past_after, past_of}
 use Rattle.zk_turns.specs.Rule.{says, part_frame, loss, report, due_happenings, due_signals, AllSaid, Stands}
-use Rattle.zk_turns.specs.Sent.{onto, outputs_of}
+use Rattle.zk_turns.specs.Sent.{outputs_of}
 use Rattle.zk_turns.specs.Reported.{report_on, reports_of, reports_in}
 use Rattle.zk_turns.proofs.Marks.{report_is}
-use Rattle.zk_turns.proofs.Sending.{onto-append}
+use Rattle.zk_turns.proofs.Sending.{onto, outputs_onto, onto-append}
 
 parts_silent : (relative : ℤ) (ps : List Lists) (outs : List Output) → reports_in (onto (map (part_frame relative) ps) outs) ≡ reports_in outs
 parts_silent relative [] outs = refl
@@ -85,7 +85,7 @@ module _ (start : Start) where
   item_reports : (items : List Item) → AllSaid start items → reports_in (outputs_of items) ≡ reports_of (past_of start items)
   item_reports [] said = refl
   item_reports (Turned turn ∷ items) said =
-      ap (λ t. reports_in (onto t (outputs_of items))) said.0
+      ap reports_in (outputs_onto turn items) ∙ ap (λ t. reports_in (onto t (outputs_of items))) said.0
       ∙ signal_reports (signals_of turn.input) (past_of start items) (outputs_of items) (item_reports items said.1)
   item_reports (Forgets ∷ items) said = all_reports (Forgot ∷ []) (past_of start items) (outputs_of items) (item_reports items said)
   item_reports (Halts ∷ items) said = all_reports (Halted ∷ []) (past_of start items) (outputs_of items) (item_reports items said)

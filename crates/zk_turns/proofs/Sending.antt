@@ -1,12 +1,13 @@
 -- What the outputs send is what was to be sent.
 use Rattle.zk_watches.specs.Lists.{fires, Lists}
-use Rattle.zk_turns.specs.Turns.{Framed, Start, Outcome, Signal, Opens, Comes, Cuts, Ticks, Calls, Forget, Halt, Output, Report, Enters, Drop, Item, Turned, Forgets, Halts, signals_of}
+use Rattle.zk_turns.specs.Turns.{Turn, Framed, Start, Outcome, Signal, Opens, Comes, Cuts, Ticks, Calls, Forget, Halt, Output, Report, Enters, Drop, Item, Turned, Forgets, Halts, signals_of}
 use Rattle.zk_conversation.specs.Calls.{Call, call_payload, ping_payload}
 use Rattle.zk_history.specs.History.{Text}
 use Rattle.std.proofs.Common.{◌≡◌, ℕ, ℤ, pos, Bool, true, false, cond, List, [], ◌∷◌, ◌++◌, map, Option, Some, None, refl, sym, ap, subst, ◌∙◌, append_assoc}
-use Rattle.std.specs.Prelude.{if◌then◌else◌, nat_le, ◌*◌, ◌-◌}
+use Rattle.std.specs.Prelude.{reverse, ◌&&◌, if◌then◌else◌, nat_le, ◌*◌, ◌-◌}
 use Rattle.std.specs.List.{flat_map}
 use Rattle.std.proofs.lemmas.List.{append-nil}
+use mathlib.Core.List.{reverse_aux, reverse_aux-eq}
 use Rattle.zk_history.specs.declared.side.Side.{Side}
 use Rattle.zk_history.specs.declared.side.Side.TheVariants.{Data, Child}
 use Rattle.zk_records.specs.declared.event.Event.{Event}
@@ -14,13 +15,28 @@ use Rattle.zk_conversation.specs.Questions.{Close}
 use Rattle.zk_session.specs.declared.states.State.{State}
 use Rattle.zk_session.specs.declared.states.State.TheVariants.{Idle, Connecting, Connected}
 use Rattle.zk_frames.specs.Frame.{frame}
-use Rattle.zk_turns.specs.Kept.{xid_of, Past, Happening, Began, Came, Took, Dropped, Lost, Asked, Denied, Pinged, Ticked, Message, Accepted, Expiry, Replies, Watches_set, Notifies, Pong, Skipped, state_of, held_of, has_halted, lists_of, last_of}
+use Rattle.zk_turns.specs.Kept.{is_talking, xid_of, Past, Happening, Began, Came, Took, Dropped, Lost, Asked, Denied, Pinged, Ticked, Message, Accepted, Expiry, Replies, Watches_set, Notifies, Pong, Skipped, state_of, held_of, has_halted, lists_of, last_of}
 use Rattle.zk_watches.specs.Parts.{parts}
 use Rattle.zk_turns.specs.View.{View, view_at}
 use Rattle.zk_turns.specs.Taken.{reading, caused, happenings, calls, opens, of_cutting, cut, Cutting, Unfinished, Bad, Payload, due, timeout_of, refusal, joined, past_after, past_of, comes, if_open}
 use Rattle.zk_turns.specs.Rule.{IsOpen, says, part_frame, loss, losses, report, due_happenings, due_signals, AllSaid, Stands}
-use Rattle.zk_turns.specs.Sent.{onto, outputs_of, told_state, sends, part_of, sent}
+use Rattle.zk_turns.specs.Sent.{outputs_of, told_state, sends, part_of, sent}
 use Rattle.zk_turns.proofs.Stream.{of_reading}
+
+-- outputs in front of earlier ones, the newest first
+abbrev pub onto : List Output → List Output → List Output
+onto [] earlier = earlier
+onto (output ∷ outputs) earlier = onto outputs (output ∷ earlier)
+
+onto_is : (outputs earlier : List Output) → onto outputs earlier ≡ reverse outputs ++ earlier
+onto_is outputs earlier = by outputs earlier ∙ reverse_aux-eq outputs earlier
+  where
+    by : (xs ys : List Output) → onto xs ys ≡ reverse_aux xs ys
+    by [] ys = refl
+    by (x ∷ xs) ys = by xs (x ∷ ys)
+
+pub outputs_onto : (turn : Turn) (items : List Item) → outputs_of (Turned turn ∷ items) ≡ onto turn.outputs (outputs_of items)
+outputs_onto turn items = sym (onto_is turn.outputs (outputs_of items))
 
 pub onto-append : (xs ys outs : List Output) → onto (xs ++ ys) outs ≡ onto ys (onto xs outs)
 onto-append [] ys outs = refl
@@ -50,8 +66,8 @@ module _ (start : Start) where
   message_sends (Accepted welcome) past outs up s o =
       sends_parts (last_of start past) (parts (lists_of past)) (Enters Connected ∷ outs)
       ∙ ap (λ t. t ++ map (part_of (last_of start past)) (parts (lists_of past))) (s up)
-  message_sends Expiry past outs up s o = elim o [ ]
-  message_sends (Replies ticket Close zxid result) past outs up s o = elim o [ ]
+  message_sends Expiry past outs up s o = absurd cc
+  message_sends (Replies ticket Close zxid result) past outs up s o = absurd cc
   message_sends (Replies ticket question zxid result) past outs up s o = s up
   message_sends (Watches_set last zxid) past outs up s o = s up
   message_sends (Notifies event path) past outs up s o =
@@ -78,19 +94,19 @@ module _ (start : Start) where
 
   cutting_sends : (cutting : Cutting) (byte : ℕ) (past : Past) (outs : List Output) → IsOpen (state_of past) → Sent past outs → After (Came byte ∷ of_cutting (view_at start past) cutting) past outs
   cutting_sends Unfinished byte past outs up s = after_one (Came byte) past outs s
-  cutting_sends (Bad fault) byte past outs up s = after_two (Came byte) (Dropped (Framed fault)) past outs (λ o. elim o [ ])
+  cutting_sends (Bad fault) byte past outs up s = after_two (Came byte) (Dropped (Framed fault)) past outs (λ o. absurd cc)
   cutting_sends (Payload payload) byte past outs up s =
       after_two (Came byte) (reading (state_of past) (view_at start past).pending (view_at start past).saved.last payload) past outs
-      (of_reading (λ h. Sends (Came byte ∷ past) outs h) (λ message. message_sends message (Came byte ∷ past) outs up s) (λ fault o. elim o [ ]) (state_of past) (view_at start past).pending (view_at start past).saved.last payload)
+      (of_reading (λ h. Sends (Came byte ∷ past) outs h) (λ message. message_sends message (Came byte ∷ past) outs up s) (λ fault o. absurd cc) (state_of past) (view_at start past).pending (view_at start past).saved.last payload)
 
   byte_sends : (state : State) (byte : ℕ) (past : Past) (outs : List Output) → (IsOpen state → IsOpen (state_of past)) → Sent past outs → After (if_open state (comes (view_at start past) byte)) past outs
-  byte_sends Connecting byte past outs up s o = cutting_sends (cut (held_of past ++ byte ∷ [])) byte past outs (up tt) s o
-  byte_sends Connected byte past outs up s o = cutting_sends (cut (held_of past ++ byte ∷ [])) byte past outs (up tt) s o
+  byte_sends Connecting byte past outs up s o = cutting_sends (cut (held_of past ++ byte ∷ [])) byte past outs (up refl) s o
+  byte_sends Connected byte past outs up s o = cutting_sends (cut (held_of past ++ byte ∷ [])) byte past outs (up refl) s o
   byte_sends _ byte past outs up s o = s o
 
   lost_sends : (state : State) (past : Past) (outs : List Output) → Sent past outs → After (if_open state (Lost ∷ [])) past outs
-  lost_sends Connecting past outs s o = elim o [ ]
-  lost_sends Connected past outs s o = elim o [ ]
+  lost_sends Connecting past outs s o = absurd cc
+  lost_sends Connected past outs s o = absurd cc
   lost_sends _ past outs s o = s o
 
   opens_sends : (state : State) (past : Past) (outs : List Output) → Sent past outs → After (opens state) past outs
@@ -105,9 +121,9 @@ module _ (start : Start) where
 
   due_sends : (view : View) (now : ℕ) (past : Past) (outs : List Output) → Sent past outs → After (due view now) past outs
   due_sends view now past outs s =
-      cond_sends (nat_le (2 * timeout_of view) (3 * (now - view.moments.heard))) _ _ past outs (λ o. elim o [ ]) (by view.standing.state)
+      cond_sends (nat_le (2 * timeout_of view) (3 * (now - view.moments.heard))) _ _ past outs (λ o. absurd cc) (by view.standing.state)
     where
-      by : (state : State) → After (elim state [ Connected ↦ if nat_le (timeout_of view) (3 * (now - view.moments.sent)) then Pinged ∷ [] else [] | _ ↦ [] ]) past outs
+      by : (state : State) → After (if is_talking state && nat_le (timeout_of view) (3 * (now - view.moments.sent)) then Pinged ∷ [] else []) past outs
       by Connected = cond_sends (nat_le (timeout_of view) (3 * (now - view.moments.sent))) (Pinged ∷ []) [] past outs (after_one Pinged past outs (λ o. ap (λ t. t ++ frame ping_payload ∷ []) (s o))) s
       by _ = s
 
@@ -142,9 +158,9 @@ module _ (start : Start) where
       ∙ signals_send more now (onto (due_happenings start past (happenings (view_at start past) signal)) outs) (signal_sends signal past outs s) o
 
   items_send : (items : List Item) → AllSaid start items → Sent (past_of start items) (outputs_of items)
-  items_send [] said o = elim o [ ]
+  items_send [] said o = absurd cc
   items_send (Turned turn ∷ items) said o =
-      ap (λ t. sends (onto t (outputs_of items))) said.0
+      ap sends (outputs_onto turn items) ∙ ap (λ t. sends (onto t (outputs_of items))) said.0
       ∙ signals_send (signals_of turn.input) (past_of start items) (outputs_of items) (items_send items said.1) o
   items_send (Forgets ∷ items) said o = items_send items said o
   items_send (Halts ∷ items) said o = items_send items said o
@@ -206,7 +222,7 @@ module _ (start : Start) where
   told_items : (items : List Item) → AllSaid start items → told_state (outputs_of items) ≡ state_of (past_of start items)
   told_items [] said = refl
   told_items (Turned turn ∷ items) said =
-      ap (λ t. told_state (onto t (outputs_of items))) said.0
+      ap told_state (outputs_onto turn items) ∙ ap (λ t. told_state (onto t (outputs_of items))) said.0
       ∙ told_signals (signals_of turn.input) (past_of start items) (outputs_of items) (told_items items said.1)
   told_items (Forgets ∷ items) said = told_items items said
   told_items (Halts ∷ items) said = told_items items said

@@ -20,7 +20,7 @@ use Rattle.zk_turns.specs.View.{View, view_at}
 use Rattle.zk_turns.specs.Taken.{reading, leaves_watch, timeout_of, opens, refusal, refusal_in, caused, happenings, calls, of_cutting, cut, Cutting, Unfinished, Bad, Payload, due, joined, past_after, past_of, comes, if_open}
 use Rattle.zk_turns.specs.Rule.{says, after_all, says_all, after_signals, says_signals, Rule, due_happenings, due_signals, Stands, HaltsAs}
 use Rattle.zk_turns.proofs.Registered.{empty_lists}
-use Rattle.zk_turns.proofs.Happened.{MayHappen, one_happening, view_ext}
+use Rattle.zk_turns.proofs.Happened.{MayHappen, one_happening}
 
 -- ---- what may happen
 
@@ -111,7 +111,7 @@ module _ (start : Start) where
   due_may : (view : View) (now : ℕ) (past : Past) → AllMay (due view now) past
   due_may view now past = may_cond (nat_le (2 * timeout_of view) (3 * (now - view.moments.heard))) _ _ past (tt, tt) (by view.standing.state)
     where
-      by : (state : State) → AllMay (elim state [ Connected ↦ if nat_le (timeout_of view) (3 * (now - view.moments.sent)) then Pinged ∷ [] else [] | _ ↦ [] ]) past
+      by : (state : State) → AllMay (if is_talking state && nat_le (timeout_of view) (3 * (now - view.moments.sent)) then Pinged ∷ [] else []) past
       by Connected = may_cond (nat_le (timeout_of view) (3 * (now - view.moments.sent))) (Pinged ∷ []) [] past (tt, tt) tt
       by _ = tt
 
@@ -183,9 +183,7 @@ module _ (start : Start) where
   -- ---- one turn
 
   view_is : (items : List Item) (view : View) → Stands start items view → view.standing.halted ≡ false → view ≡ view_at start (past_of start items)
-  view_is items view s on =
-      let g = s.going (sym (ap (λ t. t.halted) s.standing) ∙ on) in
-      view_ext view (view_at start (past_of start items)) s.standing s.saved g.moments g.pending g.held g.xid s.lists s.cache
+  view_is items view s on = s.going (sym (ap (λ t. t.halted) s.standing) ∙ on)
 
   pub turn_view : (items : List Item) (view after : View) (turn : Turn) → Stands start items view → Rule view turn after → after ≡ view_at start (past_of start (Turned turn ∷ items))
   turn_view items view after turn s rule =
@@ -207,7 +205,7 @@ module _ (start : Start) where
         saved = ap (λ v. v.saved) e;
         lists = ap (λ v. v.lists) e;
         cache = ap (λ v. v.cache) e;
-        going = λ on. record { moments = ap (λ v. v.moments) e; pending = ap (λ v. v.pending) e; held = ap (λ v. v.held) e; xid = ap (λ v. v.xid) e };
+        going = λ on. e;
         said = (turn_said items view after turn s rule, s.said);
         asked = (rule.asked, s.asked);
       }

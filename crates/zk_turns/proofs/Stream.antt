@@ -12,7 +12,7 @@ use Rattle.zk_turns.specs.Turns.{Start, Outcome, Fault, Behind, WatchesRefused, 
 use Rattle.zk_frames.specs.declared.fault.FrameFault.TheVariants.{Negative, TooLong}
 use Rattle.zk_session.specs.declared.states.State.{State}
 use Rattle.zk_session.specs.declared.states.State.TheVariants.{Idle, Connecting, Connected}
-use Rattle.zk_turns.specs.Kept.{Past, Happening, Began, Came, Took, Dropped, Lost, Pinged, Ticked, Message, Replies, Watches_set, state_of, held_of, has_halted}
+use Rattle.zk_turns.specs.Kept.{is_talking, Past, Happening, Began, Came, Took, Dropped, Lost, Pinged, Ticked, Message, Replies, Watches_set, state_of, held_of, has_halted}
 use Rattle.zk_conversation.specs.Pending.{Pending}
 use Rattle.zk_turns.specs.View.{View, view_at}
 use Rattle.zk_turns.specs.Taken.{reading, leaves_watch, refusal, caused, happenings, calls, opens, of_cutting, cut, Cutting, Unfinished, Bad, Payload, due, timeout_of, joined, past_after, past_of, comes, if_open, cut_at, received, frames_of, IsFrame, IsStream}
@@ -100,18 +100,18 @@ begun_stream past = record { whole = refl; each = tt; rest = nothing_yet }
 module _ (start : Start) where
   cutting_stream : (cutting : Cutting) (byte : ℕ) (past : Past) → IsStream past → cut (held_of past ++ byte ∷ []) ≡ cutting → StreamIfOpen (joined (Came byte ∷ past) (of_cutting (view_at start past) cutting))
   cutting_stream Unfinished byte past s e up = unfinished_stream byte past s e
-  cutting_stream (Bad fault) byte past s e up = elim up [ ]
+  cutting_stream (Bad fault) byte past s e up = absurd cc
   cutting_stream (Payload payload) byte past s e up =
-      of_reading (λ h. StreamIfOpen (h ∷ Came byte ∷ past)) (λ message o. taken_stream message byte past payload s e) (λ fault o. elim o [ ]) (state_of past) (view_at start past).pending (view_at start past).saved.last payload up
+      of_reading (λ h. StreamIfOpen (h ∷ Came byte ∷ past)) (λ message o. taken_stream message byte past payload s e) (λ fault o. absurd cc) (state_of past) (view_at start past).pending (view_at start past).saved.last payload up
 
   byte_open : (state : State) (byte : ℕ) (past : Past) → (IsOpen state → IsStream past) → StreamIfOpen past → StreamIfOpen (joined past (if_open state (comes (view_at start past) byte)))
-  byte_open Connecting byte past s whole = cutting_stream (cut (held_of past ++ byte ∷ [])) byte past (s tt) refl
-  byte_open Connected byte past s whole = cutting_stream (cut (held_of past ++ byte ∷ [])) byte past (s tt) refl
+  byte_open Connecting byte past s whole = cutting_stream (cut (held_of past ++ byte ∷ [])) byte past (s refl) refl
+  byte_open Connected byte past s whole = cutting_stream (cut (held_of past ++ byte ∷ [])) byte past (s refl) refl
   byte_open _ byte past s whole = whole
 
   lost_open : (state : State) (past : Past) → StreamIfOpen past → StreamIfOpen (joined past (if_open state (Lost ∷ [])))
-  lost_open Connecting past s up = elim up [ ]
-  lost_open Connected past s up = elim up [ ]
+  lost_open Connecting past s up = absurd cc
+  lost_open Connected past s up = absurd cc
   lost_open _ past s up = s up
 
   stream_cond : (b : Bool) (x y : List Happening) (past : Past) → StreamIfOpen (joined past x) → StreamIfOpen (joined past y) → StreamIfOpen (joined past (cond b x y))
@@ -120,12 +120,12 @@ module _ (start : Start) where
 
   due_stream : (view : View) (now : ℕ) (past : Past) → StreamIfOpen past → StreamIfOpen (joined past (due view now))
   due_stream view now past s =
-      stream_cond (nat_le (2 * timeout_of view) (3 * (now - view.moments.heard))) _ _ past (λ up. elim up [ ]) (by view.standing.state)
+      stream_cond (nat_le (2 * timeout_of view) (3 * (now - view.moments.heard))) _ _ past (λ up. absurd cc) (by view.standing.state)
     where
       pinged : StreamIfOpen (Pinged ∷ past)
       pinged up = record { whole = (s up).whole; each = (s up).each; rest = (s up).rest }
 
-      by : (state : State) → StreamIfOpen (joined past (elim state [ Connected ↦ if nat_le (timeout_of view) (3 * (now - view.moments.sent)) then Pinged ∷ [] else [] | _ ↦ [] ]))
+      by : (state : State) → StreamIfOpen (joined past (if is_talking state && nat_le (timeout_of view) (3 * (now - view.moments.sent)) then Pinged ∷ [] else []))
       by Connected = stream_cond (nat_le (timeout_of view) (3 * (now - view.moments.sent))) (Pinged ∷ []) [] past pinged s
       by _ = s
 
@@ -166,5 +166,5 @@ module _ (start : Start) where
   signals_stream (signal ∷ more) past s = signals_stream more (joined past (happenings (view_at start past) signal)) (signal_stream signal past s)
 
   pub stream : (items : List Item) → IsOpen (state_of (past_of start items)) → IsStream (past_of start items)
-  stream [] up = elim up [ ]
+  stream [] up = absurd cc
   stream (item ∷ items) up = signals_stream (signals item) (past_of start items) (stream items) up

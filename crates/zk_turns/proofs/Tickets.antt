@@ -26,13 +26,14 @@ use Rattle.zk_turns.specs.View.{View, view_at}
 use Rattle.zk_turns.specs.Rule.{next, says, part_frame, loss, losses, report, closing, due_happenings, due_signals, AllSaid, Stands}
 use Rattle.zk_turns.proofs.Happened.{MayHappen, one_happening}
 use Rattle.zk_turns.proofs.Stepped.{AllMay, Counted, all_may, counted_signal, counted}
-use Rattle.zk_turns.specs.Tickets.{one_if, answers_with, answers_in, is_call_with, calls_in, waits_with, waiting_with}
+use Rattle.zk_turns.specs.Tickets.{answers_in, calls_in, waiting_with}
+use Rattle.zk_turns.proofs.Counting.{one_if, answers_with, answers_over, is_call_with, calls_over, waits_with, waiting_over, answers_are, calls_are, waiting_are}
 
 answers-append : (t : ℕ) (xs ys : List Output) → answers_with t (xs ++ ys) ≡ answers_with t xs + answers_with t ys
 answers-append t [] ys = omega arith
 answers-append t (x ∷ xs) ys = let h = answers-append t xs ys in omega arith
 
-waiting-append : (t : ℕ) (xs ys : List Pending) → waiting_with t (xs ++ ys) ≡ waiting_with t xs + waiting_with t ys
+waiting-append : (t : ℕ) (xs ys : List Pending) → waiting_over t (xs ++ ys) ≡ waiting_over t xs + waiting_over t ys
 waiting-append t [] ys = omega arith
 waiting-append t (x ∷ xs) ys = let h = waiting-append t xs ys in omega arith
 
@@ -40,7 +41,7 @@ answers_parts : (t : ℕ) (relative : ℤ) (ps : List Lists) → answers_with t 
 answers_parts t relative [] = refl
 answers_parts t relative (p ∷ ps) = let h = answers_parts t relative ps in omega arith
 
-waiting_parts : (t : ℕ) (ps : List Lists) → waiting_with t (map pending_for (parts_asked ps)) ≡ 0
+waiting_parts : (t : ℕ) (ps : List Lists) → waiting_over t (map pending_for (parts_asked ps)) ≡ 0
 waiting_parts t [] = refl
 waiting_parts t (p ∷ []) = refl
 waiting_parts t (p ∷ q ∷ ps) = let h = waiting_parts t (q ∷ ps) in omega arith
@@ -52,11 +53,11 @@ answers_loss t p = by p.waiting
     by (Part_waits last) = refl
     by (Call_waits other question) = omega arith
 
-answers_losses : (t : ℕ) (ps : List Pending) → answers_with t (flat_map loss ps) ≡ waiting_with t ps
+answers_losses : (t : ℕ) (ps : List Pending) → answers_with t (flat_map loss ps) ≡ waiting_over t ps
 answers_losses t [] = refl
 answers_losses t (p ∷ ps) = let h = answers_losses t ps in let l = answers_loss t p in let a = answers-append t (loss p) (flat_map loss ps) in omega arith
 
-answers_all_losses : (t : ℕ) (view : View) → answers_with t (losses view) ≡ waiting_with t view.pending
+answers_all_losses : (t : ℕ) (view : View) → answers_with t (losses view) ≡ waiting_over t view.pending
 answers_all_losses t view = let h = answers_losses t view.pending in let a = answers-append t (flat_map loss view.pending) (Enters Idle ∷ []) in omega arith
 
 answers_report : (t : ℕ) (view : View) (event : Event) (path : Text) (side : Side) → answers_with t (report view event path side) ≡ 0
@@ -142,11 +143,11 @@ called_with t (Denied other why) = one_if t other
 called_with t _ = 0
 
 abbrev Balanced : ℕ → Happening → View → Type 0
-Balanced t happening view = answers_with t (says view happening) + waiting_with t (next view happening).pending ≡ waiting_with t view.pending + called_with t happening
+Balanced t happening view = answers_with t (says view happening) + waiting_over t (next view happening).pending ≡ waiting_over t view.pending + called_with t happening
 
 balance : (t : ℕ) (happening : Happening) (view : View) → Fits happening view → ClosesLast view.pending → Balanced t happening view
 unfolding called_with
-balance t Began view f c = let e : waiting_with t view.pending ≡ 0 = ap (waiting_with t) f in omega arith
+balance t Began view f c = let e : waiting_over t view.pending ≡ 0 = ap (waiting_over t) f in omega arith
 balance t (Came byte) view f c = omega arith
 balance t (Dropped fault) view f c = let h = answers_all_losses t view in omega arith
 balance t Lost view f c = let h = answers_all_losses t view in omega arith
@@ -157,23 +158,23 @@ balance t (Ticked moment) view f c = omega arith
 balance t Forgot view f c = omega arith
 balance t Halted view f c = omega arith
 balance t (Took (Accepted welcome)) view f c =
-    let e : waiting_with t view.pending ≡ 0 = ap (waiting_with t) f in
+    let e : waiting_over t view.pending ≡ 0 = ap (waiting_over t) f in
     let h = answers_parts t view.saved.last (parts view.lists) in
     let w = waiting_parts t (parts view.lists) in omega arith
-balance t (Took Expiry) view f c = let e : waiting_with t view.pending ≡ 0 = ap (waiting_with t) f in omega arith
+balance t (Took Expiry) view f c = let e : waiting_over t view.pending ≡ 0 = ap (waiting_over t) f in omega arith
 balance t (Took (Replies ticket Close zxid result)) view f c =
-    let e : waiting_with t view.pending ≡ waiting_with t (record { xid = f.0; waiting = Call_waits ticket Close } ∷ f.1) = ap (waiting_with t) f.2 in
-    let n : waiting_with t f.1 ≡ 0 = ap (waiting_with t) (none_behind ticket f.0 f.1 (subst ClosesLast f.2 c)) in omega arith
+    let e : waiting_over t view.pending ≡ waiting_over t (record { xid = f.0; waiting = Call_waits ticket Close } ∷ f.1) = ap (waiting_over t) f.2 in
+    let n : waiting_over t f.1 ≡ 0 = ap (waiting_over t) (none_behind ticket f.0 f.1 (subst ClosesLast f.2 c)) in omega arith
 balance t (Took (Replies ticket question zxid result)) view f c =
-    let e : waiting_with t view.pending ≡ waiting_with t (record { xid = f.0; waiting = Call_waits ticket question } ∷ f.1) = ap (waiting_with t) f.2 in
-    let d : waiting_with t (drop 1 view.pending) ≡ waiting_with t f.1 = ap (λ ps. waiting_with t (drop 1 ps)) f.2 in
+    let e : waiting_over t view.pending ≡ waiting_over t (record { xid = f.0; waiting = Call_waits ticket question } ∷ f.1) = ap (waiting_over t) f.2 in
+    let d : waiting_over t (drop 1 view.pending) ≡ waiting_over t f.1 = ap (λ ps. waiting_over t (drop 1 ps)) f.2 in
     let h = answers_closing t question in omega arith
 balance t (Took (Watches_set true zxid)) view f c =
-    let e : waiting_with t view.pending ≡ waiting_with t (record { xid = f.0; waiting = Part_waits true } ∷ f.1) = ap (waiting_with t) f.2 in
-    let d : waiting_with t (drop 1 view.pending) ≡ waiting_with t f.1 = ap (λ ps. waiting_with t (drop 1 ps)) f.2 in omega arith
+    let e : waiting_over t view.pending ≡ waiting_over t (record { xid = f.0; waiting = Part_waits true } ∷ f.1) = ap (waiting_over t) f.2 in
+    let d : waiting_over t (drop 1 view.pending) ≡ waiting_over t f.1 = ap (λ ps. waiting_over t (drop 1 ps)) f.2 in omega arith
 balance t (Took (Watches_set false zxid)) view f c =
-    let e : waiting_with t view.pending ≡ waiting_with t (record { xid = f.0; waiting = Part_waits false } ∷ f.1) = ap (waiting_with t) f.2 in
-    let d : waiting_with t (drop 1 view.pending) ≡ waiting_with t f.1 = ap (λ ps. waiting_with t (drop 1 ps)) f.2 in omega arith
+    let e : waiting_over t view.pending ≡ waiting_over t (record { xid = f.0; waiting = Part_waits false } ∷ f.1) = ap (waiting_over t) f.2 in
+    let d : waiting_over t (drop 1 view.pending) ≡ waiting_over t f.1 = ap (λ ps. waiting_over t (drop 1 ps)) f.2 in omega arith
 balance t (Took (Notifies event path)) view f c =
     let a = answers_report t view event path Data in
     let b = answers_report t view event path Child in
@@ -243,7 +244,7 @@ module _ (start : Start) where
   due_fits : (view : View) (now : ℕ) (past : Past) → AllFit (due view now) past
   due_fits view now past = fit_cond (nat_le (2 * timeout_of view) (3 * (now - view.moments.heard))) _ _ past (tt, tt) (by view.standing.state)
     where
-      by : (state : State) → AllFit (elim state [ Connected ↦ if nat_le (timeout_of view) (3 * (now - view.moments.sent)) then Pinged ∷ [] else [] | _ ↦ [] ]) past
+      by : (state : State) → AllFit (if is_talking state && nat_le (timeout_of view) (3 * (now - view.moments.sent)) then Pinged ∷ [] else []) past
       by Connected = fit_cond (nat_le (timeout_of view) (3 * (now - view.moments.sent))) (Pinged ∷ []) [] past (tt, tt) tt
       by _ = tt
 
@@ -293,12 +294,12 @@ module _ (start : Start) where
   closes_all (happening ∷ more) past may f c = closes_all more (happening ∷ past) may.1 f.1 (closes_next happening past may.0 f.0 c)
 
   balance_all : (t : ℕ) (more : List Happening) (past : Past) → AllMay more past → AllFit more past → ClosesLast (pending_of past)
-      → answers_with t (due_happenings start past more) + waiting_with t (pending_of (joined past more)) ≡ waiting_with t (pending_of past) + called_all t more
+      → answers_with t (due_happenings start past more) + waiting_over t (pending_of (joined past more)) ≡ waiting_over t (pending_of past) + called_all t more
   unfolding called_all
   balance_all t [] past may f c = omega arith
   balance_all t (happening ∷ more) past may f c =
       let b = balance t happening (view_at start past) f.0 c in
-      let n : waiting_with t (next (view_at start past) happening).pending ≡ waiting_with t (pending_of (happening ∷ past)) = ap (λ v. waiting_with t v.pending) (one_happening start happening past may.0) in
+      let n : waiting_over t (next (view_at start past) happening).pending ≡ waiting_over t (pending_of (happening ∷ past)) = ap (λ v. waiting_over t v.pending) (one_happening start happening past may.0) in
       let r = balance_all t more (happening ∷ past) may.1 f.1 (closes_next happening past may.0 f.0 c) in
       let a = answers-append t (says (view_at start past) happening) (due_happenings start (happening ∷ past) more) in
       omega arith
@@ -351,7 +352,7 @@ module _ (start : Start) where
   unfolding called_all called_with
   due_calls t view now = cond_calls t (nat_le (2 * timeout_of view) (3 * (now - view.moments.heard))) _ _ refl (by view.standing.state)
     where
-      by : (state : State) → called_all start t (elim state [ Connected ↦ if nat_le (timeout_of view) (3 * (now - view.moments.sent)) then Pinged ∷ [] else [] | _ ↦ [] ]) ≡ 0
+      by : (state : State) → called_all start t (if is_talking state && nat_le (timeout_of view) (3 * (now - view.moments.sent)) then Pinged ∷ [] else []) ≡ 0
       by Connected = cond_calls t (nat_le (timeout_of view) (3 * (now - view.moments.sent))) (Pinged ∷ []) [] refl refl
       by _ = refl
 
@@ -397,7 +398,7 @@ module _ (start : Start) where
   -- ---- over signals that are no call
 
   bytes_balance : (t : ℕ) (bytes : List ℕ) (past : Past) → Counted past → ClosesLast (pending_of past)
-      → answers_with t (due_signals start past (map Comes bytes)) + waiting_with t (pending_of (past_after start past (map Comes bytes))) ≡ waiting_with t (pending_of past)
+      → answers_with t (due_signals start past (map Comes bytes)) + waiting_over t (pending_of (past_after start past (map Comes bytes))) ≡ waiting_over t (pending_of past)
   unfolding signal_calls
   bytes_balance t [] past c l = omega arith
   bytes_balance t (byte ∷ bytes) past c l =
@@ -416,7 +417,7 @@ module _ (start : Start) where
       (closes_all start (happenings (view_at start past) (Comes byte)) past (all_may start (Comes byte) past c) (all_fit start (Comes byte) past) l)
 
   one_balance : (t : ℕ) (signal : Signal) (past : Past) → Counted past → ClosesLast (pending_of past)
-      → answers_with t (due_signals start past (signal ∷ [])) + waiting_with t (pending_of (past_after start past (signal ∷ []))) ≡ waiting_with t (pending_of past) + cond (has_halted past) 0 (signal_calls t signal)
+      → answers_with t (due_signals start past (signal ∷ [])) + waiting_over t (pending_of (past_after start past (signal ∷ []))) ≡ waiting_over t (pending_of past) + cond (has_halted past) 0 (signal_calls t signal)
   one_balance t signal past c l =
       let h = balance_all start t (happenings (view_at start past) signal) past (all_may start signal past c) (all_fit start signal past) l in
       let n = happenings_call t (view_at start past) signal in
@@ -437,7 +438,7 @@ module _ (start : Start) where
   item_answers t items _ = 0
 
   input_balance : (t : ℕ) (input : Input) (past : Past) → Counted past → ClosesLast (pending_of past)
-      → answers_with t (due_signals start past (signals_of input)) + waiting_with t (pending_of (past_after start past (signals_of input))) ≡ waiting_with t (pending_of past) + cond (has_halted past) 0 (is_call_with t input)
+      → answers_with t (due_signals start past (signals_of input)) + waiting_over t (pending_of (past_after start past (signals_of input))) ≡ waiting_over t (pending_of past) + cond (has_halted past) 0 (is_call_with t input)
   unfolding signal_calls
   input_balance t Opened past c l = one_balance t Opens past c l
   input_balance t (Bytes bytes) past c l = let h = bytes_balance t bytes past c l in let z = zero_either (has_halted past) in omega arith
@@ -463,7 +464,7 @@ module _ (start : Start) where
   at_most_cond false n = omega arith
 
   -- the answers and what waits are no more than the calls
-  pub at_most_once : (t : ℕ) (items : List Item) → AllSaid start items → answers_in t items + waiting_with t (pending_of (past_of start items)) ≤ calls_in t items
+  pub at_most_once : (t : ℕ) (items : List Item) → AllSaid start items → answers_over t items + waiting_over t (pending_of (past_of start items)) ≤ calls_over t items
   at_most_once t [] said = omega arith
   at_most_once t (Turned turn ∷ items) said =
       let h = input_balance t turn.input (past_of start items) (counted start items) (close_last items) in
@@ -496,7 +497,7 @@ module _ (start : Start) where
       by false h = h
 
   -- where the client goes on, they are exactly the calls
-  pub exactly_once : (t : ℕ) (items : List Item) → AllSaid start items → has_halted (past_of start items) ≡ false → calls_in t items ≡ answers_in t items + waiting_with t (pending_of (past_of start items))
+  pub exactly_once : (t : ℕ) (items : List Item) → AllSaid start items → has_halted (past_of start items) ≡ false → calls_over t items ≡ answers_over t items + waiting_over t (pending_of (past_of start items))
   exactly_once t [] said on = omega arith
   exactly_once t (Turned turn ∷ items) said on =
       let o = went_on (signals_of turn.input) (past_of start items) on in
@@ -511,19 +512,24 @@ module _ (start : Start) where
   -- ---- of a client
 
   pub answers_at_most : (t : ℕ) (items : List Item) (view : View) → Stands start items view → answers_in t items ≤ calls_in t items
-  answers_at_most t items view s = let h = at_most_once t items s.said in omega arith
+  answers_at_most t items view s = let h = at_most_once t items s.said in let a = answers_are t items in let c = calls_are t items in omega arith
 
   pub answers_exact : (t : ℕ) (items : List Item) (view : View) → Stands start items view → view.standing.halted ≡ false → calls_in t items ≡ answers_in t items + waiting_with t view.pending
   answers_exact t items view s on =
       let o : has_halted (past_of start items) ≡ false = sym (ap (λ v. v.halted) s.standing) ∙ on in
-      let p : waiting_with t view.pending ≡ waiting_with t (pending_of (past_of start items)) = ap (waiting_with t) (s.going o).pending in
+      let p : waiting_over t view.pending ≡ waiting_over t (pending_of (past_of start items)) = ap (λ v. waiting_over t v.pending) (s.going o) in
       let h = exactly_once t items s.said o in
+      let a = answers_are t items in
+      let c = calls_are t items in
+      let w = waiting_are t view.pending in
       omega arith
 
   pub answers_ended : (t : ℕ) (items : List Item) (view : View) → Stands start items view → view.standing.halted ≡ false → is_talking view.standing.state ≡ false → calls_in t items ≡ answers_in t items
   answers_ended t items view s on quiet =
       let o : has_halted (past_of start items) ≡ false = sym (ap (λ v. v.halted) s.standing) ∙ on in
       let e : is_talking (state_of (past_of start items)) ≡ false = sym (ap (λ v. is_talking v.state) s.standing) ∙ quiet in
-      let n : waiting_with t (pending_of (past_of start items)) ≡ 0 = ap (waiting_with t) (nobody_waits (past_of start items) e) in
+      let n : waiting_over t (pending_of (past_of start items)) ≡ 0 = ap (waiting_over t) (nobody_waits (past_of start items) e) in
       let h = exactly_once t items s.said o in
+      let a = answers_are t items in
+      let c = calls_are t items in
       omega arith

@@ -70,6 +70,12 @@ abbrev pub is_talking : State → Bool
 is_talking Connected = true
 is_talking _ = false
 
+-- the states in which a client takes bytes
+abbrev pub is_open : State → Bool
+is_open Connecting = true
+is_open Connected = true
+is_open _ = false
+
 -- the states that nothing ends
 abbrev pub is_final : State → Bool
 is_final Expired = true
@@ -87,23 +93,15 @@ session_of start [] = record { timeout = start.timeout; session = start.session;
 session_of start (Took (Accepted welcome) ∷ past) = welcome
 session_of start (_ ∷ past) = session_of start past
 
--- the zxids that count: those of the taken replies, but of setWatches parts the last one's alone
-abbrev pub zxids : Past → List ℤ
-zxids [] = []
-zxids (Took (Replies ticket question zxid result) ∷ past) = zxid ∷ zxids past
-zxids (Took (Watches_set true zxid) ∷ past) = zxid ∷ zxids past
-zxids (_ ∷ past) = zxids past
-
 abbrev pub later : ℤ → ℤ → ℤ
 later a b = if int_lt b a then a else b
 
-abbrev pub greatest : ℤ → List ℤ → ℤ
-greatest low [] = low
-greatest low (z ∷ zs) = later z (greatest low zs)
-
--- the last seen zxid
+-- The last seen zxid: the greatest of the saved one and those of the replies that were taken, but of setWatches parts of the last one's alone.
 abbrev pub last_of : Start → Past → ℤ
-last_of start past = greatest start.last (zxids past)
+last_of start [] = start.last
+last_of start (Took (Replies ticket question zxid result) ∷ past) = later zxid (last_of start past)
+last_of start (Took (Watches_set true zxid) ∷ past) = later zxid (last_of start past)
+last_of start (_ ∷ past) = last_of start past
 
 -- The moments
 

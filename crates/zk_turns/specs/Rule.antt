@@ -5,7 +5,7 @@ use Rattle.zk_cache.specs.declared.held.Kept.{Kept}
 use Rattle.zk_watches.specs.Lists.{Lists, registered, fired, fires, no_lists}
 use Rattle.zk_turns.specs.Turns.{IsAskable, AllAskOf, IsAsked, Replied, ConnectionLoss, Output, Send, Answer, Report, Enters, Drop, Turn, Item, Turned, Start, Signal, signals_of}
 use Rattle.zk_records.specs.Events.{concerns}
-use Rattle.zk_turns.specs.Kept.{pending_for, Happening, Began, Came, Took, Dropped, Lost, Asked, Denied, Pinged, Ticked, Forgot, Halted, Past, Message, Accepted, Expiry, Replies, Watches_set, Notifies, Pong, Skipped, Left, leaves_data, leaves_child, parts_asked, if_any, later, has_halted, pending_of, held_of, xid_of, lists_of}
+use Rattle.zk_turns.specs.Kept.{pending_for, Happening, Began, Came, Took, Dropped, Lost, Asked, Denied, Pinged, Ticked, Forgot, Halted, Past, Message, Accepted, Expiry, Replies, Watches_set, Notifies, Pong, Skipped, Left, leaves_data, leaves_child, parts_asked, if_any, later, has_halted, is_open}
 use Rattle.zk_watches.specs.Parts.{parts}
 use Rattle.zk_conversation.specs.Pending.{next_xid, call_waits, Pending, Part_waits, Call_waits}
 use Rattle.std.specs.Prelude.{◌≡◌, ℕ, ℤ, pos, max, Bool, true, false, ◌&&◌, List, [], ◌∷◌, ◌++◌, map, drop, Option, Some, None, bytes_eq, if◌then◌else◌}
@@ -20,7 +20,7 @@ use Rattle.zk_conversation.specs.Results.{Result}
 use Rattle.zk_session.specs.declared.states.State.{State}
 use Rattle.zk_session.specs.declared.states.State.TheVariants.{Idle, Connecting, Connected, Expired, Closed}
 use Rattle.zk_frames.specs.Frame.{frame}
-use Rattle.zk_turns.specs.View.{View, Standing, Cache, view_at, standing_at, saved_at, moments_at, cache_at}
+use Rattle.zk_turns.specs.View.{View, Standing, Cache, view_at}
 use Rattle.zk_session.specs.Kept.{Saved, Moments}
 use Rattle.zk_turns.specs.Taken.{reading, happenings, past_of, past_after}
 
@@ -202,9 +202,7 @@ fed view (byte ∷ bytes) = record view { moments = heard_now view; held = view.
 
 -- a client that takes bytes
 abbrev pub IsOpen : State → Type 0
-IsOpen Connecting = Unit {0}
-IsOpen Connected = Unit {0}
-IsOpen _ = ⊥
+IsOpen state = is_open state ≡ true
 
 pub record Hears (view : View) : Type 0 where
   pub up : IsOpen view.standing.state
@@ -248,21 +246,14 @@ module _ (start : Start) where
   AllSaid (Turned turn ∷ items) = (turn.outputs ≡ due_signals (past_of start items) (signals_of turn.input)) × AllSaid items
   AllSaid (_ ∷ items) = AllSaid items
 
-  -- what a client that goes on knows of its connection
-  pub record IsGoing (past : Past) (view : View) : Type 0 where
-    pub moments : view.moments ≡ moments_at start past
-    pub pending : view.pending ≡ pending_of past
-    pub held : view.held ≡ held_of past
-    pub xid : view.xid ≡ xid_of past
-
   -- A client has come through these items, the newest first: each field is what the definitions give, and each turn
   -- gave what was due. Of a client that has halted nothing is known of its connection.
   pub record Stands (items : List Item) (view : View) : Type 0 where
-    pub standing : view.standing ≡ standing_at start (past_of start items)
-    pub saved : view.saved ≡ saved_at start (past_of start items)
-    pub lists : view.lists ≡ lists_of (past_of start items)
-    pub cache : view.cache ≡ cache_at start (past_of start items)
-    pub going : has_halted (past_of start items) ≡ false → IsGoing (past_of start items) view
+    pub standing : view.standing ≡ (view_at start (past_of start items)).standing
+    pub saved : view.saved ≡ (view_at start (past_of start items)).saved
+    pub lists : view.lists ≡ (view_at start (past_of start items)).lists
+    pub cache : view.cache ≡ (view_at start (past_of start items)).cache
+    pub going : has_halted (past_of start items) ≡ false → view ≡ view_at start (past_of start items)
     pub said : AllSaid items
     pub asked : AllAskOf IsAskable items
 

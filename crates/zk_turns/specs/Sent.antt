@@ -1,5 +1,5 @@
 -- The frames that a connection was sent, by the outputs and by what happened.
-use Rattle.std.specs.Prelude.{pos, ℕ, ℤ, List, [], ◌∷◌, ◌++◌, map}
+use Rattle.std.specs.Prelude.{pos, ℕ, ℤ, List, [], ◌∷◌, ◌++◌, map, reverse}
 use Rattle.zk_turns.specs.Turns.{Start, Output, Send, Enters, Item, Turned}
 use Rattle.zk_session.specs.declared.states.State.{State}
 use Rattle.zk_session.specs.declared.states.State.TheVariants.{Idle, Connecting}
@@ -10,13 +10,9 @@ use Rattle.zk_watches.specs.Lists.{Lists}
 use Rattle.zk_watches.specs.Parts.{parts}
 
 -- the outputs of all turns, the newest first
-abbrev pub onto : List Output → List Output → List Output
-onto [] earlier = earlier
-onto (output ∷ outputs) earlier = onto outputs (output ∷ earlier)
-
 abbrev pub outputs_of : List Item → List Output
 outputs_of [] = []
-outputs_of (Turned turn ∷ items) = onto turn.outputs (outputs_of items)
+outputs_of (Turned turn ∷ items) = reverse turn.outputs ++ outputs_of items
 outputs_of (_ ∷ items) = outputs_of items
 
 -- A connection's first frame was sent just before the state Connecting, the others after it.

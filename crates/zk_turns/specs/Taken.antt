@@ -22,7 +22,7 @@ use Rattle.zk_frames.specs.declared.fault.FrameFault.TheVariants.{Negative, TooL
 use Rattle.zk_session.specs.declared.states.State.{State}
 use Rattle.zk_session.specs.declared.states.State.TheVariants.{Idle, Connecting, Connected, Expired, Closed}
 use Rattle.zk_records.specs.Response.{Response}
-use Rattle.zk_turns.specs.Kept.{Happening, Began, Came, Took, Dropped, Lost, Asked, Denied, Pinged, Ticked, Forgot, Halted, Past, Message, Accepted, Expiry, Replies, Watches_set, Notifies, Pong, Skipped, leaves_data, leaves_child, held_of}
+use Rattle.zk_turns.specs.Kept.{Happening, Began, Came, Took, Dropped, Lost, Asked, Denied, Pinged, Ticked, Forgot, Halted, Past, Message, Accepted, Expiry, Replies, Watches_set, Notifies, Pong, Skipped, is_talking, is_open, leaves_data, leaves_child, held_of}
 use Rattle.zk_turns.specs.View.{View, view_at}
 
 -- Payloads
@@ -100,10 +100,7 @@ timeout_of view = elim view.standing.state [ Connecting ↦ view.saved.asked | _
 abbrev pub due : View → (now : ℕ) → List Happening
 due view now =
     if nat_le (2 * timeout_of view) (3 * (now - view.moments.heard)) then Dropped Silent ∷ []
-    else (elim view.standing.state [
-      | Connected ↦ if nat_le (timeout_of view) (3 * (now - view.moments.sent)) then Pinged ∷ [] else []
-      | _ ↦ []
-    ])
+    else (if is_talking view.standing.state && nat_le (timeout_of view) (3 * (now - view.moments.sent)) then Pinged ∷ [] else [])
 
 -- Calls
 
@@ -135,16 +132,12 @@ calls ticket call (Some why) = Denied ticket why ∷ []
 
 -- What a signal makes happen, in order.
 
+abbrev pub if_open : State → List Happening → List Happening
+if_open state happenings = if is_open state then happenings else []
+
 abbrev pub opens : State → List Happening
 opens Idle = Began ∷ []
-opens Connecting = Lost ∷ Began ∷ []
-opens Connected = Lost ∷ Began ∷ []
-opens _ = []
-
-abbrev pub if_open : State → List Happening → List Happening
-if_open Connecting happenings = happenings
-if_open Connected happenings = happenings
-if_open _ happenings = []
+opens state = if_open state (Lost ∷ Began ∷ [])
 
 abbrev pub caused : View → Signal → List Happening
 caused view Opens = opens view.standing.state

@@ -30,22 +30,12 @@ pub record View : Type 0 where
   pub lists : Lists
   pub cache : Cache
 
-module _ (start : Start) where
-  abbrev pub standing_at : Past → Standing
-  standing_at past = record { halted = has_halted past; state = state_of past }
-
-  abbrev pub saved_at : Past → Saved
-  saved_at past = record { asked = start.timeout; session = session_of start past; last = last_of start past }
-
-  abbrev pub moments_at : Past → Moments
-  moments_at past = record { now = now_of past; heard = heard_of past; sent = sent_of past }
-
-  abbrev pub cache_at : Past → Cache
-  cache_at past = record { nodes = λ path. kept_data path past; children = λ path. kept_names path past }
-
-  -- what the definitions give
-  abbrev pub view_at : Past → View
-  view_at past = record {
-    standing = standing_at past; saved = saved_at past; moments = moments_at past; pending = pending_of past;
-    held = held_of past; xid = xid_of past; lists = lists_of past; cache = cache_at past;
-  }
+-- what the definitions give
+abbrev pub view_at : Start → Past → View
+view_at start past = record {
+  standing = record { halted = has_halted past; state = state_of past };
+  saved = record { asked = start.timeout; session = session_of start past; last = last_of start past };
+  moments = record { now = now_of past; heard = heard_of past; sent = sent_of past };
+  pending = pending_of past; held = held_of past; xid = xid_of past; lists = lists_of past;
+  cache = record { nodes = λ path. kept_data path past; children = λ path. kept_names path past };
+}

@@ -33,9 +33,9 @@ ghost use Rattle.zk_turns.specs.Turns.{Report, Start, Item, Turned, Forgets, Hal
 ghost use Rattle.zk_frames.specs.Frame.{frame, IsUnfinished};
 ghost use Rattle.zk_cache.specs.Kept.{Full, is_marked_good, Answer, Names};
 ghost use Rattle.zk_cache.specs.declared.held.Mark.TheVariants.{Good};
-ghost use Rattle.zk_turns.specs.Kept.{Past, Happening, Began, Asked, Took, Accepted, Notifies, Dropped, session_of, state_of, is_talking, is_over, is_good, kept_data, kept_names, standing, word_data, word_child, IsMarked, AgreesWith, in_known, in_missing, in_parents, KeepsNothing, last_of, pending_of, held_of, xid_of, lists_of};
+ghost use Rattle.zk_turns.specs.Kept.{Past, Happening, Began, Asked, Took, Accepted, Notifies, Dropped, session_of, state_of, is_talking, is_over, is_good, kept_data, kept_names, standing, word_data, word_child, IsMarked, AgreesWith, in_known, in_missing, in_parents, KeepsNothing, last_of, xid_of, lists_of};
 ghost use Rattle.zk_records.specs.Events.{concerns};
-ghost use Rattle.zk_turns.specs.View.{View, standing_at, saved_at, moments_at, cache_at, view_at};
+ghost use Rattle.zk_turns.specs.View.{View, view_at};
 ghost use Rattle.zk_frames.specs.declared.reader.TheConstants.{LONGEST_INCOMING};
 ghost use Rattle.zk_turns.specs.Taken.{IsStream, happenings, past_of};
 ghost use Rattle.zk_turns.specs.Rule.{Rule, Stands, HaltsAs, forgotten, report, Hears, IsOpen, heard, fed, arrival, next, says, after_all, says_all, after_signals, says_signals};
@@ -50,22 +50,8 @@ ghost use Rattle.zk_turns.specs.Tickets.{answers_in, calls_in, waiting_with};
 /// One turn by the rule keeps what the client stands for: each field of the view is what the definitions give for all
 /// items, the new turn with them, and each turn gave what was due.
 pub fn one_turn()
-    ensures standing { (start : Start) (items : List Item) (view after : View) (turn : Turn) →
-        Stands start items view → Rule view turn after → after.standing ≡ standing_at start (past_of start (Turned turn ∷ items)) }
-    ensures saved { (start : Start) (items : List Item) (view after : View) (turn : Turn) →
-        Stands start items view → Rule view turn after → after.saved ≡ saved_at start (past_of start (Turned turn ∷ items)) }
-    ensures moments { (start : Start) (items : List Item) (view after : View) (turn : Turn) →
-        Stands start items view → Rule view turn after → after.moments ≡ moments_at start (past_of start (Turned turn ∷ items)) }
-    ensures pending { (start : Start) (items : List Item) (view after : View) (turn : Turn) →
-        Stands start items view → Rule view turn after → after.pending ≡ pending_of (past_of start (Turned turn ∷ items)) }
-    ensures held { (start : Start) (items : List Item) (view after : View) (turn : Turn) →
-        Stands start items view → Rule view turn after → after.held ≡ held_of (past_of start (Turned turn ∷ items)) }
-    ensures xid { (start : Start) (items : List Item) (view after : View) (turn : Turn) →
-        Stands start items view → Rule view turn after → after.xid ≡ xid_of (past_of start (Turned turn ∷ items)) }
-    ensures lists { (start : Start) (items : List Item) (view after : View) (turn : Turn) →
-        Stands start items view → Rule view turn after → after.lists ≡ lists_of (past_of start (Turned turn ∷ items)) }
-    ensures cache { (start : Start) (items : List Item) (view after : View) (turn : Turn) →
-        Stands start items view → Rule view turn after → after.cache ≡ cache_at start (past_of start (Turned turn ∷ items)) }
+    ensures view { (start : Start) (items : List Item) (view after : View) (turn : Turn) →
+        Stands start items view → Rule view turn after → after ≡ view_at start (past_of start (Turned turn ∷ items)) }
     ensures stands { (start : Start) (items : List Item) (view after : View) (turn : Turn) →
         Stands start items view → Rule view turn after → Stands start (Turned turn ∷ items) after }
 {}

@@ -1,5 +1,5 @@
-use Rattle.zk_laws.proofs.Headlines.{due_drops}
+use Rattle.zk_laws.proofs.Headlines.{drops_before}
 use Rattle.zk_laws.proofs.drops_are_due.Goals as goal
 
 pub returns : goal.returns
-returns c h is start items view s served = due_drops h is start items s.asked served
+returns c h is start items view s served = drops_before h is start items s.asked served
