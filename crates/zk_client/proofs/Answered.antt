@@ -13,10 +13,11 @@ use Rattle.zk_watches.specs.Lists.{Lists, no_lists}
 use Rattle.zk_cache.specs.Cache.{Answers, data_kept, names_kept, no_answers}
 use Rattle.zk_turns.specs.Kept.{Took, Replies, leaves_data, leaves_child}
 use Rattle.zk_turns.specs.View.{View}
-use Rattle.zk_turns.specs.Rule.{next, next_reply, seen, after_reply, kept_after, keep_node, keep_children, closing}
+use Rattle.zk_turns.specs.Rule.{next, next_reply, seen, after_reply, kept_after, keep_node, keep_children}
 use Rattle.zk_turns.proofs.Happened.{view_ext}
 use Rattle.zk_client.specs.Seen.{shown, while_pending, cache_of}
 use Rattle.zk_client.proofs.Kept.{cache-ext, nothing-kept}
+use Rattle.zk_client.specs.Steps.{closing}
 
 pub is-close : (question : Question) → closes question ≡ true → question ≡ Close
 is-close Close e = refl

@@ -18,12 +18,13 @@ use Rattle.zk_conversation.specs.Results.{response_password}
 use Rattle.zk_conversation.specs.Arriving.{Arrived, Connected, Replied, Watches_set, Notice, Pong, Skipped, arriving, first_arriving, pending_after, talk_after}
 use Rattle.zk_watches.specs.Lists.{Lists}
 use Rattle.zk_cache.specs.Cache.{Answers}
-use Rattle.zk_turns.specs.Taken.{phase_of, happening_of}
+use Rattle.zk_turns.specs.Taken.{phase_of}
 use Rattle.zk_turns.specs.Rule.{IsOpen, arrival}
 use Rattle.zk_turns.proofs.Arriving.{IsOf, AreOf, of_arriving}
 use Rattle.zk_turns.proofs.Spelt.{first_spelt}
 use Rattle.zk_client.specs.Seen.{shown, while_pending}
 use Rattle.zk_client.specs.Sound.{IsSound, IsLeft, HasArrived}
+use Rattle.zk_turns.proofs.Words.{happening_of}
 
 -- ---- how long a password is
 

@@ -20,10 +20,10 @@ use Rattle.zk_client.specs.Seen.{shown}
 use Rattle.zk_watches.specs.Lists.{Lists}
 use Rattle.zk_watches.specs.Parts.{parts}
 use Rattle.zk_turns.specs.Turns.{Comes, Output, Framed}
-use Rattle.zk_turns.specs.Kept.{Happening, Dropped, Came, Message, Accepted, Expiry, Replies, Watches_set, Notifies, Pong, Skipped, if_any}
+use Rattle.zk_turns.specs.Kept.{Happening, Dropped, Came, Message, Accepted, Expiry, Replies, Watches_set, Notifies, Pong, Skipped}
 use Rattle.zk_turns.specs.Taken.{Cutting, Unfinished, Bad, Payload, cut, of_cutting, happenings}
 use Rattle.zk_turns.specs.View.{View}
-use Rattle.zk_turns.specs.Rule.{IsOpen, Hears, heard, fed, next, says, arrival, after_all, says_all, after_signals, says_signals, next_message, next_reply}
+use Rattle.zk_turns.specs.Rule.{if_any, IsOpen, Hears, heard, fed, next, says, arrival, after_all, says_all, after_signals, says_signals, next_message, next_reply}
 use Rattle.std.proofs.lemmas.List.{map-append}
 use Rattle.zk_turns.proofs.Stepped.{after_append, says_append}
 use Rattle.zk_turns.proofs.Stream.{of_reading}

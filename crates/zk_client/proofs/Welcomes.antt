@@ -19,9 +19,9 @@ use Rattle.zk_history.specs.declared.side.Side.TheVariants.{Data, Child}
 use Rattle.zk_watches.specs.Lists.{Lists}
 use Rattle.zk_watches.specs.Parts.{parts}
 use Rattle.zk_cache.specs.Cache.{Answers}
-use Rattle.zk_turns.specs.Kept.{Took, Accepted, Expiry, pending_for, parts_asked, if_any}
+use Rattle.zk_turns.specs.Kept.{Took, Accepted, Expiry, pending_for, parts_asked}
 use Rattle.zk_turns.specs.Taken.{welcome_by, accepted_or_expired}
-use Rattle.zk_turns.specs.Rule.{next}
+use Rattle.zk_turns.specs.Rule.{if_any, next}
 use Rattle.zk_turns.proofs.Happened.{view_ext}
 use Rattle.zk_client.specs.Seen.{shown, while_pending}
 use Rattle.zk_client.specs.Sound.{HasRoom, IsSound}

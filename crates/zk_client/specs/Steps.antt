@@ -6,12 +6,12 @@ use Rattle.zk_records.specs.declared.code.Code.{Code}
 use Rattle.zk_records.specs.Codes.{code_number}
 use Rattle.zk_frames.specs.declared.put.TheConstants.{LONGEST_OUTGOING}
 use Rattle.zk_conversation.specs.Calls.{Call, call_payload}
-use Rattle.zk_conversation.specs.Questions.{question_of, watched_side}
+use Rattle.zk_conversation.specs.Questions.{Close, Question, question_of, watched_side}
 use Rattle.zk_conversation.specs.Pending.{calls_pending, watches_pending}
-use Rattle.zk_session.specs.declared.states.State.TheVariants.{Connected}
+use Rattle.zk_session.specs.declared.states.State.TheVariants.{Closed, Connected}
 use Rattle.zk_watches.specs.Lists.{count_of}
-use Rattle.zk_turns.specs.Turns.{Outcome, TooLarge, Input, Opened, Bytes, Cut, Now, Call as Asks}
-use Rattle.zk_turns.specs.Kept.{is_final}
+use Rattle.zk_turns.specs.Turns.{Enters, Output, Outcome, TooLarge, Input, Opened, Bytes, Cut, Now, Call as Asks}
+use Rattle.zk_turns.specs.Kept.{Denied, Asked, Happening, is_final}
 use Rattle.zk_turns.specs.Taken.{due, if_open}
 use Rattle.zk_turns.specs.Rule.{IsOpen}
 use Rattle.zk_session.specs.Kept.{Welcome}
@@ -49,6 +49,14 @@ ComesToNothing view (Asks ticket asked) = ⊥
 
 abbrev pub IsQuiet : View → Input → Type 0
 IsQuiet view input = (view.standing.halted ≡ false) × ComesToNothing view input
+
+-- what a call makes happen, by why it is refused
+abbrev pub calls : ℕ → Call → Option Outcome → List Happening
+calls ticket call why = elim why [ None ↦ Asked ticket call ∷ [] | Some why ↦ Denied ticket why ∷ [] ]
+
+-- what the reply to a close enters
+abbrev pub closing : Question → List Output
+closing question = elim question [ Close ↦ Enters Closed ∷ [] | _ ↦ [] ]
 
 abbrev pub has_any : {A : Type 0} → List A → Bool
 has_any [] = false

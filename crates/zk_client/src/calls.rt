@@ -10,7 +10,7 @@ ghost use Rattle.zk_conversation.specs.Views.{call_view};
 ghost use Rattle.zk_session.specs.declared.states.State.TheVariants.{Connected};
 ghost use Rattle.zk_watches.specs.Lists.{count_of};
 ghost use Rattle.zk_turns.specs.Ranges.{IsTyped};
-ghost use Rattle.zk_turns.specs.Taken.{refusal, calls};
+ghost use Rattle.zk_turns.specs.Taken.{refusal};
 ghost use Rattle.zk_turns.specs.Turns.{IsAskable};
 ghost use Rattle.zk_turns.specs.Rule.{after_all, says_all};
 ghost use Rattle.zk_client.specs.Views.{said, outcome_view};
@@ -24,6 +24,7 @@ use std::alloc::{AllocError, Allocator};
 use zk_conversation::{AskFault, Call, MOST_PENDING};
 use zk_records::Side;
 use zk_session::State;
+ghost use Rattle.zk_client.specs.Steps.{calls};
 
 // The most paths of a side, pending reads counted.
 const MOST_PATHS: usize = 65_536;

@@ -17,7 +17,7 @@ ghost use Rattle.zk_turns.specs.Kept.{Took, Replies, leaves_data, leaves_child};
 ghost use Rattle.zk_turns.specs.Turns.{Answer};
 ghost use Rattle.zk_turns.specs.Turns as turns;
 ghost use Rattle.zk_turns.specs.Taken.{leaves_watch, taken_of};
-ghost use Rattle.zk_turns.specs.Rule.{next, says, closing, after_reply, keep_node, keep_children, says_there};
+ghost use Rattle.zk_turns.specs.Rule.{next, says, after_reply, keep_node, keep_children, says_there};
 ghost use Rattle.zk_client.specs.Views.{said};
 ghost use Rattle.zk_client.specs.Seen.{view_with, while_pending, origin};
 ghost use Rattle.zk_client.specs.Sound.{CoreIsSound, CoreHasArrived, IsLeft, HasRoomFor};
@@ -33,6 +33,7 @@ use zk_conversation::{Question, ReplyResult};
 use zk_jute::TextRef;
 use zk_records::{Code, DataStat, Path, Side};
 use zk_watches::{RegisterFault, Registry};
+ghost use Rattle.zk_client.specs.Steps.{closing};
 
 // What a server answers where there is no node.
 const NO_NODE: i32 = -101;

@@ -2,7 +2,7 @@
 use Rattle.zk_frames.specs.declared.fault.FrameFault.{FrameFault}
 use Rattle.zk_turns.specs.Spelled.{IsHeaded, HasRecord, HasResult}
 use Rattle.zk_laws.specs.Served.{code_of, IsPayload}
-use Rattle.zk_turns.specs.Taken.{happening_of, taken_of, welcome_by, accepted_or_expired, reading, Cutting, Unfinished, Bad, Payload, cut, cut_at, leaves_watch}
+use Rattle.zk_turns.specs.Taken.{taken_of, welcome_by, accepted_or_expired, reading, Cutting, Unfinished, Bad, Payload, cut, cut_at, leaves_watch}
 use Rattle.zk_conversation.specs.Calls.{part_xid}
 use Rattle.zk_history.specs.History.{Text}
 use Rattle.zk_conversation.specs.Pending.{part_waits, Pending, Call_waits}
@@ -38,6 +38,7 @@ use Rattle.zk_laws.specs.Log.{left_by}
 use Rattle.zk_laws.specs.Server.{Notice as Notified}
 use Rattle.zk_laws.specs.Messages.{Accepted, Expired, Replies, Watches_set, Notifies, Pong, from_zero}
 use Rattle.zk_laws.specs.Flight.{HasCode}
+use Rattle.zk_turns.proofs.Words.{happening_of}
 
 -- ---- cutting
 

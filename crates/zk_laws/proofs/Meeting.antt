@@ -13,7 +13,7 @@ use Rattle.zk_session.specs.declared.states.State.TheVariants.{Idle, Connecting,
 use Rattle.zk_session.specs.Kept.{Welcome}
 use Rattle.zk_conversation.specs.Pending.{Call_waits}
 use Rattle.zk_turns.specs.View.{View, view_at}
-use Rattle.zk_turns.specs.Taken.{reading, cut, Cutting, Unfinished, Bad, Payload, of_cutting, happenings, joined, past_after, opens, if_open, due, timeout_of, calls, refusal, comes}
+use Rattle.zk_turns.specs.Taken.{reading, cut, Cutting, Unfinished, Bad, Payload, of_cutting, happenings, joined, past_after, opens, if_open, due, timeout_of, refusal, comes}
 use Rattle.zk_turns.specs.Rule.{IsOpen}
 use Rattle.zk_turns.proofs.Stepped.{Counted, talks_in}
 use Rattle.zk_turns.proofs.Pieces.{byte_happens}
@@ -34,6 +34,7 @@ use Rattle.zk_laws.specs.Flight.{IsCalm, Reached, Letter, frames, messages, answ
 use Rattle.zk_laws.proofs.Reaching.{reach, reached_kept, reach_start}
 use Rattle.zk_laws.proofs.Flight.{owes_parts, requests_parts, unread_more, still}
 use Rattle.zk_laws.proofs.Taking.{ticked, denied, came, lost, dropped, began, asked, pinged, with_requests, up_reached, took_notice, took_pong, took_part, took_reply, and_false}
+use Rattle.zk_turns.proofs.Words.{calls}
 
 and_two : (a b : Bool) → (a && b) ≡ true → (a ≡ true) × (b ≡ true)
 and_two true b e = (refl, e)

@@ -17,13 +17,14 @@ use Rattle.zk_watches.specs.Lists.{Lists}
 use Rattle.zk_watches.specs.Parts.{parts}
 use Rattle.zk_conversation.specs.Pending.{Pending, Waiting, Part_waits, Call_waits}
 use Rattle.zk_turns.specs.View.{View, view_at}
-use Rattle.zk_turns.specs.Taken.{Cutting, Unfinished, Bad, Payload, cut, of_cutting, comes, opens, if_open, due, timeout_of, calls, refusal, refusal_in, caused, happenings, joined, past_after, past_of}
-use Rattle.zk_turns.specs.Rule.{says, loss, part_frame, report, closing, due_happenings, due_signals, AllSaid, Stands}
+use Rattle.zk_turns.specs.Taken.{Cutting, Unfinished, Bad, Payload, cut, of_cutting, comes, opens, if_open, due, timeout_of, refusal, caused, happenings, joined, past_after, past_of}
+use Rattle.zk_turns.specs.Rule.{says, loss, part_frame, report, due_happenings, due_signals, AllSaid, Stands}
 use Rattle.zk_turns.specs.Sent.{outputs_of}
 use Rattle.zk_turns.proofs.Sending.{onto, outputs_onto}
 use Rattle.zk_turns.proofs.Stream.{of_reading}
 use Rattle.zk_turns.specs.Meaning.{Among}
 use Rattle.zk_laws.proofs.Basics.{Among-left}
+use Rattle.zk_turns.proofs.Words.{closing, calls, refusal_in}
 
 pub among_split : {A : Type 0} (x : A) (xs ys : List A) → Among x (xs ++ ys) → Among x xs ⊎ Among x ys
 among_split x [] ys a = inr a

@@ -5,7 +5,7 @@ use Rattle.std.specs.List.{flat_map}
 use Rattle.std.proofs.lemmas.List.{append-nil}
 use Rattle.zk_history.specs.History.{Text}
 use Rattle.zk_turns.specs.Turns.{Start}
-use Rattle.zk_turns.specs.Kept.{Past, kept_data, kept_names, standing, word_data, is_there, is_absent, in_known, in_missing, in_parents, AgreesWith}
+use Rattle.zk_turns.specs.Kept.{Past, kept_data, kept_names, standing, word_data, in_known, in_missing, in_parents, AgreesWith}
 use Rattle.zk_watches.specs.Lists.{Lists, no_lists}
 use Rattle.zk_watches.specs.Parts.{Watch, OnData, OnExist, OnChild, watches_of, weight_of, put_first, into_first, rest_of_parts, parts_of_watches, parts}
 use Rattle.zk_cache.specs.Kept.{is_marked_good, Answer as Kept_answer, Absent as Kept_absent, Known as Kept_known, Full as Kept_full, Names as Kept_names}
@@ -16,6 +16,7 @@ use Rattle.zk_turns.proofs.Marks.{data_marks, child_marks, data_agrees}
 use Rattle.zk_laws.specs.Log.{is_of, is_kind, Of_data, Of_absence, Of_children}
 use Rattle.zk_laws.specs.Seen.{seen, node_answer, names_answer, if_good}
 use Rattle.zk_laws.proofs.Seeing.{good_node, good_names}
+use Rattle.zk_turns.proofs.Words.{is_there, is_absent}
 
 -- ---- the parts, joined
 

@@ -10,7 +10,7 @@ use Rattle.zk_turns.specs.Turns.{Start}
 use Rattle.zk_conversation.specs.Questions.{Question, Exists, GetData, GetChildren, Close}
 use Rattle.zk_conversation.specs.Results.{Result, NoNode, Found, Read, Listing}
 use Rattle.zk_history.specs.DataStats.{data_stat_of}
-use Rattle.zk_turns.specs.Kept.{Happening, Began, Dropped, Forgot, Past, Skipped, Expiry, later, last_of, Word, Says, Ends, Empties, Nothing, kept_by, kept_data, kept_names, good_answer, notice_word, names_of, Took as Takes_in, Lost as Loses_it, Halted as Halts_now, Message as Reading, Accepted as Accepts, Replies as Answers_call, Watches_set as Sets_watches, Notifies as Tells, Pong as Echo}
+use Rattle.zk_turns.specs.Kept.{Happening, Began, Dropped, Forgot, Past, Skipped, Expiry, later, last_of, Word, Says, Ends, Empties, Nothing, kept_by, kept_data, kept_names, good_answer, names_of, Took as Takes_in, Lost as Loses_it, Halted as Halts_now, Message as Reading, Accepted as Accepts, Replies as Answers_call, Watches_set as Sets_watches, Notifies as Tells, Pong as Echo}
 use Rattle.zk_cache.specs.declared.held.Mark.{Mark}
 use Rattle.zk_cache.specs.Kept.{same_fields, without_stale, Answer as Kept_answer, Absent as Kept_absent, Known as Kept_known, Full as Kept_full, Names as Kept_names, merged}
 use Rattle.zk_cache.specs.declared.held.Kept.{Kept}
@@ -24,6 +24,7 @@ use Rattle.zk_laws.specs.Seen.{seen, node_answer, names_answer, if_good}
 use Rattle.zk_laws.proofs.Basics.{text_eq-true, text_eq-refl}
 use Rattle.zk_laws.proofs.Ahead.{max_zero}
 use Rattle.zk_laws.proofs.Serving.{fields_eq-refl}
+use Rattle.zk_turns.proofs.Words.{notice_word}
 
 -- ---- texts
 

@@ -10,7 +10,7 @@ use Rattle.zk_records.specs.declared.event.Event.{Event}
 use Rattle.zk_conversation.specs.Questions.{Question, Close}
 use Rattle.zk_conversation.specs.Results.{Result}
 use Rattle.zk_turns.specs.Turns.{Start}
-use Rattle.zk_turns.specs.Kept.{Past, Happening, Began, Took, Forgot, Replies, Notifies, Left, Word, Says, Ends, Empties, Nothing, if_at, word_data, leaves_data, leaves_child, data_by, data_with, with_data, kept_by, Message, good_answer, kept_data, kept_names}
+use Rattle.zk_turns.specs.Kept.{Past, Happening, Began, Took, Forgot, Replies, Notifies, Left, Word, Says, Ends, Empties, Nothing, if_at, word_data, leaves_data, leaves_child, data_by, data_with, kept_by, Message, good_answer, kept_data, kept_names}
 use Rattle.zk_cache.specs.Kept.{Answer, Absent, Known, Full, Names, same_fields, good, stale, without_stale, merged}
 use Rattle.zk_cache.specs.declared.held.Kept.{Kept}
 use Rattle.zk_cache.specs.declared.held.Mark.{Mark}
@@ -19,6 +19,7 @@ use Rattle.zk_records.specs.Events.{concerns}
 use Rattle.zk_turns.specs.View.{Cache, view_at}
 use Rattle.zk_turns.specs.Rule.{keep_node, keep_children, kept_after, spoilt}
 use Rattle.zk_turns.proofs.Registered.{IsClose}
+use Rattle.zk_turns.proofs.Words.{with_data}
 
 pub cache_ext : (a b : Cache) → ((p : Text) → a.nodes p ≡ b.nodes p) → ((p : Text) → a.children p ≡ b.children p) → a ≡ b
 cache_ext a b p q = λ i. record { nodes = λ t. p t i; children = λ t. q t i }

@@ -19,11 +19,12 @@ use Rattle.zk_conversation.specs.Arriving.{Arrived, Connected as Welcomed, Repli
 use Rattle.zk_turns.specs.Turns.{Outcome, Fault, Framed, Talked, Silent, Behind, WatchesRefused, Signal, Opens, Comes, Cuts, Ticks, Calls, Forget, Halt}
 use Rattle.zk_turns.specs.Kept.{is_talking, Happening, Took, Dropped, Lost, Pinged, Replies, Watches_set}
 use Rattle.zk_turns.specs.View.{View}
-use Rattle.zk_turns.specs.Taken.{Cutting, Unfinished, Bad, Payload, cut, of_cutting, phase_of, taken_of, happening_of, reading, leaves_watch, opens, if_open, due, timeout_of, calls, refusal, caused, happenings, comes}
+use Rattle.zk_turns.specs.Taken.{Cutting, Unfinished, Bad, Payload, cut, of_cutting, phase_of, taken_of, reading, leaves_watch, opens, if_open, due, timeout_of, refusal, caused, happenings, comes}
 use Rattle.zk_turns.specs.Rule.{IsOpen}
 use Rattle.zk_turns.specs.Meaning.{Among}
 use Rattle.zk_turns.specs.Causes.{EndsBy, ByteEnds, IsFrameOf, IsGivenUp}
 use Rattle.zk_turns.proofs.Pieces.{cut_there, cut_short}
+use Rattle.zk_turns.proofs.Words.{happening_of, calls}
 
 -- ---- lengths
 

@@ -1,4 +1,5 @@
 mod Rows
+pub mod Words
 pub mod Lists
 pub mod Registered
 pub mod Cached

@@ -9,7 +9,7 @@ use Rattle.zk_history.specs.declared.side.Side.TheVariants.{Data, Child}
 use Rattle.zk_records.specs.declared.event.Event.{Event}
 use Rattle.zk_history.specs.declared.data_stat.DataStat.{DataStat}
 use Rattle.zk_turns.specs.Turns.{Start, Report}
-use Rattle.zk_turns.specs.Kept.{Past, Happening, Took, Forgot, Notifies, notice_word, Word, Says, Ends, Empties, Nothing, word_data, word_child, after_word, standing, is_good, is_there, is_absent, in_known, in_missing, listed, lists_of, data_with, with_data, good_answer, unless_forgot, kept_by, kept_data, kept_names, IsMarked, fields_in, AgreesWith}
+use Rattle.zk_turns.specs.Kept.{Past, Happening, Took, Forgot, Notifies, Word, Says, Ends, Empties, Nothing, word_data, word_child, standing, is_good, in_known, in_missing, listed, lists_of, data_with, good_answer, kept_by, kept_data, kept_names, IsMarked, fields_in, AgreesWith}
 use Rattle.zk_cache.specs.Kept.{Answer, Absent, Known, Full, Names, stale, without_stale, is_marked_good}
 use Rattle.zk_cache.specs.declared.held.Kept.{Kept}
 use Rattle.zk_cache.specs.declared.held.Mark.{Mark}
@@ -19,6 +19,7 @@ use Rattle.zk_turns.specs.View.{view_at}
 use Rattle.zk_turns.specs.Rule.{report}
 use Rattle.zk_turns.proofs.Lists.{bytes_eq-refl}
 use Rattle.zk_turns.proofs.Registered.{has_known, has_missing, has_parents}
+use Rattle.zk_turns.proofs.Words.{notice_word, after_word, is_there, is_absent, with_data, unless_forgot}
 
 -- ---- marks
 

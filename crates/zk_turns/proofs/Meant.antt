@@ -14,7 +14,7 @@ use Rattle.zk_history.specs.DataStats.{data_stat_of}
 use Rattle.zk_conversation.specs.Questions.{Question, Exists, GetData, GetChildren, SetData, Create, Delete, Close}
 use Rattle.zk_conversation.specs.Results.{Result, NoNode, Found, Read, Listing}
 use Rattle.zk_turns.specs.Turns.{Start}
-use Rattle.zk_turns.specs.Kept.{Past, Happening, Took, Forgot, Halted, Message, Accepted, Expiry, Replies, Watches_set, Notifies, Pong, Skipped, names_of, Word, Says, Ends, Empties, Nothing, reply_word, notice_word, leaves_data, leaves_child, word_data, word_child, after_word, standing, is_good, unless_forgot, kept_by, data_by, data_with, with_data, good_answer, kept_data, last_of, later}
+use Rattle.zk_turns.specs.Kept.{reply_word, Past, Happening, Took, Forgot, Halted, Message, Accepted, Expiry, Replies, Watches_set, Notifies, Pong, Skipped, names_of, Word, Says, Ends, Empties, Nothing, leaves_data, leaves_child, word_data, word_child, standing, is_good, kept_by, data_by, data_with, good_answer, kept_data, last_of, later}
 use Rattle.zk_cache.specs.Kept.{Answer, Absent, Known, Full, Names, good, stale, without_stale, same_fields}
 use Rattle.zk_cache.specs.declared.held.Kept.{Kept}
 use Rattle.zk_cache.specs.declared.held.Mark.{Mark}
@@ -23,6 +23,7 @@ use Rattle.zk_records.specs.Events.{concerns}
 use Rattle.zk_turns.specs.Meaning.{Among, LeavesWatch, EndsGood, LeavesAt, IsGoodSince, SaysSame, HasData, Counts, IsLastSeen}
 use Rattle.zk_turns.proofs.Lists.{same_text, bytes_eq-refl}
 use Rattle.zk_turns.proofs.Cached.{fields_same}
+use Rattle.zk_turns.proofs.Words.{notice_word, after_word, unless_forgot, with_data}
 
 -- ---- the word of a happening
 

@@ -10,8 +10,9 @@ use Rattle.zk_session.specs.declared.states.State.TheVariants.{Idle, Connecting,
 use Rattle.zk_turns.specs.Kept.{is_talking, Past, Happening, Began, Came, Took, Dropped, Lost, Denied, Pinged, Ticked, Forgot, Halted, Accepted, Expiry, Replies, Watches_set, is_final, is_over, has_halted, state_of, KeepsNothing, later, last_of, held_of}
 use Rattle.zk_cache.specs.Kept.{without_stale}
 use Rattle.zk_turns.specs.View.{View, view_at}
-use Rattle.zk_turns.specs.Taken.{happenings, caused, opens, if_open, of_cutting, cut, Cutting, Unfinished, Bad, Payload, due, timeout_of, calls, refusal_in, refusal_when_connected, joined, past_after, past_of}
+use Rattle.zk_turns.specs.Taken.{happenings, caused, opens, if_open, of_cutting, cut, Cutting, Unfinished, Bad, Payload, due, timeout_of, refusal_when_connected, joined, past_after, past_of}
 use Rattle.zk_turns.proofs.Registered.{empty_lists}
+use Rattle.zk_turns.proofs.Words.{calls, refusal_in}
 
 abbrev IsQuiet : Happening → Type 0
 IsQuiet (Ticked moment) = Unit {0}

@@ -34,12 +34,13 @@ use Rattle.zk_watches.specs.Parts.{parts}
 use Rattle.zk_turns.specs.Turns.{Start, Outcome, SessionClosed, TooManyWatches, TooLarge, TooManyPending, Behind, WatchesRefused, Input, Opened, Bytes, Cut, Now, Call as Asks, Signal, Opens, Comes, Cuts, Ticks, Calls, Forget, Halt, Item, Turned, Forgets, Halts, signals_of}
 use Rattle.zk_turns.specs.Kept.{Past, Happening, Began, Came, Took, Dropped, Lost, Asked, Pinged, Ticked, Message, Accepted, Expiry, Replies, Watches_set, Notifies, Pong, Skipped, Asking, For_part, For_call, pending_for, parts_asked, questions, answered, awaited, pending_of, is_talking, state_of, held_of, has_halted, xid_of, lists_of, later, last_of, session_of, path_of_read, path_of_reply, arrivals, firsts, listed}
 use Rattle.zk_turns.specs.View.{View, view_at}
-use Rattle.zk_turns.specs.Taken.{cut, cut_at, Cutting, Unfinished, Bad, Payload, of_cutting, comes, phase_of, welcome_by, leaves_watch, taken_of, happening_of, timeout_of, due, is_full_on, refusal_in, refusal, calls, opens, if_open, caused, happenings, joined, past_after, past_of}
+use Rattle.zk_turns.specs.Taken.{cut, cut_at, Cutting, Unfinished, Bad, Payload, of_cutting, comes, phase_of, welcome_by, leaves_watch, taken_of, timeout_of, due, is_full_on, refusal, opens, if_open, caused, happenings, joined, past_after, past_of}
 use Rattle.zk_turns.specs.Ranges.{AsksOf, AllAskOf, IsResumable}
 use Rattle.zk_turns.proofs.Fields.{header_ok, response_ok}
 use Rattle.zk_turns.proofs.Fitting.{IsShort, read_short}
 use Rattle.zk_turns.proofs.Lists.{reverse-cons}
 use Rattle.zk_turns.proofs.Pieces.{cut_there, cut_short}
+use Rattle.zk_turns.proofs.Words.{happening_of, refusal_in, calls}
 
 -- ---- all of a list
 

@@ -13,9 +13,10 @@ use Rattle.zk_conversation.specs.Questions.{question_of, watched_side}
 use Rattle.zk_conversation.specs.Pending.{Pending, is_close, calls_pending, watches_pending}
 use Rattle.zk_turns.specs.Turns.{Outcome, SessionClosed, NotConnected, TooManyPending, TooManyWatches, TooLarge}
 use Rattle.zk_turns.specs.View.{View}
-use Rattle.zk_turns.specs.Taken.{is_full_on, refusal_in, refusal}
+use Rattle.zk_turns.specs.Taken.{is_full_on, refusal}
 use Rattle.zk_turns.specs.Meaning.{Among}
 use Rattle.zk_turns.specs.Causes.{IsFirstOf, in_turn}
+use Rattle.zk_turns.proofs.Words.{refusal_in}
 
 any_close : (ps : List Pending) → list_any is_close ps ≡ true → (close : Pending) × Among close ps × (is_close close ≡ true)
 any_close [] e = absurd cc

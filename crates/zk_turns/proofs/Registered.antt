@@ -8,10 +8,11 @@ use Rattle.zk_history.specs.declared.side.Side.TheVariants.{Data, Child}
 use Rattle.zk_records.specs.declared.event.Event.{Event}
 use Rattle.zk_conversation.specs.Questions.{Question, Exists, GetData, GetChildren, Close}
 use Rattle.zk_conversation.specs.Results.{Result, NoNode, Found, Read, Listing}
-use Rattle.zk_turns.specs.Kept.{Past, Happening, Took, Replies, Notifies, Left, Word, Says, Ends, Empties, Nothing, if_at, notice_word, after_word, word_data, word_child, standing, leaves_data, leaves_child, path_of_read, path_of_reply, is_there, is_absent, in_known, in_missing, in_parents, arrivals, listed, lists_of}
+use Rattle.zk_turns.specs.Kept.{Past, Happening, Took, Replies, Notifies, Left, Word, Says, Ends, Empties, Nothing, if_at, word_data, word_child, standing, leaves_data, leaves_child, path_of_read, path_of_reply, in_known, in_missing, in_parents, arrivals, listed, lists_of}
 use Rattle.zk_cache.specs.Kept.{Answer, Absent, Known, Full, Names}
 use Rattle.zk_records.specs.Events.{concerns}
 use Rattle.zk_turns.proofs.Lists.{same_text, shown, stays, leaves, empties, comes, Tracks, has_listed}
+use Rattle.zk_turns.proofs.Words.{notice_word, after_word, is_there, is_absent}
 
 pub paths_ext : (a b : Lists) → a.data_watches ≡ b.data_watches → a.exist_watches ≡ b.exist_watches → a.child_watches ≡ b.child_watches → a ≡ b
 paths_ext a b p q r = λ i. record { data_watches = p i; exist_watches = q i; child_watches = r i }

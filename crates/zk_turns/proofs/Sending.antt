@@ -18,10 +18,11 @@ use Rattle.zk_frames.specs.Frame.{frame}
 use Rattle.zk_turns.specs.Kept.{is_talking, xid_of, Past, Happening, Began, Came, Took, Dropped, Lost, Asked, Denied, Pinged, Ticked, Message, Accepted, Expiry, Replies, Watches_set, Notifies, Pong, Skipped, state_of, held_of, has_halted, lists_of, last_of}
 use Rattle.zk_watches.specs.Parts.{parts}
 use Rattle.zk_turns.specs.View.{View, view_at}
-use Rattle.zk_turns.specs.Taken.{reading, caused, happenings, calls, opens, of_cutting, cut, Cutting, Unfinished, Bad, Payload, due, timeout_of, refusal, joined, past_after, past_of, comes, if_open}
+use Rattle.zk_turns.specs.Taken.{reading, caused, happenings, opens, of_cutting, cut, Cutting, Unfinished, Bad, Payload, due, timeout_of, refusal, joined, past_after, past_of, comes, if_open}
 use Rattle.zk_turns.specs.Rule.{IsOpen, says, part_frame, loss, losses, report, due_happenings, due_signals, AllSaid, Stands}
 use Rattle.zk_turns.specs.Sent.{outputs_of, told_state, sends, part_of, sent}
 use Rattle.zk_turns.proofs.Stream.{of_reading}
+use Rattle.zk_turns.proofs.Words.{calls}
 
 -- outputs in front of earlier ones, the newest first
 abbrev pub onto : List Output → List Output → List Output

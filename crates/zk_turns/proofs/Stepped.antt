@@ -4,7 +4,7 @@ use Rattle.zk_turns.proofs.Arriving.{IsOf, AreOf, of_arriving}
 use Rattle.zk_turns.specs.Kept.{Asking, For_call, pending_for, awaited}
 use Rattle.zk_conversation.specs.declared.phase.Phase.{Phase}
 use Rattle.zk_conversation.specs.Calls.{Call}
-use Rattle.zk_turns.specs.Taken.{phase_of, taken_of, happening_of, welcome_by}
+use Rattle.zk_turns.specs.Taken.{phase_of, taken_of, welcome_by}
 use Rattle.zk_conversation.specs.Arriving.{Arrived, Connected as Welcomed, Replied, Watches_set as Part_set, Notice, Pong as Ponged, Skipped as Passed, arriving}
 use Rattle.zk_conversation.specs.declared.fault.TalkFault.{TalkFault}
 use Rattle.std.proofs.Common.{◌≡◌, ℕ, zero, suc, ◌≤◌, ◌<◌, ℤ, pos, Bool, true, false, cond, ◌&&◌, List, [], ◌∷◌, ◌++◌, map, drop, length, Option, Some, None, Ok, Err, refl, sym, ap, subst, ◌∙◌, arith, append_assoc}
@@ -17,10 +17,11 @@ use Rattle.zk_session.specs.declared.states.State.TheVariants.{Idle, Connecting,
 use Rattle.zk_turns.specs.Kept.{Past, Happening, Began, Came, Took, Dropped, Lost, Asked, Pinged, Ticked, Halted, Accepted, Expiry, Replies, Watches_set, is_talking, state_of, questions, answered, pending_of, held_of, xid_of, has_halted}
 use Rattle.zk_conversation.specs.Pending.{Pending}
 use Rattle.zk_turns.specs.View.{View, view_at}
-use Rattle.zk_turns.specs.Taken.{reading, leaves_watch, timeout_of, opens, refusal, refusal_in, caused, happenings, calls, of_cutting, cut, Cutting, Unfinished, Bad, Payload, due, joined, past_after, past_of, comes, if_open}
+use Rattle.zk_turns.specs.Taken.{reading, leaves_watch, timeout_of, opens, refusal, caused, happenings, of_cutting, cut, Cutting, Unfinished, Bad, Payload, due, joined, past_after, past_of, comes, if_open}
 use Rattle.zk_turns.specs.Rule.{says, after_all, says_all, after_signals, says_signals, Rule, due_happenings, due_signals, Stands, HaltsAs}
 use Rattle.zk_turns.proofs.Registered.{empty_lists}
 use Rattle.zk_turns.proofs.Happened.{MayHappen, one_happening}
+use Rattle.zk_turns.proofs.Words.{happening_of, refusal_in, calls}
 
 -- ---- what may happen
 

@@ -1,6 +1,6 @@
 -- The bytes that came are whole frames, and then less than one.
 use Rattle.zk_conversation.specs.Calls.{Call}
-use Rattle.zk_turns.specs.Taken.{phase_of, taken_of, happening_of}
+use Rattle.zk_turns.specs.Taken.{phase_of, taken_of}
 use Rattle.zk_conversation.specs.Arriving.{Arrived, Connected as Welcomed, Replied, Watches_set as Part_set, Notice, Pong as Ponged, Skipped as Passed, arriving}
 use Rattle.zk_conversation.specs.declared.fault.TalkFault.{TalkFault}
 use Rattle.std.proofs.Common.{◌≡◌, ◌≢◌, ℕ, ◌+◌, ◌^◌, ℤ, pos, Bool, true, false, cond, ◌&&◌, List, [], ◌∷◌, ◌++◌, drop, length, Option, Some, None, Ok, Err, refl, sym, ap, ◌∙◌, append_assoc}
@@ -15,10 +15,11 @@ use Rattle.zk_session.specs.declared.states.State.TheVariants.{Idle, Connecting,
 use Rattle.zk_turns.specs.Kept.{is_talking, Past, Happening, Began, Came, Took, Dropped, Lost, Pinged, Ticked, Message, Replies, Watches_set, state_of, held_of, has_halted}
 use Rattle.zk_conversation.specs.Pending.{Pending}
 use Rattle.zk_turns.specs.View.{View, view_at}
-use Rattle.zk_turns.specs.Taken.{reading, leaves_watch, refusal, caused, happenings, calls, opens, of_cutting, cut, Cutting, Unfinished, Bad, Payload, due, timeout_of, joined, past_after, past_of, comes, if_open, cut_at, received, frames_of, IsFrame, IsStream}
+use Rattle.zk_turns.specs.Taken.{reading, leaves_watch, refusal, caused, happenings, opens, of_cutting, cut, Cutting, Unfinished, Bad, Payload, due, timeout_of, joined, past_after, past_of, comes, if_open, cut_at, received, frames_of, IsFrame, IsStream}
 use Rattle.zk_frames.specs.Frame.{length_field}
 use Rattle.zk_frames.specs.declared.reader.TheConstants.{LONGEST_INCOMING}
 use Rattle.zk_turns.specs.Rule.{IsOpen}
+use Rattle.zk_turns.proofs.Words.{happening_of, calls}
 
 -- ---- a payload is taken, or the connection is dropped
 

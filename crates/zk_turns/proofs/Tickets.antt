@@ -7,7 +7,7 @@ use Rattle.zk_turns.specs.Kept.{pending_for, parts_asked, Past, Happening, Began
 use Rattle.zk_conversation.specs.declared.phase.Phase.{Phase}
 use Rattle.zk_conversation.specs.Calls.{Call as Asked_call}
 use Rattle.zk_history.specs.History.{Text}
-use Rattle.zk_turns.specs.Taken.{phase_of, taken_of, happening_of, welcome_by, reading, leaves_watch, refusal, refusal_in, caused, happenings, calls, opens, of_cutting, cut, Cutting, Unfinished, Bad, Payload, due, timeout_of, joined, past_after, past_of, comes, if_open}
+use Rattle.zk_turns.specs.Taken.{phase_of, taken_of, welcome_by, reading, leaves_watch, refusal, caused, happenings, opens, of_cutting, cut, Cutting, Unfinished, Bad, Payload, due, timeout_of, joined, past_after, past_of, comes, if_open}
 use Rattle.zk_conversation.specs.Arriving.{Arrived, Connected as Welcomed, Replied, Watches_set as Part_set, Notice, Pong as Ponged, Skipped as Passed, arriving}
 use Rattle.zk_conversation.specs.declared.fault.TalkFault.{TalkFault}
 use Rattle.std.proofs.Common.{◌≡◌, ℕ, zero, ◌+◌, ◌≤◌, ℤ, pos, negsuc, Bool, true, false, cond, ◌&&◌, ◌||◌, List, [], ◌∷◌, ◌++◌, map, drop, Option, Some, None, Ok, Err, refl, sym, ap, subst, ◌∙◌, arith}
@@ -23,11 +23,12 @@ use Rattle.zk_session.specs.declared.states.State.TheVariants.{Idle, Connecting,
 use Rattle.zk_records.specs.declared.event.Event.{Event}
 use Rattle.zk_watches.specs.Parts.{parts}
 use Rattle.zk_turns.specs.View.{View, view_at}
-use Rattle.zk_turns.specs.Rule.{next, says, part_frame, loss, losses, report, closing, due_happenings, due_signals, AllSaid, Stands}
+use Rattle.zk_turns.specs.Rule.{next, says, part_frame, loss, losses, report, due_happenings, due_signals, AllSaid, Stands}
 use Rattle.zk_turns.proofs.Happened.{MayHappen, one_happening}
 use Rattle.zk_turns.proofs.Stepped.{AllMay, Counted, all_may, counted_signal, counted}
 use Rattle.zk_turns.specs.Tickets.{answers_in, calls_in, waiting_with}
 use Rattle.zk_turns.proofs.Counting.{one_if, answers_with, answers_over, is_call_with, calls_over, waits_with, waiting_over, answers_are, calls_are, waiting_are}
+use Rattle.zk_turns.proofs.Words.{closing, happening_of, refusal_in, calls}
 
 answers-append : (t : ℕ) (xs ys : List Output) → answers_with t (xs ++ ys) ≡ answers_with t xs + answers_with t ys
 answers-append t [] ys = omega arith

@@ -155,13 +155,10 @@ abbrev pub reply_word : {A : Type 0} → Question → Option (Left A) → Text �
 reply_word Close left path = Empties
 reply_word _ left path = if_at left path
 
-abbrev pub notice_word : {A : Type 0} → Bool → Text → Text → Word A
-notice_word about at path = if about && bytes_eq at path then Ends else Nothing
-
 -- the word on a side, by what replies leave there
 abbrev pub word_on : {A : Type 0} → Side → (Question → Result → Option (Left A)) → Text → Happening → Word A
 word_on side leaves path (Took (Replies ticket question zxid result)) = reply_word question (leaves question result) path
-word_on side leaves path (Took (Notifies event at)) = notice_word (concerns event side) at path
+word_on side leaves path (Took (Notifies event at)) = if concerns event side && bytes_eq at path then Ends else Nothing
 word_on side leaves path (Took Expiry) = Empties
 word_on side leaves path Halted = Empties
 word_on side leaves path _ = Nothing
@@ -172,15 +169,10 @@ word_data path happening = word_on Data leaves_data path happening
 abbrev pub word_child : Text → Happening → Word Names
 word_child path happening = word_on Child leaves_child path happening
 
-abbrev pub after_word : {A : Type 0} → Word A → Option A → Option A
-after_word (Says answer) before = Some answer
-after_word Nothing before = before
-after_word _ before = None
-
 -- what the newest reply that leaves a watch said, if since then nothing ended it
 abbrev pub standing : {A : Type 0} → (Happening → Word A) → Past → Option A
 standing word [] = None
-standing word (happening ∷ past) = after_word (word happening) (standing word past)
+standing word (happening ∷ past) = elim (word happening) [ Says answer ↦ Some answer | Nothing ↦ standing word past | _ ↦ None ]
 
 -- whether the answer of a side for a path is good
 abbrev pub is_good : Side → Text → Past → Bool
@@ -210,27 +202,19 @@ abbrev pub data_with : Text → DataStat → Past → Option (Option (List ℕ))
 data_with path fields [] = None
 data_with path fields (happening ∷ past) = data_by (word_data path happening) fields (data_with path fields past)
 
-abbrev pub with_data : DataStat → Option (Option (List ℕ)) → Answer
-with_data fields None = Known fields
-with_data fields (Some bytes) = Full bytes fields
-
 -- the answer that is good once a reply has said this
 abbrev pub good_answer : Text → Answer → Past → Answer
 good_answer path Absent past = Absent
-good_answer path (Known fields) past = with_data fields (data_with path fields past)
+good_answer path (Known fields) past = elim (data_with path fields past) [ None ↦ Known fields | Some bytes ↦ Full bytes fields ]
 good_answer path (Full bytes fields) past = Full bytes fields
 
--- only forget_stale takes out stale answers by itself
-abbrev pub unless_forgot : {A : Type 0} → Happening → Option (Kept A) → Option (Kept A)
-unless_forgot Forgot kept = without_stale kept
-unless_forgot _ kept = kept
-
--- what is kept where a happening says this word: what a reply said, or what was good last, as stale
+-- What is kept where a happening says this word: what a reply said, or what was good last, as stale. Only forget_stale takes
+-- out stale answers by itself.
 abbrev pub kept_by : {A : Type 0} → Word A → (A → A) → Happening → Option (Kept A) → Option (Kept A)
 kept_by (Says answer) known happening before = good (known answer)
 kept_by Ends known happening before = stale before
 kept_by Empties known happening before = None
-kept_by Nothing known happening before = unless_forgot happening before
+kept_by Nothing known happening before = elim happening [ Forgot ↦ without_stale before | _ ↦ before ]
 
 abbrev pub kept_data : Text → Past → Option (Kept Answer)
 kept_data path [] = None
@@ -253,20 +237,12 @@ AgreesWith kept said = Unit {0}
 
 -- The lists
 
-abbrev pub is_there : Option Answer → Bool
-is_there (Some (Known fields)) = true
-is_there (Some (Full bytes fields)) = true
-is_there _ = false
-
-abbrev pub is_absent : Option Answer → Bool
-is_absent (Some Absent) = true
-is_absent _ = false
-
+-- which paths are in a list: those whose good answer says that the node is there, that it is absent, or which its children are
 abbrev pub in_known : Text → Past → Bool
-in_known path past = is_there (standing (word_data path) past)
+in_known path past = elim (standing (word_data path) past) [ Some (Known fields) ↦ true | Some (Full bytes fields) ↦ true | _ ↦ false ]
 
 abbrev pub in_missing : Text → Past → Bool
-in_missing path past = is_absent (standing (word_data path) past)
+in_missing path past = elim (standing (word_data path) past) [ Some Absent ↦ true | _ ↦ false ]
 
 abbrev pub in_parents : Text → Past → Bool
 in_parents path past = is_some (standing (word_child path) past)
@@ -356,16 +332,12 @@ abbrev pub pending_of : Past → List Pending
 pending_of past = map pending_for (awaited past)
 
 -- the moment of the newest frame that was sent
-abbrev pub if_any : {A : Type 0} → List Lists → A → A → A
-if_any [] none some = none
-if_any (part ∷ more) none some = some
-
 abbrev pub sent_of : Past → ℕ
 sent_of [] = 0
 sent_of (Began ∷ past) = now_of past
 sent_of (Asked ticket call ∷ past) = now_of past
 sent_of (Pinged ∷ past) = now_of past
-sent_of (Took (Accepted welcome) ∷ past) = if_any (parts (lists_of past)) (sent_of past) (now_of past)
+sent_of (Took (Accepted welcome) ∷ past) = elim (parts (lists_of past)) [ [] ↦ sent_of past | _ ↦ now_of past ]
 sent_of (_ ∷ past) = sent_of past
 
 -- the bytes of the newest connection since its last payload

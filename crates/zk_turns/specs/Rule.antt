@@ -5,7 +5,7 @@ use Rattle.zk_cache.specs.declared.held.Kept.{Kept}
 use Rattle.zk_watches.specs.Lists.{Lists, registered, fired, fires, no_lists}
 use Rattle.zk_turns.specs.Turns.{IsAskable, AllAskOf, IsAsked, Replied, ConnectionLoss, Output, Send, Answer, Report, Enters, Drop, Turn, Item, Turned, Start, Signal, signals_of}
 use Rattle.zk_records.specs.Events.{concerns}
-use Rattle.zk_turns.specs.Kept.{pending_for, Happening, Began, Came, Took, Dropped, Lost, Asked, Denied, Pinged, Ticked, Forgot, Halted, Past, Message, Accepted, Expiry, Replies, Watches_set, Notifies, Pong, Skipped, Left, leaves_data, leaves_child, parts_asked, if_any, later, has_halted, is_open}
+use Rattle.zk_turns.specs.Kept.{pending_for, Happening, Began, Came, Took, Dropped, Lost, Asked, Denied, Pinged, Ticked, Forgot, Halted, Past, Message, Accepted, Expiry, Replies, Watches_set, Notifies, Pong, Skipped, Left, leaves_data, leaves_child, parts_asked, later, has_halted, is_open}
 use Rattle.zk_watches.specs.Parts.{parts}
 use Rattle.zk_conversation.specs.Pending.{next_xid, call_waits, Pending, Part_waits, Call_waits}
 use Rattle.std.specs.Prelude.{◌≡◌, ℕ, ℤ, pos, max, Bool, true, false, ◌&&◌, List, [], ◌∷◌, ◌++◌, map, drop, Option, Some, None, bytes_eq, if◌then◌else◌}
@@ -90,16 +90,12 @@ part_frame relative part = Send (frame (part_payload relative part.data_watches 
 abbrev pub report : View → Event → Text → Side → List Output
 report view event path side = if fires view.lists event side path then Report path side event ∷ [] else []
 
-abbrev pub closing : Question → List Output
-closing Close = Enters Closed ∷ []
-closing _ = []
-
 -- the outputs of one happening
 abbrev pub says : View → Happening → List Output
 says view Began = Send (frame (connect_payload view.saved.last (pos view.saved.asked) view.saved.session.session view.saved.session.password)) ∷ Enters Connecting ∷ []
 says view (Took (Accepted welcome)) = Enters Connected ∷ map (part_frame view.saved.last) (parts view.lists)
 says view (Took Expiry) = Enters Expired ∷ []
-says view (Took (Replies ticket question zxid result)) = Answer ticket (Replied zxid result) ∷ closing question
+says view (Took (Replies ticket question zxid result)) = Answer ticket (Replied zxid result) ∷ (elim question [ Close ↦ Enters Closed ∷ [] | _ ↦ [] ])
 says view (Took (Notifies event path)) = report view event path Data ++ report view event path Child
 says view (Dropped fault) = Drop fault ∷ losses view
 says view Lost = losses view
@@ -109,6 +105,10 @@ says view Pinged = Send (frame ping_payload) ∷ []
 says view _ = []
 
 -- What is changed
+
+-- one where there are parts to be sent, the other where there are none
+abbrev pub if_any : {A : Type 0} → List Lists → A → A → A
+if_any parts none some = elim parts [ [] ↦ none | _ ↦ some ]
 
 abbrev pub enters : State → View → Standing
 enters state view = record { halted = view.standing.halted; state = state }

@@ -4,7 +4,6 @@ use Rattle.zk_watches.specs.Lists.{count_of}
 use Rattle.zk_frames.specs.declared.put.TheConstants.{LONGEST_OUTGOING}
 use Rattle.zk_turns.specs.Turns.{Framed, Talked, Outcome, SessionExpired, SessionClosed, NotConnected, TooManyWatches, TooLarge, TooManyPending, Silent, Behind, WatchesRefused, Start, Item, signals, Signal, Opens, Comes, Cuts, Ticks, Calls, Forget, Halt}
 use Rattle.zk_frames.specs.declared.fault.FrameFault.{FrameFault}
-use Rattle.zk_conversation.specs.declared.fault.TalkFault.{TalkFault}
 use Rattle.zk_conversation.specs.declared.phase.Phase.TheVariants.{Opening, Talking, Closed as Nowhere}
 use Rattle.zk_conversation.specs.declared.phase.Phase.{Phase}
 use Rattle.zk_conversation.specs.Arriving.{Arrived, Connected as Welcomed, Replied, Watches_set as Part_set, Notice, Pong as Ponged, Skipped as Passed, arriving}
@@ -14,7 +13,7 @@ use Rattle.zk_conversation.specs.Pending.{calls_pending, watches_pending, is_clo
 use Rattle.zk_conversation.specs.Calls.{Call, call_payload}
 use Rattle.zk_frames.specs.declared.reader.TheConstants.{LONGEST_INCOMING}
 use Rattle.zk_frames.specs.Frame.{length_field}
-use Rattle.std.specs.Prelude.{◌≡◌, ℕ, ℤ, pos, negsuc, ◌+◌, ◌-◌, ◌*◌, ◌^◌, Bool, false, ◌&&◌, ◌||◌, ◌==◌, nat_lt, nat_le, int_lt, max, List, [], ◌∷◌, ◌++◌, length, drop, Option, Some, None, Ok, Err, is_some, if◌then◌else◌, Result as Reading}
+use Rattle.std.specs.Prelude.{◌≡◌, ℕ, ℤ, pos, negsuc, ◌+◌, ◌-◌, ◌*◌, ◌^◌, Bool, false, ◌&&◌, ◌||◌, ◌==◌, nat_lt, nat_le, int_lt, max, List, [], ◌∷◌, ◌++◌, length, drop, Option, Some, None, Ok, Err, is_some, if◌then◌else◌}
 use Rattle.std.specs.List.{flat_map, AllByRecursion}
 use Rattle.std.specs.Ordering.{int_eq}
 use Rattle.zk_history.specs.declared.side.Side.{Side}
@@ -74,13 +73,9 @@ taken_of last (Notice event path) = Took (Notifies event path)
 taken_of last Ponged = Took Pong
 taken_of last Passed = Took Skipped
 
-abbrev pub happening_of : (last : ℤ) → Reading Arrived TalkFault → Happening
-happening_of last (Ok arrived) = taken_of last arrived
-happening_of last (Err fault) = Dropped (Talked fault)
-
 -- what a payload makes happen, by the state, what is pending and the last seen zxid
 abbrev pub reading : State → List Pending → (last : ℤ) → List ℕ → Happening
-reading state pending last payload = happening_of last (arriving (phase_of state) pending payload)
+reading state pending last payload = elim (arriving (phase_of state) pending payload) [ Ok arrived ↦ taken_of last arrived | Err fault ↦ Dropped (Talked fault) ]
 
 abbrev pub of_cutting : View → Cutting → List Happening
 of_cutting view Unfinished = []
@@ -116,19 +111,14 @@ refusal_when_connected view call =
     else (if is_full_on view (watched_side (question_of call)) then Some TooManyWatches
     else (if nat_lt LONGEST_OUTGOING (length (call_payload (pos view.xid) call)) then Some TooLarge else None)))
 
--- why a call is not sent, in this state
-abbrev pub refusal_in : State → View → Call → Option Outcome
-refusal_in Expired view call = Some SessionExpired
-refusal_in Closed view call = Some SessionClosed
-refusal_in Connected view call = refusal_when_connected view call
-refusal_in _ view call = Some NotConnected
-
+-- why a call is not sent
 abbrev pub refusal : View → Call → Option Outcome
-refusal view call = refusal_in view.standing.state view call
-
-abbrev pub calls : ℕ → Call → Option Outcome → List Happening
-calls ticket call None = Asked ticket call ∷ []
-calls ticket call (Some why) = Denied ticket why ∷ []
+refusal view call = elim view.standing.state [
+  | Connected ↦ refusal_when_connected view call
+  | Expired ↦ Some SessionExpired
+  | Closed ↦ Some SessionClosed
+  | _ ↦ Some NotConnected
+]
 
 -- What a signal makes happen, in order.
 
@@ -144,7 +134,7 @@ caused view Opens = opens view.standing.state
 caused view (Comes byte) = if_open view.standing.state (comes view byte)
 caused view Cuts = if_open view.standing.state (Lost ∷ [])
 caused view (Ticks moment) = Ticked moment ∷ if_open view.standing.state (due view (max moment view.moments.now))
-caused view (Calls ticket call) = calls ticket call (refusal view call)
+caused view (Calls ticket call) = elim (refusal view call) [ None ↦ Asked ticket call ∷ [] | Some why ↦ Denied ticket why ∷ [] ]
 caused view Forget = Forgot ∷ []
 caused view Halt = Halted ∷ []
 
