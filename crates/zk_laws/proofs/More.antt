@@ -191,11 +191,15 @@ given_read h is n (GetChildren p w) NoNode g = subst (λ (t : Tree). Suits Absen
 given_read h is n (GetChildren p w) (Listing ns z) g = subst (λ (t : Tree). FitsNames (names_of ns z) (view Child t (path_of p))) (sym (tree_at_held h n is)) g
 given_read h is n _ _ g = tt
 
+last_at : (low : ℕ) (earlier : List Transaction) (one : Transaction) → Among one (earlier ++ one ∷ []) × (one.zxid ≡ newest low (earlier ++ one ∷ []))
+last_at low [] one = (inl refl, refl)
+last_at low (x ∷ earlier) one = let r = last_at x.zxid earlier one in (inr r.0, r.1)
+
 -- the last of some transactions is one of them, with the newest zxid
 last_holds : (low : ℕ) (c : Change) (txs : List Transaction) → LastHolds c txs → (one : Transaction) × Among one txs × (one.zxid ≡ newest low txs) × Among c one.changes
-last_holds low c [] l = absurd l
-last_holds low c (x ∷ []) l = (x, inl refl, refl, l)
-last_holds low c (x ∷ y ∷ more) l = let r = last_holds x.zxid c (y ∷ more) l in (r.0, inr r.1, r.2, r.3)
+last_holds low c txs l =
+    let r = last_at low l.0 l.1 in
+    (l.1, subst (λ (t : List Transaction). Among l.1 t) (sym l.2) r.0, subst (λ (t : List Transaction). l.1.zxid ≡ newest low t) (sym l.2) r.1, l.3)
 
 among_take : (n : ℕ) (x : Transaction) (txs : List Transaction) → Among x (take n txs) → Among x txs
 among_take zero x txs a = absurd a

@@ -135,9 +135,7 @@ zxid_held h place = newest 0 (held h place)
 
 -- the change is one of the last of these transactions
 abbrev pub LastHolds : Change → List Transaction → Type 0
-LastHolds change [] = ⊥
-LastHolds change (one ∷ []) = Among change one.changes
-LastHolds change (one ∷ two ∷ more) = LastHolds change (two ∷ more)
+LastHolds change transactions = (earlier : List Transaction) × (last : Transaction) × (transactions ≡ earlier ++ last ∷ []) × Among change last.changes
 
 -- the modes 2 and 3 are sequential
 abbrev pub is_sequential : ℕ → Bool

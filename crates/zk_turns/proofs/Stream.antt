@@ -15,7 +15,7 @@ use Rattle.zk_session.specs.declared.states.State.TheVariants.{Idle, Connecting,
 use Rattle.zk_turns.specs.Kept.{is_talking, Past, Happening, Began, Came, Took, Dropped, Lost, Pinged, Ticked, Message, Replies, Watches_set, state_of, held_of, has_halted}
 use Rattle.zk_conversation.specs.Pending.{Pending}
 use Rattle.zk_turns.specs.View.{View, view_at}
-use Rattle.zk_turns.specs.Taken.{reading, leaves_watch, refusal, caused, happenings, opens, of_cutting, cut, Cutting, Unfinished, Bad, Payload, due, timeout_of, joined, past_after, past_of, comes, if_open, cut_at, received, frames_of, IsFrame, IsStream}
+use Rattle.zk_turns.specs.Taken.{reading, leaves_watch, refusal, caused, happenings, opens, of_cutting, cut, Cutting, Unfinished, Bad, Payload, due, timeout_of, joined, past_after, past_of, comes, if_open, cut_at, received, frames_of, IsStream}
 use Rattle.zk_frames.specs.Frame.{length_field}
 use Rattle.zk_frames.specs.declared.reader.TheConstants.{LONGEST_INCOMING}
 use Rattle.zk_turns.specs.Rule.{IsOpen}
@@ -44,6 +44,9 @@ module _ (P : Happening → Type 0) (takes : (message : Message) → P (Took mes
   of_reading state ps last payload = of_result last (arriving (phase_of state) ps payload)
 
 -- ---- the stream
+
+abbrev IsFrame : List ℕ → Type 0
+IsFrame bytes = cut bytes ≡ Payload (drop 4 bytes)
 
 abbrev StreamIfOpen : Past → Type 0
 StreamIfOpen past = IsOpen (state_of past) → IsStream past

@@ -96,7 +96,8 @@ session_of start (_ ∷ past) = session_of start past
 abbrev pub later : ℤ → ℤ → ℤ
 later a b = if int_lt b a then a else b
 
--- The last seen zxid: the greatest of the saved one and those of the replies that were taken, but of setWatches parts of the last one's alone.
+-- The last seen zxid: the greatest of the saved one and those of the replies that were taken; of the replies to the parts of a setWatches
+-- the last one's counts alone.
 abbrev pub last_of : Start → Past → ℤ
 last_of start [] = start.last
 last_of start (Took (Replies ticket question zxid result) ∷ past) = later zxid (last_of start past)

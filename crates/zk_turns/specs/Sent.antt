@@ -16,14 +16,11 @@ outputs_of (Turned turn ∷ items) = reverse turn.outputs ++ outputs_of items
 outputs_of (_ ∷ items) = outputs_of items
 
 -- A connection's first frame was sent just before the state Connecting, the others after it.
-abbrev pub newest_send : List Output → List (List ℕ)
-newest_send (Send bytes ∷ outputs) = bytes ∷ []
-newest_send _ = []
-
 abbrev pub sends : List Output → List (List ℕ)
 sends [] = []
 sends (Send bytes ∷ outputs) = sends outputs ++ bytes ∷ []
-sends (Enters Connecting ∷ outputs) = newest_send outputs
+sends (Enters Connecting ∷ Send bytes ∷ outputs) = bytes ∷ []
+sends (Enters Connecting ∷ outputs) = []
 sends (_ ∷ outputs) = sends outputs
 
 -- the state that was told last, Idle before any

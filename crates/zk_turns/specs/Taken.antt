@@ -75,7 +75,8 @@ taken_of last Passed = Took Skipped
 
 -- what a payload makes happen, by the state, what is pending and the last seen zxid
 abbrev pub reading : State → List Pending → (last : ℤ) → List ℕ → Happening
-reading state pending last payload = elim (arriving (phase_of state) pending payload) [ Ok arrived ↦ taken_of last arrived | Err fault ↦ Dropped (Talked fault) ]
+reading state pending last payload =
+    elim (arriving (phase_of state) pending payload) [ Ok arrived ↦ taken_of last arrived | Err fault ↦ Dropped (Talked fault) ]
 
 abbrev pub of_cutting : View → Cutting → List Happening
 of_cutting view Unfinished = []
@@ -176,13 +177,10 @@ frames_of (Began ∷ past) = []
 frames_of (Took message ∷ past) = frames_of past ++ held_of past ∷ []
 frames_of (_ ∷ past) = frames_of past
 
-abbrev pub IsFrame : List ℕ → Type 0
-IsFrame bytes = cut bytes ≡ Payload (drop 4 bytes)
-
 -- The bytes that came are whole frames, and then less than one.
 pub record IsStream (past : Past) : Type 0 where
   pub whole : received past ≡ flat_map (λ frame. frame) (frames_of past) ++ held_of past
-  pub each : AllByRecursion IsFrame (frames_of past)
+  pub each : AllByRecursion (λ bytes. cut bytes ≡ Payload (drop 4 bytes)) (frames_of past)
   pub rest : cut (held_of past) ≡ Unfinished
 
 -- what was taken, the newest first
