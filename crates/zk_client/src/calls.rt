@@ -16,7 +16,7 @@ ghost use Rattle.zk_turns.specs.Rule.{after_all, says_all};
 ghost use Rattle.zk_client.specs.Views.{said, outcome_view};
 ghost use Rattle.zk_client.specs.Seen.{view_with, origin};
 ghost use Rattle.zk_client.specs.Sound.{CoreIsSound};
-ghost use Rattle.zk_client.specs.Steps.{refusal_by_length, IsSendable};
+ghost use Rattle.zk_client.specs.Steps.{refusal_by_length, IsSendable, calls};
 
 use crate::machine::{Core, say};
 use crate::output::{Outcome, Output};
@@ -24,7 +24,6 @@ use std::alloc::{AllocError, Allocator};
 use zk_conversation::{AskFault, Call, MOST_PENDING};
 use zk_records::Side;
 use zk_session::State;
-ghost use Rattle.zk_client.specs.Steps.{calls};
 
 // The most paths of a side, pending reads counted.
 const MOST_PATHS: usize = 65_536;

@@ -21,7 +21,7 @@ ghost use Rattle.zk_turns.specs.Rule.{next, says, after_reply, keep_node, keep_c
 ghost use Rattle.zk_client.specs.Views.{said};
 ghost use Rattle.zk_client.specs.Seen.{view_with, while_pending, origin};
 ghost use Rattle.zk_client.specs.Sound.{CoreIsSound, CoreHasArrived, IsLeft, HasRoomFor};
-ghost use Rattle.zk_client.specs.Steps.{is_no_node};
+ghost use Rattle.zk_client.specs.Steps.{is_no_node, closing};
 
 use crate::copies::{copied, copied_bytes};
 use crate::fault::Fault;
@@ -33,7 +33,6 @@ use zk_conversation::{Question, ReplyResult};
 use zk_jute::TextRef;
 use zk_records::{Code, DataStat, Path, Side};
 use zk_watches::{RegisterFault, Registry};
-ghost use Rattle.zk_client.specs.Steps.{closing};
 
 // What a server answers where there is no node.
 const NO_NODE: i32 = -101;

@@ -37,7 +37,7 @@ forgets start items view s = record {
   saved = s.saved;
   lists = s.lists;
   cache = ap forgotten s.cache;
-  going = λ on. ap (λ v. record v { cache = forgotten v.cache }) (s.going on);
+  going = λ on. ap (λ (v : View). record v { cache = forgotten v.cache }) (s.going on);
   said = s.said;
   asked = s.asked;
 }

@@ -36,6 +36,9 @@ view_at start past = record {
   standing = record { halted = has_halted past; state = state_of past };
   saved = record { asked = start.timeout; session = session_of start past; last = last_of start past };
   moments = record { now = now_of past; heard = heard_of past; sent = sent_of past };
-  pending = pending_of past; held = held_of past; xid = xid_of past; lists = lists_of past;
+  pending = pending_of past;
+  held = held_of past;
+  xid = xid_of past;
+  lists = lists_of past;
   cache = record { nodes = λ path. kept_data path past; children = λ path. kept_names path past };
 }
