@@ -9,6 +9,7 @@ use Rattle.std.proofs.lemmas.List.Elements.{All-filter, All-push}
 use Rattle.std.proofs.lemmas.Cmp.{nat_list_eq_equiv}
 use Rattle.zk_history.specs.declared.side.Side.TheVariants.{Data, Child}
 use Rattle.zk_watches.specs.Lists.{Lists, has, with_path, without, side_has, count_of, registered, IsSound}
+use Rattle.zk_watches.proofs.RowLemmas.{without-none}
 
 -- a filter keeps what each element is apart from
 apart-filter : (R : List ℕ → Type 0) (test : List ℕ → Bool) (xs : List (List ℕ)) → AllByRecursion R xs → AllByRecursion R (filter test xs)
@@ -131,6 +132,13 @@ or_swap false true = refl
 or_swap false false = refl
 
 module _ (l : Lists) (path : List ℕ) (s : IsSound l) where
+  -- a path that is in the one list of side Data is not in the other
+  pub exist-same : has l.data_watches path ≡ true → without l.exist_watches path ≡ l.exist_watches
+  exist-same h = without-none l.exist_watches path (s.apart path h)
+
+  pub data-same : has l.exist_watches path ≡ true → without l.data_watches path ≡ l.data_watches
+  data-same h = without-none l.data_watches path (apart-swap l.data_watches l.exist_watches s.apart path h)
+
   -- a path that was found there comes to side Data
   pub sound-there : (side_has l Data path ≡ false → count_of l Data < 65536) → length path ≤ 4096 → IsSound (registered l Data true path)
   sound-there some short = record {

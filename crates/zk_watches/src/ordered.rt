@@ -1,5 +1,5 @@
 //! A list of texts without repeats, in the order in which they came.
-ghost use Rattle.std.specs.Prelude.{◌≡◌, [], length, true, IsOk, OnOk, OnErr, IfOk, map};
+ghost use Rattle.std.specs.Prelude.{◌≡◌, [], length, true, not, IsOk, OnOk, OnErr, IfOk, map};
 ghost use Rattle.zk_watches.specs.Lists.{has, with_path, without};
 
 use crate::numbered::{Numbers, count, is_in, list, next_number, put_last, take_out};
@@ -49,19 +49,20 @@ impl<A: Allocator + Copy> Ordered<A> {
         is_in(&self.numbers, text)
     }
 
-    /// Puts the text last, unless it is there already, which takes no memory.
-    pub(crate) fn add(&mut self, text: &str) -> Result<(), AllocError>
+    /// Puts the text last, and tells whether it is new. One that is there already stays, which takes no memory.
+    pub(crate) fn add(&mut self, text: &str) -> Result<bool, AllocError>
         ensures ok { OnOk result (self.new ≡ with_path self.old text.now) }
+        ensures is_new { IfOk result (λ is_new. is_new ≡ not (has self.old text.now)) }
         ensures there { has self.old text.now ≡ true → IsOk result }
         ensures err { OnErr result (self.new ≡ self.old) }
     {
         if self.contains(text) {
-            return Ok(());
+            return Ok(false);
         }
         self.next = next_number(self.alloc, &mut self.numbers, self.next)?;
         put_last(self.alloc, &mut self.numbers, text, self.next)?;
         self.next += 1;
-        Ok(())
+        Ok(true)
     }
 
     /// Takes the text out, in constant time and no memory.

@@ -108,11 +108,12 @@ impl<A: Allocator + Copy> Registry<A> {
         ensures there { list_has self.old Side.Data present text.now ≡ true → IsOk result }
         ensures err { OnErr result (self.new ≡ self.old) }
     {
+        // A path that was there already is not in the other list.
         if present {
-            self.data_watches.add(text)?;
-            self.exist_watches.take_out(text);
-        } else {
-            self.exist_watches.add(text)?;
+            if self.data_watches.add(text)? {
+                self.exist_watches.take_out(text);
+            }
+        } else if self.exist_watches.add(text)? {
             self.data_watches.take_out(text);
         }
         Ok(())
@@ -156,9 +157,11 @@ impl<A: Allocator + Copy> Registry<A> {
         ensures was { result ≡ side_has self.old Side.Data path.now }
         ensures lists { self.new ≡ record { data_watches = without self.old.data_watches path.now; exist_watches = without self.old.exist_watches path.now; child_watches = self.old.child_watches } }
     {
-        let was_there = self.data_watches.take_out(path);
-        let was_absent = self.exist_watches.take_out(path);
-        was_there || was_absent
+        // A path is in at most one of the two.
+        if self.data_watches.take_out(path) {
+            return true;
+        }
+        self.exist_watches.take_out(path)
     }
 
     fn fire_child(&mut self, path: &str) -> bool
