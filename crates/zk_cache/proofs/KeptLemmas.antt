@@ -1,6 +1,5 @@
 -- What comes into a cache, and what a look-up sees.
-use Rattle.std.proofs.Common.{◌≡◌, ℕ, Bool, List, true, false, Option, Some, None, Result, Ok, Err, OnOk, String, option_map, refl, sym, ap, ◌∙◌, true≢false, if◌then◌else◌}
-use Rattle.std.specs.Option.{option_map_or}
+use Rattle.std.proofs.Common.{◌≡◌, ℕ, Bool, List, true, false, Option, Some, None, Result, Ok, Err, OnOk, String, bytes_eq, option_map, refl, sym, ap, ◌∙◌, true≢false, if◌then◌else◌}
 use Rattle.std.specs.FinMap as finite
 use Rattle.indexmap.specs.IndexMap.{IndexMap, get_by_text}
 use Rattle.zk_cache.specs.declared.answers.DataAnswer.{DataAnswer}
@@ -11,7 +10,8 @@ use Rattle.zk_cache.specs.Look.{as_map}
 use Rattle.zk_cache.specs.Kept.{Answer, Absent, Known, Full, as_good, merged}
 use Rattle.zk_cache.specs.Covered.{stays}
 use Rattle.zk_cache.specs.Contents.{answer_of, seen_by}
-use Rattle.zk_cache.proofs.LookLemmas.{get-as_map, insert-same}
+use Rattle.zk_cache.specs.Renewed.{with_answer}
+use Rattle.zk_cache.proofs.LookLemmas.{same, get-insert, get-as_map}
 
 -- what follows from a fact of a success
 pub on_ok : {T E P Q : Type 0} (r : Result T E) → (P → Q) → OnOk r P → OnOk r Q
@@ -51,30 +51,40 @@ merged-none Absent = refl
 merged-none (Known stat) = refl
 merged-none (Full bytes stat) = refl
 
-module _ {A B S : Type 0} (m : IndexMap (String A) (Kept (DataAnswer B)) S) (path : List ℕ) (new : Answer) where
-  abbrev covered : Option (Kept (DataAnswer B)) → Bool
-  covered o = option_map_or (λ kept. stays (answer_of kept.answer) kept.mark new) o false
+-- the answer that is kept then, seen
+seen-with_answer : {B : Type 0} (o : Option (Kept (DataAnswer B))) (answer : DataAnswer B)
+    → option_map (seen_by answer_of) (with_answer o answer) ≡ Some (as_good (merged (option_map (seen_by answer_of) o) (answer_of answer)))
+seen-with_answer None answer = ap (λ a. Some (as_good a)) (sym (merged-none (answer_of answer)))
+seen-with_answer (Some held) answer = by (stays (answer_of held.answer) held.mark (answer_of answer)) refl
+  where
+    is : (b : Bool) → stays (answer_of held.answer) held.mark (answer_of answer) ≡ b → merged (Some (seen_by answer_of held)) (answer_of answer) ≡ (if b then answer_of held.answer else answer_of answer)
+    is b e = merged-stays (answer_of held.answer) held.mark (answer_of answer) ∙ ap (λ c. if c then answer_of held.answer else answer_of answer) e
 
-  -- an answer that does not stay makes room for the new one
-  pub merged-new : covered (get_by_text m path) ≡ false → merged (finite.get (as_map (seen_by answer_of) m) path) new ≡ new
-  merged-new h = ap (λ o. merged o new) (get-as_map (seen_by answer_of) m path) ∙ by (get_by_text m path) h
-    where
-      by : (o : Option (Kept (DataAnswer B))) → covered o ≡ false → merged (option_map (seen_by answer_of) o) new ≡ new
-      by None e = merged-none new
-      by (Some held) e = merged-stays (answer_of held.answer) held.mark new ∙ ap (λ b. if b then answer_of held.answer else new) e
+    by : (b : Bool) → stays (answer_of held.answer) held.mark (answer_of answer) ≡ b
+        → Some (seen_by answer_of (if b then held else as_good answer)) ≡ Some (as_good (merged (Some (seen_by answer_of held)) (answer_of answer)))
+    by true e =
+        ap (λ mark. Some (record { answer = answer_of held.answer; mark = mark })) (stays-good (answer_of held.answer) held.mark (answer_of answer) e)
+        ∙ ap (λ a. Some (as_good a)) (sym (is true e))
+    by false e = ap (λ a. Some (as_good a)) (sym (is false e))
 
-  -- one that stays is what is kept
-  pub insert-merged : covered (get_by_text m path) ≡ true
-      → finite.insert (as_map (seen_by answer_of) m) path (as_good (merged (finite.get (as_map (seen_by answer_of) m) path) new)) ≡ as_map (seen_by answer_of) m
-  insert-merged h = by (get_by_text m path) refl h
-    where
-      by : (o : Option (Kept (DataAnswer B))) → get_by_text m path ≡ o → covered o ≡ true
-          → finite.insert (as_map (seen_by answer_of) m) path (as_good (merged (finite.get (as_map (seen_by answer_of) m) path) new)) ≡ as_map (seen_by answer_of) m
-      by None is e = absurd (true≢false (sym e))
-      by (Some held) is e =
-          let there : finite.get (as_map (seen_by answer_of) m) path ≡ Some (record { answer = answer_of held.answer; mark = held.mark }) = get-as_map (seen_by answer_of) m path ∙ ap (option_map (seen_by answer_of)) is in
-          let old : merged (finite.get (as_map (seen_by answer_of) m) path) new ≡ answer_of held.answer =
-          ap (λ o. merged o new) there ∙ merged-stays (answer_of held.answer) held.mark new ∙ ap (λ b. if b then answer_of held.answer else new) e in
-          let mark : held.mark ≡ Good = stays-good (answer_of held.answer) held.mark new e in
-          ap (λ a. finite.insert (as_map (seen_by answer_of) m) path (as_good a)) old
-          ∙ insert-same (as_map (seen_by answer_of) m) path (as_good (answer_of held.answer)) (there ∙ ap (λ k. Some (record { answer = answer_of held.answer; mark = k })) mark)
+-- after an answer about the node itself came
+pub as_map-with_answer : {A B S : Type 0} (m n : IndexMap (String A) (Kept (DataAnswer B)) S) (path : List ℕ) (answer : DataAnswer B)
+    → ((other : List ℕ) → get_by_text n other ≡ (if bytes_eq path other then with_answer (get_by_text m path) answer else get_by_text m other))
+    → as_map (seen_by answer_of) n
+    ≡ finite.insert (as_map (seen_by answer_of) m) path (as_good (merged (finite.get (as_map (seen_by answer_of) m) path) (answer_of answer)))
+as_map-with_answer m n path answer h =
+    same (as_map (seen_by answer_of) n) (finite.insert (as_map (seen_by answer_of) m) path new)
+    (λ other.
+    get-as_map (seen_by answer_of) n other ∙ ap (option_map (seen_by answer_of)) (h other)
+    ∙ by (bytes_eq path other) other
+    ∙ sym (get-insert (as_map (seen_by answer_of) m) path new other))
+  where
+    new : Kept Answer
+    new = as_good (merged (finite.get (as_map (seen_by answer_of) m) path) (answer_of answer))
+
+    by : (b : Bool) (other : List ℕ)
+        → option_map (seen_by answer_of) (if b then with_answer (get_by_text m path) answer else get_by_text m other) ≡ (if b then Some new else finite.get (as_map (seen_by answer_of) m) other)
+    by true other =
+        seen-with_answer (get_by_text m path) answer
+        ∙ ap (λ o. Some (as_good (merged o (answer_of answer)))) (sym (get-as_map (seen_by answer_of) m path))
+    by false other = sym (get-as_map (seen_by answer_of) m other)

@@ -4,3 +4,4 @@ pub mod Contents
 pub mod Covered
 pub mod Kept
 pub mod Look
+pub mod Renewed

@@ -1,13 +1,13 @@
 //! What is kept of an answer.
-ghost use Rattle.std.specs.Prelude.{◌≡◌, false, IfOk};
-ghost use Rattle.std.specs.Option.{option_map_or};
-ghost use Rattle.indexmap.specs.IndexMap.{get_by_text};
+ghost use Rattle.std.specs.Prelude.{◌≡◌, ℕ, List, true, is_some, bytes_eq, if◌then◌else◌, IsOk, OnOk, OnErr, IfOk};
+ghost use Rattle.indexmap.specs.IndexMap.{get_by_text, IsUnchanged};
 ghost use Rattle.zk_history.specs.NamesKept.{names_of};
 ghost use Rattle.zk_cache.specs.Kept.{same_fields};
 ghost use Rattle.zk_cache.specs.Covered.{stays};
 ghost use Rattle.zk_cache.specs.Contents.{answer_of, set_of};
+ghost use Rattle.zk_cache.specs.Renewed.{renewed, with_answer};
 
-use crate::held::{Held, Kept, Mark};
+use crate::held::{Held, Kept, Mark, insert, marked_good};
 use std::alloc::{AllocError, Allocator};
 use std::collections::BTreeSet;
 use zk_history::DataStat;
@@ -41,15 +41,31 @@ fn covers<A: Allocator>(kept: &Kept<DataAnswer<A>>, answer: &DataAnswer<A>) -> b
     }
 }
 
-/// Whether a kept answer of the path stays where the new one comes.
-pub(crate) fn is_covered<A: Allocator + Copy>(
-    map: &Held<DataAnswer<A>, A>,
-    path: &str,
-    answer: &DataAnswer<A>,
-) -> bool
-    ensures { result ≡ option_map_or (λ kept. stays (answer_of kept.answer) kept.mark (answer_of answer.now)) (get_by_text map.now path.now) false }
+/// Puts the answer, marked good, in place of the kept one, unless that stays.
+fn renew<A: Allocator>(kept: &mut Kept<DataAnswer<A>>, answer: DataAnswer<A>)
+    ensures { kept.new ≡ renewed kept.old answer }
 {
-    map.get(path).is_some_and(|kept| covers(kept, answer))
+    if !covers(kept, &answer) {
+        *kept = marked_good(answer);
+    }
+}
+
+/// Keeps the answer, marked good, unless the kept one of the path stays. Only a path that is new to the map takes memory.
+pub(crate) fn keep<A: Allocator + Copy>(
+    alloc: A,
+    map: &mut Held<DataAnswer<A>, A>,
+    path: &str,
+    answer: DataAnswer<A>,
+) -> Result<(), AllocError>
+    ensures ok { OnOk result ((other : List ℕ) → get_by_text map.new other ≡ (if bytes_eq path.now other then with_answer (get_by_text map.old path.now) answer else get_by_text map.old other)) }
+    ensures there { is_some (get_by_text map.old path.now) ≡ true → IsOk result }
+    ensures err { OnErr result (IsUnchanged map.old map.new) }
+{
+    if let Some(kept) = map.get_mut(path) {
+        renew(kept, answer);
+        return Ok(());
+    }
+    insert(alloc, map, path, answer)
 }
 
 /// The names as a set.

@@ -3,7 +3,7 @@ ghost use Rattle.std.specs.Prelude.{◌≡◌, option_map, is_some, true, IsOk, 
 ghost use Rattle.zk_cache.specs.Cache.{no_answers, data_kept, names_kept, with_data, with_names, with_stale, with_good};
 ghost use Rattle.zk_cache.specs.Contents.{answer_of, names_in, set_of};
 
-use crate::answers::{DataAnswer, is_covered, set_of};
+use crate::answers::{DataAnswer, keep, set_of};
 use crate::held::{Held, Mark, keep_good, mark_stale, put};
 use indexmap::IndexMap;
 use std::alloc::{AllocError, Allocator};
@@ -52,10 +52,7 @@ impl<A: Allocator + Copy> Cache<A> {
         ensures err { OnErr result (self.new ≡ self.old) }
     {
         let text = path.as_str();
-        if is_covered(&self.data_answers, text, &answer) {
-            return Ok(());
-        }
-        put(self.alloc, &mut self.data_answers, text, answer)
+        keep(self.alloc, &mut self.data_answers, text, answer)
     }
 
     /// Keeps the names as a set, with the zxid of the set's last change, marked good. A null name is the empty one. An error is

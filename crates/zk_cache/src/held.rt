@@ -1,7 +1,7 @@
 //! Maps from paths to answers with a mark.
 ghost use Rattle.std.specs.Prelude.{◌≡◌, ℕ, List, Some, OnOk, OnErr, IsOk, true, is_some, bytes_eq, if◌then◌else◌};
 ghost use Rattle.indexmap.specs.IndexMap.{get_by_text, IsUnchanged};
-ghost use Rattle.zk_cache.specs.Kept.{good, stale, without_stale, is_good};
+ghost use Rattle.zk_cache.specs.Kept.{as_good, good, stale, without_stale, is_good};
 
 use indexmap::IndexMap;
 use std::alloc::{AllocError, Allocator};
@@ -26,6 +26,30 @@ pub struct Kept<T> {
 /// What is kept at each path.
 pub(crate) type Held<T, A> = IndexMap<String<A>, Kept<T>, BuildHasherDefault<FoldHasher>, A>;
 
+/// The answer, marked good.
+pub(crate) fn marked_good<T>(answer: T) -> Kept<T>
+    ensures { result ≡ as_good answer }
+{
+    Kept {
+        answer,
+        mark: Mark::Good,
+    }
+}
+
+/// Keeps the answer, marked good, and takes memory for the path.
+pub(crate) fn insert<T: Drop, A: Allocator + Copy>(
+    alloc: A,
+    map: &mut Held<T, A>,
+    path: &str,
+    answer: T,
+) -> Result<(), AllocError>
+    ensures ok { OnOk result ((other : List ℕ) → get_by_text map.new other ≡ (if bytes_eq path.now other then good answer else get_by_text map.old other)) }
+    ensures err { OnErr result (IsUnchanged map.old map.new) }
+{
+    map.insert(String::from_str(alloc, path)?, marked_good(answer))?;
+    Ok(())
+}
+
 /// Keeps the answer, marked good. Only a path that is new to the map takes memory.
 pub(crate) fn put<T: Drop, A: Allocator + Copy>(
     alloc: A,
@@ -37,16 +61,11 @@ pub(crate) fn put<T: Drop, A: Allocator + Copy>(
     ensures there { is_some (get_by_text map.old path.now) ≡ true → IsOk result }
     ensures err { OnErr result (IsUnchanged map.old map.new) }
 {
-    let held = Kept {
-        answer,
-        mark: Mark::Good,
-    };
     if let Some(kept) = map.get_mut(path) {
-        *kept = held;
+        *kept = marked_good(answer);
         return Ok(());
     }
-    map.insert(String::from_str(alloc, path)?, held)?;
-    Ok(())
+    insert(alloc, map, path, answer)
 }
 
 /// Marks the answer stale, if there is one.
