@@ -29,9 +29,17 @@ texts_of texts = map or_empty (or_empty texts)
 -- the Stat of eleven numbers in wire order
 abbrev pub stat_of : Value stat → Stat
 stat_of v = record {
-  czxid = v.0; mzxid = v.1.0; ctime = v.1.1.0; mtime = v.1.1.1.0; version = v.1.1.1.1.0;
-  cversion = v.1.1.1.1.1.0; aversion = v.1.1.1.1.1.1.0; ephemeral_owner = v.1.1.1.1.1.1.1.0;
-  data_length = v.1.1.1.1.1.1.1.1.0; num_children = v.1.1.1.1.1.1.1.1.1.0; pzxid = v.1.1.1.1.1.1.1.1.1.1;
+  czxid = v.0;
+  mzxid = v.1.0;
+  ctime = v.1.1.0;
+  mtime = v.1.1.1.0;
+  version = v.1.1.1.1.0;
+  cversion = v.1.1.1.1.1.0;
+  aversion = v.1.1.1.1.1.1.0;
+  ephemeral_owner = v.1.1.1.1.1.1.1.0;
+  data_length = v.1.1.1.1.1.1.1.1.0;
+  num_children = v.1.1.1.1.1.1.1.1.1.0;
+  pzxid = v.1.1.1.1.1.1.1.1.1.1;
 }
 
 -- what stands behind the header of a reply with err 0, by its question

@@ -170,8 +170,13 @@ size_of (Some bytes) = length bytes
 -- the seven fields of a node that change only where a data watch fires, as numbers of the wire ("ZooKeeper Stat Structure")
 abbrev pub node_fields : Node → DataStat
 node_fields node = record {
-  czxid = pos node.czxid; mzxid = pos node.mzxid; ctime = node.ctime; mtime = node.mtime;
-  version = pos node.version; ephemeral_owner = node.owner; data_length = pos (size_of node.content);
+  czxid = pos node.czxid;
+  mzxid = pos node.mzxid;
+  ctime = node.ctime;
+  mtime = node.mtime;
+  version = pos node.version;
+  ephemeral_owner = node.owner;
+  data_length = pos (size_of node.content);
 }
 
 -- What there is to see of a path on one side: that it is absent, its data with the seven fields, or the set of its
