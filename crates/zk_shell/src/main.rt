@@ -1,34 +1,10 @@
 //! Shows frames of the protocol, answers histories of a data tree, and drives a client by a script.
 #![tactic(auto)]
 
-mod asked;
-mod command;
-mod fault;
-mod fields;
-mod frame;
-mod help;
-mod history;
-mod kind;
-mod live;
-mod printed;
-#[cfg(test)]
-mod refusals;
-mod rehearse;
-mod replay;
-#[cfg(test)]
-mod replay_tests;
-mod run;
-mod show;
-mod shown;
-mod status;
-#[cfg(test)]
-mod tests;
-mod written;
-
-use run::run;
-use status::Status;
 use std::io;
 use std::process::ExitCode;
+use zk_commands::run::run;
+use zk_commands::status::Status;
 use zk_live::tcp::Tcp;
 
 /// Runs the command that the process's arguments ask for.

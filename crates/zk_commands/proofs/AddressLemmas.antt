@@ -1,0 +1,43 @@
+-- Whether each word is an address, and what is told where the words ask for nothing.
+use Rattle.std.proofs.Common.{◌≡◌, ◌≢◌, Bool, true, false, List, [], ◌∷◌, Option, Some, None, refl, map}
+use Rattle.std.specs.Prelude.{not, find, ◌&&◌, cond}
+use Rattle.std.specs.Borrow.{Bor}
+use Rattle.std.specs.List.{list_all}
+use Rattle.clap.specs.Words.{Text}
+use Rattle.zk_live.specs.Addresses.{is_address}
+use Rattle.zk_commands.specs.declared.command.LineFault.{LineFault}
+use Rattle.zk_commands.specs.declared.command.LineFault.TheVariants.{Help, Refused, Memory}
+use Rattle.zk_commands.specs.CommandLine.{IsNoHelp, TellsIf}
+
+-- the first word that is no address
+abbrev pub stranger : List (Bor Text) → Option (Bor Text)
+stranger words = find (λ w. not (is_address w.now)) words
+
+abbrev pub are_addresses : List (Bor Text) → Bool
+are_addresses words = list_all is_address (map (λ w. w.now) words)
+
+-- where there is none, each is an address
+pub each_is : (words : List (Bor Text)) → stranger words ≡ None → are_addresses words ≡ true
+each_is [] none = refl
+each_is (word ∷ words) none = go (is_address word.now) (each_is words) none
+  where
+    go : (b : Bool) → (stranger words ≡ None → are_addresses words ≡ true) → cond (not b) (Some word) (stranger words) ≡ None
+        → (b && are_addresses words) ≡ true
+    go true rest e = rest e
+    go false rest e = cc
+
+-- where there is one, they are not
+pub one_is_not : (words : List (Bor Text)) (other : Bor Text) → stranger words ≡ Some other → are_addresses words ≢ true
+one_is_not [] other some = λ _. cc
+one_is_not (word ∷ words) other some = go (is_address word.now) (one_is_not words other) some
+  where
+    go : (b : Bool) → (stranger words ≡ Some other → are_addresses words ≢ true) → cond (not b) (Some word) (stranger words) ≡ Some other
+        → (b && are_addresses words) ≢ true
+    go true rest e = rest e
+    go false rest e = λ same. cc
+
+-- a refusal may be told where this holds
+pub tells : (why : Type 0) (fault : LineFault) → IsNoHelp fault → why → TellsIf why fault
+tells why (Help text) none holds = absurd none
+tells why (Refused text) none holds = holds
+tells why Memory none holds = tt

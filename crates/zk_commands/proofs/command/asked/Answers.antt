@@ -1,0 +1,71 @@
+use Rattle.std.proofs.Common.{rules, arith, ◌≡◌, ◌∙◌, ℕ, List, [], map, sym, subst, ap, codes, slice_index, Some, None, Option}
+use Rattle.clap.specs.Words.{found_of, first_of, rows_of, subcommand_rows_of, Text, Row}
+use Rattle.clap.proofs.WalkLemmas.{first_value-rows}
+use Rattle.zk_commands.specs.declared.command.Command.{Command}
+use Rattle.zk_commands.specs.declared.command.Command.TheVariants.{Show, History, Replay, Rehearse, Live}
+use Rattle.zk_commands.specs.declared.kind.Kind.{Kind}
+use Rattle.zk_commands.specs.Kinds.{kind_word}
+use Rattle.zk_commands.specs.CommandLine.{AreAddresses, AsksForNone, IsFound}
+use Rattle.zk_commands.proofs.AddressLemmas.{tells}
+use Rattle.zk_commands.proofs.command.asked.Goals as goal
+
+abbrev name_in : Option (Text × List Row) → Text
+name_in None = []
+name_in (Some p) = p.0
+
+abbrev rows_in : Option (Text × List Row) → List Row
+rows_in None = []
+rows_in (Some p) = p.1
+
+-- the first letter of the one name is that of the other
+first_letter : {found : Option (Text × List Row)} {name other : Text} {rows others : List Row} → found ≡ Some (name, rows)
+    → found ≡ Some (other, others) → slice_index name 0 ≡ slice_index other 0
+first_letter one two = ap (λ (o : Option (Text × List Row)). slice_index (name_in o) 0) (sym one ∙ two)
+
+-- where `show` was found without its two values, the words ask for no command
+without_values : (found : Option (Text × List Row)) (rows : List Row) → found ≡ Some (codes "show", rows)
+    → ((kind : Kind) (hex : Text) → first_of (codes "KIND") rows ≡ Some (kind_word kind) → first_of (codes "HEX") rows ≡ Some hex → ⊥)
+    → AsksForNone found
+without_values found rows is absent (Show kind hex) f =
+    let same : rows ≡ f.0 = ap rows_in (sym is ∙ f.1) in
+    absent kind hex.now (rw same f.2) (rw same f.3)
+without_values found rows is absent History f =
+    let bad : ◌≡◌ {A = ℕ} 115 104 = first_letter is f.1 in absurd (omega arith)
+without_values found rows is absent Replay f =
+    let bad : ◌≡◌ {A = ℕ} 115 114 = first_letter is f.1 in absurd (omega arith)
+without_values found rows is absent Rehearse f =
+    let bad : ◌≡◌ {A = ℕ} 115 114 = first_letter is f.1 in absurd (omega arith)
+without_values found rows is absent (Live addresses) f =
+    let bad : ◌≡◌ {A = ℕ} 115 108 = first_letter is f.1 in absurd (omega arith)
+
+-- where `live` was found without words that are addresses, the words ask for no command
+without_addresses : (found : Option (Text × List Row)) (rows : List Row) → found ≡ Some (codes "live", rows)
+    → ((words : List Text) → AreAddresses words rows → ⊥) → AsksForNone found
+without_addresses found rows is absent (Show kind hex) f =
+    let bad : ◌≡◌ {A = ℕ} 108 115 = first_letter is f.1 in absurd (omega arith)
+without_addresses found rows is absent History f =
+    let bad : ◌≡◌ {A = ℕ} 108 104 = first_letter is f.1 in absurd (omega arith)
+without_addresses found rows is absent Replay f =
+    let bad : ◌≡◌ {A = ℕ} 108 114 = first_letter is f.1 in absurd (omega arith)
+without_addresses found rows is absent Rehearse f =
+    let bad : ◌≡◌ {A = ℕ} 108 114 = first_letter is f.1 in absurd (omega arith)
+without_addresses found rows is absent (Live addresses) f =
+    let same : rows ≡ f.0 = ap rows_in (sym is ∙ f.1) in
+    absent (map (λ a. a.now) addresses.items) (rw same f.2)
+
+pub returns-in-Some-clause-ok : goal.returns-in-Some-clause-ok
+returns-in-Some-clause-ok c =
+    let found = found_of c.in-Some-show-default.inner.now in
+    let is : subcommand_rows_of c.args.matches.now ≡ Some (codes "show", rows_of found) = search rules in
+    let h = c.in-Some.ensures.some in
+    subst (λ (x : Command). IsFound x (subcommand_rows_of c.args.matches.now)) (sym h.2)
+    (rows_of found, is, sym (first_value-rows found (codes "KIND")) ∙ h.3, sym (first_value-rows found (codes "HEX")) ∙ h.4)
+
+pub returns-in-None-clause-err : goal.returns-in-None-clause-err
+returns-in-None-clause-err c =
+    let found = found_of c.in-Some-show-default.inner.now in
+    let is : subcommand_rows_of c.args.matches.now ≡ Some (codes "show", rows_of found) = search rules in
+    let absent = c.in-None.ensures.none in
+    tells _ c.no_command.result c.no_command.ensures
+    (without_values _ (rows_of found) is (λ k h first second.
+    absent k h (first_value-rows found (codes "KIND") ∙ first) (first_value-rows found (codes "HEX") ∙ second)))

@@ -1,0 +1,19 @@
+-- What is written behind what the lines of a script print, by how they ended.
+use Rattle.std.specs.Prelude.{◌≡◌, ℕ, List, [], codes}
+use Rattle.zk_replay.specs.declared.replay.End.{End}
+use Rattle.zk_replay.specs.declared.replay.End.TheVariants.{Halted, Memory}
+use Rattle.zk_script.specs.declared.input.InputFault.{InputFault}
+use Rattle.zk_script.specs.declared.input.InputFault.TheVariants as faults
+use Rattle.zk_commands.specs.declared.status.Status.{Status}
+use Rattle.zk_commands.specs.declared.status.Status.TheVariants as status
+
+-- Memory ran out: nothing is written, or that this was in a step of the client.
+abbrev pub RunsOut : End → List ℕ → Type 0
+RunsOut Halted told = told ≡ codes "halt\n"
+RunsOut Memory told = told ≡ []
+RunsOut _ told = ⊥
+
+-- how a command ends whose script was not read
+abbrev pub unread : InputFault → Status
+unread faults.Unread = status.Stream
+unread faults.Memory = status.Memory

@@ -1,0 +1,52 @@
+//! The command that drives a client over connections.
+
+ghost use Rattle.std.specs.Prelude.{◌≡◌, ◌≢◌, ◌⊎◌, ◌++◌, List, ℕ};
+ghost use Rattle.std.specs.Io.KnownBytes.{Appends};
+ghost use Rattle.zk_live.specs.Lives.{IsOutcome};
+ghost use Rattle.zk_script.specs.Scripts.{lines_of, refusal_text};
+ghost use Rattle.zk_script.specs.declared.script_fault.ScriptFault.{ScriptFault as Why};
+ghost use Rattle.zk_commands.specs.History.{IsInput};
+ghost use Rattle.zk_commands.specs.Written.{RunsOut};
+
+use crate::status::Status;
+use crate::written::{unread, write_outcome};
+use std::alloc::Allocator;
+use std::io::{Read, Write};
+use zk_live::dial::Dial;
+use zk_live::live::live;
+use zk_replay::replay::End;
+use zk_script::input::read_whole;
+
+/// Drives a client by the script on `input`, over connections to the addresses, and prints what it says and what its look-ups
+/// find, a line each. The script is read whole before anything is dialled. A line that is refused is told to `errors` with its
+/// number; what the connection and the lines before it made the client say is printed. `Memory` where memory ran out, behind
+/// what whole lines printed, with `halt` where that was in a step of the client; `Stream` where a read of the script or a write of
+/// what is printed failed, or the end of the input did not come by the last read. A connection that fails is no fault.
+pub fn live_over<D: Dial, A: Allocator + Copy, I: Read, O: Write, E: Write>(
+    alloc: A,
+    dial: &mut D,
+    addresses: &[&str],
+    input: &mut I,
+    out: &mut O,
+    errors: &mut E,
+) -> Status
+    // Each line of the input is taken, and what is written is what the first connection and they print.
+    ensures done { result ≡ Status.Done → (script text : List ℕ) × IsInput (I.remaining input.old) script × IsOutcome (lines_of script) text End.Taken
+        × Appends (O.contents out.old) (O.contents out.new) text }
+    // A line is refused: its number and the reason are told, and what is written is what stands before it.
+    ensures fault { result ≡ Status.Fault → (script text : List ℕ) × (number : ℕ) × (why : Why) × IsInput (I.remaining input.old) script
+        × IsOutcome (lines_of script) text (End.Refused number why) × Appends (O.contents out.old) (O.contents out.new) text
+        × Appends (E.contents errors.old) (E.contents errors.new) (refusal_text number why) }
+    // What is written is what the first lines print: of no line a part. The line of a halt stands behind it where a step halted.
+    ensures memory { result ≡ Status.Memory → (script text told : List ℕ) × (end : End) × IsInput (I.remaining input.old) script
+        × IsOutcome (lines_of script) text end × RunsOut end told × Appends (O.contents out.old) (O.contents out.new) (text ++ told) }
+    ensures silent { (result ≡ Status.Done) ⊎ (result ≡ Status.Memory) → errors.new ≡ errors.old }
+    ensures usage { result ≢ Status.Usage }
+{
+    let script = match read_whole(alloc, input) {
+        Ok(script) => script,
+        Err(fault) => return unread(fault),
+    };
+    let outcome = live(alloc, dial, addresses, script.as_slice());
+    write_outcome(out, errors, &outcome)
+}

@@ -1,0 +1,63 @@
+//! How what the lines of a script print is written, and how they ended is told.
+
+ghost use Rattle.std.specs.Prelude.{◌≡◌, ◌≢◌, ◌⊎◌, ◌++◌, List, ℕ, codes, string_bytes};
+ghost use Rattle.std.specs.Io.KnownBytes.{Appends};
+ghost use Rattle.zk_script.specs.Scripts.{refusal_text};
+ghost use Rattle.zk_script.specs.declared.script_fault.ScriptFault.{ScriptFault as Why};
+ghost use Rattle.zk_commands.specs.Written.{unread, RunsOut};
+
+use crate::history::tell;
+use crate::status::Status;
+use std::alloc::Allocator;
+use std::io::Write;
+use zk_replay::replay::{End, Outcome};
+use zk_script::input::InputFault;
+
+/// How a command ends whose script was not read.
+pub(crate) fn unread(fault: InputFault) -> Status
+    ensures is { result ≡ unread fault }
+    ensures only { (result ≡ Status.Memory) ⊎ (result ≡ Status.Stream) }
+{
+    match fault {
+        InputFault::Unread => Status::Stream,
+        InputFault::Memory => Status::Memory,
+    }
+}
+
+/// Says that a step of the client ran out of memory.
+fn halt<O: Write>(out: &mut O) -> Status
+    ensures written { result ≡ Status.Memory → Appends (O.contents out.old) (O.contents out.new) (codes "halt\n") }
+    ensures only { (result ≡ Status.Memory) ⊎ (result ≡ Status.Stream) }
+{
+    match out.write_all(b"halt\n") {
+        Ok(()) => Status::Memory,
+        Err(_) => Status::Stream,
+    }
+}
+
+/// Writes what lines print, and tells how they ended: to `errors` the number of a line that is refused, and why. `Memory` where
+/// memory ran out, with the line `halt` behind the others where that was in a step of the client; `Stream` where a write failed.
+pub(crate) fn write_outcome<A: Allocator, O: Write, E: Write>(
+    out: &mut O,
+    errors: &mut E,
+    outcome: &Outcome<A>,
+) -> Status
+    ensures done { result ≡ Status.Done → (outcome.now.end ≡ End.Taken) × Appends (O.contents out.old) (O.contents out.new) (string_bytes outcome.now.text) }
+    ensures fault { result ≡ Status.Fault → (number : ℕ) × (why : Why) × (outcome.now.end ≡ End.Refused number why)
+        × Appends (O.contents out.old) (O.contents out.new) (string_bytes outcome.now.text)
+        × Appends (E.contents errors.old) (E.contents errors.new) (refusal_text number why) }
+    ensures memory { result ≡ Status.Memory → (told : List ℕ) × RunsOut outcome.now.end told
+        × Appends (O.contents out.old) (O.contents out.new) (string_bytes outcome.now.text ++ told) }
+    ensures silent { (result ≡ Status.Done) ⊎ (result ≡ Status.Memory) → errors.new ≡ errors.old }
+    ensures usage { result ≢ Status.Usage }
+{
+    if out.write_all(outcome.text.as_bytes()).is_err() {
+        return Status::Stream;
+    }
+    match outcome.end {
+        End::Taken => Status::Done,
+        End::Refused { number, why } => tell(errors, number, why),
+        End::Halted => halt(out),
+        End::Memory => Status::Memory,
+    }
+}
