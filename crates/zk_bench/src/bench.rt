@@ -18,18 +18,15 @@ use crate::replies::{send_header, send_response, send_result};
 use crate::servers::{next_changes, take_all, zxid_after};
 use crate::stop::{Refusal, Stop};
 use crate::tree::Tree;
-use crate::writes::{append, created_path, deleted_path, mode_of, written_path};
+use crate::writes::{Mode, append, creation, deleted_path, mode_of, setting};
 use std::alloc::{AllocError, Allocator};
 use std::marker::Model;
 use zk_history::{Change, History};
 use zk_jute::TextRef;
 use zk_records::{
-    Code, ConnectRequest, CreateRef, CreateRequest, DeleteRequest, ReplyHeader, Request,
-    SetDataRequest,
+    Code, ConnectRequest, ConnectResponse, CreateRef, CreateRequest, DeleteRequest, ReplyHeader,
+    Request, SetDataRequest,
 };
-
-// The session that owns ephemeral nodes.
-const OWNER: i64 = 1;
 
 // The xid of the answer to a ping.
 const PONG: i32 = -2;
@@ -252,10 +249,7 @@ impl<A: Allocator + Copy> Bench<A> {
         ensures rest { self.new ≡ record self.old { history = self.new.history; taken = self.new.taken; connection = self.new.connection } }
     {
         if self.connection.phase == Phase::Opening {
-            let first = first_request(self.alloc, &self.connection.requests, length);
-            remove_front(&mut self.connection.requests, 4 + length);
-            let request = first?;
-            return self.admit(&request);
+            return self.process_first(length);
         }
         let next = next_request(self.alloc, &self.connection.requests, length);
         remove_front(&mut self.connection.requests, 4 + length);
@@ -265,6 +259,17 @@ impl<A: Allocator + Copy> Bench<A> {
             Err(Refusal::Stop(stop)) => Err(stop),
             Err(Refusal::Code(code)) => self.send_err(xid, code.number()),
         }
+    }
+
+    // The same for the first frame of a connection.
+    fn process_first(&mut self, length: usize) -> Result<(), Stop>
+        requires { 4 + length ≤ bytes_of self.old.connection.requests }
+        ensures processed { self.new.connection.requests ≡ drop (4 + length) self.old.connection.requests }
+        ensures rest { self.new ≡ record self.old { taken = self.new.taken; connection = self.new.connection } }
+    {
+        let first = first_request(self.alloc, &self.connection.requests, length);
+        remove_front(&mut self.connection.requests, 4 + length);
+        self.admit(&first?)
     }
 
     fn send_err(&mut self, xid: i32, err: i32) -> Result<(), Stop>
@@ -284,14 +289,23 @@ impl<A: Allocator + Copy> Bench<A> {
         if self.zxid() < request.last_zxid_seen {
             return Err(Stop::End);
         }
-        let (response, phase) = if self.expired {
-            (expired(self.alloc)?, Phase::Ended)
+        let response = self.first_answer(request.time_out)?;
+        send_response(self.alloc, response, &mut self.connection.output)?;
+        self.connection.phase = if self.expired {
+            Phase::Ended
         } else {
-            (accepted(self.alloc, request.time_out)?, Phase::Accepted)
+            Phase::Accepted
         };
-        send_response(self.alloc, &response, &mut self.connection.output)?;
-        self.connection.phase = phase;
         Ok(())
+    }
+
+    // What a client is answered that asks for this timeout.
+    fn first_answer(&self, time_out: i32) -> Result<ConnectResponse<A>, AllocError> {
+        if self.expired {
+            expired(self.alloc)
+        } else {
+            accepted(self.alloc, time_out)
+        }
     }
 
     // Answers a request with its result, or says why it has none.
@@ -304,19 +318,23 @@ impl<A: Allocator + Copy> Bench<A> {
         match request {
             Request::Create(r) => self.create(xid, r),
             Request::SetData(r) => self.set_data(xid, r),
-            Request::Delete(r) => self.delete(xid, r),
+            Request::Delete(r) => self.delete(xid, &r),
             Request::Ping => self.finish(PONG),
             Request::CloseSession => {
                 self.finish(xid)?;
                 self.connection.phase = Phase::Ended;
                 Ok(())
             }
-            other => self.read(xid, other),
+            other => {
+                let outcome = self.read(xid, &other);
+                drop(other);
+                outcome
+            }
         }
     }
 
     // Answers a request that leaves the history as it is.
-    fn read(&mut self, xid: i32, request: Request<A>) -> Result<(), Refusal>
+    fn read(&mut self, xid: i32, request: &Request<A>) -> Result<(), Refusal>
         ensures requests { self.new.connection.requests ≡ self.old.connection.requests }
         ensures rest { self.new ≡ record self.old { taken = self.new.taken; connection = self.new.connection } }
     {
@@ -325,7 +343,7 @@ impl<A: Allocator + Copy> Bench<A> {
             history: &self.history,
             zxid: zxid_after(&self.history, self.taken[self.server]),
         };
-        read(&tree, xid, &request, &mut self.connection)
+        read(&tree, xid, request, &mut self.connection)
     }
 
     // Answers with a header alone.
@@ -333,8 +351,7 @@ impl<A: Allocator + Copy> Bench<A> {
         ensures requests { self.new.connection.requests ≡ self.old.connection.requests }
         ensures rest { self.new ≡ record self.old { taken = self.new.taken; connection = self.new.connection } }
     {
-        self.send_err(xid, 0)?;
-        Ok(())
+        self.send_err(xid, 0).map_err(Refusal::from)
     }
 
     // The connected server takes all transactions that are left.
@@ -360,30 +377,57 @@ impl<A: Allocator + Copy> Bench<A> {
         }
     }
 
+    // The mode of a create, for which the connected server has taken all transactions that are left.
+    fn mode_caught_up(&mut self, flags: i32) -> Result<Mode, Refusal>
+        ensures requests { self.new.connection.requests ≡ self.old.connection.requests }
+        ensures rest { self.new ≡ record self.old { taken = self.new.taken; connection = self.new.connection } }
+    {
+        let Some(mode) = mode_of(flags) else {
+            return Err(Refusal::Stop(Stop::End));
+        };
+        self.catch_up()?;
+        Ok(mode)
+    }
+
+    // Appends a change to the history, and the connected server takes it.
+    #[tactic(auto, using(crate::proofs::Continuing::same_goes_on))]
+    fn write(&mut self, change: Change<A>) -> Result<(), Refusal>
+        ensures requests { self.new.connection.requests ≡ self.old.connection.requests }
+        ensures history { Continues self.old.history self.new.history }
+        ensures rest { self.new ≡ record self.old { history = self.new.history; taken = self.new.taken; connection = self.new.connection } }
+    {
+        append(&mut self.history, self.time, change)?;
+        self.catch_up().map_err(Refusal::from)
+    }
+
     #[tactic(auto, using(crate::proofs::Continuing::same_goes_on))]
     fn create(&mut self, xid: i32, request: CreateRequest<A>) -> Result<(), Refusal>
         ensures requests { self.new.connection.requests ≡ self.old.connection.requests }
         ensures history { Continues self.old.history self.new.history }
         ensures rest { self.new ≡ record self.old { history = self.new.history; taken = self.new.taken; connection = self.new.connection } }
     {
-        let Some(mode) = mode_of(request.flags) else {
-            return Err(Refusal::Stop(Stop::End));
-        };
-        self.catch_up()?;
-        let path = created_path(&self.newest(), mode, &request)?;
-        let text = String::from_str(self.alloc, path.as_str())?;
-        let owner = if mode.ephemeral { OWNER } else { 0 };
-        let change = Change::Create(path, request.bytes.into_inner(), owner);
-        append(&mut self.history, self.time, change)?;
-        self.catch_up()?;
+        let CreateRequest {
+            path,
+            bytes,
+            acl,
+            flags,
+        } = request;
+        drop(acl);
+        let mode = self.mode_caught_up(flags)?;
+        let (text, change) = creation(&self.newest(), mode, path, bytes)?;
+        self.write(change)?;
+        self.send_created(xid, text.as_str())
+    }
+
+    fn send_created(&mut self, xid: i32, text: &str) -> Result<(), Refusal>
+        ensures requests { self.new.connection.requests ≡ self.old.connection.requests }
+        ensures rest { self.new ≡ record self.old { taken = self.new.taken; connection = self.new.connection } }
+    {
         let zxid = self.zxid();
-        let record = CreateRef {
-            path: TextRef {
-                text: Some(text.as_str()),
-            },
-        };
-        send_result(self.alloc, xid, zxid, record, &mut self.connection.output)?;
-        Ok(())
+        let path = TextRef { text: Some(text) };
+        let record = CreateRef { path };
+        let out = &mut self.connection.output;
+        send_result(self.alloc, xid, zxid, record, out).map_err(Refusal::from)
     }
 
     #[tactic(auto, using(crate::proofs::Continuing::same_goes_on))]
@@ -393,29 +437,32 @@ impl<A: Allocator + Copy> Bench<A> {
         ensures rest { self.new ≡ record self.old { history = self.new.history; taken = self.new.taken; connection = self.new.connection } }
     {
         self.catch_up()?;
-        let path = written_path(&self.newest(), &request)?;
-        let text = String::from_str(self.alloc, path.as_str())?;
-        let change = Change::Set(path, request.bytes.into_inner());
-        append(&mut self.history, self.time, change)?;
-        self.catch_up()?;
+        let (text, change) = setting(&self.newest(), request)?;
+        self.write(change)?;
+        self.send_stat(xid, text.as_str())
+    }
+
+    fn send_stat(&mut self, xid: i32, text: &str) -> Result<(), Refusal>
+        ensures requests { self.new.connection.requests ≡ self.old.connection.requests }
+        ensures rest { self.new ≡ record self.old { taken = self.new.taken; connection = self.new.connection } }
+    {
         let zxid = self.zxid();
-        let Some(stat) = self.newest().stat(text.as_str())? else {
+        let Some(stat) = self.newest().stat(text)? else {
             return Err(Refusal::Code(Code::NoNode));
         };
-        send_result(self.alloc, xid, zxid, stat, &mut self.connection.output)?;
-        Ok(())
+        let out = &mut self.connection.output;
+        send_result(self.alloc, xid, zxid, stat, out).map_err(Refusal::from)
     }
 
     #[tactic(auto, using(crate::proofs::Continuing::same_goes_on))]
-    fn delete(&mut self, xid: i32, request: DeleteRequest<A>) -> Result<(), Refusal>
+    fn delete(&mut self, xid: i32, request: &DeleteRequest<A>) -> Result<(), Refusal>
         ensures requests { self.new.connection.requests ≡ self.old.connection.requests }
         ensures history { Continues self.old.history self.new.history }
         ensures rest { self.new ≡ record self.old { history = self.new.history; taken = self.new.taken; connection = self.new.connection } }
     {
         self.catch_up()?;
-        let path = deleted_path(&self.newest(), &request)?;
-        append(&mut self.history, self.time, Change::Delete(path))?;
-        self.catch_up()?;
+        let path = deleted_path(&self.newest(), request)?;
+        self.write(Change::Delete(path))?;
         self.finish(xid)
     }
 }

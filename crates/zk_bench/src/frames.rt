@@ -9,7 +9,7 @@ use byteorder::{BigEndian, ByteOrder};
 use std::alloc::Allocator;
 
 /// What stands at the front of the bytes that a server was sent.
-#[derive(Clone, Copy, Debug, PartialEq, Eq)]
+#[derive(Clone, Copy)]
 pub(crate) enum Front {
     /// Less than a frame.
     Unfinished,

@@ -23,8 +23,6 @@ mod rewatch;
 mod sequence;
 mod servers;
 mod stop;
-#[cfg(test)]
-mod tests;
 mod tree;
 mod watches;
 mod writes;

@@ -1,7 +1,7 @@
 //! How far a connection is.
 
 /// How far the connection to a server is.
-#[derive(Clone, Copy, Debug, PartialEq, Eq)]
+#[derive(Clone, Copy, PartialEq, Eq)]
 pub(crate) enum Phase {
     /// No server is connected.
     Apart,

@@ -15,7 +15,7 @@ use std::alloc::{AllocError, Allocator};
 use std::collections::BTreeSet;
 use zk_jute::{Buffer, List, Text};
 use zk_records::{
-    Code, GetChildren2Response, GetChildrenResponse, GetDataResponse, ReadRequest, Request,
+    Code, GetChildren2Response, GetChildrenResponse, GetDataResponse, ReadRequest, Request, Stat,
 };
 
 /// Answers a request that leaves the history as it is.
@@ -54,8 +54,25 @@ fn exists<A: Allocator + Copy>(
     let Some(stat) = stat else {
         return Err(Refusal::Code(Code::NoNode));
     };
-    send_result(tree.alloc, xid, tree.zxid, stat, &mut connection.output)?;
-    Ok(())
+    let out = &mut connection.output;
+    send_result(tree.alloc, xid, tree.zxid, stat, out).map_err(Refusal::from)
+}
+
+// The `Stat` of the node that is read, and -101 where no node is there. Where one is, the watch that is asked for is left
+// among these paths.
+fn watched<A: Allocator + Copy>(
+    tree: &Tree<'_, A>,
+    request: &ReadRequest<A>,
+    paths: &mut BTreeSet<String<A>, A>,
+) -> Result<Stat, Refusal> {
+    let text = text_of(&request.path);
+    let Some(stat) = tree.stat(text)? else {
+        return Err(Refusal::Code(Code::NoNode));
+    };
+    if request.watch {
+        add_watch(tree.alloc, paths, text)?;
+    }
+    Ok(stat)
 }
 
 // Answers getData.
@@ -67,17 +84,14 @@ fn get_data<A: Allocator + Copy>(
 ) -> Result<(), Refusal>
     ensures { connection.new.requests ≡ connection.old.requests }
 {
-    let text = text_of(&request.path);
-    let (Some(data), Some(stat)) = (tree.data(text)?, tree.stat(text)?) else {
+    let stat = watched(tree, request, &mut connection.watches.data)?;
+    let Some(data) = tree.data(text_of(&request.path))? else {
         return Err(Refusal::Code(Code::NoNode));
     };
-    if request.watch {
-        add_watch(tree.alloc, &mut connection.watches.data, text)?;
-    }
     let bytes = Buffer::new(data.bytes);
     let record = GetDataResponse { bytes, stat };
-    send_result(tree.alloc, xid, tree.zxid, record, &mut connection.output)?;
-    Ok(())
+    let out = &mut connection.output;
+    send_result(tree.alloc, xid, tree.zxid, record, out).map_err(Refusal::from)
 }
 
 // Answers getChildren, the names in byte order.
@@ -89,17 +103,11 @@ fn get_children<A: Allocator + Copy>(
 ) -> Result<(), Refusal>
     ensures { connection.new.requests ≡ connection.old.requests }
 {
-    let text = text_of(&request.path);
-    let Some(names) = tree.names(text)? else {
-        return Err(Refusal::Code(Code::NoNode));
-    };
-    if request.watch {
-        add_watch(tree.alloc, &mut connection.watches.child, text)?;
-    }
-    let children = list_of(tree.alloc, names.names)?;
+    let _stat = watched(tree, request, &mut connection.watches.child)?;
+    let children = children_at(tree, text_of(&request.path))?;
     let record = GetChildrenResponse { children };
-    send_result(tree.alloc, xid, tree.zxid, record, &mut connection.output)?;
-    Ok(())
+    let out = &mut connection.output;
+    send_result(tree.alloc, xid, tree.zxid, record, out).map_err(Refusal::from)
 }
 
 // Answers getChildren2, the names in byte order, with the node's `Stat`.
@@ -111,17 +119,23 @@ fn get_children_2<A: Allocator + Copy>(
 ) -> Result<(), Refusal>
     ensures { connection.new.requests ≡ connection.old.requests }
 {
-    let text = text_of(&request.path);
-    let (Some(names), Some(stat)) = (tree.names(text)?, tree.stat(text)?) else {
+    let stat = watched(tree, request, &mut connection.watches.child)?;
+    let children = children_at(tree, text_of(&request.path))?;
+    let record = GetChildren2Response { children, stat };
+    let out = &mut connection.output;
+    send_result(tree.alloc, xid, tree.zxid, record, out).map_err(Refusal::from)
+}
+
+// The names of the children at a text, in byte order, and -101 where no node is there.
+fn children_at<A: Allocator + Copy>(
+    tree: &Tree<'_, A>,
+    text: &str,
+) -> Result<List<Text<A>, A>, Refusal> {
+    let Some(names) = tree.names(text)? else {
         return Err(Refusal::Code(Code::NoNode));
     };
-    if request.watch {
-        add_watch(tree.alloc, &mut connection.watches.child, text)?;
-    }
     let children = list_of(tree.alloc, names.names)?;
-    let record = GetChildren2Response { children, stat };
-    send_result(tree.alloc, xid, tree.zxid, record, &mut connection.output)?;
-    Ok(())
+    Ok(children)
 }
 
 // The names as the wire's list, in their order.

@@ -55,10 +55,12 @@ pub(crate) fn send_notice<A: Allocator + Copy>(
 /// Sends the answer to a ConnectRequest, which has no header.
 pub(crate) fn send_response<A: Allocator + Copy>(
     alloc: A,
-    response: &ConnectResponse<A>,
+    response: ConnectResponse<A>,
     out: &mut Vec<u8, A>,
 ) -> Result<(), Stop> {
     let mut payload = Vec::new(alloc);
-    response.put(&mut payload)?;
+    let put = response.put(&mut payload);
+    drop(response);
+    put?;
     push_frame(&payload, out)
 }

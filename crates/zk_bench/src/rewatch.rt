@@ -12,7 +12,7 @@ use zk_jute::Text;
 use zk_records::{Event, ReplyHeader, SetWatches, Stat};
 
 /// The lists of a setWatches request.
-#[derive(Clone, Copy, Debug, PartialEq, Eq)]
+#[derive(Clone, Copy)]
 pub(crate) enum Watched {
     /// Paths whose nodes were there.
     Data,
@@ -94,6 +94,23 @@ fn rewatch_all<A: Allocator + Copy>(
     Ok(())
 }
 
+// Goes through the three lists.
+fn rewatch_lists<A: Allocator + Copy>(
+    tree: &Tree<'_, A>,
+    request: &SetWatches<A>,
+    connection: &mut Connection<A>,
+) -> Result<(), Stop>
+    ensures { connection.new.requests ≡ connection.old.requests }
+{
+    let relative = request.relative_zxid;
+    let data = request.data_watches.or_empty();
+    rewatch_all(tree, Watched::Data, data, relative, connection)?;
+    let exist = request.exist_watches.or_empty();
+    rewatch_all(tree, Watched::Exist, exist, relative, connection)?;
+    let child = request.child_watches.or_empty();
+    rewatch_all(tree, Watched::Child, child, relative, connection)
+}
+
 /// Answers setWatches: sets the watches, or sends what was missed, path by path: the data, the exist and the child list.
 pub(crate) fn set_watches<A: Allocator + Copy>(
     tree: &Tree<'_, A>,
@@ -103,18 +120,11 @@ pub(crate) fn set_watches<A: Allocator + Copy>(
 ) -> Result<(), Refusal>
     ensures { connection.new.requests ≡ connection.old.requests }
 {
-    let relative = request.relative_zxid;
-    let data = request.data_watches.or_empty();
-    rewatch_all(tree, Watched::Data, data, relative, connection)?;
-    let exist = request.exist_watches.or_empty();
-    rewatch_all(tree, Watched::Exist, exist, relative, connection)?;
-    let child = request.child_watches.or_empty();
-    rewatch_all(tree, Watched::Child, child, relative, connection)?;
+    rewatch_lists(tree, request, connection)?;
     let header = ReplyHeader {
         xid,
         zxid: tree.zxid,
         err: 0,
     };
-    send_header(tree.alloc, header, &mut connection.output)?;
-    Ok(())
+    send_header(tree.alloc, header, &mut connection.output).map_err(Refusal::from)
 }

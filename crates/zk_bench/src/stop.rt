@@ -11,7 +11,7 @@ use zk_jute::{PutError, TakeError};
 use zk_records::{Code, RequestFault};
 
 /// Why a connection goes no further.
-#[derive(Clone, Copy, Debug, PartialEq, Eq)]
+#[derive(Clone, Copy)]
 pub(crate) enum Stop {
     /// The server ends it without an answer.
     End,
@@ -20,7 +20,7 @@ pub(crate) enum Stop {
 }
 
 /// Why a request gets no result.
-#[derive(Clone, Copy, Debug, PartialEq, Eq)]
+#[derive(Clone, Copy)]
 pub(crate) enum Refusal {
     /// It is answered by a header with this code.
     Code(Code),

@@ -9,10 +9,14 @@ use crate::stop::Refusal;
 use crate::tree::{Tree, path_of, text_of};
 use std::alloc::Allocator;
 use zk_history::{Change, History, Path, Stat};
-use zk_records::{Code, CreateRequest, DeleteRequest, SetDataRequest};
+use zk_jute::{Buffer, Text};
+use zk_records::{Code, DeleteRequest, SetDataRequest};
+
+// The session that owns ephemeral nodes.
+const OWNER: i64 = 1;
 
 /// How a node is made: the flags of a create.
-#[derive(Clone, Copy, Debug, PartialEq, Eq)]
+#[derive(Clone, Copy)]
 pub(crate) struct Mode {
     pub(crate) ephemeral: bool,
     pub(crate) sequential: bool,
@@ -33,15 +37,12 @@ pub(crate) fn mode_of(flags: i32) -> Option<Mode> {
     })
 }
 
-/// The path of the node that a create makes, or the first code that refuses it: -110 for the root, -101 where the parent
-/// is absent, -108 where it has an owner, -8 for a sequential path that can't be made, -110 where a node is there, -8
-/// where the parent has 2,147,483,647 children. A text that is no path is refused with -8 before all these.
-pub(crate) fn created_path<A: Allocator + Copy>(
+// The `Stat` of the node below which a path is to be made, with the node's text, or the first code that refuses it: -110
+// for the root, -101 where the parent is absent, -108 where it has an owner.
+fn parent_of<'p, A: Allocator + Copy>(
     tree: &Tree<'_, A>,
-    mode: Mode,
-    request: &CreateRequest<A>,
-) -> Result<Path<A>, Refusal> {
-    let asked = Path::new(tree.alloc, text_of(&request.path))?;
+    asked: &'p Path<A>,
+) -> Result<(&'p str, Stat), Refusal> {
     let Some(parent) = asked.parent() else {
         return Err(Refusal::Code(Code::NodeExists));
     };
@@ -51,18 +52,68 @@ pub(crate) fn created_path<A: Allocator + Copy>(
     if above.ephemeral_owner != 0 {
         return Err(Refusal::Code(Code::NoChildrenForEphemerals));
     }
-    let path = if mode.sequential {
-        numbered(tree.alloc, tree.history, &asked, parent)?
-    } else {
-        Path::new(tree.alloc, asked.as_str())?
-    };
-    if tree.history.stat_at(tree.zxid, &path).is_some() {
-        return Err(Refusal::Code(Code::NodeExists));
+    Ok((parent, above))
+}
+
+// The path that is made where this one was asked for.
+fn path_in_mode<A: Allocator + Copy>(
+    tree: &Tree<'_, A>,
+    mode: Mode,
+    asked: &Path<A>,
+    parent: &str,
+) -> Result<Path<A>, Refusal> {
+    if mode.sequential {
+        return numbered(tree.alloc, tree.history, asked, parent);
     }
-    if above.num_children == i32::MAX {
-        return Err(Refusal::Code(Code::BadArguments));
-    }
+    let path = Path::new(tree.alloc, asked.as_str())?;
     Ok(path)
+}
+
+// The code that refuses a node at this path, below a parent that has so many children: -110 where a node is there, -8
+// where the parent has 2,147,483,647 children.
+fn refusal_at<A: Allocator + Copy>(
+    tree: &Tree<'_, A>,
+    path: &Path<A>,
+    children: i32,
+) -> Option<Code> {
+    if tree.history.stat_at(tree.zxid, path).is_some() {
+        return Some(Code::NodeExists);
+    }
+    if children == i32::MAX {
+        return Some(Code::BadArguments);
+    }
+    None
+}
+
+// The path of the node that a create makes, or the first code that refuses it: -110 for the root, -101 where the parent
+// is absent, -108 where it has an owner, -8 for a sequential path that can't be made, -110 where a node is there, -8
+// where the parent has 2,147,483,647 children. A text that is no path is refused with -8 before all these.
+fn created_path<A: Allocator + Copy>(
+    tree: &Tree<'_, A>,
+    mode: Mode,
+    text: &str,
+) -> Result<Path<A>, Refusal> {
+    let asked = Path::new(tree.alloc, text)?;
+    let (parent, above) = parent_of(tree, &asked)?;
+    let path = path_in_mode(tree, mode, &asked, parent)?;
+    match refusal_at(tree, &path, above.num_children) {
+        Some(code) => Err(Refusal::Code(code)),
+        None => Ok(path),
+    }
+}
+
+/// What a create changes, with the text of the path that it makes, or the first code that refuses it.
+pub(crate) fn creation<A: Allocator + Copy>(
+    tree: &Tree<'_, A>,
+    mode: Mode,
+    path: Text<A>,
+    bytes: Buffer<A>,
+) -> Result<(String<A>, Change<A>), Refusal> {
+    let path = created_path(tree, mode, text_of(&path))?;
+    let text = String::from_str(tree.alloc, path.as_str())?;
+    let owner = if mode.ephemeral { OWNER } else { 0 };
+    let change = Change::Create(path, bytes.into_inner(), owner);
+    Ok((text, change))
 }
 
 // A path with the `Stat` of the node there, and -101 where no node is there.
@@ -84,20 +135,52 @@ fn is_version(asked: i32, version: i32) -> bool {
     asked == -1 || asked == version
 }
 
-/// The path of the node that a setData writes, or the first code that refuses it: -101 where no node is there, -103
-/// for another version, -8 where the version is 2,147,483,647.
-pub(crate) fn written_path<A: Allocator + Copy>(
+// The code that refuses data at a node of this version: -103 where another one is asked for, -8 where it is 2,147,483,647.
+fn refused_data(asked: i32, version: i32) -> Option<Code> {
+    if !is_version(asked, version) {
+        return Some(Code::BadVersion);
+    }
+    if version == i32::MAX {
+        return Some(Code::BadArguments);
+    }
+    None
+}
+
+// The path of the node that a setData writes, or the first code that refuses it: -101 where no node is there, -103 for
+// another version, -8 where the version is 2,147,483,647.
+fn written_path<A: Allocator + Copy>(
     tree: &Tree<'_, A>,
-    request: &SetDataRequest<A>,
+    text: &str,
+    version: i32,
 ) -> Result<Path<A>, Refusal> {
-    let (path, stat) = node_at(tree, text_of(&request.path))?;
-    if !is_version(request.version, stat.version) {
-        return Err(Refusal::Code(Code::BadVersion));
+    let (path, stat) = node_at(tree, text)?;
+    match refused_data(version, stat.version) {
+        Some(code) => Err(Refusal::Code(code)),
+        None => Ok(path),
     }
-    if stat.version == i32::MAX {
-        return Err(Refusal::Code(Code::BadArguments));
+}
+
+/// What a setData changes, with the text of its path, or the first code that refuses it.
+pub(crate) fn setting<A: Allocator + Copy>(
+    tree: &Tree<'_, A>,
+    request: SetDataRequest<A>,
+) -> Result<(String<A>, Change<A>), Refusal> {
+    let path = written_path(tree, text_of(&request.path), request.version)?;
+    let text = String::from_str(tree.alloc, path.as_str())?;
+    let change = Change::Set(path, request.bytes.into_inner());
+    Ok((text, change))
+}
+
+// The code that refuses that a node with this `Stat` is deleted: -103 where another version is asked for, -111 where it
+// has children.
+fn refused_deletion(asked: i32, stat: &Stat) -> Option<Code> {
+    if !is_version(asked, stat.version) {
+        return Some(Code::BadVersion);
     }
-    Ok(path)
+    if stat.num_children != 0 {
+        return Some(Code::NotEmpty);
+    }
+    None
 }
 
 /// The path of the node that a delete takes away, or the first code that refuses it: -8 for the root, -101 where no node
@@ -111,13 +194,10 @@ pub(crate) fn deleted_path<A: Allocator + Copy>(
         return Err(Refusal::Code(Code::BadArguments));
     }
     let (path, stat) = node_at(tree, text)?;
-    if !is_version(request.version, stat.version) {
-        return Err(Refusal::Code(Code::BadVersion));
+    match refused_deletion(request.version, &stat) {
+        Some(code) => Err(Refusal::Code(code)),
+        None => Ok(path),
     }
-    if stat.num_children != 0 {
-        return Err(Refusal::Code(Code::NotEmpty));
-    }
-    Ok(path)
 }
 
 /// Appends a change as a transaction of its own, one zxid above the last. A zxid or a time past 2^63 - 1 is refused with

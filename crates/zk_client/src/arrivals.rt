@@ -1,12 +1,14 @@
 //! What payloads bring.
 
 ghost use Rattle.std.specs.Prelude.{◌≡◌, ◌≢◌, ◌≤◌, ℕ, ℤ, List, [], ◌∷◌, ◌++◌, map, OnOk, OnErr, IfOk, length, true, false, if◌then◌else◌, ◌≤ℤ◌, ◌<ℤ◌, pos, ◌&&◌, bytes_eq};
+ghost use Rattle.zk_frames.specs.Frame.{frame};
+ghost use Rattle.zk_frames.specs.declared.put.TheConstants.{LONGEST_OUTGOING};
 ghost use Rattle.zk_frames.specs.declared.reader.TheConstants.{LONGEST_INCOMING};
 ghost use Rattle.zk_records.specs.Views.{lent_response_of};
 ghost use Rattle.zk_conversation.specs.declared.phase.Phase.TheVariants.{Talking};
 ghost use Rattle.zk_conversation.specs.Arriving.{Arrived, Connected as Welcomed, Watches_set as Part_set, Notice};
-ghost use Rattle.zk_conversation.specs.Pending.{Pending};
-ghost use Rattle.zk_conversation.specs.Views.{arrival_view};
+ghost use Rattle.zk_conversation.specs.Pending.{Pending, talk_watching};
+ghost use Rattle.zk_conversation.specs.Views.{arrival_view, payload_of_part};
 ghost use Rattle.zk_history.specs.History.{Text};
 ghost use Rattle.zk_history.specs.declared.side.Side.TheVariants.{Data, Child};
 ghost use Rattle.zk_records.specs.Events.{concerns};
@@ -17,7 +19,7 @@ ghost use Rattle.zk_session.specs.declared.states.State.TheVariants.{Connecting}
 ghost use Rattle.zk_watches.specs.Parts.{parts};
 ghost use Rattle.zk_turns.specs.Kept.{Took, Accepted, Expiry, pending_for, parts_asked};
 ghost use Rattle.zk_turns.specs.Taken.{taken_of};
-ghost use Rattle.zk_turns.specs.Turns.{Report, Enters};
+ghost use Rattle.zk_turns.specs.Turns.{Report, Enters, Send};
 ghost use Rattle.zk_turns.specs.Rule.{IsOpen, next, says, arrival, part_frame};
 ghost use Rattle.zk_client.specs.Views.{said};
 ghost use Rattle.zk_session.specs.Kept.{Kept};
@@ -32,7 +34,7 @@ use crate::output::Output;
 use std::alloc::{AllocError, Allocator};
 use zk_cache::Cache;
 use zk_conversation::{Arrival, Conversation, TalkFault};
-use zk_records::{ConnectResponseRef, Event, Side};
+use zk_records::{ConnectResponseRef, Event, SetWatchesRef, Side};
 use zk_session::{Response, Session, State};
 use zk_watches::Registry;
 
@@ -88,19 +90,23 @@ impl<A: Allocator + Copy> Core<A> {
         ensures origin { origin self.new ≡ origin self.old }
     {
         match arrival {
-            Arrival::Connected(response) => self.answered(&response, outputs)?,
+            Arrival::Connected(response) => self.answered(&response, outputs),
             Arrival::Reply {
                 ticket,
                 question,
                 zxid,
                 result,
-            } => self.reply(ticket, &question, zxid, &result, outputs)?,
-            Arrival::WatchesSet { last, zxid, err } => self.part_set(last, zxid, err, outputs)?,
-            Arrival::Notice { event, path } => self.notice(event, path, outputs)?,
-            Arrival::Pong => (),
-            Arrival::Skipped => (),
+            } => {
+                let taken = self.reply(ticket, &question, zxid, &result, outputs);
+                drop(question);
+                drop(result);
+                taken
+            }
+            Arrival::WatchesSet { last, zxid, err } => self.part_set(last, zxid, err, outputs),
+            Arrival::Notice { event, path } => self.notice(event, path, outputs),
+            Arrival::Pong => Ok(()),
+            Arrival::Skipped => Ok(()),
         }
-        Ok(())
     }
 
     // The server answers the ConnectRequest. A timeout of 0 or less says that the session has expired.
@@ -316,8 +322,23 @@ fn send_parts<A: Allocator + Copy>(
     let parts = lists.parts(last)?;
     let count = parts.len();
     for at in 0..count {
-        let frame = conversation.set_watches(&parts[at], at + 1 == count)?;
-        say(outputs, Output::Send(frame))?;
+        send_part(&parts[at], at + 1 == count, conversation, outputs)?;
     }
     Ok(count > 0)
+}
+
+// Sends a part of what is watched.
+fn send_part<A: Allocator + Copy>(
+    part: &SetWatchesRef<'_>,
+    last: bool,
+    conversation: &mut Conversation<A>,
+    outputs: &mut Vec<Output<A>, A>,
+) -> Result<(), AllocError>
+    requires talking { conversation.old.phase ≡ Talking }
+    requires small { length (payload_of_part part.now) ≤ LONGEST_OUTGOING }
+    ensures asked { OnOk result (conversation.new ≡ talk_watching last conversation.old) }
+    ensures says { OnOk result (said outputs.new.items ≡ said outputs.old.items ++ Send (frame (payload_of_part part.now)) ∷ []) }
+{
+    let frame = conversation.set_watches(part, last)?;
+    say(outputs, Output::Send(frame))
 }

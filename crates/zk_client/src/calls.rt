@@ -131,24 +131,17 @@ impl<A: Allocator + Copy> Core<A> {
         ensures origin { origin self.new ≡ origin self.old }
     {
         if let Some(outcome) = self.refusal(&call) {
-            say(outputs, Output::Answer { ticket, outcome })?;
-            return Ok(());
+            drop(call);
+            return say(outputs, Output::Answer { ticket, outcome });
         }
         match self.conversation.ask(ticket, call) {
             Ok(asked) => {
                 self.session.sent(0);
-                say(outputs, Output::Send(asked.frame))?;
-                Ok(())
+                say(outputs, Output::Send(asked.frame))
             }
             Err(AskFault::TooLarge) => {
-                say(
-                    outputs,
-                    Output::Answer {
-                        ticket,
-                        outcome: Outcome::TooLarge,
-                    },
-                )?;
-                Ok(())
+                let outcome = Outcome::TooLarge;
+                say(outputs, Output::Answer { ticket, outcome })
             }
             Err(AskFault::TooMany) => unreachable!(),
             Err(AskFault::Memory) => Err(AllocError),

@@ -106,15 +106,16 @@ impl<A: Allocator + Copy> Client<A> {
         ensures halted { (view_of self.old).standing.halted ≡ true → IsErr result }
     {
         one_turn();
-        let mut outputs = Vec::new(self.core.alloc);
         let state = self.core.session.state();
         let last = self.core.session.last_zxid();
         asked_length(&input);
         self.core.earlier = None;
         if self.core.halted {
+            drop(input);
             self.core.halt(state, last);
             return Err(Halt);
         }
+        let mut outputs = Vec::new(self.core.alloc);
         let Ok(()) = turn(&mut self.core, &mut self.reader, input, &mut outputs) else {
             self.core.halt(state, last);
             return Err(Halt);

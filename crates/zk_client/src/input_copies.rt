@@ -93,7 +93,10 @@ fn two_copies<A: Allocator + Copy>(alloc: A, input: &Input<A>) -> Result<Copies<
     ensures { IfOk result (λ copies. input_view copies.handed ≡ input_view input.now) }
 {
     let handed = copied_input(alloc, input)?;
-    let kept = copied_input(alloc, input)?;
+    let Ok(kept) = copied_input(alloc, input) else {
+        drop(handed);
+        return Err(AllocError);
+    };
     Ok(Copies { handed, kept })
 }
 

@@ -22,8 +22,6 @@ mod recorded;
 mod recording;
 mod replies;
 mod running;
-#[cfg(test)]
-mod tests;
 mod ticks;
 mod turn;
 

@@ -44,8 +44,7 @@ impl<A: Allocator + Copy> Core<A> {
         let frame = self.conversation.open(&connect)?;
         self.session.opened(0);
         say(outputs, Output::Send(frame))?;
-        say(outputs, Output::State(State::Connecting))?;
-        Ok(())
+        say(outputs, Output::State(State::Connecting))
     }
 
     /// The connection is over. Each pending call is answered so.
@@ -61,8 +60,7 @@ impl<A: Allocator + Copy> Core<A> {
         self.session.cut();
         self.conversation.cut();
         answer_lost(&mut self.conversation, outputs)?;
-        say(outputs, Output::State(State::Idle))?;
-        Ok(())
+        say(outputs, Output::State(State::Idle))
     }
 
     /// The connection is given up.
@@ -124,8 +122,7 @@ impl<A: Allocator + Copy> Core<A> {
         forget_pending(&mut self.conversation);
         self.registry.clear();
         self.cache.clear();
-        say(outputs, Output::State(State::Closed))?;
-        Ok(())
+        say(outputs, Output::State(State::Closed))
     }
 }
 

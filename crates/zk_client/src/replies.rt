@@ -136,7 +136,7 @@ fn keep<A: Allocator + Copy>(
     match (question, found) {
         (Question::Exists { path, watch: true }, ReplyResult::Code(code)) => {
             if says_absent(*code) {
-                keep_node(path, DataAnswer::Absent, registry, cache)?;
+                return keep_node(path, DataAnswer::Absent, registry, cache);
             }
             Ok(())
         }
@@ -180,8 +180,7 @@ fn answer<A: Allocator + Copy>(
 {
     let result = copied(alloc, found)?;
     let outcome = Outcome::Replied { zxid, result };
-    say(outputs, Output::Answer { ticket, outcome })?;
-    Ok(())
+    say(outputs, Output::Answer { ticket, outcome })
 }
 
 impl<A: Allocator + Copy> Core<A> {

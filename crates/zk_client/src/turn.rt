@@ -50,13 +50,12 @@ pub(crate) fn turn<A: Allocator + Copy>(
     ensures origin { origin core.new ≡ origin core.old }
 {
     match input {
-        Input::Opened => opened(core, reader, outputs)?,
-        Input::Bytes(piece) => hear(core, reader, piece, outputs)?,
-        Input::Cut => cut(core, reader, outputs)?,
-        Input::Now(moment) => now(core, reader, moment, outputs)?,
-        Input::Call(ticket, call) => core.ask(ticket, call, outputs)?,
+        Input::Opened => opened(core, reader, outputs),
+        Input::Bytes(piece) => hear(core, reader, piece, outputs),
+        Input::Cut => cut(core, reader, outputs),
+        Input::Now(moment) => now(core, reader, moment, outputs),
+        Input::Call(ticket, call) => core.ask(ticket, call, outputs),
     }
-    Ok(())
 }
 
 // A connection begins. One that is open ends first.

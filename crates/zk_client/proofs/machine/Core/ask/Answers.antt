@@ -1,4 +1,5 @@
 use Rattle.std.proofs.Common.{ap, ◌∙◌, [], arith, rules}
+use Rattle.std.proofs.lemmas.Result.{on_ok_weaker}
 use Rattle.zk_turns.specs.Taken.{phase_of}
 use Rattle.zk_conversation.specs.Views.{call_view}
 use Rattle.zk_client.proofs.Asked.{asked-sound}
@@ -15,8 +16,9 @@ unreachable-requires g c =
     let more = many.1 in
     omega arith
 
-pub returns-in_ok-say-in-Ok-clause-sound : goal.returns-in_ok-say-in-Ok-clause-sound
-returns-in_ok-say-in-Ok-clause-sound g c =
+pub returns-in-Ok-clause-sound : goal.returns-in-Ok-clause-sound
+returns-in-Ok-clause-sound g c =
     let free = (c.in_default.ensures []).0 in
     let core = c.args.self.now in
-    asked-sound core.session c.sent.new.self core.conversation c.ask.new.self core.registry c.args.ticket (call_view c.args.call) c.requires.sound free.talks free.room c.sent.ensures c.in-Ok.ensures.ok
+    let sound = asked-sound core.session c.sent.new.self core.conversation c.ask.new.self core.registry c.args.ticket (call_view c.args.call) c.requires.sound free.talks free.room c.sent.ensures c.in-Ok.ensures.ok in
+    on_ok_weaker c.say-in-Ok.result (λ _. sound) c.say-in-Ok.ensures

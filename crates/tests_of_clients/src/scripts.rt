@@ -1,13 +1,11 @@
-// What a server sends, byte for byte: rows of the protocol, each code in its order, and refused memory.
-use crate::Bench;
-use refusing::Refusing;
-use std::alloc::{Allocator, Global};
-use std::test::Fail;
-use zk_history::{Change, History, HistoryFault, Path};
+//! What is done with a bench, as rows of data, and what it sends then, byte for byte.
+
+use Makes::{Create, Node, Set, Transaction};
+use Move::{Connect, Disconnect, Expire, Now, Send, Take};
 
 /// What is done with a bench. `Send` is a payload in hex, which is received behind its length and processed.
-#[derive(Clone, Copy, Debug)]
-enum Move {
+#[derive(Clone, Copy)]
+pub(crate) enum Move {
     Connect(usize),
     Disconnect,
     Take(usize),
@@ -16,86 +14,47 @@ enum Move {
     Now(u64),
 }
 
-use Move::{Connect, Disconnect, Expire, Now, Send, Take};
+/// What a line of a history makes.
+#[derive(Clone, Copy)]
+pub(crate) enum Makes {
+    /// A node that is there from the start.
+    Node,
+    /// A transaction of this zxid.
+    Transaction(i64),
+    /// A node, in a transaction.
+    Create,
+    /// Other data.
+    Set,
+}
 
-// A line of a history: a word, a path, data and an owner or a time. `tx` has its time there, and its zxid as a path.
-type Line = (&'static str, &'static str, &'static str, i64);
+// What a line makes, its path and data, and an owner or a time.
+pub(crate) type Line = (Makes, &'static str, &'static str, i64);
 
 // A move, and what is sent after it.
-type Row = (Move, &'static str);
+pub(crate) type Row = (Move, &'static str);
 
-fn path_of<A: Allocator + Copy>(heap: A, text: &str) -> Result<Path<A>, HistoryFault> {
-    Path::new(heap, text).map_err(|_fault| HistoryFault::Memory)
+/// A history, and what is done with servers over it.
+#[derive(Clone, Copy)]
+pub(crate) struct Script {
+    pub(crate) lines: &'static [Line],
+    pub(crate) rows: &'static [Row],
 }
 
-fn add<A: Allocator + Copy>(
-    heap: A,
-    history: &mut History<A>,
-    line: Line,
-) -> Result<(), HistoryFault> {
-    let (word, text, data, number) = line;
-    if word == "tx" {
-        return history.begin(text.parse::<i64>().unwrap_or(0), number);
-    }
-    let path = path_of(heap, text)?;
-    let bytes = Some(Vec::from_slice(heap, data.as_bytes())?);
-    match word {
-        "node" => history.node(path, bytes, number),
-        "create" => history.change(Change::Create(path, bytes, number)),
-        "set" => history.change(Change::Set(path, bytes)),
-        _ => history.change(Change::Delete(path)),
-    }
-}
-
-fn bench_over<A: Allocator + Copy>(heap: A, lines: &[Line]) -> Result<Bench<A>, HistoryFault> {
-    let mut history = History::new(heap);
-    for line in lines {
-        add(heap, &mut history, *line)?;
-    }
-    Ok(Bench::new(heap, history))
-}
-
-// Receives a payload behind its length, in two pieces, and processes it.
-fn send<A: Allocator + Copy>(
-    alloc: Global,
-    bench: &mut Bench<A>,
-    text: &str,
-) -> Result<(), HistoryFault> {
-    let payload = hex::decode(alloc, text).map_err(|_fault| HistoryFault::Place)?;
-    let length = u32::try_from(payload.len()).unwrap_or(u32::MAX);
-    bench.receive(&length.to_be_bytes())?;
-    bench.process()?;
-    bench.receive(&payload)?;
-    bench.process()?;
-    Ok(())
-}
-
-// What is sent after a move, in hex.
-fn step<A: Allocator + Copy>(
-    alloc: Global,
-    bench: &mut Bench<A>,
-    action: Move,
-) -> Result<String, HistoryFault> {
-    match action {
-        Connect(n) => {
-            if 1 <= n && n <= 8 {
-                bench.connect(n);
-            }
-        }
-        Disconnect => bench.disconnect(),
-        Take(n) => {
-            if 1 <= n && n <= 8 {
-                bench.take(n)?;
-            }
-        }
-        Send(text) => send(alloc, bench, text)?,
-        Expire => bench.expire(),
-        Now(ms) => bench.now(ms),
-    }
-    let sent = bench.output(usize::MAX)?;
-    let text = hex::encode(alloc, sent.as_slice())?;
-    Ok(text)
-}
+/// A rehearsal, each code, and what a client sees of its own writes.
+pub(crate) const SCRIPTS: &[Script] = &[
+    Script {
+        lines: REHEARSAL,
+        rows: SESSION,
+    },
+    Script {
+        lines: TREE,
+        rows: CODES,
+    },
+    Script {
+        lines: TREE,
+        rows: WRITES,
+    },
+];
 
 // A new client, and one that has seen zxid 6 in session 1.
 const CONNECT: &str =
@@ -112,15 +71,15 @@ const EXPIRED: &str =
 
 const PING: &str = "fffffffe0000000b";
 
-const REHEARSAL: [Line; 5] = [
-    ("node", "/a", "0", 0),
-    ("node", "/b", "0", 0),
-    ("tx", "6", "", 1000),
-    ("set", "/a", "1", 0),
-    ("set", "/b", "2", 0),
+const REHEARSAL: &[Line] = &[
+    (Node, "/a", "0", 0),
+    (Node, "/b", "0", 0),
+    (Transaction(6), "", "", 1000),
+    (Set, "/a", "1", 0),
+    (Set, "/b", "2", 0),
 ];
 
-const SESSION: [Row; 17] = [
+const SESSION: &[Row] = &[
     (Send(PING), ""),
     (Connect(1), ""),
     (Send(CONNECT), ACCEPTED),
@@ -153,15 +112,15 @@ const SESSION: [Row; 17] = [
 ];
 
 // `/e` is owned by another session.
-const TREE: [Line; 4] = [
-    ("node", "/a", "", 0),
-    ("node", "/a/b", "", 0),
-    ("tx", "1", "", 5),
-    ("create", "/e", "", 9),
+const TREE: &[Line] = &[
+    (Node, "/a", "", 0),
+    (Node, "/a/b", "", 0),
+    (Transaction(1), "", "", 5),
+    (Create, "/e", "", 9),
 ];
 
 // Each code, in the order in which they come, and last a create with flags that are none.
-const CODES: [Row; 20] = [
+const CODES: &[Row] = &[
     (Connect(1), ""),
     (Send(CONNECT), ACCEPTED),
     (
@@ -244,7 +203,7 @@ const CODES: [Row; 20] = [
 ];
 
 // What a client sees of its own writes, and the watches that it sets anew.
-const WRITES: [Row; 26] = [
+const WRITES: &[Row] = &[
     (Connect(3), ""),
     (Send(CONNECT), ACCEPTED),
     (Now(7), ""),
@@ -338,77 +297,3 @@ const WRITES: [Row; 26] = [
     (Send("0000001100000063"), ""),
     (Send("fffffffe0000000b"), ""),
 ];
-
-// The first move of a script after which something else is sent than stands beside it.
-fn first_wrong(
-    alloc: Global,
-    lines: &[Line],
-    script: &[Row],
-) -> Result<Option<String>, HistoryFault> {
-    let mut bench = bench_over(alloc, lines)?;
-    for (action, want) in script {
-        let sent = step(alloc, &mut bench, *action)?;
-        if sent.as_str() != *want {
-            let told = format!(in alloc; "{action:?}: {sent}")?;
-            return Ok(Some(told));
-        }
-    }
-    Ok(None)
-}
-
-#[test]
-fn serves(rt: HostRuntime) -> Result<(), Fail> {
-    let alloc = rt.alloc();
-    assert_eq!(rt; first_wrong(alloc, &REHEARSAL, &SESSION)?, None);
-    assert_eq!(rt; first_wrong(alloc, &TREE, &CODES)?, None);
-    assert_eq!(rt; first_wrong(alloc, &TREE, &WRITES)?, None);
-    Ok(())
-}
-
-// All that is sent in a script.
-fn play<A: Allocator + Copy>(
-    alloc: Global,
-    heap: A,
-    lines: &[Line],
-    script: &[Row],
-) -> Result<String, HistoryFault> {
-    let mut bench = bench_over(heap, lines)?;
-    let mut all = String::new(alloc);
-    for (action, _) in script {
-        let sent = step(alloc, &mut bench, *action)?;
-        all.push_str(sent.as_str())?;
-    }
-    Ok(all)
-}
-
-// How many requests for memory a script makes. Each is refused in turn: then a call answers that, and the script over a
-// new bench sends the same bytes as ever; else the answer is a fault.
-fn refusals(alloc: Global, lines: &[Line], script: &[Row]) -> Result<u32, HistoryFault> {
-    let whole = play(alloc, alloc, lines, script)?;
-    for passed in 0..1000u32 {
-        let heap = Refusing::after(passed, alloc);
-        let first = play(alloc, &heap, lines, script);
-        if !heap.has_refused() {
-            return if first? == whole {
-                Ok(passed)
-            } else {
-                Err(HistoryFault::Order)
-            };
-        }
-        if first != Err(HistoryFault::Memory) {
-            return Err(HistoryFault::Illegal);
-        }
-        if play(alloc, &heap, lines, script)? != whole {
-            return Err(HistoryFault::Illegal);
-        }
-    }
-    Err(HistoryFault::Place)
-}
-
-#[test]
-fn tells_each_refusal(rt: HostRuntime) -> Result<(), Fail> {
-    let alloc = rt.alloc();
-    assert!(rt; refusals(alloc, &REHEARSAL, &SESSION)? > 50);
-    assert!(rt; refusals(alloc, &TREE, &WRITES)? > 50);
-    Ok(())
-}
