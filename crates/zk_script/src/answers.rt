@@ -14,6 +14,19 @@ use std::collections::BTreeSet;
 use std::fmt::Display;
 use zk_history::{Data, DataStat, Names};
 
+/// Adds the word that a value is shown as.
+pub fn push_value<A: Allocator + Copy, D: Display>(
+    text: &mut String<A>,
+    alloc: A,
+    value: &D,
+) -> Result<(), AllocError>
+    requires { IsSome (D.output value.now) }
+    ensures { OnOk result (string_bytes text.new ≡ string_bytes text.old ++ unwrap_or (D.output value.now) []) }
+{
+    let word = value.to_string(alloc)?;
+    text.push_str(word.as_str())
+}
+
 /// Adds a space and the word that a value is shown as.
 #[tactic(auto, unfolding(crate::specs::Answers::spaced))]
 pub fn push_word<A: Allocator + Copy, D: Display>(
@@ -25,8 +38,7 @@ pub fn push_word<A: Allocator + Copy, D: Display>(
     ensures { OnOk result (string_bytes text.new ≡ string_bytes text.old ++ spaced (unwrap_or (D.output value.now) [])) }
 {
     text.push_str(" ")?;
-    let word = value.to_string(alloc)?;
-    text.push_str(word.as_str())
+    push_value(text, alloc, value)
 }
 
 /// Adds numbers, a space before each.

@@ -1,14 +1,10 @@
 use Rattle.std.proofs.Common.{map, refl}
-use Rattle.std.specs.Prelude.{string_bytes, Result, Ok, Err, OnOk}
+use Rattle.std.specs.Prelude.{string_bytes}
 use Rattle.std.specs.Cmp.Lexicographic.{slice_cmp}
 use Rattle.std.specs.Ordering.{nat_cmp}
 use Rattle.zk_script.specs.Answers.{names_line}
-use Rattle.zk_script.proofs.NamesLemmas.{sorted_map, same_names}
+use Rattle.zk_script.proofs.NamesLemmas.{both, sorted_map, same_names}
 use Rattle.zk_script.proofs.answers.push_names.Goals as goal
-
-both : {T E P Q R : Type 0} (r : Result T E) → (P → Q → R) → OnOk r P → OnOk r Q → OnOk r R
-both (Ok x) f p q = f p q
-both (Err e) f p q = tt
 
 pub returns-in-Some : goal.returns-in-Some
 returns-in-Some g c =
