@@ -1,6 +1,6 @@
 //! The good answers of a client, each compared with the history.
 
-ghost use Rattle.std.specs.Prelude.{◌≡◌, ◌↔◌, ◌++◌, IsTrue, ℕ, List, IfOk, OnOk, map, string_bytes};
+ghost use Rattle.std.specs.Prelude.{◌≡◌, ◌↔◌, ◌++◌, IsTrue, ℕ, List, OnOk, map, string_bytes};
 ghost use Rattle.std.specs.BTreeSet.{IsOrdered, contains_text};
 ghost use Rattle.std.specs.String.{string_cmp};
 ghost use Rattle.std.specs.Option.{option_map};
@@ -91,52 +91,6 @@ fn push_verdict<A: Allocator + Copy>(
     text.push_str(verdict)
 }
 
-/// The line of an answer that agrees or differs.
-fn verdict_line<A: Allocator + Copy>(
-    alloc: A,
-    side: Side,
-    path: &Path<A>,
-    agrees: bool,
-) -> Result<String<A>, AllocError>
-    ensures { IfOk result (λ text. string_bytes text ≡ verdict_line side path.now agrees) }
-{
-    let mut text = String::new(alloc);
-    push_verdict(&mut text, alloc, side, path, agrees)?;
-    Ok(text)
-}
-
-/// The line of the data of a path, if there is a good answer.
-fn data_verdict<A: Allocator + Copy>(
-    alloc: A,
-    client: &Client<A>,
-    history: &History<A>,
-    path: &Path<A>,
-) -> Result<String<A>, AllocError>
-    ensures { IfOk result (λ text. string_bytes text ≡ data_verdict (view_of client.now) history.now path.now) }
-{
-    let Some((kept, Mark::Good)) = client.peek_data(path) else {
-        return Ok(String::new(alloc));
-    };
-    let told = history.data_at(client.last_zxid(), path)?;
-    verdict_line(alloc, Side::Data, path, agrees(kept, &told))
-}
-
-/// The line of the names below a path, if there is a good answer.
-fn names_verdict<A: Allocator + Copy>(
-    alloc: A,
-    client: &Client<A>,
-    history: &History<A>,
-    path: &Path<A>,
-) -> Result<String<A>, AllocError>
-    ensures { IfOk result (λ text. TellsNamesVerdict (view_of client.now) history.now path.now (string_bytes text)) }
-{
-    let Some((kept, Mark::Good)) = client.peek_children(path) else {
-        return Ok(String::new(alloc));
-    };
-    let told = history.names_at(client.last_zxid(), path)?;
-    verdict_line(alloc, Side::Child, path, agrees_names(kept, &told))
-}
-
 /// Adds the line of the data of a path, if there is a good answer.
 fn push_data<A: Allocator + Copy>(
     text: &mut String<A>,
@@ -147,8 +101,11 @@ fn push_data<A: Allocator + Copy>(
 ) -> Result<(), AllocError>
     ensures { OnOk result (string_bytes text.new ≡ string_bytes text.old ++ data_verdict (view_of client.now) history.now path.now) }
 {
-    let line = data_verdict(alloc, client, history, path)?;
-    text.push_str(line.as_str())
+    let Some((kept, Mark::Good)) = client.peek_data(path) else {
+        return Ok(());
+    };
+    let told = history.data_at(client.last_zxid(), path)?;
+    push_verdict(text, alloc, Side::Data, path, agrees(kept, &told))
 }
 
 /// Adds the line of the names below a path, if there is a good answer.
@@ -161,8 +118,11 @@ fn push_names<A: Allocator + Copy>(
 ) -> Result<(), AllocError>
     ensures { OnOk result ((names : List ℕ) × TellsNamesVerdict (view_of client.now) history.now path.now names × (string_bytes text.new ≡ string_bytes text.old ++ names)) }
 {
-    let line = names_verdict(alloc, client, history, path)?;
-    text.push_str(line.as_str())
+    let Some((kept, Mark::Good)) = client.peek_children(path) else {
+        return Ok(());
+    };
+    let told = history.names_at(client.last_zxid(), path)?;
+    push_verdict(text, alloc, Side::Child, path, agrees_names(kept, &told))
 }
 
 /// Adds the lines of the good answers of a path: data before names.

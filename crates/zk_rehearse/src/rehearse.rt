@@ -70,6 +70,7 @@ fn read_lines<A: Allocator + Copy>(alloc: A, lines: &[&[u8]]) -> Outcome<A>
     let mut rehearsal = Rehearsal::new(alloc);
     let mut text = String::new(alloc);
     let end = read_onto(alloc, &mut rehearsal, lines, &mut text);
+    drop(rehearsal);
     Outcome { text, end }
 }
 
