@@ -1,6 +1,6 @@
 //! A client and the connection that it has.
 
-ghost use Rattle.std.specs.Prelude.{◌≡◌, [], ◌∷◌, false, IfErr, IfOk, OnOk, string_bytes};
+ghost use Rattle.std.specs.Prelude.{◌≡◌, [], ◌∷◌, false, IfErr, OnOk, string_bytes};
 ghost use Rattle.zk_conversation.specs.Views.{call_view};
 ghost use Rattle.zk_client.specs.Clients.{view_of};
 ghost use Rattle.zk_client.specs.Views.{input_view};
@@ -69,6 +69,11 @@ fn is_sent<A: Allocator, S: Write>(stream: &mut S, outputs: &[Output<A>]) -> boo
     true
 }
 
+/// Room for a piece.
+pub fn room<A: Allocator>(alloc: A) -> Result<Vec<u8, A>, AllocError> {
+    vec![in alloc; 0; PIECE]
+}
+
 /// The next piece that a connection brings, and none where it has ended.
 fn piece<A: Allocator + Copy, S: Read>(
     alloc: A,
@@ -82,16 +87,15 @@ fn piece<A: Allocator + Copy, S: Read>(
 }
 
 impl<A: Allocator + Copy, S: Read + Write + Drop> Link<A, S> {
-    /// A client with no connection yet.
-    pub fn new(alloc: A, client: Client<A>) -> Result<Link<A, S>, AllocError>
-        ensures { IfOk result (λ link. view_of link.client ≡ view_of client) }
+    /// A client with no connection yet, and room for the pieces of one.
+    pub fn new(client: Client<A>, room: Vec<u8, A>) -> Link<A, S>
+        ensures { view_of result.client ≡ view_of client }
     {
-        let room = vec![in alloc; 0; PIECE]?;
-        Ok(Link {
+        Link {
             client,
             stream: None,
             room,
-        })
+        }
     }
 
     /// The connection ends.

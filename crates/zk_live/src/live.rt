@@ -6,15 +6,16 @@ ghost use Rattle.zk_client.specs.Clients.{view_of};
 ghost use Rattle.zk_script.specs.Pieces.{words_of};
 ghost use Rattle.zk_script.specs.Scripts.{lines_of};
 ghost use Rattle.zk_replay.specs.Lines.{begin_value_of, client_value_of};
-ghost use Rattle.zk_replay.specs.ReplayLines.{CanBegin};
+ghost use Rattle.zk_replay.specs.ReplayLines.{BeginValue, CanBegin};
 ghost use Rattle.zk_replay.specs.Played.{start_of, IfHalted, IsDue, IsWant};
+ghost use Rattle.zk_live.specs.Begins.{begun_by, Begins};
 ghost use Rattle.zk_live.specs.Lines.{live_value_of};
 ghost use Rattle.zk_live.specs.LiveLines.{DrivesLine, says_at};
 ghost use Rattle.zk_live.specs.Lives.{progress, DoesLive, EndsFrom, Goes, HaltsLine, HaltsLive, IsOutcome, TakesLine};
 
 use crate::begun::{begin_of, end_at};
 use crate::dial::{Dial, Ring};
-use crate::link::Link;
+use crate::link::{Link, room};
 use crate::live_line::{LiveLine, said_line};
 use std::alloc::{AllocError, Allocator};
 use std::io::{Read, Write};
@@ -149,10 +150,10 @@ fn made<'a, A: Allocator + Copy, S: Read + Write + Drop>(
     ensures view { IfOk result (λ session. view_of session.link.client ≡ view_at (start_of (begin_value_of begin)) []) }
     ensures begun { IfOk result (λ session. session.is_begun ≡ false) }
 {
+    let room = room(alloc)?;
     let client = begun(alloc, begin)?;
-    let link = Link::new(alloc, client)?;
     Ok(Session {
-        link,
+        link: Link::new(client, room),
         ring: Ring::new(addresses),
         is_begun: false,
     })
@@ -167,6 +168,41 @@ fn nothing<A: Allocator + Copy>(alloc: A, end: End) -> Outcome<A>
     Outcome { text, end }
 }
 
+/// Connects a client, and reads lines.
+fn connected<A: Allocator + Copy, D: Dial>(
+    alloc: A,
+    dial: &mut D,
+    session: &mut Session<'_, A, D::Stream>,
+    lines: &[&[u8]],
+) -> Outcome<A>
+    requires { session.old.is_begun ≡ false }
+    ensures { (begin : BeginValue) → begun_by (map (λ l. l.now) lines.now) ≡ Begins begin → view_of session.old.link.client ≡ view_at (start_of begin) []
+        → IsOutcome (map (λ l. l.now) lines.now) (string_bytes result.text) result.end }
+{
+    match session.act(alloc, dial, LiveLine::Open) {
+        Ok(text) => read_lines(alloc, dial, session, lines, text),
+        Err(stop) => nothing(alloc, end_at(0, stop)),
+    }
+}
+
+/// Makes the client that was asked for, connects it, and reads lines.
+fn live_from<A: Allocator + Copy, D: Dial>(
+    alloc: A,
+    dial: &mut D,
+    addresses: &[&str],
+    lines: &[&[u8]],
+    begin: BeginLine<A>,
+) -> Outcome<A>
+    requires can { CanBegin (begin_value_of begin) }
+    requires first { begun_by (map (λ l. l.now) lines.now) ≡ Begins (begin_value_of begin) }
+    ensures { IsOutcome (map (λ l. l.now) lines.now) (string_bytes result.text) result.end }
+{
+    match made(alloc, addresses, begin) {
+        Ok(mut session) => connected(alloc, dial, &mut session, lines),
+        Err(_) => nothing(alloc, End::Memory),
+    }
+}
+
 /// Makes the client that lines ask for, connects it, and reads them.
 fn live_lines<A: Allocator + Copy, D: Dial>(
     alloc: A,
@@ -176,17 +212,9 @@ fn live_lines<A: Allocator + Copy, D: Dial>(
 ) -> Outcome<A>
     ensures { IsOutcome (map (λ l. l.now) lines.now) (string_bytes result.text) result.end }
 {
-    let begin = match begin_of(alloc, lines) {
-        Ok(begin) => begin,
-        Err(end) => return nothing(alloc, end),
-    };
-    let mut session = match made(alloc, addresses, begin) {
-        Ok(session) => session,
-        Err(_) => return nothing(alloc, End::Memory),
-    };
-    match session.act(alloc, dial, LiveLine::Open) {
-        Ok(text) => read_lines(alloc, dial, &mut session, lines, text),
-        Err(stop) => nothing(alloc, end_at(0, stop)),
+    match begin_of(alloc, lines) {
+        Ok(begin) => live_from(alloc, dial, addresses, lines, begin),
+        Err(end) => nothing(alloc, end),
     }
 }
 

@@ -13,6 +13,7 @@ use std::alloc::Allocator;
 use zk_replay::begin_line::{BeginKeyword, BeginLine, begin_line_at};
 use zk_replay::client_line::{ClientKeyword, ClientLine, client_line_at};
 use zk_script::pieces::words_of;
+use zk_script::reads::is_named;
 use zk_script::script_fault::ScriptFault;
 use zk_script::story::is_remark;
 
@@ -20,7 +21,7 @@ use zk_script::story::is_remark;
 pub const ASKED: i32 = 30_000;
 
 /// What a line does, by its first word.
-#[derive(Clone, Copy, Debug, PartialEq, Eq)]
+#[derive(Clone, Copy)]
 pub enum LiveKeyword {
     Resume,
     Open,
@@ -32,9 +33,9 @@ impl LiveKeyword {
     pub fn named(word: &[u8]) -> Option<LiveKeyword>
         ensures { result ≡ keyword_of word.now }
     {
-        if word == b"resume".as_slice() {
+        if is_named(word, "resume") {
             Some(LiveKeyword::Resume)
-        } else if word == b"open".as_slice() {
+        } else if is_named(word, "open") {
             Some(LiveKeyword::Open)
         } else {
             match ClientKeyword::named(word) {
@@ -143,7 +144,7 @@ fn begun_words<A: Allocator + Copy>(
     if is_remark(first) {
         return Ok(None);
     }
-    if *first != b"resume".as_slice() {
+    if !is_named(first, "resume") {
         return Ok(Some(BeginLine::Timeout(ASKED)));
     }
     let line = resume_at(alloc, behind)?;

@@ -8,11 +8,11 @@ use std::alloc::Allocator;
 use zk_replay::client_line::{ClientKeyword, ClientLine, client_line_at};
 use zk_replay::reads::natural_at;
 use zk_script::numbers::natural_of;
-use zk_script::reads::are_printed;
+use zk_script::reads::{are_printed, is_named};
 use zk_script::script_fault::ScriptFault;
 
 /// What a line does with the client or with the servers, by its first word.
-#[derive(Clone, Copy, Debug, PartialEq, Eq)]
+#[derive(Clone, Copy)]
 pub enum BenchKeyword {
     Open,
     Take,
@@ -29,19 +29,19 @@ impl BenchKeyword {
     pub fn named(word: &[u8]) -> Option<BenchKeyword>
         ensures { result ≡ bench_keyword_of word.now }
     {
-        if word == b"open".as_slice() {
+        if is_named(word, "open") {
             Some(BenchKeyword::Open)
-        } else if word == b"take".as_slice() {
+        } else if is_named(word, "take") {
             Some(BenchKeyword::Take)
-        } else if word == b"process".as_slice() {
+        } else if is_named(word, "process") {
             Some(BenchKeyword::Process)
-        } else if word == b"deliver".as_slice() {
+        } else if is_named(word, "deliver") {
             Some(BenchKeyword::Deliver)
-        } else if word == b"expire".as_slice() {
+        } else if is_named(word, "expire") {
             Some(BenchKeyword::Expire)
-        } else if word == b"good".as_slice() {
+        } else if is_named(word, "good") {
             Some(BenchKeyword::Good)
-        } else if word == b"rejoin".as_slice() {
+        } else if is_named(word, "rejoin") {
             Some(BenchKeyword::Rejoin)
         } else {
             match ClientKeyword::named(word) {

@@ -1,6 +1,6 @@
 //! The good answers of a client, each compared with the history.
 
-ghost use Rattle.std.specs.Prelude.{◌≡◌, ◌↔◌, ◌++◌, IsTrue, ℕ, List, IfOk, OnOk, map, string_bytes};
+ghost use Rattle.std.specs.Prelude.{◌≡◌, ◌↔◌, ◌++◌, IsTrue, ℕ, List, OnOk, map, string_bytes};
 ghost use Rattle.std.specs.BTreeSet.{IsOrdered, contains_text};
 ghost use Rattle.std.specs.String.{string_cmp};
 ghost use Rattle.std.specs.Option.{option_map};
@@ -71,59 +71,72 @@ fn agrees_names<A: Allocator>(kept: &Names<A>, told: &Option<Names<A>>) -> bool
     }
 }
 
-/// The line of an answer that agrees or differs.
-fn verdict_line<A: Allocator + Copy>(
+/// Adds the line of an answer that agrees or differs.
+fn push_verdict<A: Allocator + Copy>(
+    text: &mut String<A>,
     alloc: A,
     side: Side,
     path: &Path<A>,
     agrees: bool,
-) -> Result<String<A>, AllocError>
-    ensures { IfOk result (λ text. string_bytes text ≡ verdict_line side path.now agrees) }
+) -> Result<(), AllocError>
+    ensures { OnOk result (string_bytes text.new ≡ string_bytes text.old ++ verdict_line side path.now agrees) }
 {
-    let mut text = String::from_str(alloc, "good")?;
-    match side {
-        Side::Data => text.push_str(" data")?,
-        Side::Child => text.push_str(" child")?,
-    }
-    push_name(&mut text, alloc, path.as_str().as_bytes())?;
-    if agrees {
-        text.push_str(" agrees\n")?;
-    } else {
-        text.push_str(" differs\n")?;
-    }
-    Ok(text)
+    let start = match side {
+        Side::Data => "good data",
+        Side::Child => "good child",
+    };
+    let verdict = if agrees { " agrees\n" } else { " differs\n" };
+    text.push_str(start)?;
+    push_name(text, alloc, path.as_str().as_bytes())?;
+    text.push_str(verdict)
 }
 
-/// The line of the data of a path, if there is a good answer.
-fn data_verdict<A: Allocator + Copy>(
+/// Adds the line of the data of a path, if there is a good answer.
+fn push_data<A: Allocator + Copy>(
+    text: &mut String<A>,
     alloc: A,
     client: &Client<A>,
     history: &History<A>,
     path: &Path<A>,
-) -> Result<String<A>, AllocError>
-    ensures { IfOk result (λ text. string_bytes text ≡ data_verdict (view_of client.now) history.now path.now) }
+) -> Result<(), AllocError>
+    ensures { OnOk result (string_bytes text.new ≡ string_bytes text.old ++ data_verdict (view_of client.now) history.now path.now) }
 {
     let Some((kept, Mark::Good)) = client.peek_data(path) else {
-        return Ok(String::new(alloc));
+        return Ok(());
     };
     let told = history.data_at(client.last_zxid(), path)?;
-    verdict_line(alloc, Side::Data, path, agrees(kept, &told))
+    push_verdict(text, alloc, Side::Data, path, agrees(kept, &told))
 }
 
-/// The line of the names below a path, if there is a good answer.
-fn names_verdict<A: Allocator + Copy>(
+/// Adds the line of the names below a path, if there is a good answer.
+fn push_names<A: Allocator + Copy>(
+    text: &mut String<A>,
     alloc: A,
     client: &Client<A>,
     history: &History<A>,
     path: &Path<A>,
-) -> Result<String<A>, AllocError>
-    ensures { IfOk result (λ text. TellsNamesVerdict (view_of client.now) history.now path.now (string_bytes text)) }
+) -> Result<(), AllocError>
+    ensures { OnOk result ((names : List ℕ) × TellsNamesVerdict (view_of client.now) history.now path.now names × (string_bytes text.new ≡ string_bytes text.old ++ names)) }
 {
     let Some((kept, Mark::Good)) = client.peek_children(path) else {
-        return Ok(String::new(alloc));
+        return Ok(());
     };
     let told = history.names_at(client.last_zxid(), path)?;
-    verdict_line(alloc, Side::Child, path, agrees_names(kept, &told))
+    push_verdict(text, alloc, Side::Child, path, agrees_names(kept, &told))
+}
+
+/// Adds the lines of the good answers of a path: data before names.
+fn push_verdicts<A: Allocator + Copy>(
+    text: &mut String<A>,
+    alloc: A,
+    client: &Client<A>,
+    history: &History<A>,
+    path: &Path<A>,
+) -> Result<(), AllocError>
+    ensures { OnOk result ((told : List ℕ) × TellsPath (view_of client.now) history.now path.now told × (string_bytes text.new ≡ string_bytes text.old ++ told)) }
+{
+    push_data(text, alloc, client, history, path)?;
+    push_names(text, alloc, client, history, path)
 }
 
 /// Adds the lines of the good answers of a path.
@@ -139,11 +152,7 @@ fn push_path<A: Allocator + Copy>(
     let Ok(path) = Path::new(alloc, path) else {
         return Err(AllocError);
     };
-    let data = data_verdict(alloc, client, history, &path)?;
-    let names = names_verdict(alloc, client, history, &path)?;
-    text.push_str(data.as_str())?;
-    text.push_str(names.as_str())?;
-    Ok(())
+    push_verdicts(text, alloc, client, history, &path)
 }
 
 /// Adds the lines of the good answers of paths, in the order of their bytes.

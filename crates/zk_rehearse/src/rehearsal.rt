@@ -51,7 +51,8 @@ impl<A: Allocator + Copy> Rehearsal<A> {
         ensures { Begins timeout (standing_of self.old) (standing_of self.new) }
     {
         let history = mem::replace(&mut self.story.history, History::new(alloc));
-        self.stage = Some(Stage::new(alloc, timeout, history));
+        let stage = Stage::new(alloc, timeout, history);
+        drop(mem::replace(&mut self.stage, Some(stage)));
     }
 
     /// Does what a line behind the one that makes the client says.

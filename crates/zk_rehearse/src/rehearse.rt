@@ -1,10 +1,11 @@
 //! A rehearsal of a whole script.
 
-ghost use Rattle.std.specs.Prelude.{◌≡◌, IfErr, OnErr, OnOk, map, string_bytes};
+ghost use Rattle.std.specs.Prelude.{◌≡◌, [], IfErr, OnErr, OnOk, map, string_bytes};
 ghost use Rattle.zk_script.specs.Scripts.{lines_of};
+ghost use Rattle.zk_script.specs.Stories.{first_standing};
 ghost use Rattle.zk_replay.specs.Played.{IfHalted};
 ghost use Rattle.zk_replay.specs.Replays.{end_at};
-ghost use Rattle.zk_rehearse.specs.Rehearsed.{standing_of, HaltsLine, IsDue};
+ghost use Rattle.zk_rehearse.specs.Rehearsed.{standing_of, Told, HaltsLine, IsDue};
 ghost use Rattle.zk_rehearse.specs.Scripts.{progress, Goes, IsOutcome};
 
 use crate::rehearsal::Rehearsal;
@@ -43,19 +44,33 @@ fn end_at(number: usize, stop: Stop) -> End
     }
 }
 
+/// Reads lines up to the first that is not done, before which nothing is told or printed yet.
+fn read_onto<A: Allocator + Copy>(
+    alloc: A,
+    rehearsal: &mut Rehearsal<A>,
+    lines: &[&[u8]],
+    text: &mut String<A>,
+) -> End
+    requires standing { standing_of rehearsal.now ≡ Told first_standing }
+    requires nothing { string_bytes text.now ≡ [] }
+    ensures { IsOutcome (map (λ l. l.now) lines.now) (string_bytes text.new) result }
+{
+    for (index, line) in lines.iter().enumerate() {
+        if let Err(stop) = read_line(alloc, rehearsal, line, text) {
+            return end_at(index + 1, stop);
+        }
+    }
+    End::Taken
+}
+
 /// Reads lines up to the first that is not done.
 fn read_lines<A: Allocator + Copy>(alloc: A, lines: &[&[u8]]) -> Outcome<A>
     ensures { IsOutcome (map (λ l. l.now) lines.now) (string_bytes result.text) result.end }
 {
     let mut rehearsal = Rehearsal::new(alloc);
     let mut text = String::new(alloc);
-    for (index, line) in lines.iter().enumerate() {
-        if let Err(stop) = read_line(alloc, &mut rehearsal, line, &mut text) {
-            let end = end_at(index + 1, stop);
-            return Outcome { text, end };
-        }
-    }
-    let end = End::Taken;
+    let end = read_onto(alloc, &mut rehearsal, lines, &mut text);
+    drop(rehearsal);
     Outcome { text, end }
 }
 

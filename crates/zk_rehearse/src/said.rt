@@ -9,12 +9,12 @@ use crate::bench_line::{BenchKeyword, BenchLine, bench_line_at};
 use std::alloc::Allocator;
 use zk_replay::reads::timeout_at;
 use zk_script::history_line::Keyword as HistoryKeyword;
-use zk_script::reads::are_printed;
+use zk_script::reads::{are_printed, is_named};
 use zk_script::script_fault::ScriptFault;
 use zk_script::story::is_remark;
 
 /// What a line does, by its first word.
-#[derive(Clone, Copy, Debug, PartialEq, Eq)]
+#[derive(Clone, Copy)]
 pub enum Keyword {
     /// It makes the history.
     History,
@@ -33,7 +33,7 @@ impl Keyword {
             Some(HistoryKeyword::Ask) => None,
             Some(_) => Some(Keyword::History),
             None => {
-                if word == b"begin".as_slice() {
+                if is_named(word, "begin") {
                     return Some(Keyword::Begin);
                 }
                 match BenchKeyword::named(word) {
@@ -107,7 +107,9 @@ pub fn said_at<A: Allocator + Copy>(
     if is_remark(first) {
         return Ok(None);
     }
-    let keyword = Keyword::named(first).ok_or(ScriptFault::Unknown)?;
+    let Some(keyword) = Keyword::named(first) else {
+        return Err(ScriptFault::Unknown);
+    };
     let line = placed_at(alloc, keyword, begun, behind)?;
     Ok(Some(line))
 }

@@ -8,6 +8,7 @@ use crate::good::push_paths;
 use crate::heard::hear_all;
 use std::alloc::{AllocError, Allocator};
 use std::collections::BTreeSet;
+use std::mem;
 use zk_bench::Bench;
 use zk_client::{Client, Input};
 use zk_history::History;
@@ -104,7 +105,7 @@ impl<A: Allocator + Copy> Stage<A> {
     {
         self.bench.disconnect();
         let client = Client::resume(alloc, self.timeout, &self.client.saved())?;
-        self.client = client;
+        drop(mem::replace(&mut self.client, client));
         Ok(String::new(alloc))
     }
 

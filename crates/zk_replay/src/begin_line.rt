@@ -7,11 +7,11 @@ ghost use Rattle.zk_replay.specs.ReplayLines.{begin_keyword_of, new_at, taken_up
 
 use crate::reads::{last_at, password_at, session_at, timeout_at};
 use std::alloc::Allocator;
-use zk_script::reads::are_printed;
+use zk_script::reads::{are_printed, is_named};
 use zk_script::script_fault::ScriptFault;
 
 /// How a line makes a client, by its first word.
-#[derive(Clone, Copy, Debug, PartialEq, Eq)]
+#[derive(Clone, Copy)]
 pub enum BeginKeyword {
     Timeout,
     Resume,
@@ -22,9 +22,9 @@ impl BeginKeyword {
     pub fn named(word: &[u8]) -> Option<BeginKeyword>
         ensures { result ≡ begin_keyword_of word.now }
     {
-        if word == b"timeout".as_slice() {
+        if is_named(word, "timeout") {
             Some(BeginKeyword::Timeout)
-        } else if word == b"resume".as_slice() {
+        } else if is_named(word, "resume") {
             Some(BeginKeyword::Resume)
         } else {
             None

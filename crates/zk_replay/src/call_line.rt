@@ -9,11 +9,11 @@ use crate::reads::{boolean_at, mode_at, natural_at, version_at};
 use std::alloc::Allocator;
 use zk_conversation::Call;
 use zk_history::Path;
-use zk_script::reads::{data_at, path_at, text_at};
+use zk_script::reads::{data_at, is_named, path_at, text_at};
 use zk_script::script_fault::ScriptFault;
 
 /// What a call asks for, by its second word.
-#[derive(Clone, Copy, Debug, PartialEq, Eq)]
+#[derive(Clone, Copy)]
 enum CallKind {
     Exists,
     GetData,
@@ -42,19 +42,19 @@ struct Watched<A: Allocator> {
 fn kind_named(word: &[u8]) -> Result<CallKind, ScriptFault>
     ensures { Reads (λ k. k) result (kind_read word.now) }
 {
-    if word == b"exists".as_slice() {
+    if is_named(word, "exists") {
         Ok(CallKind::Exists)
-    } else if word == b"getdata".as_slice() {
+    } else if is_named(word, "getdata") {
         Ok(CallKind::GetData)
-    } else if word == b"getchildren".as_slice() {
+    } else if is_named(word, "getchildren") {
         Ok(CallKind::GetChildren)
-    } else if word == b"setdata".as_slice() {
+    } else if is_named(word, "setdata") {
         Ok(CallKind::SetData)
-    } else if word == b"create".as_slice() {
+    } else if is_named(word, "create") {
         Ok(CallKind::Create)
-    } else if word == b"delete".as_slice() {
+    } else if is_named(word, "delete") {
         Ok(CallKind::Delete)
-    } else if word == b"close".as_slice() {
+    } else if is_named(word, "close") {
         Ok(CallKind::Close)
     } else {
         Err(ScriptFault::Words)

@@ -10,11 +10,11 @@ use crate::reads::natural_at;
 use std::alloc::Allocator;
 use zk_history::{Path, Side};
 use zk_script::history_line::side_at;
-use zk_script::reads::{are_printed, path_at, text_at};
+use zk_script::reads::{are_printed, is_named, path_at, text_at};
 use zk_script::script_fault::ScriptFault;
 
 /// What a line does with a client, by its first word.
-#[derive(Clone, Copy, Debug, PartialEq, Eq)]
+#[derive(Clone, Copy)]
 pub enum ClientKeyword {
     Cut,
     Now,
@@ -30,19 +30,19 @@ impl ClientKeyword {
     pub fn named(word: &[u8]) -> Option<ClientKeyword>
         ensures { result ≡ client_keyword_of word.now }
     {
-        if word == b"cut".as_slice() {
+        if is_named(word, "cut") {
             Some(ClientKeyword::Cut)
-        } else if word == b"now".as_slice() {
+        } else if is_named(word, "now") {
             Some(ClientKeyword::Now)
-        } else if word == b"call".as_slice() {
+        } else if is_named(word, "call") {
             Some(ClientKeyword::Call)
-        } else if word == b"peek".as_slice() {
+        } else if is_named(word, "peek") {
             Some(ClientKeyword::Peek)
-        } else if word == b"last".as_slice() {
+        } else if is_named(word, "last") {
             Some(ClientKeyword::Last)
-        } else if word == b"forget".as_slice() {
+        } else if is_named(word, "forget") {
             Some(ClientKeyword::Forget)
-        } else if word == b"saved".as_slice() {
+        } else if is_named(word, "saved") {
             Some(ClientKeyword::Saved)
         } else {
             None

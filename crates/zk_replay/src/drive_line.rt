@@ -8,11 +8,11 @@ ghost use Rattle.zk_replay.specs.ReplayLines.{drive_keyword_of, came_at, came_li
 use crate::client_line::{ClientKeyword, ClientLine, client_line_at};
 use crate::reads::bytes_at;
 use std::alloc::Allocator;
-use zk_script::reads::are_printed;
+use zk_script::reads::{are_printed, is_named};
 use zk_script::script_fault::ScriptFault;
 
 /// What a line does with the client, by its first word.
-#[derive(Clone, Copy, Debug, PartialEq, Eq)]
+#[derive(Clone, Copy)]
 pub enum DriveKeyword {
     Opened,
     Bytes,
@@ -24,9 +24,9 @@ impl DriveKeyword {
     pub fn named(word: &[u8]) -> Option<DriveKeyword>
         ensures { result ≡ drive_keyword_of word.now }
     {
-        if word == b"opened".as_slice() {
+        if is_named(word, "opened") {
             Some(DriveKeyword::Opened)
-        } else if word == b"bytes".as_slice() {
+        } else if is_named(word, "bytes") {
             Some(DriveKeyword::Bytes)
         } else {
             match ClientKeyword::named(word) {

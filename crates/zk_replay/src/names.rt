@@ -36,8 +36,7 @@ fn push_keys<A: Allocator + Copy>(
 {
     text.push_str("names")?;
     push_word(text, alloc, &names.len())?;
-    push_all(text, alloc, names)?;
-    Ok(())
+    push_all(text, alloc, names)
 }
 
 /// Adds a set of names.
@@ -48,8 +47,7 @@ pub fn push_set<A: Allocator + Copy>(
 ) -> Result<(), AllocError>
     ensures { OnOk result ((told : List ℕ) × TellsSet (names_of names.now) told × (string_bytes text.new ≡ string_bytes text.old ++ told)) }
 {
-    push_keys(text, alloc, names)?;
-    Ok(())
+    push_keys(text, alloc, names)
 }
 
 /// Adds names that stand in any order, and may stand more than once.
@@ -61,6 +59,5 @@ pub fn push_listing<A: Allocator + Copy>(
     ensures { OnOk result ((told : List ℕ) × TellsSet (set.from_list (map string_bytes names.now)) told × (string_bytes text.new ≡ string_bytes text.old ++ told)) }
 {
     let set = set_of(alloc, names)?;
-    push_set(text, alloc, &set)?;
-    Ok(())
+    push_set(text, alloc, &set)
 }

@@ -24,20 +24,19 @@ fn push_fault<A: Allocator + Copy>(
     ensures { OnOk result (string_bytes text.new ≡ string_bytes text.old ++ fault_words (fault_view fault.now)) }
 {
     match fault {
-        Fault::Framed(fault) => push_word(text, alloc, fault)?,
-        Fault::Talked(fault) => push_word(text, alloc, fault)?,
-        Fault::Silent => text.push_str(" D1")?,
+        Fault::Framed(fault) => push_word(text, alloc, fault),
+        Fault::Talked(fault) => push_word(text, alloc, fault),
+        Fault::Silent => text.push_str(" D1"),
         Fault::Behind { seen, came } => {
             text.push_str(" D2")?;
             push_word(text, alloc, seen)?;
-            push_word(text, alloc, came)?;
+            push_word(text, alloc, came)
         }
         Fault::WatchesRefused { code } => {
             text.push_str(" D3")?;
-            push_word(text, alloc, code)?;
+            push_word(text, alloc, code)
         }
     }
-    Ok(())
 }
 
 /// The word for a side.
@@ -84,8 +83,7 @@ fn push_send<A: Allocator + Copy>(
     ensures { OnOk result (string_bytes text.new ≡ string_bytes text.old ++ plain_line (Send bytes.now)) }
 {
     let word = bytes_to_word(alloc, bytes)?;
-    push_line(text, "send", word.as_str())?;
-    Ok(())
+    push_line(text, "send", word.as_str())
 }
 
 /// Adds the line of an answer.
@@ -101,8 +99,7 @@ fn push_answer<A: Allocator + Copy>(
     push_word(text, alloc, ticket)?;
     text.push_str(" ")?;
     push_outcome(text, alloc, outcome)?;
-    text.push_str("\n")?;
-    Ok(())
+    text.push_str("\n")
 }
 
 /// Adds the line of a report.
@@ -119,16 +116,14 @@ fn push_report<A: Allocator + Copy>(
     push_spaced(text, side_to_word(side))?;
     push_spaced(text, event_to_word(event))?;
     push_name(text, alloc, path.as_bytes())?;
-    text.push_str("\n")?;
-    Ok(())
+    text.push_str("\n")
 }
 
 /// Adds the line of a state.
 fn push_state<A: Allocator + Copy>(text: &mut String<A>, state: State) -> Result<(), AllocError>
     ensures { OnOk result (string_bytes text.new ≡ string_bytes text.old ++ plain_line (Enters state)) }
 {
-    push_line(text, "state", state_to_word(state))?;
-    Ok(())
+    push_line(text, "state", state_to_word(state))
 }
 
 /// Adds the line of a connection that is given up.
@@ -141,8 +136,7 @@ fn push_drop<A: Allocator + Copy>(
 {
     text.push_str("drop")?;
     push_fault(text, alloc, fault)?;
-    text.push_str("\n")?;
-    Ok(())
+    text.push_str("\n")
 }
 
 /// Adds the line of an output.
@@ -154,15 +148,14 @@ pub fn push_output<A: Allocator + Copy>(
     ensures { OnOk result ((told : List ℕ) × TellsOutput (output_view output.now) told × (string_bytes text.new ≡ string_bytes text.old ++ told)) }
 {
     match output {
-        Output::Send(bytes) => push_send(text, alloc, bytes.as_slice())?,
-        Output::Answer { ticket, outcome } => push_answer(text, alloc, ticket, outcome)?,
+        Output::Send(bytes) => push_send(text, alloc, bytes.as_slice()),
+        Output::Answer { ticket, outcome } => push_answer(text, alloc, ticket, outcome),
         Output::Report { path, side, event } => {
-            push_report(text, alloc, path.as_str(), *side, *event)?;
+            push_report(text, alloc, path.as_str(), *side, *event)
         }
-        Output::State(state) => push_state(text, *state)?,
-        Output::Drop(fault) => push_drop(text, alloc, fault)?,
+        Output::State(state) => push_state(text, *state),
+        Output::Drop(fault) => push_drop(text, alloc, fault),
     }
-    Ok(())
 }
 
 /// The lines of outputs, in order.

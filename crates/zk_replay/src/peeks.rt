@@ -1,7 +1,8 @@
 //! What a client keeps, as printed lines.
 
-ghost use Rattle.std.specs.Prelude.{◌≡◌, ◌++◌, ◌∷◌, [], Some, IfOk, OnOk, option_map, string_bytes};
+ghost use Rattle.std.specs.Prelude.{◌≡◌, ◌++◌, ◌∷◌, ℕ, List, [], Some, IfOk, OnOk, option_map, string_bytes};
 ghost use Rattle.zk_script.specs.Answers.{spaced};
+ghost use Rattle.zk_script.specs.Words.{bytes_word};
 ghost use Rattle.zk_cache.specs.Contents.{answer_of, names_in};
 ghost use Rattle.zk_replay.specs.Shown.{answer_text, kept_line, last_line, mark_word, saved_line, TellsKept};
 
@@ -29,8 +30,7 @@ fn push_mark<A: Allocator>(text: &mut String<A>, mark: Mark) -> Result<(), Alloc
     ensures { OnOk result (string_bytes text.new ≡ string_bytes text.old ++ (spaced (mark_word mark) ++ 10 ∷ [])) }
 {
     push_spaced(text, mark_to_word(mark))?;
-    text.push_str("\n")?;
-    Ok(())
+    text.push_str("\n")
 }
 
 /// Adds an answer about a node itself.
@@ -42,18 +42,30 @@ fn push_data_answer<A: Allocator + Copy>(
     ensures { OnOk result (string_bytes text.new ≡ string_bytes text.old ++ answer_text (answer_of answer.now)) }
 {
     match answer {
-        DataAnswer::Absent => text.push_str("data absent")?,
+        DataAnswer::Absent => text.push_str("data absent"),
         DataAnswer::Known(stat) => {
             text.push_str("data known")?;
-            push_stat(text, alloc, stat)?;
+            push_stat(text, alloc, stat)
         }
         DataAnswer::Full(bytes, stat) => {
             text.push_str("data full ")?;
             push_data_word(text, alloc, bytes)?;
-            push_stat(text, alloc, stat)?;
+            push_stat(text, alloc, stat)
         }
     }
-    Ok(())
+}
+
+/// Adds the line of an answer that is kept about a node itself.
+fn push_data_line<A: Allocator + Copy>(
+    text: &mut String<A>,
+    alloc: A,
+    answer: &DataAnswer<A>,
+    mark: Mark,
+) -> Result<(), AllocError>
+    ensures { OnOk result (string_bytes text.new ≡ string_bytes text.old ++ kept_line (Some (record { answer = answer_of answer.now; mark = mark }))) }
+{
+    push_data_answer(text, alloc, answer)?;
+    push_mark(text, mark)
 }
 
 /// The line of what is kept about the data of a path.
@@ -67,9 +79,22 @@ pub fn data_line<A: Allocator + Copy>(
         return String::from_str(alloc, "data none\n");
     };
     let mut text = String::new(alloc);
-    push_data_answer(&mut text, alloc, answer)?;
-    push_mark(&mut text, mark)?;
+    push_data_line(&mut text, alloc, answer, mark)?;
     Ok(text)
+}
+
+/// Adds the line of names that are kept.
+fn push_found<A: Allocator + Copy>(
+    text: &mut String<A>,
+    alloc: A,
+    found: &Names<A>,
+    mark: Mark,
+) -> Result<(), AllocError>
+    ensures { OnOk result ((told : List ℕ) × TellsKept (Some (record { answer = names_in found.now; mark = mark })) told × (string_bytes text.new ≡ string_bytes text.old ++ told)) }
+{
+    push_set(text, alloc, &found.names)?;
+    push_word(text, alloc, &found.pzxid)?;
+    push_mark(text, mark)
 }
 
 /// The line of names that are kept.
@@ -81,9 +106,7 @@ fn found_line<A: Allocator + Copy>(
     ensures { IfOk result (λ text. TellsKept (Some (record { answer = names_in found.now; mark = mark })) (string_bytes text)) }
 {
     let mut text = String::new(alloc);
-    push_set(&mut text, alloc, &found.names)?;
-    push_word(&mut text, alloc, &found.pzxid)?;
-    push_mark(&mut text, mark)?;
+    push_found(&mut text, alloc, found, mark)?;
     Ok(text)
 }
 
@@ -100,25 +123,60 @@ pub fn names_line<A: Allocator + Copy>(
     }
 }
 
+/// Adds the line of the last seen zxid.
+fn push_last<A: Allocator + Copy>(
+    text: &mut String<A>,
+    alloc: A,
+    zxid: i64,
+) -> Result<(), AllocError>
+    ensures { OnOk result (string_bytes text.new ≡ string_bytes text.old ++ last_line zxid) }
+{
+    text.push_str("last")?;
+    push_word(text, alloc, &zxid)?;
+    text.push_str("\n")
+}
+
 /// The line of the last seen zxid.
 pub fn last_line<A: Allocator + Copy>(alloc: A, zxid: i64) -> Result<String<A>, AllocError>
     ensures { IfOk result (λ text. string_bytes text ≡ last_line zxid) }
 {
-    let mut text = String::from_str(alloc, "last")?;
-    push_word(&mut text, alloc, &zxid)?;
-    text.push_str("\n")?;
+    let mut text = String::new(alloc);
+    push_last(&mut text, alloc, zxid)?;
     Ok(text)
+}
+
+/// Adds a space and the word for bytes.
+fn push_bytes<A: Allocator + Copy>(
+    text: &mut String<A>,
+    alloc: A,
+    bytes: &[u8],
+) -> Result<(), AllocError>
+    ensures { OnOk result (string_bytes text.new ≡ string_bytes text.old ++ spaced (bytes_word (Some bytes.now))) }
+{
+    let word = bytes_to_word(alloc, bytes)?;
+    push_spaced(text, word.as_str())
+}
+
+/// Adds the line of what a session can be taken up with.
+fn push_saved<A: Allocator + Copy>(
+    text: &mut String<A>,
+    alloc: A,
+    saved: &Saved<'_>,
+) -> Result<(), AllocError>
+    ensures { OnOk result (string_bytes text.new ≡ string_bytes text.old ++ saved_line saved.now.session saved.now.password.now saved.now.last_zxid) }
+{
+    text.push_str("saved")?;
+    push_word(text, alloc, &saved.session)?;
+    push_bytes(text, alloc, saved.password)?;
+    push_word(text, alloc, &saved.last_zxid)?;
+    text.push_str("\n")
 }
 
 /// The line of what a session can be taken up with.
 pub fn saved_line<A: Allocator + Copy>(alloc: A, saved: &Saved<'_>) -> Result<String<A>, AllocError>
     ensures { IfOk result (λ text. string_bytes text ≡ saved_line saved.now.session saved.now.password.now saved.now.last_zxid) }
 {
-    let password = bytes_to_word(alloc, saved.password)?;
-    let mut text = String::from_str(alloc, "saved")?;
-    push_word(&mut text, alloc, &saved.session)?;
-    push_spaced(&mut text, password.as_str())?;
-    push_word(&mut text, alloc, &saved.last_zxid)?;
-    text.push_str("\n")?;
+    let mut text = String::new(alloc);
+    push_saved(&mut text, alloc, saved)?;
     Ok(text)
 }

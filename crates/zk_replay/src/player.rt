@@ -18,7 +18,7 @@ use zk_script::script_fault::ScriptFault;
 use zk_script::story::is_remark;
 
 /// What a line does, by its first word.
-#[derive(Clone, Copy, Debug, PartialEq, Eq)]
+#[derive(Clone, Copy)]
 pub enum Keyword {
     Begin(BeginKeyword),
     Drive(DriveKeyword),

@@ -129,9 +129,10 @@ pub fn mode_at(word: &[u8]) -> Result<CreateMode, ScriptFault>
 pub fn bytes_at<A: Allocator + Copy>(alloc: A, word: &[u8]) -> Result<Vec<u8, A>, ScriptFault>
     ensures { Reads (λ v. v.items) result (bytes_at word.now) }
 {
-    match data_at(alloc, word)? {
-        Some(bytes) => Ok(bytes),
-        None => Err(ScriptFault::Hex),
+    match data_at(alloc, word) {
+        Ok(Some(bytes)) => Ok(bytes),
+        Ok(None) => Err(ScriptFault::Hex),
+        Err(fault) => Err(fault),
     }
 }
 

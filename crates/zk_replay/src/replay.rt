@@ -1,6 +1,6 @@
 //! A replay of a whole script.
 
-ghost use Rattle.std.specs.Prelude.{◌≡◌, IfErr, OnErr, OnOk, is_some, map, string_bytes};
+ghost use Rattle.std.specs.Prelude.{◌≡◌, [], None, IfErr, OnErr, OnOk, is_some, map, string_bytes};
 ghost use Rattle.zk_script.specs.Pieces.{words_of};
 ghost use Rattle.zk_replay.specs.ReplayLines.{says_at};
 ghost use Rattle.zk_replay.specs.Played.{standing_of, HaltsLine, IfHalted, IsDue};
@@ -14,7 +14,7 @@ use zk_script::pieces::lines_of;
 use zk_script::script_fault::ScriptFault;
 
 /// How the lines of a script ended.
-#[derive(Clone, Copy, Debug, PartialEq, Eq)]
+#[derive(Clone, Copy, PartialEq, Eq)]
 pub enum End {
     /// Each line was taken.
     Taken,
@@ -63,19 +63,32 @@ fn end_at(number: usize, stop: Stop) -> End
     }
 }
 
+/// Reads lines up to the first that is not done, behind which nothing is read or printed yet.
+fn read_onto<A: Allocator + Copy>(
+    alloc: A,
+    player: &mut Player<A>,
+    lines: &[&[u8]],
+    text: &mut String<A>,
+) -> End
+    requires standing { standing_of player.now ≡ None }
+    requires nothing { string_bytes text.now ≡ [] }
+    ensures { IsOutcome (map (λ l. l.now) lines.now) (string_bytes text.new) result }
+{
+    for (index, line) in lines.iter().enumerate() {
+        if let Err(stop) = read_line(alloc, player, line, text) {
+            return end_at(index + 1, stop);
+        }
+    }
+    End::Taken
+}
+
 /// Reads lines up to the first that is not done.
 fn read_lines<A: Allocator + Copy>(alloc: A, lines: &[&[u8]]) -> Outcome<A>
     ensures { IsOutcome (map (λ l. l.now) lines.now) (string_bytes result.text) result.end }
 {
     let mut player = Player::new();
     let mut text = String::new(alloc);
-    for (index, line) in lines.iter().enumerate() {
-        if let Err(stop) = read_line(alloc, &mut player, line, &mut text) {
-            let end = end_at(index + 1, stop);
-            return Outcome { text, end };
-        }
-    }
-    let end = End::Taken;
+    let end = read_onto(alloc, &mut player, lines, &mut text);
     Outcome { text, end }
 }
 

@@ -13,7 +13,7 @@ use crate::names::push_listing;
 use std::alloc::{AllocError, Allocator};
 use zk_client::{CallResult, Outcome};
 use zk_records::{Code, Stat};
-use zk_script::answers::{push_data_word, push_name, push_word};
+use zk_script::answers::{push_data_word, push_name, push_numbers, push_value, push_word};
 
 /// Adds the first six numbers of a Stat.
 #[tactic(auto, unfolding(crate::specs::Shown::front_words))]
@@ -24,13 +24,15 @@ fn push_front<A: Allocator + Copy>(
 ) -> Result<(), AllocError>
     ensures { OnOk result (string_bytes text.new ≡ string_bytes text.old ++ front_words stat.now) }
 {
-    push_word(text, alloc, &stat.czxid)?;
-    push_word(text, alloc, &stat.mzxid)?;
-    push_word(text, alloc, &stat.ctime)?;
-    push_word(text, alloc, &stat.mtime)?;
-    push_word(text, alloc, &stat.version)?;
-    push_word(text, alloc, &stat.cversion)?;
-    Ok(())
+    let numbers = [
+        stat.czxid,
+        stat.mzxid,
+        stat.ctime,
+        stat.mtime,
+        stat.version as i64,
+        stat.cversion as i64,
+    ];
+    push_numbers(text, alloc, numbers.as_slice())
 }
 
 /// Adds the other five.
@@ -42,12 +44,14 @@ fn push_back<A: Allocator + Copy>(
 ) -> Result<(), AllocError>
     ensures { OnOk result (string_bytes text.new ≡ string_bytes text.old ++ back_words stat.now) }
 {
-    push_word(text, alloc, &stat.aversion)?;
-    push_word(text, alloc, &stat.ephemeral_owner)?;
-    push_word(text, alloc, &stat.data_length)?;
-    push_word(text, alloc, &stat.num_children)?;
-    push_word(text, alloc, &stat.pzxid)?;
-    Ok(())
+    let numbers = [
+        stat.aversion as i64,
+        stat.ephemeral_owner,
+        stat.data_length as i64,
+        stat.num_children as i64,
+        stat.pzxid,
+    ];
+    push_numbers(text, alloc, numbers.as_slice())
 }
 
 /// Adds the eleven numbers of a Stat, a space before each.
@@ -60,8 +64,7 @@ fn push_full<A: Allocator + Copy>(
     ensures { OnOk result (string_bytes text.new ≡ string_bytes text.old ++ full_words stat.now) }
 {
     push_front(text, alloc, stat)?;
-    push_back(text, alloc, stat)?;
-    Ok(())
+    push_back(text, alloc, stat)
 }
 
 /// Adds the number of a code.
@@ -73,8 +76,7 @@ fn push_code<A: Allocator + Copy>(
     ensures { OnOk result (string_bytes text.new ≡ string_bytes text.old ++ code_text (code_number code)) }
 {
     text.push_str("code")?;
-    push_word(text, alloc, &code.number())?;
-    Ok(())
+    push_word(text, alloc, &code.number())
 }
 
 /// Adds a Stat.
@@ -86,8 +88,7 @@ fn push_stat_result<A: Allocator + Copy>(
     ensures { OnOk result (string_bytes text.new ≡ string_bytes text.old ++ plain_text (Found stat.now)) }
 {
     text.push_str("stat")?;
-    push_full(text, alloc, stat)?;
-    Ok(())
+    push_full(text, alloc, stat)
 }
 
 /// Adds data and a Stat.
@@ -101,8 +102,7 @@ fn push_data_result<A: Allocator + Copy>(
 {
     text.push_str("data ")?;
     push_data_word(text, alloc, bytes)?;
-    push_full(text, alloc, stat)?;
-    Ok(())
+    push_full(text, alloc, stat)
 }
 
 /// Adds names and a Stat.
@@ -115,8 +115,7 @@ fn push_names_result<A: Allocator + Copy>(
     ensures { OnOk result ((told : List ℕ) × TellsResult (Listing (map string_bytes names.now) stat.now) told × (string_bytes text.new ≡ string_bytes text.old ++ told)) }
 {
     push_listing(text, alloc, names)?;
-    push_full(text, alloc, stat)?;
-    Ok(())
+    push_full(text, alloc, stat)
 }
 
 /// Adds the path of a node that was made.
@@ -128,8 +127,7 @@ fn push_created<A: Allocator + Copy>(
     ensures { OnOk result (string_bytes text.new ≡ string_bytes text.old ++ plain_text (Made path.now)) }
 {
     text.push_str("created")?;
-    push_name(text, alloc, path.as_bytes())?;
-    Ok(())
+    push_name(text, alloc, path.as_bytes())
 }
 
 /// Adds what a reply brought.
@@ -141,16 +139,15 @@ pub fn push_result<A: Allocator + Copy>(
     ensures { OnOk result ((told : List ℕ) × TellsResult (call_result_view found.now) told × (string_bytes text.new ≡ string_bytes text.old ++ told)) }
 {
     match found {
-        CallResult::Code(code) => push_code(text, alloc, *code)?,
-        CallResult::Stat(stat) => push_stat_result(text, alloc, stat)?,
-        CallResult::Data { bytes, stat } => push_data_result(text, alloc, bytes, stat)?,
+        CallResult::Code(code) => push_code(text, alloc, *code),
+        CallResult::Stat(stat) => push_stat_result(text, alloc, stat),
+        CallResult::Data { bytes, stat } => push_data_result(text, alloc, bytes, stat),
         CallResult::Names { names, stat } => {
-            push_names_result(text, alloc, names.as_slice(), stat)?;
+            push_names_result(text, alloc, names.as_slice(), stat)
         }
-        CallResult::Created(path) => push_created(text, alloc, path.as_str())?,
-        CallResult::Done => text.push_str("done")?,
+        CallResult::Created(path) => push_created(text, alloc, path.as_str()),
+        CallResult::Done => text.push_str("done"),
     }
-    Ok(())
 }
 
 /// Adds the zxid of a reply, and what it brought.
@@ -162,11 +159,9 @@ fn push_reply<A: Allocator + Copy>(
 ) -> Result<(), AllocError>
     ensures { OnOk result ((told : List ℕ) × TellsOutcome (Replied zxid.now (call_result_view found.now)) told × (string_bytes text.new ≡ string_bytes text.old ++ told)) }
 {
-    let word = zxid.to_string(alloc)?;
-    text.push_str(word.as_str())?;
+    push_value(text, alloc, zxid)?;
     text.push_str(" ")?;
-    push_result(text, alloc, found)?;
-    Ok(())
+    push_result(text, alloc, found)
 }
 
 /// Adds what a call is answered: the zxid of its reply and what it brought, or why there is none.
@@ -181,14 +176,13 @@ pub fn push_outcome<A: Allocator + Copy>(
         Outcome::Replied {
             zxid,
             result: found,
-        } => push_reply(text, alloc, zxid, found)?,
-        Outcome::ConnectionLoss => text.push_str("- K1")?,
-        Outcome::SessionExpired => text.push_str("- K2")?,
-        Outcome::SessionClosed => text.push_str("- K3")?,
-        Outcome::NotConnected => text.push_str("- K4")?,
-        Outcome::TooManyWatches => text.push_str("- K5")?,
-        Outcome::TooLarge => text.push_str("- K6")?,
-        Outcome::TooManyPending => text.push_str("- K7")?,
+        } => push_reply(text, alloc, zxid, found),
+        Outcome::ConnectionLoss => text.push_str("- K1"),
+        Outcome::SessionExpired => text.push_str("- K2"),
+        Outcome::SessionClosed => text.push_str("- K3"),
+        Outcome::NotConnected => text.push_str("- K4"),
+        Outcome::TooManyWatches => text.push_str("- K5"),
+        Outcome::TooLarge => text.push_str("- K6"),
+        Outcome::TooManyPending => text.push_str("- K7"),
     }
-    Ok(())
 }

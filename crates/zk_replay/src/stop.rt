@@ -9,7 +9,7 @@ use zk_client::Halt;
 use zk_script::script_fault::ScriptFault;
 
 /// Why a line is not done.
-#[derive(Clone, Copy, Debug, PartialEq, Eq)]
+#[derive(Clone, Copy)]
 pub enum Stop {
     /// Its words are refused.
     Refused(ScriptFault),

@@ -11,6 +11,5 @@ pub fn push_spaced<A: Allocator>(text: &mut String<A>, word: &str) -> Result<(),
     ensures { OnOk result (string_bytes text.new ≡ string_bytes text.old ++ spaced word.now) }
 {
     text.push_str(" ")?;
-    text.push_str(word)?;
-    Ok(())
+    text.push_str(word)
 }

@@ -13,6 +13,10 @@ use Rattle.zk_script.specs.Words.{bytes_word, text_word}
 unfoldable pub spaced : List ℕ → List ℕ
 spaced word = 32 ∷ word
 
+-- numbers, a space before each
+abbrev pub numbers_text : List ℤ → List ℕ
+numbers_text numbers = flat_map (λ n. spaced (signed_decimal n)) numbers
+
 -- czxid, mzxid, ctime, mtime, version, owner and length
 abbrev pub stat_words : DataStat → List ℕ
 stat_words s =

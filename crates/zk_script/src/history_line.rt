@@ -4,13 +4,13 @@ ghost use Rattle.std.specs.Prelude.{◌≡◌, map};
 ghost use Rattle.zk_script.specs.Reads.{Reads};
 ghost use Rattle.zk_script.specs.HistoryLines.{keyword_of, value_of, side_read, node_at, begin_at, create_at, set_at, delete_at, look_up_at, ask_at, line_at};
 
-use crate::reads::{are_printed, data_at, path_at, text_at, time_at, zxid_at};
+use crate::reads::{are_printed, data_at, is_named, path_at, text_at, time_at, zxid_at};
 use crate::script_fault::ScriptFault;
 use std::alloc::Allocator;
 use zk_history::{Change, Path, Side};
 
 /// What a line does, by its first word.
-#[derive(Clone, Copy, Debug, PartialEq, Eq)]
+#[derive(Clone, Copy)]
 pub enum Keyword {
     Node,
     Tx,
@@ -25,17 +25,17 @@ impl Keyword {
     pub fn named(word: &[u8]) -> Option<Keyword>
         ensures { result ≡ keyword_of word.now }
     {
-        if word == b"node".as_slice() {
+        if is_named(word, "node") {
             Some(Keyword::Node)
-        } else if word == b"tx".as_slice() {
+        } else if is_named(word, "tx") {
             Some(Keyword::Tx)
-        } else if word == b"create".as_slice() {
+        } else if is_named(word, "create") {
             Some(Keyword::Create)
-        } else if word == b"set".as_slice() {
+        } else if is_named(word, "set") {
             Some(Keyword::Set)
-        } else if word == b"delete".as_slice() {
+        } else if is_named(word, "delete") {
             Some(Keyword::Delete)
-        } else if word == b"ask".as_slice() {
+        } else if is_named(word, "ask") {
             Some(Keyword::Ask)
         } else {
             None
@@ -60,10 +60,12 @@ pub enum HistoryLine<A: Allocator> {
 pub fn side_at(word: &[u8]) -> Result<Side, ScriptFault>
     ensures { Reads (λ s. s) result (side_read word.now) }
 {
-    match word {
-        b"data" => Ok(Side::Data),
-        b"names" => Ok(Side::Child),
-        _ => Err(ScriptFault::Words),
+    if is_named(word, "data") {
+        Ok(Side::Data)
+    } else if is_named(word, "names") {
+        Ok(Side::Child)
+    } else {
+        Err(ScriptFault::Words)
     }
 }
 

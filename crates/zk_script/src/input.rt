@@ -14,7 +14,7 @@ const PIECE: usize = 65_536;
 const READS: u32 = 1_000_000;
 
 /// Why an input was not read whole.
-#[derive(Clone, Copy, Debug, PartialEq, Eq)]
+#[derive(Clone, Copy)]
 pub enum InputFault {
     /// A read failed, or the end did not come by the last read.
     Unread,
@@ -34,7 +34,7 @@ impl From<AllocError> for InputFault {
 fn room<A: Allocator>(alloc: A) -> Result<Vec<u8, A>, AllocError>
     ensures { IfOk result (λ room. 0 < vec_len room) }
 {
-    Ok(vec![in alloc; 0; PIECE]?)
+    vec![in alloc; 0; PIECE]
 }
 
 /// The bytes that a reader gives up to its end, by at most 1,000,000 reads of up to 65,536 bytes each.

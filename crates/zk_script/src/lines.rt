@@ -18,8 +18,7 @@ pub fn push_line<A: Allocator>(
     text.push_str(name)?;
     text.push_str(" ")?;
     text.push_str(word)?;
-    text.push_str("\n")?;
-    Ok(())
+    text.push_str("\n")
 }
 
 /// Adds a line of a name and a value as it is shown.
@@ -33,6 +32,5 @@ pub fn push_shown<A: Allocator, D: Display>(
     ensures { OnOk result (string_bytes text.new ≡ string_bytes text.old ++ line name.now (unwrap_or (D.output value.now) [])) }
 {
     let word = value.to_string(alloc)?;
-    push_line(text, name, word.as_str())?;
-    Ok(())
+    push_line(text, name, word.as_str())
 }

@@ -32,8 +32,7 @@ pub fn lines_of<'a, A: Allocator>(
 ) -> Result<Vec<&'a [u8], A>, AllocError>
     ensures { IfOk result (λ v. map (λ p. p.now) v.items ≡ pieces_at 10 script.entry.now) }
 {
-    let lines = pieces(alloc, script, b'\n')?;
-    Ok(lines)
+    pieces(alloc, script, b'\n')
 }
 
 /// The words of a line, which stand between spaces.

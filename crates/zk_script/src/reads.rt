@@ -1,10 +1,10 @@
 //! What the words of a script stand for.
 
-ghost use Rattle.std.specs.Prelude.{◌≡◌, string_bytes, map, true, false, MatchOption};
+ghost use Rattle.std.specs.Prelude.{◌≡◌, bytes_eq, string_bytes, map, true, false, Some, MatchOption};
 ghost use Rattle.std.specs.Str.{is_utf8};
 ghost use Rattle.std.specs.List.{list_all};
 ghost use Rattle.std.specs.Option.{option_map};
-ghost use Rattle.zk_script.specs.Reads.{Reads, time_at, zxid_at, data_at, text_at, path_at, is_printed};
+ghost use Rattle.zk_script.specs.Reads.{Reads, time_at, zxid_at, data_at, text_at, text_read, path_at, is_printed};
 
 use crate::numbers::natural_of;
 use crate::script_fault::ScriptFault;
@@ -16,6 +16,13 @@ use zk_history::{Path, PathFault};
 
 /// The greatest number of 64 bits with a sign.
 const GREATEST: u64 = 9_223_372_036_854_775_807;
+
+/// Whether a word is this one.
+pub fn is_named(word: &[u8], name: &str) -> bool
+    ensures { result ≡ bytes_eq word.now name.now }
+{
+    word == name.as_bytes()
+}
 
 /// The number from 0 to 2^63 - 1 that a word stands for.
 pub fn time_at(word: &[u8]) -> Result<i64, ScriptFault>
@@ -68,6 +75,19 @@ fn as_text(bytes: &[u8]) -> Option<&str>
     }
 }
 
+/// The text that bytes are.
+fn text_of<A: Allocator + Copy>(alloc: A, bytes: &[u8]) -> Result<String<A>, ScriptFault>
+    ensures { Reads string_bytes result (text_read (Some bytes.now)) }
+{
+    let Some(text) = as_text(bytes) else {
+        return Err(ScriptFault::Words);
+    };
+    match String::from_str(alloc, text) {
+        Ok(text) => Ok(text),
+        Err(_) => Err(ScriptFault::Memory),
+    }
+}
+
 /// The text that a word stands for. Null is none.
 pub fn text_at<A: Allocator + Copy>(alloc: A, word: &[u8]) -> Result<String<A>, ScriptFault>
     ensures { Reads string_bytes result (text_at word.now) }
@@ -75,12 +95,10 @@ pub fn text_at<A: Allocator + Copy>(alloc: A, word: &[u8]) -> Result<String<A>, 
     if word == EMPTY.as_bytes() {
         return Ok(String::new(alloc));
     }
-    let Some(bytes) = unescaped(alloc, word)? else {
-        return Err(ScriptFault::Words);
-    };
-    match as_text(bytes.as_slice()) {
-        Some(text) => Ok(String::from_str(alloc, text)?),
-        None => Err(ScriptFault::Words),
+    match unescaped(alloc, word) {
+        Ok(Some(bytes)) => text_of(alloc, bytes.as_slice()),
+        Ok(None) => Err(ScriptFault::Words),
+        Err(_) => Err(ScriptFault::Memory),
     }
 }
 

@@ -38,17 +38,18 @@ impl fmt::Display for ScriptFault {
     ghost output = { λ f. Some (script_fault_text f) };
 
     fn fmt<W: fmt::Write>(&self, f: &mut fmt::Formatter<W>) -> fmt::Result {
-        match self {
-            ScriptFault::Unknown => write!(f, "unknown"),
-            ScriptFault::Place => write!(f, "place"),
-            ScriptFault::Words => write!(f, "words"),
-            ScriptFault::Number => write!(f, "number"),
-            ScriptFault::Hex => write!(f, "hex"),
-            ScriptFault::Path(fault) => write!(f, "path {fault}"),
-            ScriptFault::Order => write!(f, "order"),
-            ScriptFault::Illegal => write!(f, "illegal"),
-            ScriptFault::Memory => write!(f, "out of memory"),
-        }
+        let words = match self {
+            ScriptFault::Unknown => "unknown",
+            ScriptFault::Place => "place",
+            ScriptFault::Words => "words",
+            ScriptFault::Number => "number",
+            ScriptFault::Hex => "hex",
+            ScriptFault::Path(fault) => return write!(f, "path {fault}"),
+            ScriptFault::Order => "order",
+            ScriptFault::Illegal => "illegal",
+            ScriptFault::Memory => "out of memory",
+        };
+        f.write_str(words)
     }
 }
 

@@ -80,8 +80,7 @@ impl<A: Allocator + Copy> Story<A> {
         ensures { OnOk result (string_bytes text.new ≡ string_bytes text.old ++ data_text (view Data (tree_at (history_of self.now.history) (natural zxid)) (path_of path.now))) }
     {
         let told = self.history.data_at(zxid, path)?;
-        push_data(text, alloc, &told)?;
-        Ok(())
+        push_data(text, alloc, &told)
     }
 
     /// Adds the names below a path at a zxid.
@@ -96,8 +95,7 @@ impl<A: Allocator + Copy> Story<A> {
             × (string_bytes text.new ≡ string_bytes text.old ++ line)) }
     {
         let told = self.history.names_at(zxid, path)?;
-        push_names(text, alloc, &told)?;
-        Ok(())
+        push_names(text, alloc, &told)
     }
 
     /// The line that answers a look-up.
@@ -150,7 +148,9 @@ impl<A: Allocator + Copy> Story<A> {
         if is_remark(first) {
             return Ok(None);
         }
-        let keyword = Keyword::named(first).ok_or(ScriptFault::Unknown)?;
+        let Some(keyword) = Keyword::named(first) else {
+            return Err(ScriptFault::Unknown);
+        };
         if !self.takes(keyword) {
             return Err(ScriptFault::Place);
         }

@@ -8,7 +8,7 @@ ghost use Rattle.zk_script.specs.declared.texts.Place.TheVariants.{Plain};
 use std::alloc::{AllocError, Allocator};
 
 /// Where a reader stands in the word of a text.
-#[derive(Clone, Copy, Debug, PartialEq, Eq)]
+#[derive(Clone, Copy)]
 enum Place {
     /// Before a byte or an escape.
     Plain,

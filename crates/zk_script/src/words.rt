@@ -39,8 +39,7 @@ fn push_ascii<A: Allocator>(word: &mut String<A>, character: char) -> Result<(),
     requires { character < 128 }
     ensures { OnOk result (string_bytes word.new ≡ string_bytes word.old ++ character ∷ []) }
 {
-    word.push(character)?;
-    Ok(())
+    word.push(character)
 }
 
 /// Adds `\x` and the two digits of a byte.
@@ -50,8 +49,7 @@ fn push_escape<A: Allocator>(word: &mut String<A>, byte: u8) -> Result<(), Alloc
     push_ascii(word, '\\')?;
     push_ascii(word, 'x')?;
     push_ascii(word, digit(byte / 16))?;
-    push_ascii(word, digit(byte % 16))?;
-    Ok(())
+    push_ascii(word, digit(byte % 16))
 }
 
 /// Adds what stands for a byte in the word of a text.
@@ -60,11 +58,10 @@ fn push_byte<A: Allocator>(word: &mut String<A>, byte: u8) -> Result<(), AllocEr
     ensures { OnOk result (string_bytes word.new ≡ string_bytes word.old ++ byte_text byte) }
 {
     if is_plain(byte) {
-        push_ascii(word, byte as char)?;
+        push_ascii(word, byte as char)
     } else {
-        push_escape(word, byte)?;
+        push_escape(word, byte)
     }
-    Ok(())
 }
 
 /// Adds what stands for the bytes in the word of a text.
@@ -96,8 +93,8 @@ pub fn bytes_to_word<A: Allocator>(alloc: A, bytes: &[u8]) -> Result<String<A>, 
     ensures { IfOk result (λ word. string_bytes word ≡ bytes_word (Some bytes.now)) }
 {
     match bytes {
-        [] => Ok(String::from_str(alloc, EMPTY)?),
-        bytes => Ok(hex::encode(alloc, bytes)?),
+        [] => String::from_str(alloc, EMPTY),
+        bytes => hex::encode(alloc, bytes),
     }
 }
 

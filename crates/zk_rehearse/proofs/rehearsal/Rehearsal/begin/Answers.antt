@@ -11,5 +11,5 @@ returns g c =
     let old = c.args.self.now in
     let history = c.replace-history in
     let asked : to_z w32 (of_z w32 c.args.timeout) ≡ c.args.timeout = omega (arith, ints) in
-    let made = c.new-2.ensures ∙ (ap (λ timeout. first_scene timeout history.result) asked ∙ ap (first_scene c.args.timeout) history.ensures.value) in
-    begins c.args.timeout (story.standing_of old.story) (option_map scene_of old.stage) (scene_of c.new-2.result) c.requires.first made
+    let made = c.new-stage.ensures ∙ (ap (λ timeout. first_scene timeout history.result) asked ∙ ap (first_scene c.args.timeout) history.ensures.value) in
+    rw c.replace.ensures.after (begins c.args.timeout (story.standing_of old.story) (option_map scene_of old.stage) (scene_of c.new-stage.result) c.requires.first made)

@@ -12,4 +12,4 @@ returns-clause-ok g c =
     let client = c.in_ok-client.client in
     let asked : to_z w32 (of_z w32 old.timeout) ≡ old.timeout = omega (arith, ints) in
     let made = subst (λ timeout. view_of client ≡ view_at (saved_start timeout c.saved.result) []) asked c.in_ok-client.ensures.view in
-    (rejoins (scene_of old) (view_of client) c.disconnect.new.self c.saved.result c.saved.ensures.tells made c.disconnect.ensures, c.new.ensures.bytes)
+    (rw c.replace.ensures.after (rejoins (scene_of old) (view_of client) c.disconnect.new.self c.saved.result c.saved.ensures.tells made c.disconnect.ensures), c.new.ensures.bytes)

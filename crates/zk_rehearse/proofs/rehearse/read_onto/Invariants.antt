@@ -3,7 +3,7 @@ use Rattle.std.specs.Prelude.{string_bytes}
 use Rattle.std.specs.List.{FoldsTo}
 use Rattle.zk_rehearse.specs.Rehearsed.{standing_of}
 use Rattle.zk_rehearse.specs.Scripts.{Goes, beginning, progress}
-use Rattle.zk_rehearse.proofs.rehearse.read_lines.Given as goal
+use Rattle.zk_rehearse.proofs.rehearse.read_onto.Given as goal
 
 -- the lines so far are taken, and the text is what they print
 abbrev pub invariant-loop-index : goal.invariant-loop-index

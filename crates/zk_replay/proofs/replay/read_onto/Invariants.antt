@@ -3,7 +3,7 @@ use Rattle.std.specs.Prelude.{string_bytes}
 use Rattle.std.specs.List.{FoldsTo}
 use Rattle.zk_replay.specs.Played.{standing_of}
 use Rattle.zk_replay.specs.Replays.{Goes, beginning, progress}
-use Rattle.zk_replay.proofs.replay.read_lines.Given as goal
+use Rattle.zk_replay.proofs.replay.read_onto.Given as goal
 
 -- the lines so far are taken, and the text is what they print
 abbrev pub invariant-loop-index : goal.invariant-loop-index
