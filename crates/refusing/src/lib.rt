@@ -9,9 +9,6 @@
 
 ghost use Rattle.std.specs.Prelude.{◌≡◌, ◌-◌, ◌==◌};
 
-#[cfg(test)]
-mod tests;
-
 use std::alloc::{AllocError, Allocator};
 use std::cell::Cell;
 

@@ -9,8 +9,6 @@ mod fault;
 pub mod laws;
 mod put;
 mod reader;
-#[cfg(test)]
-mod tests;
 
 pub use fault::{FrameFault, PutFault};
 pub use put::{LONGEST_OUTGOING, put_frame, seal_frame};

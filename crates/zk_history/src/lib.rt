@@ -17,8 +17,6 @@ mod path_fault;
 mod replay;
 mod side;
 mod stat;
-#[cfg(test)]
-mod tests;
 mod told;
 mod transactions;
 

@@ -22,8 +22,6 @@ mod list;
 mod nothing;
 mod number;
 mod record;
-#[cfg(test)]
-mod tests;
 mod text;
 
 pub use buffer::Buffer;

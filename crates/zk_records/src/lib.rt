@@ -29,14 +29,10 @@ mod lent_watches;
 mod notice;
 mod open_acl;
 mod operation;
-#[cfg(test)]
-mod refusals;
 mod reply;
 mod request;
 mod request_fault;
 mod response;
-#[cfg(test)]
-mod tests;
 mod watches;
 
 pub use answer::{Reply, take_reply};
