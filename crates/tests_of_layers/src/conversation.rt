@@ -75,29 +75,44 @@ static NOTICE_CUTS: [(usize, Want); 6] = [
     (30, Want::Notice("/a")),
 ];
 
-fn is_told<A: Allocator + Copy>(alloc: A, fault: TalkFault, want: Want) -> bool {
-    let Want::Fault(want) = want else {
-        return false;
-    };
+fn is_text<A: Allocator + Copy>(alloc: A, fault: TalkFault, want: &str) -> bool {
     match format!(in alloc; "{fault}") {
         Ok(text) => text.as_str() == want,
         Err(_) => false,
     }
 }
 
-fn is_that<A: Allocator + Copy>(arrival: &Arrival<'_, A>, want: Want) -> bool {
+fn is_told<A: Allocator + Copy>(alloc: A, fault: TalkFault, want: &Want) -> bool {
+    match want {
+        Want::Fault(want) => is_text(alloc, fault, want),
+        _ => false,
+    }
+}
+
+fn is_that<A: Allocator + Copy>(arrival: &Arrival<'_, A>, want: &Want) -> bool {
     match (arrival, want) {
         (Arrival::Connected(_), Want::Connected) => true,
         (Arrival::Reply { ticket, zxid, .. }, Want::Reply(call, at)) => {
-            *ticket == call && *zxid == at
+            *ticket == *call && *zxid == *at
         }
         (Arrival::WatchesSet { zxid, err, .. }, Want::Set(at, code)) => {
-            *zxid == at && *err == code
+            *zxid == *at && *err == *code
         }
-        (Arrival::Notice { path, .. }, Want::Notice(at)) => *path == at,
+        (Arrival::Notice { path, .. }, Want::Notice(at)) => *path == *at,
         (Arrival::Pong, Want::Pong) => true,
         (Arrival::Skipped, Want::Skipped) => true,
         _ => false,
+    }
+}
+
+fn is<A: Allocator + Copy>(
+    alloc: A,
+    came: &Result<Arrival<'_, A>, TalkFault>,
+    want: &Want,
+) -> bool {
+    match came {
+        Ok(arrival) => is_that(arrival, want),
+        Err(fault) => is_told(alloc, *fault, want),
     }
 }
 
@@ -106,15 +121,9 @@ fn arrives<A: Allocator + Copy>(
     alloc: A,
     conversation: &mut Conversation<A>,
     payload: &[u8],
-    want: Want,
+    want: &Want,
 ) -> bool {
-    if conversation.phase() == Phase::Closed {
-        return false;
-    }
-    match conversation.arrived(payload) {
-        Ok(arrival) => is_that(&arrival, want),
-        Err(fault) => is_told(alloc, fault, want),
-    }
+    conversation.phase() != Phase::Closed && is(alloc, &conversation.arrived(payload), want)
 }
 
 const PASSWORD: [u8; 16] = [0; 16];
@@ -133,7 +142,7 @@ fn open<A: Allocator + Copy>(conversation: &mut Conversation<A>) -> Option<Vec<u
 }
 
 fn is_accepted<A: Allocator + Copy>(alloc: A, conversation: &mut Conversation<A>) -> bool {
-    arrives(alloc, conversation, &RESPONSE, Want::Connected)
+    arrives(alloc, conversation, &RESPONSE, &Want::Connected)
 }
 
 // What is to be sent.
@@ -243,7 +252,7 @@ fn count_of(
     alloc: Global,
     conversation: &mut Conversation<Global>,
     reader: &mut FrameReader<Global>,
-    want: Want,
+    want: &Want,
 ) -> usize {
     let mut count = 0usize;
     while let Ok(Some(payload)) = reader.next_frame() {
@@ -258,7 +267,7 @@ fn count_in(
     conversation: &mut Conversation<Global>,
     stream: &[u8],
     size: usize,
-    want: Want,
+    want: &Want,
 ) -> usize {
     let mut reader = FrameReader::new(alloc);
     let mut count = 0usize;
@@ -270,7 +279,7 @@ fn count_in(
     count
 }
 
-fn streamed(alloc: Global, stream: &[u8], size: usize, want: Want) -> usize {
+fn streamed(alloc: Global, stream: &[u8], size: usize, want: &Want) -> usize {
     let mut conversation = Conversation::new(alloc);
     if begins_by(alloc, &mut conversation, Before::Data) {
         count_in(alloc, &mut conversation, stream, size, want)
@@ -280,7 +289,7 @@ fn streamed(alloc: Global, stream: &[u8], size: usize, want: Want) -> usize {
 }
 
 // Whether a payload is that, as a frame whole and one byte at a time.
-fn comes(alloc: Global, payload: &[u8], want: Want) -> bool {
+fn comes(alloc: Global, payload: &[u8], want: &Want) -> bool {
     let mut stream = Vec::new(alloc);
     put_frame(payload, &mut stream).is_ok()
         && streamed(alloc, &stream, stream.len(), want) == 1
@@ -302,7 +311,7 @@ fn wanted(cuts: &[(usize, Want)], length: usize) -> Want {
 fn cut_rows<R: Abort>(rt: &R, alloc: Global, payload: &[u8], cuts: &[(usize, Want)]) {
     for n in 0..=payload.len() {
         let (front, _) = payload.split_at_checked(n).unwrap_or((&[], &[]));
-        assert!(rt; comes(alloc, front, wanted(cuts, n)), "{n}");
+        assert!(rt; comes(alloc, front, &wanted(cuts, n)), "{n}");
     }
 }
 
@@ -325,7 +334,7 @@ fn notices(alloc: Global, count: u32) -> Vec<u8> {
 fn many_notices_come_in_any_pieces(rt: HostRuntime) {
     let stream = notices(rt.alloc(), 1000);
     for size in [stream.len(), 34] {
-        assert!(rt; streamed(rt.alloc(), &stream, size, Want::Notice("/a")) == 1000);
+        assert!(rt; streamed(rt.alloc(), &stream, size, &Want::Notice("/a")) == 1000);
     }
 }
 
@@ -412,7 +421,7 @@ impl Follow<(Before, &'static [u8], Want), Global> for Peer {
     fn follows(&mut self, row: &(Before, &'static [u8], Want)) -> bool {
         let mut conversation = Conversation::new(self.alloc);
         begins_by(self.alloc, &mut conversation, row.0)
-            && arrives(self.alloc, &mut conversation, row.1, row.2)
+            && arrives(self.alloc, &mut conversation, row.1, &row.2)
     }
 }
 

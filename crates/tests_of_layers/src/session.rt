@@ -195,6 +195,22 @@ fn saw<A: Allocator>(session: &mut Session<A>, zxid: i64, last: i64) -> bool {
     session.last_zxid() == last
 }
 
+fn answers<A: Allocator>(session: &mut Session<A>, call: &Call) -> bool {
+    match call {
+        Call::Opened(now) => session.opened(*now),
+        Call::Answered(time_out, password) => return is_answered(session, *time_out, password),
+        Call::Heard(now) => session.heard(*now),
+        Call::Sent(now) => session.sent(*now),
+        Call::Moment(now, due) => return session.moment(*now) == *due,
+        Call::Cut => session.cut(),
+        Call::Closed => session.closed(),
+        Call::Saw(zxid, last) => return saw(session, *zxid, *last),
+        Call::Last(zxid) => return session.last_zxid() == *zxid,
+        _ => return false,
+    }
+    true
+}
+
 // What goes through the rows.
 #[derive(Drop)]
 struct Told<A: Allocator + Copy> {
@@ -229,28 +245,17 @@ impl<A: Allocator + Copy> Told<A> {
     }
 
     // Whether the call answers what it is to.
-    fn answers(&mut self, call: Call) -> bool {
+    fn answers(&mut self, call: &Call) -> bool {
         match call {
-            Call::New => return self.begins(Session::new(self.alloc, 30_000)),
-            Call::Longest => return self.begins(Session::new(self.alloc, i32::MAX)),
-            Call::Resumed => return self.resumes(),
-            Call::Opened(now) => self.session.opened(now),
-            Call::Answered(time_out, password) => {
-                return is_answered(&mut self.session, time_out, password);
-            }
-            Call::Heard(now) => self.session.heard(now),
-            Call::Sent(now) => self.session.sent(now),
-            Call::Moment(now, due) => return self.session.moment(now) == due,
-            Call::Cut => self.session.cut(),
-            Call::Closed => self.session.closed(),
-            Call::Saw(zxid, last) => return saw(&mut self.session, zxid, last),
-            Call::Last(zxid) => return self.session.last_zxid() == zxid,
+            Call::New => self.begins(Session::new(self.alloc, 30_000)),
+            Call::Longest => self.begins(Session::new(self.alloc, i32::MAX)),
+            Call::Resumed => self.resumes(),
             Call::Asks(time_out, id, password, zxid) => {
-                return self.asks(asked(time_out, id, password, zxid));
+                self.asks(asked(*time_out, *id, password, *zxid))
             }
-            Call::Saves(id, password, zxid) => return self.saves(saved(id, password, zxid)),
+            Call::Saves(id, password, zxid) => self.saves(saved(*id, password, *zxid)),
+            _ => answers(&mut self.session, call),
         }
-        true
     }
 }
 
@@ -261,7 +266,7 @@ impl<A: Allocator + Copy> Follow<(Call, State), A> for Told<A> {
     }
 
     fn follows(&mut self, row: &(Call, State)) -> bool {
-        self.answers(row.0) && self.session.state() == row.1
+        self.answers(&row.0) && self.session.state() == row.1
     }
 }
 
