@@ -11,6 +11,3 @@ pub mod laws;
 pub use answers::DataAnswer;
 pub use cache::Cache;
 pub use held::{Kept, Mark};
-
-#[cfg(test)]
-mod tests;

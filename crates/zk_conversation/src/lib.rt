@@ -21,8 +21,6 @@ mod phase;
 mod question;
 mod result;
 mod taking;
-#[cfg(test)]
-mod tests;
 
 pub use arrival::Arrival;
 pub use call::{Call, CreateMode};

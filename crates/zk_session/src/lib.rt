@@ -7,8 +7,6 @@ mod fields;
 mod kept;
 pub mod laws;
 mod states;
-#[cfg(test)]
-mod tests;
 
 pub use fields::{ConnectFields, LONGEST_PASSWORD, Response, Saved};
 pub use kept::Session;

@@ -14,6 +14,3 @@ mod registry;
 pub use in_order::InOrder;
 pub use register_fault::RegisterFault;
 pub use registry::{Fired, Registry};
-
-#[cfg(test)]
-mod tests;
