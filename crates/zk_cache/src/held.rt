@@ -17,7 +17,7 @@ pub enum Mark {
 }
 
 /// An answer with its mark.
-#[derive(Debug, Drop)]
+#[derive(Drop)]
 pub struct Kept<T> {
     pub answer: T,
     pub mark: Mark,

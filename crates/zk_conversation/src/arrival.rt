@@ -7,7 +7,6 @@ use zk_records::{ConnectResponseRef, Event};
 
 /// What a payload is. Texts and bytes are slices of the payload.
 #[derive(Drop)]
-#[derive_where(Debug)]
 pub enum Arrival<'a, A: Allocator> {
     /// The answer to the ConnectRequest. Its timeout says whether the session was accepted.
     Connected(ConnectResponseRef<'a>),

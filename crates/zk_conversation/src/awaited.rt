@@ -5,7 +5,6 @@ use std::alloc::Allocator;
 
 /// A request whose reply is awaited.
 #[derive(Drop)]
-#[derive_where(Debug)]
 pub(crate) struct Awaited<A: Allocator> {
     pub(crate) xid: i32,
     pub(crate) waiting: Waiting<A>,
@@ -13,7 +12,6 @@ pub(crate) struct Awaited<A: Allocator> {
 
 /// What waits for the reply.
 #[derive(Drop)]
-#[derive_where(Debug)]
 pub(crate) enum Waiting<A: Allocator> {
     /// A part of setWatches.
     Part { last: bool },

@@ -33,7 +33,6 @@ impl<'a, A: Allocator + Copy> Record<A> for Connect<'a> {
             bytes: Some(self.password),
         };
         password.write(out)?;
-        false.write(out)?;
-        Ok(())
+        false.write(out)
     }
 }

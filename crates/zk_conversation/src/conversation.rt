@@ -1,14 +1,14 @@
 //! The conversation of a client: which requests are pending, and what a payload that arrives means.
 
-ghost use Rattle.std.specs.Prelude.{◌≡◌, ◌≢◌, ◌<◌, ◌≤◌, ◌^◌, pos, [], length, true, IfOk, OnOk, OnErr, IsErrOf};
+ghost use Rattle.std.specs.Prelude.{◌≡◌, ◌≢◌, ◌<◌, ◌≤◌, ◌^◌, ◌++◌, ◌∷◌, pos, [], length, true, IfOk, OnOk, OnErr, IsErrOf};
 ghost use Rattle.zk_frames.specs.Frame.{frame};
 ghost use Rattle.zk_jute.specs.Cursor.{bytes_left, payload_len};
 ghost use Rattle.zk_history.specs.declared.side.Side.TheVariants.{Data, Child};
 ghost use Rattle.zk_conversation.specs.Arrives.{Answers, RepliesTo, names_next};
 ghost use Rattle.zk_conversation.specs.Calls.{call_payload, connect_payload, ping_payload};
 ghost use Rattle.zk_conversation.specs.Lent.{names_arrive};
-ghost use Rattle.zk_conversation.specs.Pending.{Talk, most_pending, next_xid, tickets, calls_pending, watches_pending, is_close_pending, new_talk, talk_opened, talk_asked, talk_watching, cut_off, taken_ticket, talk_taken};
-ghost use Rattle.zk_conversation.specs.Views.{call_view, payload_of_part};
+ghost use Rattle.zk_conversation.specs.Pending.{Talk, Call_waits, most_pending, next_xid, tickets, calls_pending, watches_pending, is_close_pending, new_talk, talk_opened, talk_asked, talk_watching, cut_off, taken_ticket, talk_taken};
+ghost use Rattle.zk_conversation.specs.Views.{call_view, payload_of_part, question_view};
 
 use crate::arrival::Arrival;
 use crate::arriving::{answered, read_first, read_header, read_notice, read_oldest};
@@ -19,6 +19,7 @@ use crate::counts::{Counts, NONE};
 use crate::fault::{AskFault, TalkFault};
 use crate::frame::{framed, request_frame};
 use crate::phase::Phase;
+use crate::question::Question;
 use crate::taking::take_call;
 use std::alloc::{AllocError, Allocator};
 use std::collections::VecDeque;
@@ -44,7 +45,6 @@ const PART_XID: i32 = -8;
 
 /// A call that is to be sent.
 #[derive(Drop)]
-#[derive_where(Debug)]
 pub struct Asked<A: Allocator> {
     pub xid: i32,
     /// The frame of its request.
@@ -171,21 +171,48 @@ impl<A: Allocator + Copy> Conversation<A> {
         ensures too_many { IsErrOf result AskFault.TooMany → (length (call_payload (pos self.old.xid) (call_view call)) ≤ LONGEST_OUTGOING) × (most_pending ≤ calls_pending self.old.pending) }
         ensures memory { IsErrOf result AskFault.Memory → (length (call_payload (pos self.old.xid) (call_view call)) ≤ LONGEST_OUTGOING) × (calls_pending self.old.pending < most_pending) }
     {
+        let xid = self.xid as i32;
+        match self.request(&call) {
+            Ok(frame) => {
+                self.awaits(ticket, call.into_question())?;
+                Ok(Asked { xid, frame })
+            }
+            Err(fault) => Err(fault),
+        }
+    }
+
+    // The frame of the call's request, where it may be sent.
+    fn request(&self, call: &Call<A>) -> Result<Vec<u8, A>, AskFault>
+        ensures frame { IfOk result (λ out. out.items ≡ frame (call_payload (pos self.now.xid) (call_view call.now))) }
+        ensures fits { OnOk result ((length (call_payload (pos self.now.xid) (call_view call.now)) ≤ LONGEST_OUTGOING) × (calls_pending self.now.pending < most_pending)) }
+        ensures too_large { IsErrOf result AskFault.TooLarge → LONGEST_OUTGOING < length (call_payload (pos self.now.xid) (call_view call.now)) }
+        ensures too_many { IsErrOf result AskFault.TooMany → (length (call_payload (pos self.now.xid) (call_view call.now)) ≤ LONGEST_OUTGOING) × (most_pending ≤ calls_pending self.now.pending) }
+        ensures memory { IsErrOf result AskFault.Memory → (length (call_payload (pos self.now.xid) (call_view call.now)) ≤ LONGEST_OUTGOING) × (calls_pending self.now.pending < most_pending) }
+    {
         if call.payload_length() > LONGEST_OUTGOING {
             return Err(AskFault::TooLarge);
         }
         if self.counts.calls >= MOST_PENDING {
             return Err(AskFault::TooMany);
         }
-        let xid = self.xid as i32;
-        let frame = call.frame(self.alloc, xid)?;
-        let question = call.into_question();
+        Ok(call.frame(self.alloc, self.xid as i32)?)
+    }
+
+    // A call was asked under the next xid, and its reply is awaited.
+    fn awaits(&mut self, ticket: u64, question: Question<A>) -> Result<(), AllocError>
+        requires { calls_pending self.old.pending < most_pending }
+        ensures ok { OnOk result (self.new ≡ record { phase = self.old.phase; pending = self.old.pending ++ record { xid = pos self.old.xid; waiting = Call_waits ticket (question_view question) } ∷ []; xid = next_xid self.old.xid }) }
+        ensures err { OnErr result (self.new ≡ self.old) }
+    {
         let counts = self.counts.with(&question);
         let waiting = Waiting::Call { ticket, question };
-        self.pending.push_back(Awaited { xid, waiting })?;
+        let xid = self.xid as i32;
+        let Ok(()) = self.pending.push_back(Awaited { xid, waiting }) else {
+            return Err(AllocError);
+        };
         self.counts = counts;
         self.xid = next_xid(self.xid);
-        Ok(Asked { xid, frame })
+        Ok(())
     }
 
     /// Sends a part of setWatches, whose reply is awaited like that of a call. `last` says whether it is the last part

@@ -10,7 +10,7 @@ use std::alloc::Allocator;
 use zk_records::Side;
 
 /// Of the pending calls: how many there are, how many are to leave a watch on each side, and how many close the session.
-#[derive(Clone, Copy, Debug, PartialEq, Eq)]
+#[derive(Clone, Copy)]
 pub(crate) struct Counts {
     pub(crate) calls: u32,
     pub(crate) on_data: u32,

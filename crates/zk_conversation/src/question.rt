@@ -11,7 +11,6 @@ use zk_records::Side;
 
 /// The kind of a call, its path, and whether it is to leave a watch. Of a write no data are kept.
 #[derive(Drop)]
-#[derive_where(Debug)]
 pub enum Question<A: Allocator> {
     Exists { path: Path<A>, watch: bool },
     GetData { path: Path<A>, watch: bool },

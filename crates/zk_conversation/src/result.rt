@@ -14,7 +14,6 @@ use zk_records::{Code, CreateRef, GetChildren2Ref, GetDataRef, Stat};
 /// What a reply brings: the code of its error, or the record of its question. Texts and bytes are slices of the
 /// payload.
 #[derive(Drop)]
-#[derive_where(Debug)]
 pub enum ReplyResult<'a, A: Allocator> {
     /// The request was refused, or there is no node.
     Code(Code),
