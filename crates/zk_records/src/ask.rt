@@ -3,6 +3,7 @@
 ghost use Rattle.std.specs.Prelude.{◌≡◌, true};
 ghost use Rattle.zk_records.specs.Layouts.{read_request, set_data_request, delete_request};
 
+use crate::then::Then;
 use std::alloc::Allocator;
 use zk_jute::{Buffer, Cursor, PutError, Readable, Record, TakeError, Text};
 
@@ -66,10 +67,11 @@ impl<'a, A: Allocator + Copy> Readable<'a, A> for SetDataRequest<A> {
     ghost takes_memory = { true };
 
     fn read(alloc: A, at: &mut Cursor<'a>) -> Result<SetDataRequest<A>, TakeError> {
+        let Then(path, Then(bytes, version)) = Then::read(alloc, at)?;
         Ok(SetDataRequest {
-            path: Text::read(alloc, at)?,
-            bytes: Buffer::read(alloc, at)?,
-            version: i32::read(alloc, at)?,
+            path,
+            bytes,
+            version,
         })
     }
 }

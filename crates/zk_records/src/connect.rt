@@ -4,6 +4,7 @@ ghost use Rattle.std.specs.Prelude.{◌≡◌, true};
 ghost use Rattle.zk_records.specs.Layouts.{connect_request};
 ghost use Rattle.zk_records.specs.Views.{request_of};
 
+use crate::then::Then;
 use std::alloc::Allocator;
 use zk_jute::{Buffer, Cursor, PutError, Readable, Record, TakeError};
 
@@ -45,13 +46,17 @@ impl<'a, A: Allocator + Copy> Readable<'a, A> for ConnectRequest<A> {
     ghost takes_memory = { true };
 
     fn read(alloc: A, at: &mut Cursor<'a>) -> Result<ConnectRequest<A>, TakeError> {
+        let Then(protocol_version, Then(last_zxid_seen, Then(time_out, after))) = Then::read(
+            alloc, at,
+        )?;
+        let Then(session_id, Then(passwd, read_only)) = after;
         Ok(ConnectRequest {
-            protocol_version: i32::read(alloc, at)?,
-            last_zxid_seen: i64::read(alloc, at)?,
-            time_out: i32::read(alloc, at)?,
-            session_id: i64::read(alloc, at)?,
-            passwd: Buffer::read(alloc, at)?,
-            read_only: bool::read(alloc, at)?,
+            protocol_version,
+            last_zxid_seen,
+            time_out,
+            session_id,
+            passwd,
+            read_only,
         })
     }
 }

@@ -4,6 +4,7 @@ ghost use Rattle.std.specs.Prelude.{◌≡◌, true};
 ghost use Rattle.zk_records.specs.Layouts.{acl, create_request};
 ghost use Rattle.zk_records.specs.Layouts as layouts;
 
+use crate::then::Then;
 use std::alloc::Allocator;
 use zk_jute::{Buffer, Cursor, List, PutError, Readable, Record, TakeError, Text};
 
@@ -99,11 +100,12 @@ impl<'a, A: Allocator + Copy> Readable<'a, A> for CreateRequest<A> {
     ghost takes_memory = { true };
 
     fn read(alloc: A, at: &mut Cursor<'a>) -> Result<CreateRequest<A>, TakeError> {
+        let Then(path, Then(bytes, Then(acl, flags))) = Then::read(alloc, at)?;
         Ok(CreateRequest {
-            path: Text::read(alloc, at)?,
-            bytes: Buffer::read(alloc, at)?,
-            acl: List::read(alloc, at)?,
-            flags: i32::read(alloc, at)?,
+            path,
+            bytes,
+            acl,
+            flags,
         })
     }
 }

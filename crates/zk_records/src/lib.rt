@@ -33,6 +33,7 @@ mod reply;
 mod request;
 mod request_fault;
 mod response;
+mod then;
 mod watches;
 
 pub use answer::{Reply, take_reply};

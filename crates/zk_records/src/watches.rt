@@ -3,6 +3,7 @@
 ghost use Rattle.std.specs.Prelude.{◌≡◌, true};
 ghost use Rattle.zk_records.specs.Layouts.{set_watches};
 
+use crate::then::Then;
 use std::alloc::Allocator;
 use zk_jute::{Cursor, List, PutError, Readable, Record, TakeError, Text};
 
@@ -39,11 +40,13 @@ impl<'a, A: Allocator + Copy> Readable<'a, A> for SetWatches<A> {
     ghost takes_memory = { true };
 
     fn read(alloc: A, at: &mut Cursor<'a>) -> Result<SetWatches<A>, TakeError> {
+        let Then(relative_zxid, Then(data_watches, Then(exist_watches, child_watches))) =
+            Then::read(alloc, at)?;
         Ok(SetWatches {
-            relative_zxid: i64::read(alloc, at)?,
-            data_watches: List::read(alloc, at)?,
-            exist_watches: List::read(alloc, at)?,
-            child_watches: List::read(alloc, at)?,
+            relative_zxid,
+            data_watches,
+            exist_watches,
+            child_watches,
         })
     }
 }
