@@ -59,6 +59,17 @@ fn next_xid(xid: u32) -> u32
     if xid == 2_147_483_647 { 1 } else { xid + 1 }
 }
 
+// Puts a request behind those that are pending.
+fn push<A: Allocator>(
+    pending: &mut VecDeque<Awaited<A>, A>,
+    awaited: Awaited<A>,
+) -> Result<(), AllocError>
+    ensures ok { OnOk result (pending.new.items ≡ pending.old.items ++ awaited ∷ []) }
+    ensures err { OnErr result (pending.new.items ≡ pending.old.items) }
+{
+    pending.push_back(awaited).map_err(AllocError::from)
+}
+
 /// The requests of one connection after the other, and what their replies mean.
 ///
 /// Requests of a connection are answered in the order of asking, so a reply is that of the oldest one that is pending.
@@ -207,9 +218,7 @@ impl<A: Allocator + Copy> Conversation<A> {
         let counts = self.counts.with(&question);
         let waiting = Waiting::Call { ticket, question };
         let xid = self.xid as i32;
-        let Ok(()) = self.pending.push_back(Awaited { xid, waiting }) else {
-            return Err(AllocError);
-        };
+        push(&mut self.pending, Awaited { xid, waiting })?;
         self.counts = counts;
         self.xid = next_xid(self.xid);
         Ok(())

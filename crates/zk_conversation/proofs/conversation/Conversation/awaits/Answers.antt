@@ -21,7 +21,7 @@ pub invariant_of-self-2 : goal.invariant_of-self-2
 invariant_of-self-2 g c =
     let xs = map pending_view c.self.inside.pending.items in
     let question = question_view c.args.question in
-    let pushed = viewed-push pending_view c.self.inside.pending.items c.push_back.new.self.items _ c.in-Ok.ensures.items in
+    let pushed = viewed-push pending_view c.self.inside.pending.items c.push.new.pending.items _ c.in_ok-push.ensures.ok in
     let xid = next-is c.self.inside.xid c.next_xid-self-inside.result c.self.invariant.below c.next_xid-self-inside.ensures in
     record {
       counted = c.with-counts.ensures ∙ ap (λ (n : Counts). counts_with n question) c.self.invariant.counted ∙ sym (counts-push_call xs _ c.args.ticket question) ∙ sym (ap counts_of pushed);
@@ -32,6 +32,6 @@ invariant_of-self-2 g c =
 
 pub returns-clause-ok : goal.returns-clause-ok
 returns-clause-ok g c =
-    let pushed = viewed-push pending_view c.self.inside.pending.items c.push_back.new.self.items _ c.in-Ok.ensures.items in
+    let pushed = viewed-push pending_view c.self.inside.pending.items c.push.new.pending.items _ c.in_ok-push.ensures.ok in
     let xid : to_z w32 (of_z w32 (pos c.self.inside.xid)) ≡ pos c.self.inside.xid = let below = c.self.invariant.below in omega (arith, ints) in
     rw (← c.self.view_is) (rw (pushed, c.next_xid-self-inside.ensures, xid) refl)
