@@ -15,6 +15,7 @@ use zk_jute::TextRef;
 
 /// What a read of a node answered about the node itself.
 #[derive(Drop)]
+#[derive_where(Debug)]
 pub enum DataAnswer<A: Allocator> {
     /// No node is there.
     Absent,
