@@ -4,14 +4,8 @@
 pub mod address;
 pub mod begun;
 pub mod dial;
-#[cfg(test)]
-mod frames;
 pub mod heard;
 pub mod link;
 pub mod live;
 pub mod live_line;
-#[cfg(test)]
-mod partner;
 pub mod tcp;
-#[cfg(test)]
-mod tests;

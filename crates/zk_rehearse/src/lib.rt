@@ -7,9 +7,5 @@ pub mod good;
 pub mod heard;
 pub mod rehearsal;
 pub mod rehearse;
-#[cfg(test)]
-mod rows;
 pub mod said;
 pub mod stage;
-#[cfg(test)]
-mod tests;

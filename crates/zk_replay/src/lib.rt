@@ -8,8 +8,6 @@
 pub mod begin_line;
 pub mod call_line;
 pub mod client_line;
-#[cfg(test)]
-mod cut_rows;
 pub mod drive_line;
 pub mod driven;
 pub mod names;
@@ -17,13 +15,7 @@ pub mod outputs;
 pub mod peeks;
 pub mod player;
 pub mod reads;
-#[cfg(test)]
-mod refusals;
 pub mod replay;
 pub mod results;
-#[cfg(test)]
-mod rows;
 pub mod stop;
-#[cfg(test)]
-mod tests;
 pub mod words;

@@ -1,19 +1,71 @@
 //! Partners in memory: each answers the client's frames, one by one.
 
-use crate::dial::Dial;
+use std::alloc::Global;
 use std::io::{self, ErrorKind, Read, Write};
+use zk_live::dial::Dial;
 
-/// What the client is to send, and what it is answered then, in order.
-pub type Turns<'a> = &'a [(&'a [u8], &'a [u8])];
+/// What the client is to send, and what it is answered then.
+#[derive(Drop)]
+pub struct Turn {
+    due: Vec<u8>,
+    answer: Vec<u8>,
+}
 
-/// The address that is to be dialled, and the partner that is there, if one is.
-pub type Dialled<'a> = (&'a str, Option<Turns<'a>>);
+/// The address that is to be dialled, whether a partner is there, and its turns.
+#[derive(Drop)]
+pub struct Dialled<'a> {
+    address: &'a str,
+    is_there: bool,
+    turns: Vec<Turn>,
+}
+
+/// Bytes in hex; `-` stands for none.
+fn bytes_of(alloc: Global, word: &str) -> io::Result<Vec<u8>> {
+    if word == "-" {
+        return Ok(Vec::new(alloc));
+    }
+    match hex::decode(alloc, word) {
+        Ok(bytes) => Ok(bytes),
+        Err(_) => Err(ErrorKind::InvalidData.into()),
+    }
+}
+
+/// A turn of what is due and of its answer, in hex.
+fn turn_of(alloc: Global, due: &str, answer: &str) -> io::Result<Turn> {
+    let due = bytes_of(alloc, due)?;
+    let answer = bytes_of(alloc, answer)?;
+    Ok(Turn { due, answer })
+}
+
+/// Adds what a line says: `dial ADDRESS` where a partner is there, `down ADDRESS` where none is, or a turn of the last partner.
+fn add_line<'a>(alloc: Global, line: &'a str, all: &mut Vec<Dialled<'a>>) -> io::Result<()> {
+    let (first, second) = line.split_once(' ').unwrap_or((line, ""));
+    if first == "dial" || first == "down" {
+        all.push(Dialled {
+            address: second,
+            is_there: first == "dial",
+            turns: Vec::new(alloc),
+        })?;
+    } else if let Some(last) = all.last_mut() {
+        last.turns.push(turn_of(alloc, first, second)?)?;
+    }
+    Ok(())
+}
+
+/// What lines say that is found at addresses, in the order in which they are dialled.
+pub fn dialled_of<'a>(alloc: Global, lines: &'a str) -> io::Result<Vec<Dialled<'a>>> {
+    let mut all = Vec::new(alloc);
+    for line in lines.lines() {
+        add_line(alloc, line, &mut all)?;
+    }
+    Ok(all)
+}
 
 /// A partner that has come so far: how many frames came whole, how many bytes of the next, how many bytes of the answer to the
 /// last were read, and how many bytes still pass.
 #[derive(Drop)]
 pub struct Partner<'a> {
-    turns: Turns<'a>,
+    turns: &'a [Turn],
     whole: usize,
     came: usize,
     taken: usize,
@@ -27,7 +79,7 @@ impl<'a> Partner<'a> {
             return &[];
         };
         match self.turns.get(last) {
-            Some((_, answer)) => answer.get(self.taken..).unwrap_or(&[]),
+            Some(turn) => turn.answer.as_slice().get(self.taken..).unwrap_or(&[]),
             None => &[],
         }
     }
@@ -35,7 +87,7 @@ impl<'a> Partner<'a> {
     /// Whether these bytes come next.
     fn is_due(&self, bytes: &[u8]) -> bool {
         match self.turns.get(self.whole) {
-            Some((due, _)) => match due.get(self.came..) {
+            Some(turn) => match turn.due.as_slice().get(self.came..) {
                 Some(rest) => rest.starts_with(bytes),
                 None => false,
             },
@@ -46,7 +98,7 @@ impl<'a> Partner<'a> {
     /// Whether the next frame has come whole.
     fn is_whole(&self) -> bool {
         match self.turns.get(self.whole) {
-            Some((due, _)) => due.len() == self.came,
+            Some(turn) => turn.due.len() == self.came,
             None => false,
         }
     }
@@ -91,27 +143,40 @@ impl<'a> Write for Partner<'a> {
 /// together, and fails then.
 #[derive(Drop)]
 pub struct Partners<'a> {
-    pub dialled: &'a [Dialled<'a>],
-    pub done: usize,
-    pub left: usize,
+    dialled: &'a [Dialled<'a>],
+    done: usize,
+    left: usize,
+}
+
+impl<'a> Partners<'a> {
+    /// None was dialled yet.
+    pub fn new(dialled: &'a [Dialled<'a>], left: usize) -> Partners<'a> {
+        Partners {
+            dialled,
+            done: 0,
+            left,
+        }
+    }
 }
 
 impl<'a> Dial for Partners<'a> {
     type Stream = Partner<'a>;
 
     fn dial(&mut self, address: &str) -> io::Result<Partner<'a>> {
-        let Some((due, Some(turns))) = self.dialled.get(self.done) else {
-            self.done = self.done.saturating_add(1);
+        let Some(due) = self.dialled.get(self.done) else {
             return Err(ErrorKind::ConnectionRefused.into());
         };
         self.done = self.done.saturating_add(1);
-        if *due != address {
+        if !due.is_there {
+            return Err(ErrorKind::ConnectionRefused.into());
+        }
+        if due.address != address {
             return Err(ErrorKind::InvalidInput.into());
         }
         let left = self.left;
         self.left = usize::MAX;
         Ok(Partner {
-            turns: *turns,
+            turns: due.turns.as_slice(),
             whole: 0,
             came: 0,
             taken: 0,

@@ -1,0 +1,76 @@
+//! A command, run: as the program runs it, or with a request for memory, a write or a read that fails.
+
+use crate::case::Case;
+use crate::partner::Partners;
+use crate::streams::FailsOnce;
+use crate::texts::add;
+use refusing::Refusing;
+use std::alloc::{Allocator, Global};
+use std::io::{Read, Write};
+use zk_commands::command::Command;
+use zk_commands::history::history;
+use zk_commands::live::live_over;
+use zk_commands::rehearse::rehearse;
+use zk_commands::replay::replay;
+use zk_commands::run::run;
+use zk_commands::show::show;
+use zk_commands::status::Status;
+use zk_live::dial::Dial;
+
+/// What a command printed, told and answered, in one text.
+fn joined(printed: Vec<u8>, told: Vec<u8>, status: Status) -> Vec<u8> {
+    let mut text = printed;
+    add(&mut text, b"|");
+    add(&mut text, told.as_slice());
+    add(&mut text, b"|");
+    add(&mut text, &[b'0'.saturating_add(status as u8)]);
+    text
+}
+
+/// What the case's command line prints, tells and answers over this input. The first connection passes so many bytes.
+pub fn outcome<I: Read>(alloc: Global, case: &Case, left: usize, input: &mut I) -> Vec<u8> {
+    let mut out = Vec::new(alloc);
+    let mut errors = Vec::new(alloc);
+    let mut dial = Partners::new(case.dialled.as_slice(), left);
+    let words = case.words.as_slice();
+    let status = run(alloc, &mut dial, input, &mut out, &mut errors, words);
+    joined(out, errors, status)
+}
+
+/// Runs a command over any memory.
+fn perform<A: Allocator + Copy, D: Dial, I: Read, O: Write>(
+    alloc: A,
+    command: &Command,
+    dial: &mut D,
+    input: &mut I,
+    out: &mut O,
+    errors: &mut Vec<u8>,
+) -> Status {
+    match command {
+        Command::Show { kind, hex } => show(alloc, out, errors, *kind, hex),
+        Command::History => history(alloc, input, out, errors),
+        Command::Replay => replay(alloc, input, out, errors),
+        Command::Rehearse => rehearse(alloc, input, out, errors),
+        Command::Live { addresses } => {
+            live_over(alloc, dial, addresses.as_slice(), input, out, errors)
+        }
+    }
+}
+
+/// What a command prints, tells and answers over this input, where the request for memory that comes after `passed` others is
+/// refused and the writer fails after `written` bytes; and whether memory was refused.
+pub fn disturbed<I: Read>(
+    alloc: Global,
+    case: &Case,
+    command: &Command,
+    passed: u32,
+    written: usize,
+    input: &mut I,
+) -> (Vec<u8>, bool) {
+    let heap = Refusing::after(passed, alloc);
+    let mut out = FailsOnce::new(Vec::new(alloc), written);
+    let mut errors = Vec::new(alloc);
+    let mut dial = Partners::new(case.dialled.as_slice(), usize::MAX);
+    let status = perform(&heap, command, &mut dial, input, &mut out, &mut errors);
+    (joined(out.into_bytes(), errors, status), heap.has_refused())
+}
