@@ -27,17 +27,16 @@ fn push_body<A: Allocator + Copy>(
     ensures { OnOk result (string_bytes text.new ≡ string_bytes text.old ++ lines_of (body_layout (operation_of request.now)) (body_names (operation_of request.now)) (body_of request.now)) }
 {
     match request {
-        Request::Exists(record) => record.push_lines(text, alloc)?,
-        Request::GetData(record) => record.push_lines(text, alloc)?,
-        Request::GetChildren(record) => record.push_lines(text, alloc)?,
-        Request::GetChildren2(record) => record.push_lines(text, alloc)?,
-        Request::SetData(record) => record.push_lines(text, alloc)?,
-        Request::Create(record) => record.push_lines(text, alloc)?,
-        Request::Delete(record) => record.push_lines(text, alloc)?,
-        Request::SetWatches(record) => record.push_lines(text, alloc)?,
-        Request::Ping | Request::CloseSession => {}
+        Request::Exists(record) => record.push_lines(text, alloc),
+        Request::GetData(record) => record.push_lines(text, alloc),
+        Request::GetChildren(record) => record.push_lines(text, alloc),
+        Request::GetChildren2(record) => record.push_lines(text, alloc),
+        Request::SetData(record) => record.push_lines(text, alloc),
+        Request::Create(record) => record.push_lines(text, alloc),
+        Request::Delete(record) => record.push_lines(text, alloc),
+        Request::SetWatches(record) => record.push_lines(text, alloc),
+        Request::Ping | Request::CloseSession => Ok(()),
     }
-    Ok(())
 }
 
 /// Adds the lines of a request with this xid.
@@ -52,8 +51,7 @@ fn push_request<A: Allocator + Copy>(
     let operation = request.operation().number();
     push_shown(text, alloc, "xid", xid)?;
     push_shown(text, alloc, "type", &operation)?;
-    push_body(text, alloc, request)?;
-    Ok(())
+    push_body(text, alloc, request)
 }
 
 /// The spelling of a request that has one.
@@ -102,8 +100,10 @@ pub fn print_request<A: Allocator + Copy>(
     ensures fault { IfErr result (λ e. e ≢ faults.Unread take_errors.Memory → request_at (length payload.now) payload.now ≡ Err e) }
 {
     let mut at = Cursor::new(payload);
-    let (xid, request) = Request::take(alloc, &mut at)?;
-    match print_asked(alloc, &xid, &request, at.rest().len()) {
+    let asked = Request::take(alloc, &mut at)?;
+    let printed = print_asked(alloc, &asked.0, &asked.1, at.rest().len());
+    drop(asked);
+    match printed {
         Ok(text) => Ok(text),
         Err(_) => Err(RequestFault::Unread(TakeError::Memory)),
     }

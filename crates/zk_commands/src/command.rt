@@ -1,12 +1,13 @@
 //! What a command line asks for.
 
-ghost use Rattle.std.specs.Prelude.{◌≡◌, List, IfOk, IfErr, IfSome, IfNone, find, map, codes, not};
+ghost use Rattle.std.specs.Prelude.{◌≡◌, true, List, IfOk, IfErr, IfSome, IfNone, find, map, codes, not};
 ghost use Rattle.std.specs.Borrow.{Bor};
 ghost use Rattle.std.specs.Global.{Vec};
-ghost use Rattle.clap.specs.Words.{Text, app_of, found_of, first_value, kind_of, new_app, rows_of, subcommand_rows_of};
+ghost use Rattle.clap.specs.Simple.{on_top};
+ghost use Rattle.clap.specs.Words.{Text, app_of, found_of, first_value, kind_of, new_app, rows_of, subcommand_rows_of, with_subcommand};
 ghost use Rattle.zk_live.specs.Addresses.{is_address};
 ghost use Rattle.zk_commands.specs.Kinds.{kind_word};
-ghost use Rattle.zk_commands.specs.CommandLine.{AreAddresses, AreKinds, AsksFor, AsksForNone, IsDue, IsFound, IsNoHelp, Tells, TellsIf, live_app, show_app, shell_app};
+ghost use Rattle.zk_commands.specs.CommandLine.{AreAddresses, AreKinds, AsksFor, AsksForNone, IsDue, IsFound, IsNoHelp, Tells, TellsIf, history_app, live_app, rehearse_app, replay_app, show_app, shell_app};
 ghost use Rattle.zk_commands.specs.declared.command.LineFault.TheVariants as faults;
 
 use crate::help;
@@ -75,28 +76,56 @@ fn show_form<'a>(alloc: Global) -> Result<clap::Command<'a>, AllocError>
         .required(true)
         .value_parser(KINDS.as_slice())
         .help("What kind of payload the frame has");
+    let show = clap::Command::new(alloc, "show")
+        .about("Prints the fields of a frame, and its bytes again")
+        .arg(kind)?;
     let hex = Arg::new(alloc, "HEX")
         .required(true)
         .help("One whole frame with its length, in hex without spaces");
-    let show = clap::Command::new(alloc, "show")
-        .about("Prints the fields of a frame, and its bytes again")
-        .arg(kind)?
-        .arg(hex)?;
-    Ok(show)
+    show.arg(hex)
 }
 
-/// The form of a command of this name that takes a script and no words, and what its help says first and last.
-fn script_form<'a>(
+/// A form with one more command, of this name, that takes a script and no words, and what its help says first and last.
+fn with_script<'a>(
     alloc: Global,
+    form: clap::Command<'a>,
     name: &'a str,
     about: &'a str,
     lines: &'a str,
-) -> clap::Command<'a>
-    ensures { app_of result ≡ new_app name.now }
+) -> Result<clap::Command<'a>, AllocError>
+    ensures { IfOk result (λ r. app_of r ≡ with_subcommand (app_of form.entry) (new_app name.now).top) }
 {
-    clap::Command::new(alloc, name)
+    let script = clap::Command::new(alloc, name)
         .about(about)
-        .after_help(lines)
+        .after_help(lines);
+    form.subcommand(script)
+}
+
+/// A form with the three commands that take a script and no words.
+fn with_scripts<'a>(alloc: Global, form: clap::Command<'a>) -> Result<clap::Command<'a>, AllocError>
+    ensures { IfOk result (λ r. app_of r ≡ with_subcommand (with_subcommand (with_subcommand (app_of form.entry) history_app.top) replay_app.top) rehearse_app.top) }
+{
+    let form = with_script(
+        alloc,
+        form,
+        "history",
+        "Answers data and names of a history at any zxid",
+        help::HISTORY,
+    )?;
+    let form = with_script(
+        alloc,
+        form,
+        "replay",
+        "Drives a client by a script, and prints what it says and keeps",
+        help::REPLAY,
+    )?;
+    with_script(
+        alloc,
+        form,
+        "rehearse",
+        "Drives a client by a script against servers in memory",
+        help::REHEARSE,
+    )
 }
 
 /// The form of `live`.
@@ -107,11 +136,21 @@ fn live_form<'a>(alloc: Global) -> Result<clap::Command<'a>, AllocError>
         .required(true)
         .action(ArgAction::Append)
         .help("A server's address in numbers, as 127.0.0.1:2181. Several are tried in turn");
-    let live = clap::Command::new(alloc, "live")
+    clap::Command::new(alloc, "live")
         .about("Drives a client over TCP by a script, and prints what it says and keeps")
         .after_help(help::LIVE)
-        .arg(address)?;
-    Ok(live)
+        .arg(address)
+}
+
+/// The command line's form with one command, and all that its help says but for the others.
+fn form_with<'a>(alloc: Global, command: clap::Command<'a>) -> Result<clap::Command<'a>, AllocError>
+    ensures { IfOk result (λ r. (app_of command.entry).top.is_plain ≡ true → app_of r ≡ with_subcommand (on_top (λ s. record s { subcommand_required = true }) (new_app (codes "zk_shell"))) (app_of command.entry).top) }
+{
+    clap::Command::new(alloc, "zk_shell")
+        .about("Shows frames of the protocol, answers histories of a tree, and drives a client")
+        .after_help(help::SHELL)
+        .subcommand_required(true)
+        .subcommand(command)
 }
 
 /// The command line's form.
@@ -119,35 +158,10 @@ fn form<'a>(alloc: Global) -> Result<clap::Command<'a>, AllocError>
     ensures { IfOk result (λ r. (names : Bor (List (Bor Text))) × AreKinds names × (app_of r ≡ shell_app names)) }
 {
     let show = show_form(alloc)?;
-    let history = script_form(
-        alloc,
-        "history",
-        "Answers data and names of a history at any zxid",
-        help::HISTORY,
-    );
-    let replay = script_form(
-        alloc,
-        "replay",
-        "Drives a client by a script, and prints what it says and keeps",
-        help::REPLAY,
-    );
-    let rehearse = script_form(
-        alloc,
-        "rehearse",
-        "Drives a client by a script against servers in memory",
-        help::REHEARSE,
-    );
+    let shown = form_with(alloc, show)?;
+    let driven = with_scripts(alloc, shown)?;
     let live = live_form(alloc)?;
-    let shell = clap::Command::new(alloc, "zk_shell")
-        .about("Shows frames of the protocol, answers histories of a tree, and drives a client")
-        .after_help(help::SHELL)
-        .subcommand_required(true)
-        .subcommand(show)?
-        .subcommand(history)?
-        .subcommand(replay)?
-        .subcommand(rehearse)?
-        .subcommand(live)?;
-    Ok(shell)
+    driven.subcommand(live)
 }
 
 /// What a refusal of `clap` says.

@@ -22,13 +22,12 @@ pub fn push_buffer<A: Allocator + Copy>(
     ensures { OnOk result (string_bytes text.new ≡ string_bytes text.old ++ line name.now (bytes_word bytes.now)) }
 {
     match bytes.as_slice() {
-        None => push_line(text, name, NULL)?,
+        None => push_line(text, name, NULL),
         Some(bytes) => {
             let word = bytes_to_word(alloc, bytes)?;
-            push_line(text, name, word.as_str())?;
+            push_line(text, name, word.as_str())
         }
     }
-    Ok(())
 }
 
 /// Adds a line of a name and a text, which may be null.
@@ -41,13 +40,12 @@ pub fn push_text<A: Allocator + Copy>(
     ensures { OnOk result (string_bytes text.new ≡ string_bytes text.old ++ line name.now (text_word value.now)) }
 {
     match value.as_str() {
-        None => push_line(text, name, NULL)?,
+        None => push_line(text, name, NULL),
         Some(value) => {
             let word = text_to_word(alloc, value.as_bytes())?;
-            push_line(text, name, word.as_str())?;
+            push_line(text, name, word.as_str())
         }
     }
-    Ok(())
 }
 
 /// Adds a line of a name and a boolean.
@@ -58,8 +56,7 @@ pub fn push_boolean<A: Allocator>(
 ) -> Result<(), AllocError>
     ensures { OnOk result (string_bytes text.new ≡ string_bytes text.old ++ line name.now (boolean_word flag)) }
 {
-    push_line(text, name, boolean_to_word(flag))?;
-    Ok(())
+    push_line(text, name, boolean_to_word(flag))
 }
 
 /// Adds a line of a name and a boolean that may be missing.
@@ -71,10 +68,9 @@ pub fn push_optional_boolean<A: Allocator>(
     ensures { OnOk result (string_bytes text.new ≡ string_bytes text.old ++ line name.now (optional_boolean_word flag)) }
 {
     match flag {
-        None => push_line(text, name, NONE)?,
-        Some(flag) => push_boolean(text, name, flag)?,
+        None => push_line(text, name, NONE),
+        Some(flag) => push_boolean(text, name, flag),
     }
-    Ok(())
 }
 
 /// A name with a number behind a dot.
@@ -118,11 +114,10 @@ pub fn push_texts<A: Allocator + Copy>(
     ensures { OnOk result (string_bytes text.new ≡ string_bytes text.old ++ lines_of (vector ustring) (one name.now) (⟦<List<Text<A>, A> as zk_jute::Record<A>>⟧.view values.now)) }
 {
     match &values.elements {
-        None => push_line(text, name, NULL)?,
+        None => push_line(text, name, NULL),
         Some(values) => {
             push_shown(text, alloc, name, &values.len())?;
-            push_numbered(text, alloc, name, values.as_slice())?;
+            push_numbered(text, alloc, name, values.as_slice())
         }
     }
-    Ok(())
 }

@@ -42,8 +42,7 @@ pub fn push_end<A: Allocator + Copy>(
     push_shown(text, alloc, "ignored", &ignored)?;
     let frame = framed(alloc, spelled)?;
     let word = hex::encode(alloc, frame.as_slice())?;
-    push_line(text, "frame", word.as_str())?;
-    Ok(())
+    push_line(text, "frame", word.as_str())
 }
 
 /// The spelling of a value that has one.
@@ -108,8 +107,7 @@ fn push_response<A: Allocator + Copy>(
     push_shown(text, alloc, "timeOut", &response.time_out)?;
     push_shown(text, alloc, "sessionId", &response.session_id)?;
     push_buffer(text, alloc, "passwd", &response.passwd)?;
-    push_optional_boolean(text, "readOnly", response.read_only)?;
-    Ok(())
+    push_optional_boolean(text, "readOnly", response.read_only)
 }
 
 /// What is printed of the response that a whole payload spells.

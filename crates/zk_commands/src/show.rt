@@ -41,21 +41,20 @@ fn print_payload<A: Allocator + Copy>(
     ensures prints { IfOk result (λ text. Prints (IsOf kind payload.now) payload.now (string_bytes text)) }
     ensures fault { IfErr result (λ f. (f ≡ ShowFault.Memory) ⊎ IsPayloadFault kind payload.now f) }
 {
-    match kind {
-        Kind::Connect => Ok(print_record::<A, ConnectRequest<A>>(alloc, payload)?),
-        Kind::Accepted => Ok(print_response(alloc, payload)?),
-        Kind::Request => Ok(print_request(alloc, payload)?),
-        Kind::Notice => Ok(print_record::<A, Notice<A>>(alloc, payload)?),
-        Kind::ReplyExists => Ok(print_reply::<A, Stat>(alloc, payload)?),
-        Kind::ReplySetData => Ok(print_reply::<A, Stat>(alloc, payload)?),
-        Kind::ReplyGetData => Ok(print_reply::<A, GetDataResponse<A>>(alloc, payload)?),
-        Kind::ReplyGetChildren => Ok(print_reply::<A, GetChildrenResponse<A>>(alloc, payload)?),
-        Kind::ReplyGetChildren2 => {
-            Ok(print_reply::<A, GetChildren2Response<A>>(alloc, payload)?)
-        }
-        Kind::ReplyCreate => Ok(print_reply::<A, CreateResponse<A>>(alloc, payload)?),
-        Kind::ReplyHeader => Ok(print_record::<A, ReplyHeader>(alloc, payload)?),
-    }
+    let printed = match kind {
+        Kind::Connect => print_record::<A, ConnectRequest<A>>(alloc, payload),
+        Kind::Accepted => print_response(alloc, payload),
+        Kind::Request => return Ok(print_request(alloc, payload)?),
+        Kind::Notice => print_record::<A, Notice<A>>(alloc, payload),
+        Kind::ReplyExists => print_reply::<A, Stat>(alloc, payload),
+        Kind::ReplySetData => print_reply::<A, Stat>(alloc, payload),
+        Kind::ReplyGetData => print_reply::<A, GetDataResponse<A>>(alloc, payload),
+        Kind::ReplyGetChildren => print_reply::<A, GetChildrenResponse<A>>(alloc, payload),
+        Kind::ReplyGetChildren2 => print_reply::<A, GetChildren2Response<A>>(alloc, payload),
+        Kind::ReplyCreate => print_reply::<A, CreateResponse<A>>(alloc, payload),
+        Kind::ReplyHeader => print_record::<A, ReplyHeader>(alloc, payload),
+    };
+    Ok(printed?)
 }
 
 /// What is printed of one whole frame in hex.

@@ -38,8 +38,7 @@ impl<A: Allocator + Copy> Shown<A> for ConnectRequest<A> {
         push_shown(text, alloc, "timeOut", &self.time_out)?;
         push_shown(text, alloc, "sessionId", &self.session_id)?;
         push_buffer(text, alloc, "passwd", &self.passwd)?;
-        push_boolean(text, "readOnly", self.read_only)?;
-        Ok(())
+        push_boolean(text, "readOnly", self.read_only)
     }
 }
 
@@ -49,8 +48,7 @@ impl<A: Allocator + Copy> Shown<A> for ReplyHeader {
     fn push_lines(&self, text: &mut String<A>, alloc: A) -> Result<(), AllocError> {
         push_shown(text, alloc, "xid", &self.xid)?;
         push_shown(text, alloc, "zxid", &self.zxid)?;
-        push_shown(text, alloc, "err", &self.err)?;
-        Ok(())
+        push_shown(text, alloc, "err", &self.err)
     }
 }
 
@@ -66,8 +64,7 @@ fn push_stat_end<A: Allocator + Copy>(
     push_shown(text, alloc, "ephemeralOwner", &stat.ephemeral_owner)?;
     push_shown(text, alloc, "dataLength", &stat.data_length)?;
     push_shown(text, alloc, "numChildren", &stat.num_children)?;
-    push_shown(text, alloc, "pzxid", &stat.pzxid)?;
-    Ok(())
+    push_shown(text, alloc, "pzxid", &stat.pzxid)
 }
 
 impl<A: Allocator + Copy> Shown<A> for Stat {
@@ -80,8 +77,7 @@ impl<A: Allocator + Copy> Shown<A> for Stat {
         push_shown(text, alloc, "mtime", &self.mtime)?;
         push_shown(text, alloc, "version", &self.version)?;
         push_shown(text, alloc, "cversion", &self.cversion)?;
-        push_stat_end(text, alloc, self)?;
-        Ok(())
+        push_stat_end(text, alloc, self)
     }
 }
 
@@ -90,8 +86,7 @@ impl<A: Allocator + Copy> Shown<A> for GetDataResponse<A> {
 
     fn push_lines(&self, text: &mut String<A>, alloc: A) -> Result<(), AllocError> {
         push_buffer(text, alloc, "data", &self.bytes)?;
-        self.stat.push_lines(text, alloc)?;
-        Ok(())
+        self.stat.push_lines(text, alloc)
     }
 }
 
@@ -99,8 +94,7 @@ impl<A: Allocator + Copy> Shown<A> for GetChildrenResponse<A> {
     ghost names = { get_children_names };
 
     fn push_lines(&self, text: &mut String<A>, alloc: A) -> Result<(), AllocError> {
-        push_texts(text, alloc, "children", &self.children)?;
-        Ok(())
+        push_texts(text, alloc, "children", &self.children)
     }
 }
 
@@ -109,8 +103,7 @@ impl<A: Allocator + Copy> Shown<A> for GetChildren2Response<A> {
 
     fn push_lines(&self, text: &mut String<A>, alloc: A) -> Result<(), AllocError> {
         push_texts(text, alloc, "children", &self.children)?;
-        self.stat.push_lines(text, alloc)?;
-        Ok(())
+        self.stat.push_lines(text, alloc)
     }
 }
 
@@ -118,8 +111,7 @@ impl<A: Allocator + Copy> Shown<A> for CreateResponse<A> {
     ghost names = { create_names };
 
     fn push_lines(&self, text: &mut String<A>, alloc: A) -> Result<(), AllocError> {
-        push_text(text, alloc, "path", &self.path)?;
-        Ok(())
+        push_text(text, alloc, "path", &self.path)
     }
 }
 
@@ -129,8 +121,7 @@ impl<A: Allocator + Copy> Shown<A> for WatcherEvent<A> {
     fn push_lines(&self, text: &mut String<A>, alloc: A) -> Result<(), AllocError> {
         push_shown(text, alloc, "type", &self.kind)?;
         push_shown(text, alloc, "state", &self.state)?;
-        push_text(text, alloc, "path", &self.path)?;
-        Ok(())
+        push_text(text, alloc, "path", &self.path)
     }
 }
 
@@ -148,8 +139,7 @@ impl<A: Allocator + Copy> Record<A> for Notice<A> {
 
     fn write(&self, out: &mut Vec<u8, A>) -> Result<(), PutError> {
         self.header.write(out)?;
-        self.event.write(out)?;
-        Ok(())
+        self.event.write(out)
     }
 }
 
@@ -169,8 +159,7 @@ impl<A: Allocator + Copy> Shown<A> for Notice<A> {
 
     fn push_lines(&self, text: &mut String<A>, alloc: A) -> Result<(), AllocError> {
         self.header.push_lines(text, alloc)?;
-        self.event.push_lines(text, alloc)?;
-        Ok(())
+        self.event.push_lines(text, alloc)
     }
 }
 
@@ -179,8 +168,7 @@ impl<A: Allocator + Copy> Shown<A> for ReadRequest<A> {
 
     fn push_lines(&self, text: &mut String<A>, alloc: A) -> Result<(), AllocError> {
         push_text(text, alloc, "path", &self.path)?;
-        push_boolean(text, "watch", self.watch)?;
-        Ok(())
+        push_boolean(text, "watch", self.watch)
     }
 }
 
@@ -190,8 +178,7 @@ impl<A: Allocator + Copy> Shown<A> for SetDataRequest<A> {
     fn push_lines(&self, text: &mut String<A>, alloc: A) -> Result<(), AllocError> {
         push_text(text, alloc, "path", &self.path)?;
         push_buffer(text, alloc, "data", &self.bytes)?;
-        push_shown(text, alloc, "version", &self.version)?;
-        Ok(())
+        push_shown(text, alloc, "version", &self.version)
     }
 }
 
@@ -201,8 +188,7 @@ impl<A: Allocator + Copy> Shown<A> for Acl<A> {
     fn push_lines(&self, text: &mut String<A>, alloc: A) -> Result<(), AllocError> {
         push_shown(text, alloc, "perms", &self.perms)?;
         push_text(text, alloc, "scheme", &self.id.scheme)?;
-        push_text(text, alloc, "id", &self.id.id)?;
-        Ok(())
+        push_text(text, alloc, "id", &self.id.id)
     }
 }
 
@@ -229,13 +215,12 @@ fn push_acl<A: Allocator + Copy>(
     ensures { OnOk result (string_bytes text.new ≡ string_bytes text.old ++ lines_of (vector acl) (each (codes "acl") acl_names) (⟦<List<Acl<A>, A> as Record<A>>⟧.view values.now)) }
 {
     match &values.elements {
-        None => push_line(text, "acl", NULL)?,
+        None => push_line(text, "acl", NULL),
         Some(values) => {
             push_shown(text, alloc, "acl", &values.len())?;
-            push_each(text, alloc, values.as_slice())?;
+            push_each(text, alloc, values.as_slice())
         }
     }
-    Ok(())
 }
 
 impl<A: Allocator + Copy> Shown<A> for CreateRequest<A> {
@@ -245,8 +230,7 @@ impl<A: Allocator + Copy> Shown<A> for CreateRequest<A> {
         push_text(text, alloc, "path", &self.path)?;
         push_buffer(text, alloc, "data", &self.bytes)?;
         push_acl(text, alloc, &self.acl)?;
-        push_shown(text, alloc, "flags", &self.flags)?;
-        Ok(())
+        push_shown(text, alloc, "flags", &self.flags)
     }
 }
 
@@ -255,8 +239,7 @@ impl<A: Allocator + Copy> Shown<A> for DeleteRequest<A> {
 
     fn push_lines(&self, text: &mut String<A>, alloc: A) -> Result<(), AllocError> {
         push_text(text, alloc, "path", &self.path)?;
-        push_shown(text, alloc, "version", &self.version)?;
-        Ok(())
+        push_shown(text, alloc, "version", &self.version)
     }
 }
 
@@ -267,7 +250,6 @@ impl<A: Allocator + Copy> Shown<A> for SetWatches<A> {
         push_shown(text, alloc, "relativeZxid", &self.relative_zxid)?;
         push_texts(text, alloc, "dataWatches", &self.data_watches)?;
         push_texts(text, alloc, "existWatches", &self.exist_watches)?;
-        push_texts(text, alloc, "childWatches", &self.child_watches)?;
-        Ok(())
+        push_texts(text, alloc, "childWatches", &self.child_watches)
     }
 }

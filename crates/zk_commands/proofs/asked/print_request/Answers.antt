@@ -1,6 +1,4 @@
 use Rattle.std.proofs.Common.{refl, sym, ap, ◌∙◌, ◌++◌, List, ℕ}
-use Rattle.std.proofs.lemmas.Int.{to_z-of_z}
-use Rattle.std.specs.Int.{w32}
 use Rattle.zk_jute.specs.Spelling.{spelling}
 use Rattle.zk_records.specs.Operations.{request_layout}
 use Rattle.zk_records.specs.Asked.{asked_of, asked_value}
@@ -9,14 +7,14 @@ use Rattle.zk_commands.proofs.asked.print_request.Goals as goal
 
 pub returns-in-Ok-clause-prints : goal.returns-in-Ok-clause-prints
 returns-in-Ok-clause-prints g c =
-    let asked = asked_of c.in_ok-xid.xid c.in_ok-xid.request in
+    let asked = asked_of c.in_ok-asked.asked.0 c.in_ok-asked.asked.1 in
     let spelled = spelling (request_layout asked.operation) (asked_value asked) in
     let rest = c.rest.result.now in
     record {
       lines = request_lines asked;
       spelled = spelled;
       ignored = rest;
-      value = record { asked = asked; fits = c.in_ok-xid.ensures.found.0; spells = refl; shows = refl };
-      begins = sym c.new-at.ensures.left ∙ c.in_ok-xid.ensures.found.1 ∙ ap (λ (x : List ℕ). spelled ++ x) (sym c.rest.ensures);
-      printed = rw (to_z-of_z w32 c.in_ok-xid.xid c.in_ok-xid.ensures.found.0.0) at (c.in-Ok.ensures rest refl);
+      value = record { asked = asked; fits = c.in_ok-asked.ensures.found.0; spells = refl; shows = refl };
+      begins = sym c.new-at.ensures.left ∙ c.in_ok-asked.ensures.found.1 ∙ ap (λ (x : List ℕ). spelled ++ x) (sym c.rest.ensures);
+      printed = rw c.in-Ok.is at c.print_asked-printed.ensures rest refl;
     }
