@@ -34,17 +34,23 @@ fn copied_call<A: Allocator + Copy>(alloc: A, call: &Call<A>) -> Result<Call<A>,
 {
     match call {
         Call::Exists { path, watch } => {
-            let path = copied_path(alloc, path)?;
+            let Ok(path) = copied_path(alloc, path) else {
+                return Err(AllocError);
+            };
             let watch = *watch;
             Ok(Call::Exists { path, watch })
         }
         Call::GetData { path, watch } => {
-            let path = copied_path(alloc, path)?;
+            let Ok(path) = copied_path(alloc, path) else {
+                return Err(AllocError);
+            };
             let watch = *watch;
             Ok(Call::GetData { path, watch })
         }
         Call::GetChildren { path, watch } => {
-            let path = copied_path(alloc, path)?;
+            let Ok(path) = copied_path(alloc, path) else {
+                return Err(AllocError);
+            };
             let watch = *watch;
             Ok(Call::GetChildren { path, watch })
         }
@@ -53,8 +59,13 @@ fn copied_call<A: Allocator + Copy>(alloc: A, call: &Call<A>) -> Result<Call<A>,
             bytes,
             version,
         } => {
-            let path = copied_path(alloc, path)?;
-            let bytes = copied_data(alloc, bytes)?;
+            let Ok(path) = copied_path(alloc, path) else {
+                return Err(AllocError);
+            };
+            let Ok(bytes) = copied_data(alloc, bytes) else {
+                drop(path);
+                return Err(AllocError);
+            };
             let version = *version;
             Ok(Call::SetData {
                 path,
@@ -63,13 +74,20 @@ fn copied_call<A: Allocator + Copy>(alloc: A, call: &Call<A>) -> Result<Call<A>,
             })
         }
         Call::Create { path, bytes, mode } => {
-            let path = copied_path(alloc, path)?;
-            let bytes = copied_data(alloc, bytes)?;
+            let Ok(path) = copied_path(alloc, path) else {
+                return Err(AllocError);
+            };
+            let Ok(bytes) = copied_data(alloc, bytes) else {
+                drop(path);
+                return Err(AllocError);
+            };
             let mode = *mode;
             Ok(Call::Create { path, bytes, mode })
         }
         Call::Delete { path, version } => {
-            let path = copied_path(alloc, path)?;
+            let Ok(path) = copied_path(alloc, path) else {
+                return Err(AllocError);
+            };
             let version = *version;
             Ok(Call::Delete { path, version })
         }

@@ -46,8 +46,11 @@ impl<A: Allocator + Copy> Outside<A> for Recorded<A> {
     ghost told = { λ recorded. Some (told_of recorded) };
 
     fn next(&mut self) -> Option<Input<A>> {
-        let copies = self.coming.pop()?;
-        self.asked = Some(copies.kept);
+        let Some(copies) = self.coming.pop() else {
+            return None;
+        };
+        let before = self.asked.replace(copies.kept);
+        drop(before);
         Some(copies.handed)
     }
 
