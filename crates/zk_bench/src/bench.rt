@@ -17,12 +17,12 @@ use crate::reads::read;
 use crate::replies::{send_header, send_response, send_result};
 use crate::servers::{next_changes, take_all, zxid_after};
 use crate::stop::{Refusal, Stop};
-use crate::tree::Tree;
-use crate::writes::{Mode, append, creation, deleted_path, mode_of, setting};
+use crate::tree::{Tree, text_of};
+use crate::writes::{Mode, append, creation, deleted_path, mode_of, written_path};
 use std::alloc::{AllocError, Allocator};
 use std::marker::Model;
 use zk_history::{Change, History};
-use zk_jute::TextRef;
+use zk_jute::{Buffer, TextRef};
 use zk_records::{
     Code, ConnectRequest, ConnectResponse, CreateRef, CreateRequest, DeleteRequest, ReplyHeader,
     Request, SetDataRequest,
@@ -413,10 +413,23 @@ impl<A: Allocator + Copy> Bench<A> {
             flags,
         } = request;
         drop(acl);
-        let mode = self.mode_caught_up(flags)?;
-        let (text, change) = creation(&self.newest(), mode, path, bytes)?;
-        self.write(change)?;
-        self.send_created(xid, text.as_str())
+        let mode = match self.mode_caught_up(flags) {
+            Ok(mode) => mode,
+            Err(refusal) => {
+                drop(path);
+                drop(bytes);
+                return Err(refusal);
+            }
+        };
+        let made = creation(&self.newest(), mode, text_of(&path), bytes);
+        drop(path);
+        let (text, change) = made?;
+        let outcome = match self.write(change) {
+            Ok(()) => self.send_created(xid, text.as_str()),
+            Err(refusal) => Err(refusal),
+        };
+        drop(text);
+        outcome
     }
 
     fn send_created(&mut self, xid: i32, text: &str) -> Result<(), Refusal>
@@ -436,10 +449,41 @@ impl<A: Allocator + Copy> Bench<A> {
         ensures history { Continues self.old.history self.new.history }
         ensures rest { self.new ≡ record self.old { history = self.new.history; taken = self.new.taken; connection = self.new.connection } }
     {
-        self.catch_up()?;
-        let (text, change) = setting(&self.newest(), request)?;
-        self.write(change)?;
-        self.send_stat(xid, text.as_str())
+        let SetDataRequest {
+            path,
+            bytes,
+            version,
+        } = request;
+        let outcome = self.set_bytes(xid, text_of(&path), bytes, version);
+        drop(path);
+        outcome
+    }
+
+    #[tactic(auto, using(crate::proofs::Continuing::same_goes_on))]
+    fn set_bytes(
+        &mut self,
+        xid: i32,
+        text: &str,
+        bytes: Buffer<A>,
+        version: i32,
+    ) -> Result<(), Refusal>
+        ensures requests { self.new.connection.requests ≡ self.old.connection.requests }
+        ensures history { Continues self.old.history self.new.history }
+        ensures rest { self.new ≡ record self.old { history = self.new.history; taken = self.new.taken; connection = self.new.connection } }
+    {
+        if let Err(stop) = self.catch_up() {
+            drop(bytes);
+            return Err(Refusal::Stop(stop));
+        }
+        let path = match written_path(&self.newest(), text, version) {
+            Ok(path) => path,
+            Err(refusal) => {
+                drop(bytes);
+                return Err(refusal);
+            }
+        };
+        self.write(Change::Set(path, bytes.into_inner()))?;
+        self.send_stat(xid, text)
     }
 
     fn send_stat(&mut self, xid: i32, text: &str) -> Result<(), Refusal>

@@ -5,12 +5,12 @@ ghost use Rattle.zk_bench.specs.Served.{Continues};
 ghost use Rattle.zk_bench.specs.Refusals.{IsCode};
 
 use crate::sequence::numbered;
-use crate::stop::Refusal;
+use crate::stop::{Refusal, Stop};
 use crate::tree::{Tree, path_of, text_of};
 use std::alloc::Allocator;
 use zk_history::{Change, History, Path, Stat};
-use zk_jute::{Buffer, Text};
-use zk_records::{Code, DeleteRequest, SetDataRequest};
+use zk_jute::Buffer;
+use zk_records::{Code, DeleteRequest};
 
 // The session that owns ephemeral nodes.
 const OWNER: i64 = 1;
@@ -94,10 +94,21 @@ fn created_path<A: Allocator + Copy>(
     text: &str,
 ) -> Result<Path<A>, Refusal> {
     let asked = Path::new(tree.alloc, text)?;
-    let (parent, above) = parent_of(tree, &asked)?;
-    let path = path_in_mode(tree, mode, &asked, parent)?;
+    let (parent, above) = match parent_of(tree, &asked) {
+        Ok(found) => found,
+        Err(refusal) => {
+            drop(asked);
+            return Err(refusal);
+        }
+    };
+    let path = path_in_mode(tree, mode, &asked, parent);
+    drop(asked);
+    let path = path?;
     match refusal_at(tree, &path, above.num_children) {
-        Some(code) => Err(Refusal::Code(code)),
+        Some(code) => {
+            drop(path);
+            Err(Refusal::Code(code))
+        }
         None => Ok(path),
     }
 }
@@ -106,11 +117,21 @@ fn created_path<A: Allocator + Copy>(
 pub(crate) fn creation<A: Allocator + Copy>(
     tree: &Tree<'_, A>,
     mode: Mode,
-    path: Text<A>,
+    text: &str,
     bytes: Buffer<A>,
 ) -> Result<(String<A>, Change<A>), Refusal> {
-    let path = created_path(tree, mode, text_of(&path))?;
-    let text = String::from_str(tree.alloc, path.as_str())?;
+    let path = match created_path(tree, mode, text) {
+        Ok(path) => path,
+        Err(refusal) => {
+            drop(bytes);
+            return Err(refusal);
+        }
+    };
+    let Ok(text) = String::from_str(tree.alloc, path.as_str()) else {
+        drop(path);
+        drop(bytes);
+        return Err(Refusal::Stop(Stop::Memory));
+    };
     let owner = if mode.ephemeral { OWNER } else { 0 };
     let change = Change::Create(path, bytes.into_inner(), owner);
     Ok((text, change))
@@ -146,9 +167,9 @@ fn refused_data(asked: i32, version: i32) -> Option<Code> {
     None
 }
 
-// The path of the node that a setData writes, or the first code that refuses it: -101 where no node is there, -103 for
-// another version, -8 where the version is 2,147,483,647.
-fn written_path<A: Allocator + Copy>(
+/// The path of the node that a setData writes, or the first code that refuses it: -101 where no node is there, -103 for
+/// another version, -8 where the version is 2,147,483,647.
+pub(crate) fn written_path<A: Allocator + Copy>(
     tree: &Tree<'_, A>,
     text: &str,
     version: i32,
@@ -158,17 +179,6 @@ fn written_path<A: Allocator + Copy>(
         Some(code) => Err(Refusal::Code(code)),
         None => Ok(path),
     }
-}
-
-/// What a setData changes, with the text of its path, or the first code that refuses it.
-pub(crate) fn setting<A: Allocator + Copy>(
-    tree: &Tree<'_, A>,
-    request: SetDataRequest<A>,
-) -> Result<(String<A>, Change<A>), Refusal> {
-    let path = written_path(tree, text_of(&request.path), request.version)?;
-    let text = String::from_str(tree.alloc, path.as_str())?;
-    let change = Change::Set(path, request.bytes.into_inner());
-    Ok((text, change))
 }
 
 // The code that refuses that a node with this `Stat` is deleted: -103 where another version is asked for, -111 where it
@@ -213,9 +223,15 @@ pub(crate) fn append<A: Allocator + Copy>(
 {
     let last = history.last_zxid();
     if last == i64::MAX || time > i64::MAX as u64 {
+        drop(change);
         return Err(Refusal::Code(Code::BadArguments));
     }
-    history.begin(last + 1, time as i64)?;
-    history.change(change)?;
-    Ok(())
+    if let Err(fault) = history.begin(last + 1, time as i64) {
+        drop(change);
+        return Err(Refusal::from(fault));
+    }
+    match history.change(change) {
+        Ok(()) => Ok(()),
+        Err(fault) => Err(Refusal::from(fault)),
+    }
 }

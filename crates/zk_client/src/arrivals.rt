@@ -61,16 +61,12 @@ impl<A: Allocator + Copy> Core<A> {
         ensures origin { origin self.new ≡ origin self.old }
     {
         match self.conversation.arrived(payload) {
-            Ok(arrival) => {
-                self.arrive(arrival, outputs)?;
-                Ok(())
-            }
+            Ok(arrival) => self.arrive(arrival, outputs),
             Err(fault) => {
                 if is_memory(fault) {
                     return Err(AllocError);
                 }
-                self.give_up(Fault::Talked(fault), outputs)?;
-                Ok(())
+                self.give_up(Fault::Talked(fault), outputs)
             }
         }
     }
@@ -129,11 +125,9 @@ impl<A: Allocator + Copy> Core<A> {
             password: response.passwd.or_empty(),
         };
         if taken.time_out <= 0 {
-            self.expire(&taken, outputs)?;
-            return Ok(());
+            return self.expire(&taken, outputs);
         }
-        self.welcome(&taken, outputs)?;
-        Ok(())
+        self.welcome(&taken, outputs)
     }
 
     // The session has expired. Nothing is kept any more.
@@ -156,8 +150,7 @@ impl<A: Allocator + Copy> Core<A> {
         self.conversation.cut();
         self.registry.clear();
         self.cache.clear();
-        say(outputs, Output::State(State::Expired))?;
-        Ok(())
+        say(outputs, Output::State(State::Expired))
     }
 
     // The session is accepted. What is watched is set anew before any call.
@@ -203,8 +196,7 @@ impl<A: Allocator + Copy> Core<A> {
         ensures origin { origin self.new ≡ origin self.old }
     {
         if err != 0 {
-            self.give_up(Fault::WatchesRefused { code: err }, outputs)?;
-            return Ok(());
+            return self.give_up(Fault::WatchesRefused { code: err }, outputs);
         }
         if last {
             self.session.saw(zxid);
@@ -237,8 +229,7 @@ impl<A: Allocator + Copy> Core<A> {
             event,
             path,
             outputs,
-        )?;
-        Ok(())
+        )
     }
 }
 
@@ -296,7 +287,7 @@ fn report<A: Allocator + Copy>(
 {
     if fired {
         let path = String::from_str(alloc, path)?;
-        say(outputs, Output::Report { path, side, event })?;
+        return say(outputs, Output::Report { path, side, event });
     }
     Ok(())
 }
@@ -322,8 +313,14 @@ fn send_parts<A: Allocator + Copy>(
     let parts = lists.parts(last)?;
     let count = parts.len();
     for at in 0..count {
-        send_part(&parts[at], at + 1 == count, conversation, outputs)?;
+        let Ok(()) = send_part(&parts[at], at + 1 == count, conversation, outputs) else {
+            drop(parts);
+            drop(lists);
+            return Err(AllocError);
+        };
     }
+    drop(parts);
+    drop(lists);
     Ok(count > 0)
 }
 

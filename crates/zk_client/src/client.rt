@@ -117,6 +117,7 @@ impl<A: Allocator + Copy> Client<A> {
         }
         let mut outputs = Vec::new(self.core.alloc);
         let Ok(()) = turn(&mut self.core, &mut self.reader, input, &mut outputs) else {
+            drop(outputs);
             self.core.halt(state, last);
             return Err(Halt);
         };

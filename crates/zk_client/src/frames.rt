@@ -52,8 +52,7 @@ pub(crate) fn hear<A: Allocator + Copy>(
     let Ok(()) = reader.adopt(piece) else {
         return Err(AllocError);
     };
-    take_frames(core, reader, outputs)?;
-    Ok(())
+    take_frames(core, reader, outputs)
 }
 
 // Takes what is held, a whole frame at a time.
@@ -78,9 +77,8 @@ fn take_frames<A: Allocator + Copy>(
             Ok(Some(payload)) => core.take(payload, outputs)?,
             Ok(None) => return Ok(()),
             Err(fault) => {
-                core.give_up(Fault::Framed(fault), outputs)?;
                 reader.reset();
-                return Ok(());
+                return core.give_up(Fault::Framed(fault), outputs);
             }
         }
     }

@@ -78,8 +78,7 @@ impl<A: Allocator + Copy> Core<A> {
         ensures origin { origin self.new ≡ origin self.old }
     {
         say(outputs, Output::Drop(fault))?;
-        self.lose(outputs)?;
-        Ok(())
+        self.lose(outputs)
     }
 
     /// The connection is given up for the reply to this call, which is answered as the others are.
@@ -99,8 +98,7 @@ impl<A: Allocator + Copy> Core<A> {
         say(outputs, Output::Drop(fault))?;
         let outcome = Outcome::ConnectionLoss;
         say(outputs, Output::Answer { ticket, outcome })?;
-        self.lose(outputs)?;
-        Ok(())
+        self.lose(outputs)
     }
 
     /// The server has closed the session. Nothing is kept any more.

@@ -64,6 +64,5 @@ pub(crate) fn say<A: Allocator>(
 ) -> Result<(), AllocError>
     ensures { OnOk result (said outputs.new.items ≡ said outputs.old.items ++ output_view output ∷ []) }
 {
-    outputs.push(output)?;
-    Ok(())
+    outputs.push(output).map_err(AllocError::from)
 }

@@ -71,8 +71,7 @@ fn keep_node<A: Allocator + Copy>(
 {
     let present = is_there(&answer);
     register(Side::Data, path, present, registry)?;
-    cache.keep_data(path, answer)?;
-    Ok(())
+    cache.keep_data(path, answer)
 }
 
 fn is_there<A: Allocator>(answer: &DataAnswer<A>) -> bool
@@ -116,8 +115,7 @@ fn keep_names<A: Allocator + Copy>(
     ensures children { OnOk result ((text : Text) → names_kept cache.new text ≡ (if bytes_eq path.now text then good (record { names = set_of names.now; pzxid = pzxid }) else names_kept cache.old text)) }
 {
     register(Side::Child, path, true, registry)?;
-    cache.keep_children(path, names, pzxid)?;
-    Ok(())
+    cache.keep_children(path, names, pzxid)
 }
 
 /// Keeps what a reply that leaves a watch says, and watches its path. Another reply changes nothing.
@@ -145,7 +143,9 @@ fn keep<A: Allocator + Copy>(
             keep_node(path, answer, registry, cache)
         }
         (Question::GetData { path, watch: true }, ReplyResult::Data { bytes, stat }) => {
-            let bytes = copied_bytes(alloc, *bytes)?;
+            let Ok(bytes) = copied_bytes(alloc, *bytes) else {
+                return Err(AllocError);
+            };
             let answer = DataAnswer::Full(bytes, DataStat::from(*stat));
             keep_node(path, answer, registry, cache)
         }
@@ -203,11 +203,9 @@ impl<A: Allocator + Copy> Core<A> {
     {
         let seen = self.session.last_zxid();
         if is_behind(question, found, zxid, seen) {
-            self.give_up_reply(ticket, Fault::Behind { seen, came: zxid }, outputs)?;
-            return Ok(());
+            return self.give_up_reply(ticket, Fault::Behind { seen, came: zxid }, outputs);
         }
-        self.take_reply(ticket, question, zxid, found, outputs)?;
-        Ok(())
+        self.take_reply(ticket, question, zxid, found, outputs)
     }
 
     // A reply that is taken: what it says is kept, if it leaves a watch.
@@ -229,8 +227,7 @@ impl<A: Allocator + Copy> Core<A> {
         self.session.saw(zxid);
         answer(self.alloc, ticket, zxid, found, outputs)?;
         if question.closes() {
-            self.close(outputs)?;
-            return Ok(());
+            return self.close(outputs);
         }
         keep(
             self.alloc,
@@ -238,7 +235,6 @@ impl<A: Allocator + Copy> Core<A> {
             found,
             &mut self.registry,
             &mut self.cache,
-        )?;
-        Ok(())
+        )
     }
 }

@@ -24,7 +24,6 @@ impl<A: Allocator + Copy> Core<A> {
     {
         let frame = self.conversation.ping()?;
         self.session.sent(0);
-        say(outputs, Output::Send(frame))?;
-        Ok(())
+        say(outputs, Output::Send(frame))
     }
 }

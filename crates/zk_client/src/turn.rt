@@ -78,14 +78,12 @@ fn opened<A: Allocator + Copy>(
         State::Expired | State::Closed => Ok(()),
         State::Idle => {
             reader.reset();
-            core.begin(outputs)?;
-            Ok(())
+            core.begin(outputs)
         }
         State::Connecting | State::Connected => {
             reader.reset();
             core.lose(outputs)?;
-            core.begin(outputs)?;
-            Ok(())
+            core.begin(outputs)
         }
     }
 }
@@ -110,8 +108,7 @@ fn cut<A: Allocator + Copy>(
         return Ok(());
     }
     reader.reset();
-    core.lose(outputs)?;
-    Ok(())
+    core.lose(outputs)
 }
 
 // The moment is told. Where nothing is due, no memory is taken.
@@ -133,14 +130,10 @@ fn now<A: Allocator + Copy>(
 {
     match core.session.moment(moment) {
         Due::Nothing => Ok(()),
-        Due::Ping => {
-            core.ping(outputs)?;
-            Ok(())
-        }
+        Due::Ping => core.ping(outputs),
         Due::Silent => {
             reader.reset();
-            core.give_up(Fault::Silent, outputs)?;
-            Ok(())
+            core.give_up(Fault::Silent, outputs)
         }
     }
 }

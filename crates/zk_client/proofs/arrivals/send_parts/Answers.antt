@@ -36,13 +36,13 @@ loop-at-preserved g c =
     let one = next-part items ps at (to_z w64 (of_z w64 c.args.last)) c.index.result.now same c.in_ok-parts.ensures.relative (omega (arith, c.in_ok-parts.parts.ok)) c.index.ensures in
     let count : c.len-count.result ≡ length ps = counted items ps c.len-count.result (vec_len c.in_ok-parts.parts) same c.len-count.ensures c.in_ok-parts.parts.ok.0 in
     let sent : List Output = Send (frame (payload_of_part c.index.result.now)) ∷ [] in
-    let asked : c.send_part.new.conversation ≡ talk_watching (eqb (at + 1) (length ps)) c.loop-at.conversation = rw count at c.in_ok-send_part.ensures.asked in
+    let asked : c.send_part.new.conversation ≡ talk_watching (eqb (at + 1) (length ps)) c.loop-at.conversation = rw count at c.in-Ok.ensures.asked in
     record {
       phase = ap (λ (t : Talk). t.phase) asked ∙ c.loop-at.invariant.phase;
       xid = ap (λ (t : Talk). t.xid) asked ∙ c.loop-at.invariant.xid;
       pending = ap (λ (t : Talk). t.pending) asked ∙ ap (λ (l : List Pending). l ++ part_waits (eqb (at + 1) (length ps)) ∷ []) c.loop-at.invariant.pending
           ∙ append_assoc old (take at (map pending_for (parts_asked ps))) (part_waits (eqb (at + 1) (length ps)) ∷ []) ∙ ap (λ (l : List Pending). old ++ l) (sym one.asked);
-      told = c.in_ok-send_part.ensures.says
+      told = c.in-Ok.ensures.says
           ∙ ap (λ (l : List Output). l ++ sent) c.loop-at.invariant.told
           ∙ append_assoc (said c.args.outputs.now.items) (take at (map (part_frame (to_z w64 (of_z w64 c.args.last))) ps)) sent ∙ ap (λ (l : List Output). said c.args.outputs.now.items ++ l) (sym one.sent);
     }

@@ -1,4 +1,5 @@
 use Rattle.std.proofs.Common.{◌<◌, length, List, [], ◌++◌, ap, sym, subst, ◌∙◌, map, arith}
+use Rattle.std.proofs.lemmas.Result.{on_ok_weaker}
 use Rattle.std.proofs.lemmas.List.{append-nil}
 use Rattle.std.proofs.lemmas.Bool.Decides.{nat_tests}
 use Rattle.zk_frames.specs.Held.{Held}
@@ -27,15 +28,15 @@ returns-clause-next g c =
     let core = c.args.core.now in
     let up : IsOpen core.session.state = subst IsOpen c.state.ensures (c.is_open.ensures.yes c.if-not-is_open.false) in
     let some : 0 < length c.args.piece.items = grind (arith, nat_tests) in
-    c.in_ok-take_frames.ensures.next
+    on_ok_weaker c.take_frames.result (λ told. told
     ∙ ap (λ (h : Held). after_signals (view_with [] (record core { session = c.heard.new.self })) (map Comes h.bytes)) c.in-Ok.ensures.ok
-    ∙ whole-view c.args.reader.now.bytes c.args.piece.items core.halted core.session c.heard.new.self core.conversation core.registry core.cache up c.requires.goes_on c.requires.reading.less some c.heard.ensures
+    ∙ whole-view c.args.reader.now.bytes c.args.piece.items core.halted core.session c.heard.new.self core.conversation core.registry core.cache up c.requires.goes_on c.requires.reading.less some c.heard.ensures) c.take_frames.ensures.next
 
 pub returns-clause-says : goal.returns-clause-says
 returns-clause-says g c =
     let core = c.args.core.now in
     let up : IsOpen core.session.state = subst IsOpen c.state.ensures (c.is_open.ensures.yes c.if-not-is_open.false) in
     let some : 0 < length c.args.piece.items = grind (arith, nat_tests) in
-    c.in_ok-take_frames.ensures.says
+    on_ok_weaker c.take_frames.result (λ told. told
     ∙ ap (λ (h : Held). said c.args.outputs.now.items ++ says_signals (view_with [] (record core { session = c.heard.new.self })) (map Comes h.bytes)) c.in-Ok.ensures.ok
-    ∙ ap (λ (l : List Output). said c.args.outputs.now.items ++ l) (whole-says c.args.reader.now.bytes c.args.piece.items core.halted core.session c.heard.new.self core.conversation core.registry core.cache up c.requires.goes_on c.requires.reading.less some c.heard.ensures)
+    ∙ ap (λ (l : List Output). said c.args.outputs.now.items ++ l) (whole-says c.args.reader.now.bytes c.args.piece.items core.halted core.session c.heard.new.self core.conversation core.registry core.cache up c.requires.goes_on c.requires.reading.less some c.heard.ensures)) c.take_frames.ensures.says

@@ -1,4 +1,5 @@
 use Rattle.std.proofs.Common.{refl, List, [], ◌++◌, ap, sym, subst, ◌∙◌, map, append_assoc}
+use Rattle.std.proofs.lemmas.Result.{on_ok_weaker}
 use Rattle.std.proofs.lemmas.List.{append-nil}
 use Rattle.zk_frames.specs.Held.{Held}
 use Rattle.zk_turns.specs.Turns.{Output, Comes}
@@ -56,8 +57,8 @@ returns-in-Err-clause-next g c =
     let bad = stands-there c.loop-reader.reader c.in-Err.fault c.next_frame.follows.lender-at-none c.loop-reader.invariant.clean fails in
     let view = view_with [] c.loop-reader.core in
     let up : IsOpen c.loop-reader.core.session.state = subst IsOpen c.state.ensures (c.loop-reader-test.ensures.yes refl) in
-    ap (λ (h : Held). view_with h.bytes c.give_up.new.self) c.reset.ensures ∙ c.in_ok-give_up-in-Err.ensures.next []
-    ∙ sym (bad-view view up c.loop-reader.invariant.goes_on c.loop-reader.invariant.heard refl c.loop-reader.reader.bytes c.in-Err.fault bad) ∙ c.loop-reader.invariant.next
+    on_ok_weaker c.give_up.result (λ told. ap (λ (h : Held). view_with h.bytes c.give_up.new.self) c.reset.ensures ∙ told []
+    ∙ sym (bad-view view up c.loop-reader.invariant.goes_on c.loop-reader.invariant.heard refl c.loop-reader.reader.bytes c.in-Err.fault bad) ∙ c.loop-reader.invariant.next) c.give_up.ensures.next
 
 pub returns-in-Err-clause-says : goal.returns-in-Err-clause-says
 returns-in-Err-clause-says g c =
@@ -65,8 +66,8 @@ returns-in-Err-clause-says g c =
     let bad = stands-there c.loop-reader.reader c.in-Err.fault c.next_frame.follows.lender-at-none c.loop-reader.invariant.clean fails in
     let view = view_with [] c.loop-reader.core in
     let up : IsOpen c.loop-reader.core.session.state = subst IsOpen c.state.ensures (c.loop-reader-test.ensures.yes refl) in
-    c.in_ok-give_up-in-Err.ensures.says []
-    ∙ ap (λ (l : List Output). said c.loop-reader.outputs.items ++ l) (sym (bad-says view up c.loop-reader.invariant.goes_on c.loop-reader.invariant.heard refl c.loop-reader.reader.bytes c.in-Err.fault bad)) ∙ c.loop-reader.invariant.says
+    on_ok_weaker c.give_up.result (λ told. told []
+    ∙ ap (λ (l : List Output). said c.loop-reader.outputs.items ++ l) (sym (bad-says view up c.loop-reader.invariant.goes_on c.loop-reader.invariant.heard refl c.loop-reader.reader.bytes c.in-Err.fault bad)) ∙ c.loop-reader.invariant.says) c.give_up.ensures.says
 
 pub returns-clause-next : goal.returns-clause-next
 returns-clause-next g c =

@@ -1,4 +1,5 @@
 use Rattle.std.proofs.Common.{[], ◌∷◌, ap, subst, ◌∙◌}
+use Rattle.std.proofs.lemmas.Result.{on_ok_weaker}
 use Rattle.zk_frames.specs.Held.{Held}
 use Rattle.zk_turns.specs.Kept.{Lost}
 use Rattle.zk_turns.specs.Taken.{if_open}
@@ -13,13 +14,13 @@ returns-clause-next g c =
     let core = c.args.core.now in
     let view = view_with c.args.reader.now.bytes core in
     let up : IsOpen core.session.state = subst IsOpen c.state.ensures (c.is_open.ensures.yes c.if-not-is_open.false) in
-    turns-view view _ core.halted (if_open core.session.state (Lost ∷ [])) (Lost ∷ []) c.requires.goes_on (open-causes core.session.state (Lost ∷ []) up)
-    (ap (λ (h : Held). view_with h.bytes c.lose.new.self) c.reset.ensures ∙ c.in_ok-lose.ensures.next c.args.reader.now.bytes)
+    on_ok_weaker c.lose.result (λ next. turns-view view _ core.halted (if_open core.session.state (Lost ∷ [])) (Lost ∷ []) c.requires.goes_on (open-causes core.session.state (Lost ∷ []) up)
+    (ap (λ (h : Held). view_with h.bytes c.lose.new.self) c.reset.ensures ∙ next c.args.reader.now.bytes)) c.lose.ensures.next
 
 pub returns-clause-says : goal.returns-clause-says
 returns-clause-says g c =
     let core = c.args.core.now in
     let view = view_with c.args.reader.now.bytes core in
     let up : IsOpen core.session.state = subst IsOpen c.state.ensures (c.is_open.ensures.yes c.if-not-is_open.false) in
-    turns-says view (said c.args.outputs.now.items) _ core.halted (if_open core.session.state (Lost ∷ [])) (Lost ∷ []) c.requires.goes_on (open-causes core.session.state (Lost ∷ []) up)
-    (one-says view (said c.args.outputs.now.items) _ Lost (c.in_ok-lose.ensures.says c.args.reader.now.bytes))
+    on_ok_weaker c.lose.result (λ says. turns-says view (said c.args.outputs.now.items) _ core.halted (if_open core.session.state (Lost ∷ [])) (Lost ∷ []) c.requires.goes_on (open-causes core.session.state (Lost ∷ []) up)
+    (one-says view (said c.args.outputs.now.items) _ Lost (says c.args.reader.now.bytes))) c.lose.ensures.says

@@ -1,4 +1,5 @@
 use Rattle.std.proofs.Common.{ap, ◌∙◌, List, [], ◌∷◌, ◌++◌, append_assoc}
+use Rattle.std.proofs.lemmas.Result.{on_ok_weaker}
 use Rattle.zk_turns.specs.Turns.{Output, Drop, Answer, ConnectionLoss}
 use Rattle.zk_turns.specs.Rule.{losses}
 use Rattle.zk_client.specs.Views.{said, fault_view}
@@ -6,13 +7,13 @@ use Rattle.zk_client.specs.Seen.{view_with}
 use Rattle.zk_client.proofs.machine.Core.give_up_reply.Goals as goal
 
 pub returns-clause-next : goal.returns-clause-next
-returns-clause-next g c = λ held pending. c.in_ok-lose.ensures.next held
+returns-clause-next g c = on_ok_weaker c.lose.result (λ next. λ held pending. next held) c.lose.ensures.next
 
 pub returns-clause-says : goal.returns-clause-says
-returns-clause-says g c = λ held xid question.
+returns-clause-says g c = on_ok_weaker c.lose.result (λ says. λ held xid question.
     let lost = losses (view_with held c.args.self.now) in
     let before = said c.args.outputs.now.items in
     let dropped : List Output = Drop (fault_view c.args.fault) ∷ [] in
     let answered : List Output = Answer c.args.ticket ConnectionLoss ∷ [] in
-    c.in_ok-lose.ensures.says held ∙ ap (λ (l : List Output). l ++ lost) (c.in_ok-say-2.ensures ∙ ap (λ (l : List Output). l ++ answered) c.in_ok-say.ensures)
-    ∙ append_assoc (before ++ dropped) answered lost ∙ append_assoc before dropped (answered ++ lost)
+    says held ∙ ap (λ (l : List Output). l ++ lost) (c.in_ok-say-2.ensures ∙ ap (λ (l : List Output). l ++ answered) c.in_ok-say.ensures)
+    ∙ append_assoc (before ++ dropped) answered lost ∙ append_assoc before dropped (answered ++ lost)) c.lose.ensures.says

@@ -1,4 +1,5 @@
 use Rattle.std.proofs.Common.{◌≡◌, sym, ◌∙◌, true, ◌&&◌, w64, arith}
+use Rattle.std.proofs.lemmas.Result.{on_ok_weaker}
 use mir.Val.{to_z, of_z}
 use Rattle.std.proofs.lemmas.Int.{ints}
 use Rattle.std.specs.Prelude.{int_lt}
@@ -7,17 +8,17 @@ use Rattle.zk_turns.specs.Taken.{leaves_watch}
 use Rattle.zk_client.proofs.machine.Core.reply.Goals as goal
 
 pub returns-then-is_behind-clause-next : goal.returns-then-is_behind-clause-next
-returns-then-is_behind-clause-next g c = λ held pending left.
+returns-then-is_behind-clause-next g c =
     let zxid : to_z w64 (of_z w64 c.args.zxid) ≡ c.args.zxid = omega (arith, ints) in
     let seen : to_z w64 (of_z w64 c.last_zxid-seen.result) ≡ c.last_zxid-seen.result = omega (arith, ints) in
     let is : (leaves_watch (question_view c.args.question.now) (result_view c.args.found.now) && int_lt c.args.zxid c.args.self.now.session.saved.last) ≡ true =
     sym (rw (zxid, seen, c.last_zxid-seen.ensures.last) at c.is_behind.ensures) ∙ c.if-is_behind.true in
-    rw is (c.in_ok-give_up_reply.ensures.next held pending)
+    on_ok_weaker c.give_up_reply.result (λ next. λ held pending left. rw is (next held pending)) c.give_up_reply.ensures.next
 
 pub returns-then-is_behind-clause-says : goal.returns-then-is_behind-clause-says
-returns-then-is_behind-clause-says g c = λ held pending left.
+returns-then-is_behind-clause-says g c =
     let zxid : to_z w64 (of_z w64 c.args.zxid) ≡ c.args.zxid = omega (arith, ints) in
     let seen : to_z w64 (of_z w64 c.last_zxid-seen.result) ≡ c.last_zxid-seen.result = omega (arith, ints) in
     let is : (leaves_watch (question_view c.args.question.now) (result_view c.args.found.now) && int_lt c.args.zxid c.args.self.now.session.saved.last) ≡ true =
     sym (rw (zxid, seen, c.last_zxid-seen.ensures.last) at c.is_behind.ensures) ∙ c.if-is_behind.true in
-    rw (is, left.1) (rw (zxid, seen, c.last_zxid-seen.ensures.last) at (c.in_ok-give_up_reply.ensures.says held left.0 (question_view c.args.question.now)))
+    on_ok_weaker c.give_up_reply.result (λ says. λ held pending left. rw (is, left.1) (rw (zxid, seen, c.last_zxid-seen.ensures.last) at (says held left.0 (question_view c.args.question.now)))) c.give_up_reply.ensures.says

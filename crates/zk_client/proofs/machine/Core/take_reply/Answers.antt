@@ -1,4 +1,5 @@
-use Rattle.std.proofs.Common.{◌≡◌, sym, ◌∙◌, subst, w64, arith}
+use Rattle.std.proofs.Common.{◌≡◌, sym, ◌∙◌, subst, w64, arith, Result, OnOk, Ok, Err}
+use Rattle.std.proofs.lemmas.Result.{on_ok_weaker}
 use mir.Val.{to_z, of_z}
 use Rattle.std.proofs.lemmas.Int.{ints}
 use Rattle.zk_conversation.specs.Views.{question_view, result_view}
@@ -8,30 +9,41 @@ use Rattle.zk_client.proofs.Answered.{answered-view, closed-view}
 use Rattle.zk_client.proofs.Rooms.{room-for, reply-room, tied-talking}
 use Rattle.zk_client.proofs.machine.Core.take_reply.Goals as goal
 
+-- what three facts of a success give, and what five do
+of-three : {T E A B C Q : Type 0} → (r : Result T E) → (A → B → C → Q) → OnOk r A → OnOk r B → OnOk r C → OnOk r Q
+of-three (Ok x) f a b c = f a b c
+of-three (Err e) f a b c = tt
+
+of-five : {T E A B C D F Q : Type 0} → (r : Result T E) → (A → B → C → D → F → Q) → OnOk r A → OnOk r B → OnOk r C → OnOk r D → OnOk r F → OnOk r Q
+of-five (Ok x) g a b c d f = g a b c d f
+of-five (Err e) g a b c d f = tt
+
 pub keep-requires : goal.keep-requires
 keep-requires g c = record {
   room = room-for c.requires.left.0 c.args.ticket (question_view c.args.question.now) c.args.self.now.registry c.args.self.now.conversation.pending (subst (HasRoom c.args.self.now.registry) c.requires.left.1 c.requires.room);
 }
 
 pub returns-then-closes-clause-next : goal.returns-then-closes-clause-next
-returns-then-closes-clause-next g c = λ held pending left.
+returns-then-closes-clause-next g c =
     let core = c.args.self.now in
     let zxid : to_z w64 (of_z w64 c.args.zxid) ≡ c.args.zxid = omega (arith, ints) in
-    closed-view held core.halted core.session core.conversation core.registry core.cache pending c.args.ticket (question_view c.args.question.now) c.args.zxid (result_view c.args.found.now)
+    let close = c.close.ensures in
+    of-five c.close.result (λ session none xid lists answers. λ held pending left. closed-view held core.halted core.session core.conversation core.registry core.cache pending c.args.ticket (question_view c.args.question.now) c.args.zxid (result_view c.args.found.now)
     c.close.new.self.halted c.saw.new.self c.close.new.self.session c.close.new.self.conversation c.close.new.self.registry c.close.new.self.cache
-    c.close.ensures.halted (sym c.closes.ensures ∙ c.if-closes.true) c.requires.comes (rw zxid at c.saw.ensures) c.in_ok-close.ensures.session c.in_ok-close.ensures.pending c.in_ok-close.ensures.xid c.in_ok-close.ensures.lists c.in_ok-close.ensures.answers
+    c.close.ensures.halted (sym c.closes.ensures ∙ c.if-closes.true) c.requires.comes (rw zxid at c.saw.ensures) session none xid lists answers) close.session close.pending close.xid close.lists close.answers
 
 pub returns-clause-sound : goal.returns-clause-sound
 returns-clause-sound g c =
     let core = c.args.self.now in
-    record {
+    on_ok_weaker c.keep.result (λ lists. record {
       tied = rw c.saw.ensures (tied-talking (session.next (session.Sees _) core.session) core.conversation c.requires.phase c.requires.comes c.requires.short);
-      room = rw c.in_ok-keep.ensures.lists (reply-room c.requires.left.0 c.args.ticket (question_view c.args.question.now) (result_view c.args.found.now) core.registry core.conversation.pending (subst (HasRoom core.registry) c.requires.left.1 c.requires.room));
-    }
+      room = rw lists (reply-room c.requires.left.0 c.args.ticket (question_view c.args.question.now) (result_view c.args.found.now) core.registry core.conversation.pending (subst (HasRoom core.registry) c.requires.left.1 c.requires.room));
+    }) c.keep.ensures.lists
 
 pub returns-clause-next : goal.returns-clause-next
-returns-clause-next g c = λ held pending left.
+returns-clause-next g c =
     let core = c.args.self.now in
     let zxid : to_z w64 (of_z w64 c.args.zxid) ≡ c.args.zxid = omega (arith, ints) in
-    answered-view held core.halted core.session core.conversation core.registry core.cache pending left.0 c.args.ticket (question_view c.args.question.now) c.args.zxid (result_view c.args.found.now)
-    c.saw.new.self c.keep.new.registry c.keep.new.cache (sym c.closes.ensures ∙ c.if-closes.false) left.1 (rw zxid at c.saw.ensures) c.in_ok-keep.ensures.lists c.in_ok-keep.ensures.nodes c.in_ok-keep.ensures.children
+    let keep = c.keep.ensures in
+    of-three c.keep.result (λ lists nodes children. λ held pending left. answered-view held core.halted core.session core.conversation core.registry core.cache pending left.0 c.args.ticket (question_view c.args.question.now) c.args.zxid (result_view c.args.found.now)
+    c.saw.new.self c.keep.new.registry c.keep.new.cache (sym c.closes.ensures ∙ c.if-closes.false) left.1 (rw zxid at c.saw.ensures) lists nodes children) keep.lists keep.nodes keep.children
