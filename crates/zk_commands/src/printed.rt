@@ -153,10 +153,10 @@ fn push_reply<A: Allocator + Copy, R: Shown<A>>(
     ensures { OnOk result (string_bytes text.new ≡ string_bytes text.old ++ reply_lines R.layout R.names (reply_of R.view reply.now)) }
 {
     reply.header.push_lines(text, alloc)?;
-    if let Some(found) = &reply.result {
-        found.push_lines(text, alloc)?;
+    match &reply.result {
+        None => Ok(()),
+        Some(found) => found.push_lines(text, alloc),
     }
-    Ok(())
 }
 
 /// What is printed of the reply whose spelling begins a payload.
