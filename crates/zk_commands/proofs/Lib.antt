@@ -1,3 +1,4 @@
 pub mod ScriptLemmas
 pub mod AddressLemmas
 pub mod FormLemmas
+pub mod FieldLemmas

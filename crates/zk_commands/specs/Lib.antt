@@ -1,5 +1,6 @@
 pub mod Print
 pub mod Names
+pub mod Fields
 pub mod Frame
 pub mod Kinds
 pub mod CommandLine

@@ -6,11 +6,22 @@ ghost use Rattle.zk_jute.specs.Layout.{vector, ustring};
 ghost use Rattle.zk_script.specs.Words.{bytes_word, text_word, boolean_word, optional_boolean_word};
 ghost use Rattle.zk_script.specs.Lines.{line};
 ghost use Rattle.zk_commands.specs.Print.{lines_of, numbered_lines, one};
+ghost use Rattle.zk_commands.specs.Fields.{field_word, fields_lines};
 
 use std::alloc::{AllocError, Allocator};
 use zk_jute::{Buffer, List, Text};
 use zk_script::lines::{push_line, push_shown};
 use zk_script::words::{NONE, NULL, boolean_to_word, bytes_to_word, text_to_word};
+
+/// A field that is printed in one line.
+#[derive(Drop)]
+pub enum Field<'a, A: Allocator> {
+    Int(&'a i32),
+    Long(&'a i64),
+    Boolean(bool),
+    Buffer(&'a Buffer<A>),
+    Text(&'a Text<A>),
+}
 
 /// Adds a line of a name and bytes, which may be null.
 pub fn push_buffer<A: Allocator + Copy>(
@@ -57,6 +68,38 @@ pub fn push_boolean<A: Allocator>(
     ensures { OnOk result (string_bytes text.new ≡ string_bytes text.old ++ line name.now (boolean_word flag)) }
 {
     push_line(text, name, boolean_to_word(flag))
+}
+
+/// Adds a line of a name and a field.
+fn push_field<A: Allocator + Copy>(
+    text: &mut String<A>,
+    alloc: A,
+    name: &str,
+    field: &Field<'_, A>,
+) -> Result<(), AllocError>
+    ensures { OnOk result (string_bytes text.new ≡ string_bytes text.old ++ line name.now (field_word field.now)) }
+{
+    match field {
+        Field::Int(number) => push_shown(text, alloc, name, number),
+        Field::Long(number) => push_shown(text, alloc, name, number),
+        Field::Boolean(flag) => push_boolean(text, name, *flag),
+        Field::Buffer(bytes) => push_buffer(text, alloc, name, bytes),
+        Field::Text(value) => push_text(text, alloc, name, value),
+    }
+}
+
+/// Adds a line for each of a record's fields.
+pub fn push_fields<A: Allocator + Copy>(
+    text: &mut String<A>,
+    alloc: A,
+    fields: &[(&str, Field<'_, A>)],
+) -> Result<(), AllocError>
+    ensures { OnOk result (string_bytes text.new ≡ string_bytes text.old ++ fields_lines fields.now) }
+{
+    for (name, field) in fields {
+        push_field(text, alloc, name, field)?;
+    }
+    Ok(())
 }
 
 /// Adds a line of a name and a boolean that may be missing.

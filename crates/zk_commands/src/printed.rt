@@ -9,7 +9,7 @@ ghost use Rattle.zk_records.specs.Views.{response_of};
 ghost use Rattle.zk_commands.specs.Print.{frame_of, print_of};
 ghost use Rattle.zk_commands.specs.Show.{Prints, IsRecord, IsResponse, IsReply, response_lines, reply_lines};
 
-use crate::fields::{push_buffer, push_optional_boolean};
+use crate::fields::{Field, push_fields, push_optional_boolean};
 use crate::shown::Shown;
 use std::alloc::{AllocError, Allocator};
 use zk_jute::{Cursor, PutError, Readable, Record, TakeError, take};
@@ -103,10 +103,13 @@ fn push_response<A: Allocator + Copy>(
 ) -> Result<(), AllocError>
     ensures { OnOk result (string_bytes text.new ≡ string_bytes text.old ++ response_lines (response_of response.now)) }
 {
-    push_shown(text, alloc, "protocolVersion", &response.protocol_version)?;
-    push_shown(text, alloc, "timeOut", &response.time_out)?;
-    push_shown(text, alloc, "sessionId", &response.session_id)?;
-    push_buffer(text, alloc, "passwd", &response.passwd)?;
+    let fields = [
+        ("protocolVersion", Field::Int(&response.protocol_version)),
+        ("timeOut", Field::Int(&response.time_out)),
+        ("sessionId", Field::Long(&response.session_id)),
+        ("passwd", Field::Buffer(&response.passwd)),
+    ];
+    push_fields(text, alloc, &fields)?;
     push_optional_boolean(text, "readOnly", response.read_only)
 }
 
@@ -150,10 +153,10 @@ fn push_reply<A: Allocator + Copy, R: Shown<A>>(
     ensures { OnOk result (string_bytes text.new ≡ string_bytes text.old ++ reply_lines R.layout R.names (reply_of R.view reply.now)) }
 {
     reply.header.push_lines(text, alloc)?;
-    if let Some(found) = &reply.result {
-        found.push_lines(text, alloc)?;
+    match &reply.result {
+        None => Ok(()),
+        Some(found) => found.push_lines(text, alloc),
     }
-    Ok(())
 }
 
 /// What is printed of the reply whose spelling begins a payload.

@@ -6,9 +6,9 @@ ghost use Rattle.zk_jute.specs.Layout.{vector, ◌⨾◌};
 ghost use Rattle.zk_records.specs.Layouts.{acl, reply_header, watcher_event};
 ghost use Rattle.zk_records.specs.declared.operation.Operation.TheVariants.{SetData, Create, Delete, SetWatches as SetsWatches};
 ghost use Rattle.zk_commands.specs.Print.{Names, lines_of, each};
-ghost use Rattle.zk_commands.specs.Names.{connect_names, reply_header_names, stat_names, get_data_names, get_children_names, get_children2_names, create_names, event_names, notice_names, stat_end_lines, read_request_names, acl_names, body_names};
+ghost use Rattle.zk_commands.specs.Names.{connect_names, reply_header_names, stat_names, get_data_names, get_children_names, get_children2_names, create_names, event_names, notice_names, read_request_names, acl_names, body_names};
 
-use crate::fields::{push_boolean, push_buffer, push_text, push_texts};
+use crate::fields::{Field, push_boolean, push_buffer, push_fields, push_text, push_texts};
 use std::alloc::{AllocError, Allocator};
 use zk_jute::{Cursor, List, PutError, Readable, Record, TakeError};
 use zk_records::{
@@ -33,12 +33,15 @@ impl<A: Allocator + Copy> Shown<A> for ConnectRequest<A> {
     ghost names = { connect_names };
 
     fn push_lines(&self, text: &mut String<A>, alloc: A) -> Result<(), AllocError> {
-        push_shown(text, alloc, "protocolVersion", &self.protocol_version)?;
-        push_shown(text, alloc, "lastZxidSeen", &self.last_zxid_seen)?;
-        push_shown(text, alloc, "timeOut", &self.time_out)?;
-        push_shown(text, alloc, "sessionId", &self.session_id)?;
-        push_buffer(text, alloc, "passwd", &self.passwd)?;
-        push_boolean(text, "readOnly", self.read_only)
+        let fields = [
+            ("protocolVersion", Field::Int(&self.protocol_version)),
+            ("lastZxidSeen", Field::Long(&self.last_zxid_seen)),
+            ("timeOut", Field::Int(&self.time_out)),
+            ("sessionId", Field::Long(&self.session_id)),
+            ("passwd", Field::Buffer(&self.passwd)),
+            ("readOnly", Field::Boolean(self.read_only)),
+        ];
+        push_fields(text, alloc, &fields)
     }
 }
 
@@ -46,38 +49,33 @@ impl<A: Allocator + Copy> Shown<A> for ReplyHeader {
     ghost names = { reply_header_names };
 
     fn push_lines(&self, text: &mut String<A>, alloc: A) -> Result<(), AllocError> {
-        push_shown(text, alloc, "xid", &self.xid)?;
-        push_shown(text, alloc, "zxid", &self.zxid)?;
-        push_shown(text, alloc, "err", &self.err)
+        let fields = [
+            ("xid", Field::Int(&self.xid)),
+            ("zxid", Field::Long(&self.zxid)),
+            ("err", Field::Int(&self.err)),
+        ];
+        push_fields(text, alloc, &fields)
     }
-}
-
-/// Adds the lines of the last five fields of a Stat.
-fn push_stat_end<A: Allocator + Copy>(
-    text: &mut String<A>,
-    alloc: A,
-    stat: &Stat,
-) -> Result<(), AllocError>
-    ensures { OnOk result (string_bytes text.new ≡ string_bytes text.old ++ stat_end_lines stat.now) }
-{
-    push_shown(text, alloc, "aversion", &stat.aversion)?;
-    push_shown(text, alloc, "ephemeralOwner", &stat.ephemeral_owner)?;
-    push_shown(text, alloc, "dataLength", &stat.data_length)?;
-    push_shown(text, alloc, "numChildren", &stat.num_children)?;
-    push_shown(text, alloc, "pzxid", &stat.pzxid)
 }
 
 impl<A: Allocator + Copy> Shown<A> for Stat {
     ghost names = { stat_names };
 
     fn push_lines(&self, text: &mut String<A>, alloc: A) -> Result<(), AllocError> {
-        push_shown(text, alloc, "czxid", &self.czxid)?;
-        push_shown(text, alloc, "mzxid", &self.mzxid)?;
-        push_shown(text, alloc, "ctime", &self.ctime)?;
-        push_shown(text, alloc, "mtime", &self.mtime)?;
-        push_shown(text, alloc, "version", &self.version)?;
-        push_shown(text, alloc, "cversion", &self.cversion)?;
-        push_stat_end(text, alloc, self)
+        let fields = [
+            ("czxid", Field::Long(&self.czxid)),
+            ("mzxid", Field::Long(&self.mzxid)),
+            ("ctime", Field::Long(&self.ctime)),
+            ("mtime", Field::Long(&self.mtime)),
+            ("version", Field::Int(&self.version)),
+            ("cversion", Field::Int(&self.cversion)),
+            ("aversion", Field::Int(&self.aversion)),
+            ("ephemeralOwner", Field::Long(&self.ephemeral_owner)),
+            ("dataLength", Field::Int(&self.data_length)),
+            ("numChildren", Field::Int(&self.num_children)),
+            ("pzxid", Field::Long(&self.pzxid)),
+        ];
+        push_fields(text, alloc, &fields)
     }
 }
 
@@ -119,9 +117,12 @@ impl<A: Allocator + Copy> Shown<A> for WatcherEvent<A> {
     ghost names = { event_names };
 
     fn push_lines(&self, text: &mut String<A>, alloc: A) -> Result<(), AllocError> {
-        push_shown(text, alloc, "type", &self.kind)?;
-        push_shown(text, alloc, "state", &self.state)?;
-        push_text(text, alloc, "path", &self.path)
+        let fields = [
+            ("type", Field::Int(&self.kind)),
+            ("state", Field::Int(&self.state)),
+            ("path", Field::Text(&self.path)),
+        ];
+        push_fields(text, alloc, &fields)
     }
 }
 
@@ -176,9 +177,12 @@ impl<A: Allocator + Copy> Shown<A> for SetDataRequest<A> {
     ghost names = { body_names SetData };
 
     fn push_lines(&self, text: &mut String<A>, alloc: A) -> Result<(), AllocError> {
-        push_text(text, alloc, "path", &self.path)?;
-        push_buffer(text, alloc, "data", &self.bytes)?;
-        push_shown(text, alloc, "version", &self.version)
+        let fields = [
+            ("path", Field::Text(&self.path)),
+            ("data", Field::Buffer(&self.bytes)),
+            ("version", Field::Int(&self.version)),
+        ];
+        push_fields(text, alloc, &fields)
     }
 }
 
@@ -186,9 +190,12 @@ impl<A: Allocator + Copy> Shown<A> for Acl<A> {
     ghost names = { acl_names };
 
     fn push_lines(&self, text: &mut String<A>, alloc: A) -> Result<(), AllocError> {
-        push_shown(text, alloc, "perms", &self.perms)?;
-        push_text(text, alloc, "scheme", &self.id.scheme)?;
-        push_text(text, alloc, "id", &self.id.id)
+        let fields = [
+            ("perms", Field::Int(&self.perms)),
+            ("scheme", Field::Text(&self.id.scheme)),
+            ("id", Field::Text(&self.id.id)),
+        ];
+        push_fields(text, alloc, &fields)
     }
 }
 
