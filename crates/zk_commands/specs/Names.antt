@@ -1,10 +1,8 @@
 -- The names of the fields of each record, as zookeeper.jute has them.
-use Rattle.std.specs.Prelude.{List, ℕ, codes}
-use Rattle.zk_jute.specs.Layout.{int, long, ◌⨾◌}
-use Rattle.zk_history.specs.declared.stat.Stat.{Stat}
+use Rattle.std.specs.Prelude.{codes}
 use Rattle.zk_records.specs.declared.operation.Operation.{Operation}
 use Rattle.zk_records.specs.declared.operation.Operation.TheVariants.{Create, Delete, Exists, GetData, SetData, GetChildren, Ping, GetChildren2, SetWatches, CloseSession}
-use Rattle.zk_commands.specs.Print.{Names, none, one, each, ◌&◌, lines_of}
+use Rattle.zk_commands.specs.Print.{Names, none, one, each, ◌&◌}
 
 abbrev pub connect_names : Names
 connect_names = one (codes "protocolVersion") & (one (codes "lastZxidSeen") & (one (codes "timeOut") & (one (codes "sessionId") & (one (codes "passwd") & one (codes "readOnly")))))
@@ -17,10 +15,6 @@ stat_end_names = one (codes "aversion") & (one (codes "ephemeralOwner") & (one (
 
 abbrev pub stat_names : Names
 stat_names = one (codes "czxid") & (one (codes "mzxid") & (one (codes "ctime") & (one (codes "mtime") & (one (codes "version") & (one (codes "cversion") & stat_end_names)))))
-
--- the lines of the last five fields
-abbrev pub stat_end_lines : Stat → List ℕ
-stat_end_lines s = lines_of (int ⨾ (long ⨾ (int ⨾ (int ⨾ long)))) stat_end_names (s.aversion, (s.ephemeral_owner, (s.data_length, (s.num_children, s.pzxid))))
 
 abbrev pub get_data_names : Names
 get_data_names = one (codes "data") & stat_names
