@@ -195,12 +195,18 @@ fn saw<A: Allocator>(session: &mut Session<A>, zxid: i64, last: i64) -> bool {
     session.last_zxid() == last
 }
 
+// The session, once this moment is told.
+fn at<A: Allocator>(session: &mut Session<A>, now: u64) -> &mut Session<A> {
+    session.moment(now);
+    session
+}
+
 fn answers<A: Allocator>(session: &mut Session<A>, call: &Call) -> bool {
     match call {
-        Call::Opened(now) => session.opened(*now),
+        Call::Opened(now) => at(session, *now).opened(),
         Call::Answered(time_out, password) => return is_answered(session, *time_out, password),
-        Call::Heard(now) => session.heard(*now),
-        Call::Sent(now) => session.sent(*now),
+        Call::Heard(now) => at(session, *now).heard(),
+        Call::Sent(now) => at(session, *now).sent(),
         Call::Moment(now, due) => return session.moment(*now) == *due,
         Call::Cut => session.cut(),
         Call::Closed => session.closed(),
@@ -304,7 +310,7 @@ fn figures<A: Allocator>(session: &Session<A>) -> (State, i64, usize) {
 
 // Has the session accepted, and once more where that is refused.
 fn accepts<A: Allocator>(session: &mut Session<A>, password: &[u8], refusals: &mut u32) -> bool {
-    session.opened(0);
+    session.opened();
     if session.state() != State::Connecting {
         return false;
     }

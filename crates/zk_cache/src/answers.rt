@@ -8,7 +8,7 @@ ghost use Rattle.zk_cache.specs.Contents.{answer_of, set_of};
 ghost use Rattle.zk_cache.specs.Renewed.{renewed, with_answer};
 
 use crate::held::{Held, Kept, Mark, insert, marked_good};
-use std::alloc::{AllocError, Allocator};
+use std::alloc::{AllocError, Allocator, Global};
 use std::collections::BTreeSet;
 use zk_history::DataStat;
 use zk_jute::TextRef;
@@ -16,7 +16,7 @@ use zk_jute::TextRef;
 /// What a read of a node answered about the node itself.
 #[derive(Drop)]
 #[derive_where(Debug)]
-pub enum DataAnswer<A: Allocator> {
+pub enum DataAnswer<A: Allocator = Global> {
     /// No node is there.
     Absent,
     /// A node is there with these fields, and its data were not read.

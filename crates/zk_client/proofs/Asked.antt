@@ -36,8 +36,8 @@ asked-room lists pending xid ticket call room less = record {
 
 pub asked-sound : (kept new_kept : Kept) (talk new_talk : Talk) (lists : Lists) (ticket : ℕ) (call : Call) → IsSound kept talk lists → kept.state ≡ Connected
     → ((side : Side) → watched_side (question_of call) ≡ Some side → count_of lists side + watches_pending side talk.pending < 65536)
-    → new_kept ≡ session.next (session.Sends 0) kept → new_talk ≡ talk_asked ticket call talk → IsSound new_kept new_talk lists
+    → new_kept ≡ session.next session.Sends kept → new_talk ≡ talk_asked ticket call talk → IsSound new_kept new_talk lists
 asked-sound kept new_kept talk new_talk lists ticket call sound at less e f = rw (e, f) (record {
-  tied = tied-talking (session.next (session.Sends 0) kept) (talk_asked ticket call talk) (sound.tied.phase ∙ ap phase_of at) at sound.tied.short;
+  tied = tied-talking (session.next session.Sends kept) (talk_asked ticket call talk) (sound.tied.phase ∙ ap phase_of at) at sound.tied.short;
   room = asked-room lists talk.pending talk.xid ticket call sound.room less;
 })

@@ -176,17 +176,17 @@ again-says view piece h fresh less =
 hears-moments : (moments : Moments) → session.hear 0 moments ≡ record { now = moments.now; heard = moments.now; sent = moments.sent }
 hears-moments moments = let latest : max 0 moments.now ≡ moments.now = omega arith in ap (λ (n : ℕ). let m : Moments = record { now = n; heard = n; sent = moments.sent } in m) latest
 
-hears-state : (state : State) (saved : Saved) (moments : Moments) → IsOpen state → session.next (session.Hears 0) (record { state = state; saved = saved; moments = moments }) ≡ record { state = state; saved = saved; moments = record { now = moments.now; heard = moments.now; sent = moments.sent } }
+hears-state : (state : State) (saved : Saved) (moments : Moments) → IsOpen state → session.next session.Hears (record { state = state; saved = saved; moments = moments }) ≡ record { state = state; saved = saved; moments = record { now = moments.now; heard = moments.now; sent = moments.sent } }
 hears-state Connecting saved moments up = ap (λ (m : Moments). let k : Kept = record { state = Connecting; saved = saved; moments = m } in k) (hears-moments moments)
 hears-state Connected saved moments up = ap (λ (m : Moments). let k : Kept = record { state = Connected; saved = saved; moments = m } in k) (hears-moments moments)
 hears-state Idle saved moments up = absurd cc
 hears-state Expired saved moments up = absurd cc
 hears-state Closed saved moments up = absurd cc
 
-pub hears-session : (kept new : Kept) → IsOpen kept.state → new ≡ session.next (session.Hears 0) kept → new ≡ record { state = kept.state; saved = kept.saved; moments = record { now = kept.moments.now; heard = kept.moments.now; sent = kept.moments.sent } }
+pub hears-session : (kept new : Kept) → IsOpen kept.state → new ≡ session.next session.Hears kept → new ≡ record { state = kept.state; saved = kept.saved; moments = record { now = kept.moments.now; heard = kept.moments.now; sent = kept.moments.sent } }
 hears-session kept new up e = e ∙ hears-state kept.state kept.saved kept.moments up
 
-module _ (bytes piece : List ℕ) (halted : Bool) (kept new : Kept) (talk : Talk) (lists : Lists) (answers : Answers) (up : IsOpen kept.state) (goes_on : halted ≡ false) (less : IsUnfinished bytes) (some : 0 < length piece) (e : new ≡ session.next (session.Hears 0) kept) where
+module _ (bytes piece : List ℕ) (halted : Bool) (kept new : Kept) (talk : Talk) (lists : Lists) (answers : Answers) (up : IsOpen kept.state) (goes_on : halted ≡ false) (less : IsUnfinished bytes) (some : 0 < length piece) (e : new ≡ session.next session.Hears kept) where
   after_it : Kept
   after_it = record { state = kept.state; saved = kept.saved; moments = record { now = kept.moments.now; heard = kept.moments.now; sent = kept.moments.sent } }
 

@@ -52,7 +52,7 @@ welcomed-session kept new response at lt e =
     ∙ welcomed-state kept.state kept.saved kept.moments (welcome_of response) at
 
 -- and once the parts are sent
-sent-moments : (ps : List Lists) (kept : Kept) (welcome : Welcome) → (if has_any ps then session.next (session.Sends 0) (welcomed kept welcome) else welcomed kept welcome)
+sent-moments : (ps : List Lists) (kept : Kept) (welcome : Welcome) → (if has_any ps then session.next session.Sends (welcomed kept welcome) else welcomed kept welcome)
     ≡ record { state = Connected; saved = record { asked = kept.saved.asked; session = welcome; last = kept.saved.last }; moments = if_any ps kept.moments (record { now = kept.moments.now; heard = kept.moments.heard; sent = kept.moments.now }) }
 sent-moments [] kept welcome = refl
 sent-moments (p ∷ ps) kept welcome =
@@ -75,13 +75,13 @@ unwatched-child (p ∷ q ∷ more) = unwatched-child (q ∷ more)
 
 pub welcomes : (held : List ℕ) (halted : Bool) (kept : Kept) (talk : Talk) (lists : Lists) (answers : Answers) (pending : List Pending) (response : Response) (mid new : Kept) (set : Talk) (any : Bool)
     → kept.state ≡ Connecting → pos 0 <ℤ response.time_out → length talk.pending ≡ 0 → HasRoom lists [] → length response.password.now ≤ LONGEST_PASSWORD
-    → mid ≡ session.next (event_of response) kept → new ≡ (if any then session.next (session.Sends 0) mid else mid) → any ≡ has_any (parts lists)
+    → mid ≡ session.next (event_of response) kept → new ≡ (if any then session.next session.Sends mid else mid) → any ≡ has_any (parts lists)
     → set.phase ≡ Talking → set.pending ≡ talk.pending ++ map pending_for (parts_asked (parts lists)) → set.xid ≡ talk.xid
     → Welcomed held halted kept talk lists answers pending (welcome_of response) new set
 welcomes held halted kept talk lists answers pending response mid new set any at lt quiet room short e f g phase asked xid =
     let welcome = welcome_of response in
     let first : mid ≡ welcomed kept welcome = welcomed-session kept mid response at lt e in
-    let is = f ∙ ap (λ (b : Bool). if b then session.next (session.Sends 0) mid else mid) g ∙ ap (λ (k : Kept). if has_any (parts lists) then session.next (session.Sends 0) k else k) first ∙ sent-moments (parts lists) kept welcome in
+    let is = f ∙ ap (λ (b : Bool). if b then session.next session.Sends mid else mid) g ∙ ap (λ (k : Kept). if has_any (parts lists) then session.next session.Sends k else k) first ∙ sent-moments (parts lists) kept welcome in
     let waits : set.pending ≡ map pending_for (parts_asked (parts lists)) = asked ∙ ap (λ (l : List Pending). l ++ map pending_for (parts_asked (parts lists))) (none-there talk.pending quiet) in
     record {
       sound = record {

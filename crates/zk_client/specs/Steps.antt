@@ -1,5 +1,5 @@
 -- Parts of one step.
-use Rattle.std.specs.Prelude.{◌≡◌, ℕ, Bool, negsuc, ◌+◌, ◌<◌, pos, nat_lt, List, [], ◌∷◌, length, Option, Some, None, unsigned_abs, max, true, false, if◌then◌else◌}
+use Rattle.std.specs.Prelude.{◌≡◌, ℕ, Bool, negsuc, ◌+◌, ◌<◌, pos, nat_lt, List, [], ◌∷◌, ◌++◌, length, Option, Some, None, unsigned_abs, true, false, if◌then◌else◌}
 use Rattle.std.specs.Ordering.{int_eq}
 use Rattle.zk_history.specs.declared.side.Side.{Side}
 use Rattle.zk_records.specs.declared.code.Code.{Code}
@@ -10,10 +10,9 @@ use Rattle.zk_conversation.specs.Questions.{Close, Question, question_of, watche
 use Rattle.zk_conversation.specs.Pending.{calls_pending, watches_pending}
 use Rattle.zk_session.specs.declared.states.State.TheVariants.{Closed, Connected}
 use Rattle.zk_watches.specs.Lists.{count_of}
-use Rattle.zk_turns.specs.Turns.{Enters, Output, Outcome, TooLarge, Input, Opened, Bytes, Cut, Now, Call as Asks}
+use Rattle.zk_turns.specs.Turns.{Enters, Output, Outcome, TooLarge, Input, Opened, Bytes, Cut, Now, Call as Asks, Ticks}
 use Rattle.zk_turns.specs.Kept.{Denied, Asked, Happening, is_final}
-use Rattle.zk_turns.specs.Taken.{due, if_open}
-use Rattle.zk_turns.specs.Rule.{IsOpen}
+use Rattle.zk_turns.specs.Rule.{IsOpen, NothingIsDue, Rule, after_signals}
 use Rattle.zk_session.specs.Kept.{Welcome}
 use Rattle.zk_session.specs.declared.fields.Response.{Response}
 use Rattle.zk_turns.specs.View.{View}
@@ -35,10 +34,6 @@ is_no_node code = int_eq (code_number code) (negsuc 100)
 abbrev pub welcome_of : Response → Welcome
 welcome_of response = record { timeout = unsigned_abs response.time_out; session = response.session_id; password = response.password.now }
 
--- nothing is due at a moment
-abbrev pub NothingIsDue : View → (moment : ℕ) → Type 0
-NothingIsDue view moment = if_open view.standing.state (due view (max moment view.moments.now)) ≡ []
-
 -- The inputs of which nothing comes: where there is no connection, and none may begin, and a moment at which nothing is due.
 abbrev pub ComesToNothing : View → Input → Type 0
 ComesToNothing view Opened = is_final view.standing.state ≡ true
@@ -49,6 +44,17 @@ ComesToNothing view (Asks ticket asked) = ⊥
 
 abbrev pub IsQuiet : View → Input → Type 0
 IsQuiet view input = (view.standing.halted ≡ false) × ComesToNothing view input
+
+-- The same of a moment and an input behind it: nothing is due at the moment, and nothing comes of the input then.
+abbrev pub IsQuietAt : View → (moment : ℕ) → Input → Type 0
+IsQuietAt view moment input =
+    (view.standing.halted ≡ false) × NothingIsDue view moment × ComesToNothing (after_signals view (Ticks moment ∷ [])) input
+
+-- One turn by the rule, whose outputs are added to these.
+pub record Adds (view : View) (input : Input) (before now : List Output) (after : View) : Type 0 where
+  pub outputs : List Output
+  pub added : now ≡ before ++ outputs
+  pub rule : Rule view (record { input = input; outputs = outputs }) after
 
 -- what a call makes happen, by why it is refused
 abbrev pub calls : ℕ → Call → Option Outcome → List Happening

@@ -250,10 +250,10 @@ fn put_by<A: Allocator + Copy>(
 
 // Something was sent.
 fn sent_if<A: Allocator>(any: bool, session: &mut Session<A>)
-    ensures { session.new ≡ (if any then sessions.next (sessions.Sends 0) session.old else session.old) }
+    ensures { session.new ≡ (if any then sessions.next sessions.Sends session.old else session.old) }
 {
     if any {
-        session.sent(0);
+        session.sent();
     }
 }
 

@@ -1,12 +1,12 @@
 //! What a reply brings.
 
-use std::alloc::Allocator;
+use std::alloc::{Allocator, Global};
 use zk_records::{Code, Stat};
 
 /// What the reply to a call brings: the code of its error, or what was asked for.
 #[derive(Drop)]
 #[derive_where(Debug)]
-pub enum CallResult<A: Allocator> {
+pub enum CallResult<A: Allocator = Global> {
     /// The server refused the request, or there is no node.
     Code(Code),
     /// What is known of a node: of exists and setData.

@@ -136,7 +136,7 @@ impl<A: Allocator + Copy> Core<A> {
         }
         match self.conversation.ask(ticket, call) {
             Ok(asked) => {
-                self.session.sent(0);
+                self.session.sent();
                 say(outputs, Output::Send(asked.frame))
             }
             Err(AskFault::TooLarge) => {

@@ -10,7 +10,7 @@ use crate::input::Input;
 use crate::machine::Core;
 use crate::output::Output;
 use crate::turn::{asked_length, turn};
-use std::alloc::{AllocError, Allocator};
+use std::alloc::{AllocError, Allocator, Global};
 use zk_cache::{Cache, DataAnswer, Mark};
 use zk_conversation::Conversation;
 use zk_frames::FrameReader;
@@ -23,7 +23,7 @@ use zk_watches::Registry;
 /// fields: its state, the saved session, the moments, what is pending, the bytes that are held, the next xid, the three lists of
 /// watched paths and what is kept of each path.
 #[derive(Drop)]
-pub struct Client<A: Allocator + Copy> {
+pub struct Client<A: Allocator + Copy = Global> {
     core: Core<A>,
     reader: FrameReader<A>,
     ghost sound: { core.halted ≡ false → CoreIsSound core } by { Prim.hlevel props },
@@ -32,15 +32,15 @@ pub struct Client<A: Allocator + Copy> {
 }
 
 impl<A: Allocator + Copy> Client<A> {
-    ghost use Rattle.std.specs.Prelude.{◌≡◌, ◌≤◌, ◌<ℤ◌, ◌≤ℤ◌, pos, unsigned_abs, length, List, [], ◌∷◌, IfOk, OnErr, IsOk, IsErr, true, false, option_map};
+    ghost use Rattle.std.specs.Prelude.{◌≡◌, ◌≤◌, ◌<◌, ◌^◌, ◌<ℤ◌, ◌≤ℤ◌, pos, unsigned_abs, length, ℕ, List, [], ◌∷◌, None, IfOk, IfSome, OnOk, OnErr, IsOk, IsErr, true, false, option_map};
     ghost use Rattle.zk_session.specs.Fields.{Saves};
     ghost use Rattle.zk_session.specs.declared.fields.TheConstants.{LONGEST_PASSWORD};
     ghost use Rattle.zk_cache.specs.Contents.{answer_of, names_in};
     ghost use Rattle.zk_turns.specs.Turns.{Start, Item, Turned, Forgets, new_start};
     ghost use Rattle.zk_turns.specs.View.{view_at};
-    ghost use Rattle.zk_turns.specs.Rule.{Rule, Stands, HaltsAs, forgotten};
-    ghost use Rattle.zk_client.specs.Views.{input_view, turn_of};
-    ghost use Rattle.zk_client.specs.Steps.{IsQuiet};
+    ghost use Rattle.zk_turns.specs.Rule.{Rule, RuleAt, Stands, StandsAt, HaltsAs, HaltsAt, NothingIsDue, forgotten};
+    ghost use Rattle.zk_client.specs.Views.{input_view, said, turn_of};
+    ghost use Rattle.zk_client.specs.Steps.{Adds, IsQuiet, IsQuietAt};
     ghost use Rattle.zk_turns.specs.Ranges.{IsResumable, IsTyped, AsksOf};
     ghost use Rattle.zk_client.specs.Clients.{view_of, saved_start, Tells};
 
@@ -92,7 +92,7 @@ impl<A: Allocator + Copy> Client<A> {
     }
 
     /// Takes an input, and gives the outputs that it makes due, in order. A turn is by the rule, so that the client stands where
-    /// all its turns have led.
+    /// all its turns have led. It happens at the moment that was told last: [`step_at`](Client::step_at) tells it in the same call.
     ///
     /// An error is want of memory. The input is no turn then: nothing is kept and nothing is watched any more, the state, the
     /// saved session and the last seen zxid are those before the step, and each later step answers the same. An input of which
@@ -106,6 +106,40 @@ impl<A: Allocator + Copy> Client<A> {
         ensures halted { (view_of self.old).standing.halted ≡ true → IsErr result }
     {
         one_turn();
+        let mut outputs = Vec::new(self.core.alloc);
+        self.take(input, &mut outputs)?;
+        Ok(outputs)
+    }
+
+    /// Takes an input that is noticed at this moment, and gives the outputs of both, in order: two turns in one call, the moment
+    /// first. So what the input brings is heard, and what it asks for is sent, at its own moment, and a connection is given up for
+    /// silence alone.
+    ///
+    /// Moments are milliseconds of a clock that does not go back; one below an earlier one counts as the earlier one. An error is
+    /// want of memory, as of [`step`](Client::step); where it came at the input, the moment was a turn, whose outputs are gone.
+    pub fn step_at(&mut self, now: u64, input: Input<A>) -> Result<Vec<Output<A>, A>, Halt>
+        ensures rule { IfOk result (λ outputs. RuleAt now (view_of self.old) (turn_of input outputs.items) (view_of self.new)) }
+        ensures stands { IfOk result (λ outputs. (start : Start) (items : List Item) → Stands start items (view_of self.old) → StandsAt start items now (turn_of input outputs.items) (view_of self.new)) }
+        ensures typed { AsksOf IsTyped (input_view input) }
+        ensures quiet { IsQuietAt (view_of self.old) now (input_view input) → IsOk result }
+        ensures halt { OnErr result (HaltsAt now (view_of self.old) (view_of self.new)) }
+        ensures halted { (view_of self.old).standing.halted ≡ true → IsErr result }
+    {
+        one_turn();
+        let mut outputs = Vec::new(self.core.alloc);
+        self.take(Input::Now(now), &mut outputs)?;
+        self.take(input, &mut outputs)?;
+        Ok(outputs)
+    }
+
+    /// Takes an input, and adds the outputs that it makes due.
+    fn take(&mut self, input: Input<A>, outputs: &mut Vec<Output<A>, A>) -> Result<(), Halt>
+        ensures rule { OnOk result (Adds (view_of self.old) (input_view input) (said outputs.old.items) (said outputs.new.items) (view_of self.new)) }
+        ensures typed { AsksOf IsTyped (input_view input) }
+        ensures quiet { IsQuiet (view_of self.old) (input_view input) → IsOk result }
+        ensures halt { OnErr result (HaltsAs (view_of self.old) (view_of self.new)) }
+        ensures halted { (view_of self.old).standing.halted ≡ true → IsErr result }
+    {
         let state = self.core.session.state();
         let last = self.core.session.last_zxid();
         asked_length(&input);
@@ -115,13 +149,33 @@ impl<A: Allocator + Copy> Client<A> {
             self.core.halt(state, last);
             return Err(Halt);
         }
-        let mut outputs = Vec::new(self.core.alloc);
-        let Ok(()) = turn(&mut self.core, &mut self.reader, input, &mut outputs) else {
-            drop(outputs);
+        let Ok(()) = turn(&mut self.core, &mut self.reader, input, outputs) else {
             self.core.halt(state, last);
             return Err(Halt);
         };
-        Ok(outputs)
+        Ok(())
+    }
+
+    /// The first moment at which something is due: at the latest then a program has to tell the client the moment, by
+    /// [`Input::Now`] or with an input. A ping falls due a third of the timeout after the last frame that was sent; two thirds
+    /// after the last byte that was heard, the connection is given up. It is 0 where something is due already, and none where
+    /// nothing will be: with no connection, or after a halt.
+    pub fn deadline(&self) -> Option<u64>
+        ensures before { IfSome result (λ first. (moment : ℕ) → moment < first → NothingIsDue (view_of self.now) moment) }
+        ensures due { IfSome result (λ first. ¬ (NothingIsDue (view_of self.now) first)) }
+        ensures never { result ≡ None → (moment : ℕ) → moment < 2 ^ 64 → NothingIsDue (view_of self.now) moment }
+    {
+        if self.core.halted {
+            return None;
+        }
+        self.core.session.deadline()
+    }
+
+    /// The timeout of the session, in milliseconds: the one that a server granted last, and before any has, the one to ask for.
+    pub fn timeout_ms(&self) -> u32
+        ensures { result ≡ (view_of self.now).saved.session.timeout }
+    {
+        self.core.session.timeout_ms()
     }
 
     /// What is kept about the data of a path. It takes no memory.

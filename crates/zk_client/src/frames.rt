@@ -48,7 +48,7 @@ pub(crate) fn hear<A: Allocator + Copy>(
     if piece.is_empty() {
         return Ok(());
     }
-    core.session.heard(0);
+    core.session.heard();
     let Ok(()) = reader.adopt(piece) else {
         return Err(AllocError);
     };

@@ -1,12 +1,17 @@
 //! What goes into a client.
 
-use std::alloc::Allocator;
+use std::alloc::{Allocator, Global};
 use zk_conversation::Call;
 
 /// What happens to a client.
+///
+/// It happens at the moment that the client was told last. So a program tells the moment with each input, by
+/// [`Client::step_at`](crate::Client::step_at), before what it noticed then; the first one before the first connection begins. A
+/// program that tells moments only when a timer fires drops a healthy connection: what came in between counts as heard when the
+/// moment was told before it.
 #[derive(Drop)]
 #[derive_where(Debug)]
-pub enum Input<A: Allocator> {
+pub enum Input<A: Allocator = Global> {
     /// A connection begins. It ends the one before.
     Opened,
     /// Bytes came from the server, cut anyhow.

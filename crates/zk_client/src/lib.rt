@@ -1,7 +1,12 @@
-//! A client of ZooKeeper as a machine: bytes, moments and calls go in, and bytes, answers and reports come out.
+//! A client of ZooKeeper as a machine: bytes, moments and calls go in, and bytes, answers and reports come out. It is the one crate
+//! that a program imports: it gives on each type that its functions name.
 //!
-//! [`Client::step`] takes one input. It reads no socket and no clock. What it says and keeps is said once, over whole lists of
-//! turns, in the definitions of `zk_turns`.
+//! [`Client::step_at`] takes one input with the moment at which it was noticed, and [`Client::deadline`] tells when to wake at the
+//! latest. It reads no socket and no clock. What it says and keeps is said once, over whole lists of turns, in the definitions of
+//! `zk_turns`; [`laws`] names what holds of each client that stands where its turns have led.
+//!
+//! A type that owns memory has its allocator for its last parameter, and is over the global heap where that is left out:
+//! [`Client`] is `Client<Global>`.
 #![tactic(auto)]
 
 mod arrivals;
@@ -33,3 +38,11 @@ pub use output::{Outcome, Output};
 pub use outside::Outside;
 pub use recording::{Recorded, RecordedTurn};
 pub use running::run;
+pub use zk_cache::{DataAnswer, Mark};
+pub use zk_conversation::{Call, CreateMode, MOST_PENDING, TalkFault};
+pub use zk_frames::{FrameFault, LONGEST_INCOMING, LONGEST_OUTGOING};
+pub use zk_history::{DataStat, Names, Path, PathFault, Side, Stat};
+pub use zk_jute::TakeError;
+pub use zk_records::{Code, Event};
+pub use zk_session::{LONGEST_PASSWORD, Saved, State};
+pub use zk_watches::MOST_PATHS;

@@ -42,7 +42,7 @@ impl<A: Allocator + Copy> Core<A> {
             password: asked.password,
         };
         let frame = self.conversation.open(&connect)?;
-        self.session.opened(0);
+        self.session.opened();
         say(outputs, Output::Send(frame))?;
         say(outputs, Output::State(State::Connecting))
     }

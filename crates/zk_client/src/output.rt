@@ -2,14 +2,14 @@
 
 use crate::call_result::CallResult;
 use crate::fault::Fault;
-use std::alloc::Allocator;
+use std::alloc::{Allocator, Global};
 use zk_records::{Event, Side};
 use zk_session::State;
 
 /// What a call is answered: its reply, or why there is none.
 #[derive(Drop)]
 #[derive_where(Debug)]
-pub enum Outcome<A: Allocator> {
+pub enum Outcome<A: Allocator = Global> {
     /// The reply, with its zxid.
     Replied { zxid: i64, result: CallResult<A> },
     /// K1: the connection was lost. The call may or may not have happened.
@@ -31,7 +31,7 @@ pub enum Outcome<A: Allocator> {
 /// What a client says.
 #[derive(Drop)]
 #[derive_where(Debug)]
-pub enum Output<A: Allocator> {
+pub enum Output<A: Allocator = Global> {
     /// One frame, for the server.
     Send(Vec<u8, A>),
     /// The answer to the call with this ticket.
@@ -49,4 +49,21 @@ pub enum Output<A: Allocator> {
     State(State),
     /// The connection is given up, and is to be closed.
     Drop(Fault),
+}
+
+impl<A: Allocator> Output<A> {
+    ghost use Rattle.std.specs.Prelude.{◌≡◌};
+    ghost use Rattle.zk_turns.specs.Turns.{ends_connection};
+    ghost use Rattle.zk_client.specs.Views.{output_view};
+
+    /// Whether the connection is over with this output, so that a program closes it: the client gives it up, or the session has
+    /// expired or is closed.
+    pub fn ends_connection(&self) -> bool
+        ensures { result ≡ ends_connection (output_view self.now) }
+    {
+        matches!(
+            self,
+            Output::Drop(_) | Output::State(State::Expired) | Output::State(State::Closed)
+        )
+    }
 }

@@ -7,11 +7,11 @@ ghost use Rattle.zk_client.specs.Outsides.{asked_count};
 
 use crate::input::Input;
 use crate::output::Output;
-use std::alloc::Allocator;
+use std::alloc::{Allocator, Global};
 
 /// An input, and what it made the client say.
 #[derive(Drop)]
-pub struct RecordedTurn<A: Allocator> {
+pub struct RecordedTurn<A: Allocator = Global> {
     pub input: Input<A>,
     pub outputs: Vec<Output<A>, A>,
 }
@@ -26,7 +26,7 @@ pub(crate) struct Copies<A: Allocator> {
 
 /// Inputs in memory, and the turns that they made. It hands out the inputs in order, and tells the turns.
 #[derive(Drop)]
-pub struct Recorded<A: Allocator + Copy> {
+pub struct Recorded<A: Allocator + Copy = Global> {
     pub(crate) alloc: A,
     /// The next one stands last.
     pub(crate) coming: Vec<Copies<A>, A>,

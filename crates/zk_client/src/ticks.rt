@@ -23,7 +23,7 @@ impl<A: Allocator + Copy> Core<A> {
         ensures origin { origin self.new ≡ origin self.old }
     {
         let frame = self.conversation.ping()?;
-        self.session.sent(0);
+        self.session.sent();
         say(outputs, Output::Send(frame))
     }
 }

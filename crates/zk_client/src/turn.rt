@@ -5,11 +5,11 @@ ghost use Rattle.zk_conversation.specs.Views.{call_view};
 ghost use Rattle.zk_turns.specs.Turns.{signals_of, IsAsked, Opens, Cuts, Ticks};
 ghost use Rattle.zk_turns.specs.Kept.{is_final};
 ghost use Rattle.zk_turns.specs.Ranges.{IsTyped, AsksOf};
-ghost use Rattle.zk_turns.specs.Rule.{IsOpen, after_signals, says_signals};
+ghost use Rattle.zk_turns.specs.Rule.{IsOpen, NothingIsDue, after_signals, says_signals};
 ghost use Rattle.zk_client.specs.Views.{said, input_view};
 ghost use Rattle.zk_client.specs.Seen.{view_with, origin};
 ghost use Rattle.zk_client.specs.Sound.{CoreIsSound, IsReading};
-ghost use Rattle.zk_client.specs.Steps.{IsQuiet, NothingIsDue};
+ghost use Rattle.zk_client.specs.Steps.{IsQuiet};
 
 use crate::calls::path_length;
 use crate::fault::Fault;

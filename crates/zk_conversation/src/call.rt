@@ -10,7 +10,7 @@ ghost use Rattle.zk_conversation.specs.Views.{call_view, question_view, mode_num
 
 use crate::frame::request_frame;
 use crate::question::Question;
-use std::alloc::{AllocError, Allocator};
+use std::alloc::{AllocError, Allocator, Global};
 use zk_frames::LONGEST_OUTGOING;
 use zk_history::Path;
 use zk_jute::{BytesRef, Nothing};
@@ -19,7 +19,7 @@ use zk_records::{CreateRequestRef, DeleteRef, Operation, ReadRequestRef, SetData
 /// What a caller asks of a server. A `watch` asks to leave a watch on the path.
 #[derive(Drop)]
 #[derive_where(Debug)]
-pub enum Call<A: Allocator> {
+pub enum Call<A: Allocator = Global> {
     /// Whether there is a node, and what is known of it.
     Exists {
         path: Path<A>,

@@ -7,7 +7,7 @@ ghost use Rattle.zk_history.specs.Path.{parent_of, parent_text, name_of, is_belo
 ghost use Rattle.zk_history.specs.PathFault.{fault_of, fault_of_names, fault_told, is_refused, IsPath};
 
 use crate::path_fault::PathFault;
-use std::alloc::Allocator;
+use std::alloc::{Allocator, Global};
 use std::marker::Model;
 
 // The most bytes that a path may have.
@@ -17,7 +17,7 @@ const MAX_BYTES: usize = 4096;
 /// is empty, `.` or `..` (Programmer's Guide, "The ZooKeeper Data Model"). It is seen as its text.
 #[derive(Drop)]
 #[derive_where(Debug)]
-pub struct Path<A: Allocator> {
+pub struct Path<A: Allocator = Global> {
     text: String<A>,
 }
 

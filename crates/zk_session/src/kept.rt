@@ -1,7 +1,7 @@
 //! The session.
-ghost use Rattle.std.specs.Prelude.{◌≡◌, pos, ◌+◌, ◌*◌, ◌^◌, ◌<◌, ◌≤◌, ◌<ℤ◌, ◌≤ℤ◌, ◌++◌, length, unsigned_abs, nat_le, IfOk, IsOk, OnOk, OnErr, vec_len, vec_capacity};
+ghost use Rattle.std.specs.Prelude.{◌≡◌, ℕ, pos, ◌+◌, ◌*◌, ◌^◌, ◌<◌, ◌≤◌, ◌<ℤ◌, ◌≤ℤ◌, ◌++◌, ◌||◌, max, Bool, length, unsigned_abs, nat_le, IfOk, IsOk, OnOk, OnErr, vec_len, vec_capacity};
 ghost use Rattle.zk_session.specs.Kept.{new_start};
-ghost use Rattle.zk_session.specs.Table.{next, due, Opens, Hears, Sends, Ticks, Sees, Cuts, Closes};
+ghost use Rattle.zk_session.specs.Table.{next, due, has_passed as is_past, is_due_at, IsFirst, Opens, Hears, Sends, Ticks, Sees, Cuts, Closes};
 ghost use Rattle.zk_session.specs.Fields.{event_of, answer_of, start_of, Asks, Saves};
 ghost use Rattle.zk_session.specs.Taken_back.{put_back};
 
@@ -98,13 +98,12 @@ impl<A: Allocator> Session<A> {
         })
     }
 
-    /// A connection begins. It has an effect where the session is Idle: Connecting, heard and sent at this moment.
-    pub fn opened(&mut self, now: u64)
-        ensures { self.new ≡ next (Opens now) self.old }
+    /// A connection begins. It has an effect where the session is Idle: Connecting, heard and sent at the latest moment.
+    pub fn opened(&mut self)
+        ensures { self.new ≡ next Opens self.old }
     {
-        let begun = now.max(self.latest);
-        self.latest = begun;
         if self.state == State::Idle {
+            let begun = self.latest;
             self.state = State::Connecting;
             self.heard = begun;
             self.sent = begun;
@@ -146,21 +145,19 @@ impl<A: Allocator> Session<A> {
         Ok(Accepted::Accepted)
     }
 
-    /// Something was heard of the server. It counts while Connecting and Connected.
-    pub fn heard(&mut self, now: u64)
-        ensures { self.new ≡ next (Hears now) self.old }
+    /// Something was heard of the server, at the latest moment. It counts while Connecting and Connected.
+    pub fn heard(&mut self)
+        ensures { self.new ≡ next Hears self.old }
     {
-        self.latest = now.max(self.latest);
         if matches!(self.state, State::Connecting | State::Connected) {
             self.heard = self.latest;
         }
     }
 
-    /// Something was sent to it. It counts while Connecting and Connected.
-    pub fn sent(&mut self, now: u64)
-        ensures { self.new ≡ next (Sends now) self.old }
+    /// Something was sent to it, at the latest moment. It counts while Connecting and Connected.
+    pub fn sent(&mut self)
+        ensures { self.new ≡ next Sends self.old }
     {
-        self.latest = now.max(self.latest);
         if matches!(self.state, State::Connecting | State::Connected) {
             self.sent = self.latest;
         }
@@ -193,6 +190,28 @@ impl<A: Allocator> Session<A> {
             }
             State::Idle | State::Expired | State::Closed => Due::Nothing,
         }
+    }
+
+    /// The first moment at which something is due, and none where nothing is at any moment. It is 0 where something is due
+    /// already, since a moment below the latest counts as the latest.
+    pub fn deadline(&self) -> Option<u64>
+        ensures { IsFirst (is_due_at self.now) result }
+    {
+        match self.state {
+            State::Connecting => first_past(2 * u64::from(self.asked), self.heard, self.latest),
+            State::Connected => earlier(
+                first_past(2 * u64::from(self.timeout), self.heard, self.latest),
+                first_past(u64::from(self.timeout), self.sent, self.latest),
+            ),
+            State::Idle | State::Expired | State::Closed => None,
+        }
+    }
+
+    /// The timeout of the last accepted response in milliseconds; before there is one, the one asked for.
+    pub fn timeout_ms(&self) -> u32
+        ensures { result ≡ self.now.saved.session.timeout }
+    {
+        self.timeout
     }
 
     /// A reply had this zxid. A greater one than was seen so far is the last seen one, in any state.
@@ -283,6 +302,29 @@ impl<A: Allocator> Session<A> {
         } else {
             &NO_PASSWORD
         }
+    }
+}
+
+// The first moment at which three times what has passed since then is at least the limit.
+fn first_past(limit: u64, since: u64, latest: u64) -> Option<u64>
+    requires before { since ≤ latest }
+    requires small { limit < 2 ^ 33 }
+    ensures { IsFirst (λ moment. is_past limit since (max moment latest)) result }
+{
+    if has_passed(latest - since, limit) {
+        return Some(0);
+    }
+    since.checked_add((limit + 2) / 3)
+}
+
+// The earlier of two moments, if there is one.
+fn earlier(one: Option<u64>, other: Option<u64>) -> Option<u64>
+    ensures { (is_so is_other : ℕ → Bool) → IsFirst is_so one → IsFirst is_other other → IsFirst (λ moment. is_so moment || is_other moment) result }
+{
+    match (one, other) {
+        (Some(one), Some(other)) => Some(one.min(other)),
+        (one, None) => one,
+        (None, other) => other,
     }
 }
 

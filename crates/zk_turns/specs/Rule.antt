@@ -3,12 +3,12 @@
 use Rattle.zk_cache.specs.Kept.{merged, Absent, Known, Full, Names, good, stale, without_stale, Answer as Kept_answer}
 use Rattle.zk_cache.specs.declared.held.Kept.{Kept}
 use Rattle.zk_watches.specs.Lists.{Lists, registered, fired, fires, no_lists}
-use Rattle.zk_turns.specs.Turns.{IsAskable, AllAskOf, IsAsked, Replied, ConnectionLoss, Output, Send, Answer, Report, Enters, Drop, Turn, Item, Turned, Start, Signal, signals_of}
+use Rattle.zk_turns.specs.Turns.{IsAskable, AllAskOf, IsAsked, Replied, ConnectionLoss, Output, Send, Answer, Report, Enters, Drop, Now, Turn, Item, Turned, Start, Signal, Ticks, signals_of}
 use Rattle.zk_records.specs.Events.{concerns}
 use Rattle.zk_turns.specs.Kept.{pending_for, Happening, Began, Came, Took, Dropped, Lost, Asked, Denied, Pinged, Ticked, Forgot, Halted, Past, Message, Accepted, Expiry, Replies, Watches_set, Notifies, Pong, Skipped, Left, leaves_data, leaves_child, parts_asked, later, has_halted, is_open}
 use Rattle.zk_watches.specs.Parts.{parts}
 use Rattle.zk_conversation.specs.Pending.{next_xid, call_waits, Pending, Part_waits, Call_waits}
-use Rattle.std.specs.Prelude.{◌≡◌, ℕ, ℤ, pos, max, Bool, true, false, ◌&&◌, List, [], ◌∷◌, ◌++◌, map, drop, Option, Some, None, bytes_eq, if◌then◌else◌}
+use Rattle.std.specs.Prelude.{◌≡◌, ◌⊎◌, ℕ, ℤ, pos, max, Bool, true, false, ◌&&◌, List, [], ◌∷◌, ◌++◌, map, drop, Option, Some, None, bytes_eq, if◌then◌else◌}
 use Rattle.std.specs.List.{flat_map}
 use Rattle.zk_history.specs.History.{Text}
 use Rattle.zk_conversation.specs.Calls.{connect_payload, call_payload, ping_payload, part_payload}
@@ -223,6 +223,19 @@ pub record Rule (view : View) (turn : Turn) (after : View) : Type 0 where
   pub outputs : turn.outputs ≡ says_signals view (signals_of turn.input)
   pub next : after ≡ after_signals view (signals_of turn.input)
 
+-- Two turns of one call: a moment is told, and then an input comes. What is given is what both gave.
+pub record RuleAt (moment : ℕ) (view : View) (turn : Turn) (after : View) : Type 0 where
+  pub first : List Output
+  pub second : List Output
+  pub between : View
+  pub outputs : turn.outputs ≡ first ++ second
+  pub tells : Rule view (record { input = Now moment; outputs = first }) between
+  pub takes : Rule between (record { input = turn.input; outputs = second }) after
+
+-- Nothing is due at a moment: told it, the client says nothing.
+abbrev pub NothingIsDue : View → (moment : ℕ) → Type 0
+NothingIsDue view moment = says_signals view (Ticks moment ∷ []) ≡ []
+
 -- All turns
 
 -- each caller asked about paths
@@ -257,9 +270,21 @@ module _ (start : Start) where
     pub said : AllSaid items
     pub asked : AllAskOf IsAskable items
 
+-- A client has come through these items, and then through two turns: a moment, and an input.
+pub record StandsAt (start : Start) (items : List Item) (moment : ℕ) (turn : Turn) (view : View) : Type 0 where
+  pub first : List Output
+  pub second : List Output
+  pub outputs : turn.outputs ≡ first ++ second
+  pub stands : Stands start (Turned (record { input = turn.input; outputs = second }) ∷ Turned (record { input = Now moment; outputs = first }) ∷ items) view
+
 -- what a halt leaves of a view: of its connection nothing is said
 pub record HaltsAs (view after : View) : Type 0 where
   pub standing : after.standing ≡ record { halted = true; state = view.standing.state }
   pub saved : after.saved ≡ view.saved
   pub lists : after.lists ≡ no_lists
   pub cache : after.cache ≡ empty_cache
+
+-- what a halt at a moment, or at the input behind it, leaves of a view: the turn of the moment may have been
+abbrev pub HaltsAt : (moment : ℕ) → (view after : View) → Type 0
+HaltsAt moment view after =
+    HaltsAs view after ⊎ ((first : List Output) × (between : View) × Rule view (record { input = Now moment; outputs = first }) between × HaltsAs between after)

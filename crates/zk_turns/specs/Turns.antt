@@ -6,7 +6,8 @@ use Rattle.zk_frames.specs.declared.fault.FrameFault.{FrameFault}
 use Rattle.zk_history.specs.declared.side.Side.{Side}
 use Rattle.zk_records.specs.declared.event.Event.{Event}
 use Rattle.zk_session.specs.declared.states.State.{State}
-use Rattle.std.specs.Prelude.{⊤, ℕ, ℤ, List, [], ◌∷◌, map, replicate}
+use Rattle.zk_session.specs.declared.states.State.TheVariants.{Expired, Closed}
+use Rattle.std.specs.Prelude.{⊤, ℕ, ℤ, Bool, true, false, List, [], ◌∷◌, map, replicate}
 use Rattle.zk_conversation.specs.Calls as call
 
 -- What a call is answered: its reply, with the zxid of the reply, or why there is none.
@@ -45,6 +46,13 @@ pub data Output : Type 0 where
   Report : Text → Side → Event → Output
   Enters : State → Output
   Drop : Fault → Output
+
+-- With this output the connection is over: it is given up, or the session has ended.
+abbrev pub ends_connection : Output → Bool
+ends_connection (Drop fault) = true
+ends_connection (Enters Expired) = true
+ends_connection (Enters Closed) = true
+ends_connection _ = false
 
 -- an input with the outputs that it gave
 pub record Turn : Type 0 where

@@ -10,8 +10,8 @@ use std::marker::Model;
 use zk_history::{Path, Side};
 use zk_records::Event;
 
-/// The most paths on a side.
-const MOST_PATHS: usize = 65_536;
+/// The most paths that are watched on a side.
+pub const MOST_PATHS: usize = 65_536;
 
 /// The paths that a client watches, seen as three lists of texts: those whose data it watches, those whose making it waits
 /// for, and those whose children it watches. Each is in the order in which its paths last came into it. The first two are the
