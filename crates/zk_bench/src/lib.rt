@@ -28,3 +28,4 @@ mod watches;
 mod writes;
 
 pub use bench::Bench;
+pub use zk_history::{Change, History, HistoryFault};

@@ -31,17 +31,9 @@ pub struct Link<A: Allocator + Copy, S: Drop> {
     room: Vec<u8, A>,
 }
 
-/// Whether an output ends the connection.
-fn is_end<A: Allocator>(output: &Output<A>) -> bool {
-    matches!(
-        output,
-        Output::Drop(_) | Output::State(State::Expired) | Output::State(State::Closed)
-    )
-}
-
-/// Whether one of the outputs does.
+/// Whether the connection is over with one of the outputs.
 fn has_end<A: Allocator>(outputs: &[Output<A>]) -> bool {
-    outputs.iter().any(|output| is_end(output))
+    outputs.iter().any(|output| output.ends_connection())
 }
 
 /// Whether an output answers the call with this ticket.

@@ -1,17 +1,13 @@
 -- What the servers hear of what a client says.
 use Rattle.std.specs.Prelude.{if◌then◌else◌, List, [], ◌∷◌}
-use Rattle.zk_session.specs.declared.states.State.TheVariants.{Expired, Closed}
-use Rattle.zk_turns.specs.Turns.{Output, Send, Enters, Drop}
+use Rattle.zk_turns.specs.Turns.{Output, Send, ends_connection}
 use Rattle.zk_bench.specs.Served.{Served, is_open, disconnected, with_requests}
 
 -- The connected server gets what is sent. Where the client gives the connection up, or its session is over, none is connected
 -- any more.
 abbrev pub heard : Output → Served → Served
 heard (Send bytes) served = if is_open served.connection.phase then with_requests served bytes else served
-heard (Drop fault) served = disconnected served
-heard (Enters Expired) served = disconnected served
-heard (Enters Closed) served = disconnected served
-heard _ served = served
+heard output served = if ends_connection output then disconnected served else served
 
 abbrev pub heard_all : List Output → Served → Served
 heard_all [] served = served

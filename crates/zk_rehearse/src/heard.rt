@@ -7,21 +7,19 @@ ghost use Rattle.zk_rehearse.specs.Heard.{heard, heard_all};
 use std::alloc::{AllocError, Allocator};
 use zk_bench::Bench;
 use zk_client::Output;
-use zk_session::State;
 
 /// The connected server gets what is sent. Where the client gives the connection up, or its session is over, no server is
 /// connected any more.
 fn hear<A: Allocator + Copy>(bench: &mut Bench<A>, output: &Output<A>) -> Result<(), AllocError>
     ensures { OnOk result (bench.new ≡ heard (output_view output.now) bench.old) }
 {
-    match output {
-        Output::Send(bytes) => bench.receive(bytes.as_slice())?,
-        Output::Drop(_) => bench.disconnect(),
-        Output::State(State::Expired) => bench.disconnect(),
-        Output::State(State::Closed) => bench.disconnect(),
-        _ => {}
+    if output.ends_connection() {
+        bench.disconnect();
     }
-    Ok(())
+    match output {
+        Output::Send(bytes) => bench.receive(bytes.as_slice()),
+        _ => Ok(()),
+    }
 }
 
 /// The same of all outputs, in order.

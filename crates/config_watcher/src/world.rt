@@ -1,0 +1,120 @@
+//! A world in memory: a server whose node changes, a connection that is cut, and a clock that goes on to what happens next.
+
+use anyhow::Result;
+use std::alloc::{AllocError, Global};
+use zk_bench::{Bench, Change, History};
+use zk_client::{Input, Path};
+
+/// What happens by itself.
+#[derive(Clone, Copy)]
+enum Event {
+    Opens,
+    Cuts,
+    Changes,
+    Ends,
+}
+
+/// What happens, and when, in milliseconds. While the connection is cut the node changes; behind the second connection a minute goes
+/// by in which nothing happens.
+static PLAN: [(u64, Event); 7] = [
+    (0, Event::Opens),
+    (1_000, Event::Changes),
+    (20_000, Event::Cuts),
+    (20_500, Event::Changes),
+    (21_000, Event::Opens),
+    (81_000, Event::Changes),
+    (82_000, Event::Ends),
+];
+
+/// What the node holds, from the first tree on.
+static VALUES: [&str; 4] = ["one", "two", "three", "four"];
+
+/// A server, the connection to it, and the moment.
+#[derive(Drop)]
+pub struct World {
+    bench: Bench<Global>,
+    now: u64,
+    done: usize,
+}
+
+/// A history in which the node takes one value after the other.
+fn history(alloc: Global, path: &str) -> Result<History<Global>> {
+    let mut history = History::new(alloc);
+    for (place, value) in VALUES.iter().enumerate() {
+        let node = Path::new(alloc, path)?;
+        let bytes = Some(Vec::from_slice(alloc, value.as_bytes())?);
+        if place == 0 {
+            history.node(node, bytes, 0)?;
+        } else {
+            history.begin(place as i64, 0)?;
+            history.change(Change::Set(node, bytes))?;
+        }
+    }
+    Ok(history)
+}
+
+impl World {
+    /// A world in which nothing has happened.
+    pub fn new(alloc: Global, path: &str) -> Result<World> {
+        Ok(World {
+            bench: Bench::new(alloc, history(alloc, path)?),
+            now: 0,
+            done: 0,
+        })
+    }
+
+    /// The moment, in milliseconds.
+    pub fn now(&self) -> u64 {
+        self.now
+    }
+
+    /// What happens next, which is the deadline where nothing does before it; none at the end.
+    pub fn next(&mut self, deadline: Option<u64>) -> Result<Option<Input>> {
+        let bytes = self.bench.output(usize::MAX)?;
+        if !bytes.is_empty() {
+            return Ok(Some(Input::Bytes(bytes)));
+        }
+        let Some((moment, event)) = PLAN.get(self.done) else {
+            return Ok(None);
+        };
+        if let Some(first) = deadline {
+            if first < *moment {
+                self.now = first.max(self.now);
+                return Ok(Some(Input::Now(self.now)));
+            }
+        }
+        self.now = *moment;
+        self.done += 1;
+        self.happen(*event)
+    }
+
+    /// Lets an event happen.
+    fn happen(&mut self, event: Event) -> Result<Option<Input>> {
+        match event {
+            Event::Opens => {
+                self.bench.connect(1);
+                Ok(Some(Input::Opened))
+            }
+            Event::Cuts => {
+                self.close();
+                Ok(Some(Input::Cut))
+            }
+            Event::Changes => {
+                self.bench.take(1)?;
+                Ok(Some(Input::Now(self.now)))
+            }
+            Event::Ends => Ok(None),
+        }
+    }
+
+    /// The server gets a frame, and processes it.
+    pub fn send(&mut self, frame: &[u8]) -> Result<(), AllocError> {
+        self.bench.receive(frame)?;
+        self.bench.process()
+    }
+
+    /// The connection is closed.
+    pub fn close(&mut self) {
+        self.bench.disconnect();
+    }
+}
