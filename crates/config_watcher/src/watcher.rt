@@ -7,13 +7,20 @@ use zk_client::{Call, Client, DataAnswer, Input, Mark, Output, Path, State};
 
 pub fn watch<W: Write>(alloc: Global, node: &Path, world: &mut World, out: &mut W) -> Result<()> {
     let mut client = Client::new(alloc, 10_000);
-    let mut is_asked = false;
+    let mut asked = 0u64;
     for _ in 0..u64::MAX {
-        let is_known = matches!(client.peek_data(node), Some((_, Mark::Good)));
-        let input = if client.state() == State::Connected && !is_known && !is_asked {
-            is_asked = true;
-            let path = Path::new(alloc, node.as_str())?;
-            Input::Call(1, Call::GetData { path, watch: true })
+        let is_known = match client.peek_data(node) {
+            Some((DataAnswer::Full(..) | DataAnswer::Absent, mark)) => mark == Mark::Good,
+            _ => false,
+        };
+        let input = if client.state() == State::Connected && !is_known && asked < 2 {
+            let (path, watch) = (Path::new(alloc, node.as_str())?, true);
+            asked += 1;
+            let call = match asked {
+                1 => Call::GetData { path, watch },
+                _ => Call::Exists { path, watch },
+            };
+            Input::Call(asked, call)
         } else if let Some(input) = world.next(client.deadline())? {
             input
         } else {
@@ -22,7 +29,7 @@ pub fn watch<W: Write>(alloc: Global, node: &Path, world: &mut World, out: &mut 
         for output in client.step_at(world.now(), input)?.iter() {
             match output {
                 Output::Send(frame) => world.send(frame.as_slice())?,
-                Output::Answer { .. } => is_asked = false,
+                Output::Answer { .. } => asked = asked.saturating_sub(1),
                 other => writeln!(out, "{other:?}")?,
             }
             if output.ends_connection() {
