@@ -1,4 +1,4 @@
-//! Tests of `zk_client` and `zk_bench`: the limits of calls, a run in memory, what a server sends byte for byte, and memory, refused and counted.
+//! Tests of `zk_client` and `zk_bench`: the limits of calls, moments, a run in memory, what a server sends byte for byte, and memory, refused and counted.
 #![tactic(auto)]
 
 #[cfg(test)]
@@ -7,6 +7,8 @@ mod counts;
 mod happens;
 #[cfg(test)]
 mod limits;
+#[cfg(test)]
+mod moments;
 #[cfg(test)]
 mod runs;
 #[cfg(test)]

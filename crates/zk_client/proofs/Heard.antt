@@ -1,5 +1,5 @@
 -- Bytes that are held, a frame at a time.
-use Rattle.std.proofs.Common.{◌≡◌, ℕ, ◌≤◌, ◌<◌, Bool, true, false, List, [], ◌∷◌, ◌++◌, map, length, refl, ap, sym, subst, ◌∙◌, arith, max}
+use Rattle.std.proofs.Common.{◌≡◌, ℕ, ◌≤◌, ◌<◌, Bool, true, false, List, [], ◌∷◌, ◌++◌, map, length, refl, ap, sym, subst, ◌∙◌, arith}
 use Rattle.std.specs.Prelude.{Option, None, Err, MatchOption}
 use Rattle.zk_frames.specs.Frame.{frame, IsUnfinished, IsNegative, IsTooLong}
 use Rattle.zk_frames.specs.Held.{Held, failed}
@@ -173,12 +173,9 @@ again-says view piece h fresh less =
 
 -- ---- the session
 
-hears-moments : (moments : Moments) → session.hear 0 moments ≡ record { now = moments.now; heard = moments.now; sent = moments.sent }
-hears-moments moments = let latest : max 0 moments.now ≡ moments.now = omega arith in ap (λ (n : ℕ). let m : Moments = record { now = n; heard = n; sent = moments.sent } in m) latest
-
 hears-state : (state : State) (saved : Saved) (moments : Moments) → IsOpen state → session.next session.Hears (record { state = state; saved = saved; moments = moments }) ≡ record { state = state; saved = saved; moments = record { now = moments.now; heard = moments.now; sent = moments.sent } }
-hears-state Connecting saved moments up = ap (λ (m : Moments). let k : Kept = record { state = Connecting; saved = saved; moments = m } in k) (hears-moments moments)
-hears-state Connected saved moments up = ap (λ (m : Moments). let k : Kept = record { state = Connected; saved = saved; moments = m } in k) (hears-moments moments)
+hears-state Connecting saved moments up = refl
+hears-state Connected saved moments up = refl
 hears-state Idle saved moments up = absurd cc
 hears-state Expired saved moments up = absurd cc
 hears-state Closed saved moments up = absurd cc

@@ -14,3 +14,4 @@ pub mod Whole
 pub mod Holding
 pub mod Copying
 pub mod Deadlines
+pub mod Behind

@@ -63,7 +63,7 @@ either : (b : Bool) (x y : Due) → happens (if b then x else y) ≡ (if b then 
 either true x y = refl
 either false x y = refl
 
-due-in : (held : List ℕ) (halted : Bool) (state : State) (saved : Saved) (moments : Moments) (talk : Talk) (lists : Lists) (answers : Answers) (moment : ℕ)
+pub due-in : (held : List ℕ) (halted : Bool) (state : State) (saved : Saved) (moments : Moments) (talk : Talk) (lists : Lists) (answers : Answers) (moment : ℕ)
     → if_open state (due (shown held halted (record { state = state; saved = saved; moments = moments }) talk lists answers) (max moment moments.now))
     ≡ happens (session.due (session.next (session.Ticks moment) (record { state = state; saved = saved; moments = moments })))
 due-in held halted Connecting saved moments talk lists answers moment = sym (either (nat_le (2 * saved.asked) (3 * (max moment moments.now - moments.heard))) Is_silent Nothing)

@@ -1,6 +1,6 @@
 -- What an accepted response leaves.
 use Rattle.std.proofs.lemmas.Int.{ints}
-use Rattle.std.proofs.Common.{◌≡◌, ℕ, zero, suc, ℤ, pos, negsuc, ◌<ℤ◌, ◌≤ℤ◌, ◌≤◌, max, Bool, true, List, [], ◌∷◌, ◌++◌, map, length, refl, ap, ◌∙◌, arith}
+use Rattle.std.proofs.Common.{◌≡◌, ℕ, zero, suc, ℤ, pos, negsuc, ◌<ℤ◌, ◌≤ℤ◌, ◌≤◌, Bool, true, List, [], ◌∷◌, ◌++◌, map, length, refl, ap, ◌∙◌, arith}
 use Rattle.std.specs.Prelude.{int_lt, unsigned_abs, if◌then◌else◌}
 use Rattle.std.proofs.lemmas.Bool.{lt-ltb}
 use Rattle.std.proofs.Math.Dec.{eqb-suc-zero}
@@ -55,9 +55,7 @@ welcomed-session kept new response at lt e =
 sent-moments : (ps : List Lists) (kept : Kept) (welcome : Welcome) → (if has_any ps then session.next session.Sends (welcomed kept welcome) else welcomed kept welcome)
     ≡ record { state = Connected; saved = record { asked = kept.saved.asked; session = welcome; last = kept.saved.last }; moments = if_any ps kept.moments (record { now = kept.moments.now; heard = kept.moments.heard; sent = kept.moments.now }) }
 sent-moments [] kept welcome = refl
-sent-moments (p ∷ ps) kept welcome =
-    let latest : max 0 kept.moments.now ≡ kept.moments.now = omega arith in
-    ap (λ (n : ℕ). let k : Kept = record { state = Connected; saved = record { asked = kept.saved.asked; session = welcome; last = kept.saved.last }; moments = record { now = n; heard = kept.moments.heard; sent = n } } in k) latest
+sent-moments (p ∷ ps) kept welcome = refl
 
 pub record Welcomed (held : List ℕ) (halted : Bool) (kept : Kept) (talk : Talk) (lists : Lists) (answers : Answers) (pending : List Pending) (welcome : Welcome) (new : Kept) (set : Talk) : Type 0 where
   pub sound : IsSound new set lists

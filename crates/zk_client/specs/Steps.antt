@@ -12,7 +12,8 @@ use Rattle.zk_session.specs.declared.states.State.TheVariants.{Closed, Connected
 use Rattle.zk_watches.specs.Lists.{count_of}
 use Rattle.zk_turns.specs.Turns.{Enters, Output, Outcome, TooLarge, Input, Opened, Bytes, Cut, Now, Call as Asks, Ticks}
 use Rattle.zk_turns.specs.Kept.{Denied, Asked, Happening, is_final}
-use Rattle.zk_turns.specs.Rule.{IsOpen, NothingIsDue, Rule, after_signals}
+use Rattle.zk_turns.specs.Taken.{NothingIsDue}
+use Rattle.zk_turns.specs.Rule.{IsOpen, Rule, after_signals}
 use Rattle.zk_session.specs.Kept.{Welcome}
 use Rattle.zk_session.specs.declared.fields.Response.{Response}
 use Rattle.zk_turns.specs.View.{View}

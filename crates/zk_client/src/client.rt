@@ -38,7 +38,8 @@ impl<A: Allocator + Copy> Client<A> {
     ghost use Rattle.zk_cache.specs.Contents.{answer_of, names_in};
     ghost use Rattle.zk_turns.specs.Turns.{Start, Item, Turned, Forgets, new_start};
     ghost use Rattle.zk_turns.specs.View.{view_at};
-    ghost use Rattle.zk_turns.specs.Rule.{Rule, RuleAt, Stands, StandsAt, HaltsAs, HaltsAt, NothingIsDue, forgotten};
+    ghost use Rattle.zk_turns.specs.Taken.{NothingIsDue};
+    ghost use Rattle.zk_turns.specs.Rule.{Rule, RuleAt, Stands, StandsAt, HaltsAs, HaltsAt, forgotten};
     ghost use Rattle.zk_client.specs.Views.{input_view, said, turn_of};
     ghost use Rattle.zk_client.specs.Steps.{Adds, IsQuiet, IsQuietAt};
     ghost use Rattle.zk_turns.specs.Ranges.{IsResumable, IsTyped, AsksOf};
@@ -115,8 +116,9 @@ impl<A: Allocator + Copy> Client<A> {
     /// first. So what the input brings is heard, and what it asks for is sent, at its own moment, and a connection is given up for
     /// silence alone.
     ///
-    /// Moments are milliseconds of a clock that does not go back; one below an earlier one counts as the earlier one. An error is
-    /// want of memory, as of [`step`](Client::step); where it came at the input, the moment was a turn, whose outputs are gone.
+    /// Moments are milliseconds of a clock that does not go back; one below an earlier one counts as the earlier one. Hand in
+    /// [`Input::Cut`] before [`Input::Opened`] where a connection is open still: what the moment makes due would be for the old one.
+    /// An error is want of memory, as of [`step`](Client::step); where it came at the input, the moment was a turn, whose outputs are gone.
     pub fn step_at(&mut self, now: u64, input: Input<A>) -> Result<Vec<Output<A>, A>, Halt>
         ensures rule { IfOk result (λ outputs. RuleAt now (view_of self.old) (turn_of input outputs.items) (view_of self.new)) }
         ensures stands { IfOk result (λ outputs. (start : Start) (items : List Item) → Stands start items (view_of self.old) → StandsAt start items now (turn_of input outputs.items) (view_of self.new)) }
@@ -126,6 +128,7 @@ impl<A: Allocator + Copy> Client<A> {
         ensures halted { (view_of self.old).standing.halted ≡ true → IsErr result }
     {
         one_turn();
+        asked_length(&input);
         let mut outputs = Vec::new(self.core.alloc);
         self.take(Input::Now(now), &mut outputs)?;
         self.take(input, &mut outputs)?;
@@ -165,10 +168,11 @@ impl<A: Allocator + Copy> Client<A> {
         ensures due { IfSome result (λ first. ¬ (NothingIsDue (view_of self.now) first)) }
         ensures never { result ≡ None → (moment : ℕ) → moment < 2 ^ 64 → NothingIsDue (view_of self.now) moment }
     {
-        if self.core.halted {
-            return None;
+        if !self.core.halted {
+            self.core.session.deadline()
+        } else {
+            None
         }
-        self.core.session.deadline()
     }
 
     /// The timeout of the session, in milliseconds: the one that a server granted last, and before any has, the one to ask for.

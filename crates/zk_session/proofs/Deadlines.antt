@@ -1,5 +1,5 @@
 -- When something is due while a session is Connected.
-use Rattle.std.proofs.Common.{◌≡◌, ℕ, ◌*◌, ◌<◌, max, Bool, true, false, ◌||◌, refl, sym, ap, subst, ◌∙◌}
+use Rattle.std.proofs.Common.{◌≡◌, ℕ, ◌*◌, max, Bool, true, false, ◌||◌, refl, sym, ap, subst, ◌∙◌}
 use Rattle.std.specs.Prelude.{Option, Some, None, if◌then◌else◌}
 use Rattle.zk_session.specs.declared.states.Due.TheVariants.{Nothing, Ping, Silent}
 use Rattle.zk_session.specs.declared.states.State.{State}

@@ -3,7 +3,7 @@
 use Rattle.zk_cache.specs.Kept.{merged, Absent, Known, Full, Names, good, stale, without_stale, Answer as Kept_answer}
 use Rattle.zk_cache.specs.declared.held.Kept.{Kept}
 use Rattle.zk_watches.specs.Lists.{Lists, registered, fired, fires, no_lists}
-use Rattle.zk_turns.specs.Turns.{IsAskable, AllAskOf, IsAsked, Replied, ConnectionLoss, Output, Send, Answer, Report, Enters, Drop, Now, Turn, Item, Turned, Start, Signal, Ticks, signals_of}
+use Rattle.zk_turns.specs.Turns.{IsAskable, AllAskOf, IsAsked, Replied, ConnectionLoss, Output, Send, Answer, Report, Enters, Drop, Now, Turn, Item, Turned, Start, Signal, signals_of}
 use Rattle.zk_records.specs.Events.{concerns}
 use Rattle.zk_turns.specs.Kept.{pending_for, Happening, Began, Came, Took, Dropped, Lost, Asked, Denied, Pinged, Ticked, Forgot, Halted, Past, Message, Accepted, Expiry, Replies, Watches_set, Notifies, Pong, Skipped, Left, leaves_data, leaves_child, parts_asked, later, has_halted, is_open}
 use Rattle.zk_watches.specs.Parts.{parts}
@@ -231,10 +231,6 @@ pub record RuleAt (moment : ℕ) (view : View) (turn : Turn) (after : View) : Ty
   pub outputs : turn.outputs ≡ first ++ second
   pub tells : Rule view (record { input = Now moment; outputs = first }) between
   pub takes : Rule between (record { input = turn.input; outputs = second }) after
-
--- Nothing is due at a moment: told it, the client says nothing.
-abbrev pub NothingIsDue : View → (moment : ℕ) → Type 0
-NothingIsDue view moment = says_signals view (Ticks moment ∷ []) ≡ []
 
 -- All turns
 

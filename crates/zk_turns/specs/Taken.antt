@@ -89,6 +89,9 @@ comes view byte = Came byte ∷ of_cutting view (cut (view.held ++ byte ∷ []))
 
 -- Moments
 
+abbrev pub if_open : State → List Happening → List Happening
+if_open state happenings = if is_open state then happenings else []
+
 abbrev pub timeout_of : View → ℕ
 timeout_of view = elim view.standing.state [ Connecting ↦ view.saved.asked | _ ↦ view.saved.session.timeout ]
 
@@ -97,6 +100,13 @@ abbrev pub due : View → (now : ℕ) → List Happening
 due view now =
     if nat_le (2 * timeout_of view) (3 * (now - view.moments.heard)) then Dropped Silent ∷ []
     else (if is_talking view.standing.state && nat_le (timeout_of view) (3 * (now - view.moments.sent)) then Pinged ∷ [] else [])
+
+-- what falls due once a moment is told: to a client that has halted nothing, nor without a connection
+abbrev pub due_at : View → (moment : ℕ) → List Happening
+due_at view moment = if view.standing.halted then [] else if_open view.standing.state (due view (max moment view.moments.now))
+
+abbrev pub NothingIsDue : View → (moment : ℕ) → Type 0
+NothingIsDue view moment = due_at view moment ≡ []
 
 -- Calls
 
@@ -122,9 +132,6 @@ refusal view call = elim view.standing.state [
 ]
 
 -- What a signal makes happen, in order.
-
-abbrev pub if_open : State → List Happening → List Happening
-if_open state happenings = if is_open state then happenings else []
 
 abbrev pub opens : State → List Happening
 opens Idle = Began ∷ []

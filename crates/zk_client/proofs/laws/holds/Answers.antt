@@ -1,5 +1,5 @@
 use Rattle.zk_client.proofs.Holding.{holds_here}
 use Rattle.zk_client.proofs.laws.holds.Goals as goal
 
-pub returns-clause : goal.returns-clause
-returns-clause c = holds_here
+pub returns : goal.returns
+returns c start items view s = holds_here start items view s

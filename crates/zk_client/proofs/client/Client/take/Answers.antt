@@ -1,13 +1,12 @@
-use Rattle.std.proofs.Common.{◌≡◌, List, ◌++◌, ap, ◌∙◌, w64, arith}
+use Rattle.std.proofs.Common.{◌≡◌, refl, ◌∙◌, w64, arith}
 use mir.Val.{to_z, of_z}
 use Rattle.std.proofs.lemmas.Int.{ints}
-use Rattle.zk_client.specs.declared.output.Output.{Output}
 use Rattle.zk_turns.specs.Turns.{signals_of}
 use Rattle.zk_turns.specs.Rule.{says_signals}
 use Rattle.zk_client.specs.Clients.{view_of}
-use Rattle.zk_client.specs.Views.{said, input_view, turn_of}
+use Rattle.zk_client.specs.Views.{input_view}
 use Rattle.zk_client.proofs.Whole.{halts}
-use Rattle.zk_client.proofs.client.Client.step.Goals as goal
+use Rattle.zk_client.proofs.client.Client.take.Goals as goal
 
 pub returns-then-self-clause-halt : goal.returns-then-self-clause-halt
 returns-then-self-clause-halt g c =
@@ -28,11 +27,9 @@ returns-in_default-clause-halt g c =
     c.halt-in_default.ensures.halted (c.halt-in_default.ensures.state ∙ c.state-state.ensures) (rw last at c.halt-in_default.ensures.last ∙ c.last_zxid-last.ensures.last)
     (c.halt-in_default.ensures.saved ∙ c.turn.ensures.origin) c.halt-in_default.ensures.lists c.halt-in_default.ensures.answers
 
-pub returns-clause-stands : goal.returns-clause-stands
-returns-clause-stands g c = λ start items s.
-    c.one_turn.ensures.stands start items _ _ (turn_of c.args.input c.turn.new.outputs.items) s (record {
-      asked = c.asked_length.ensures.asked;
-      goes_on = c.if-self.false;
-      outputs = c.in-Ok.ensures.says ∙ ap (λ (l : List (Output g.row.A.Denot)). said l ++ says_signals (view_of c.args.self.now) (signals_of (input_view c.args.input))) c.new-outputs.ensures.items;
-      next = c.in-Ok.ensures.next;
-    })
+pub returns-clause-rule : goal.returns-clause-rule
+returns-clause-rule g c = record {
+  outputs = says_signals (view_of c.args.self.now) (signals_of (input_view c.args.input));
+  added = c.in-Ok.ensures.says;
+  rule = record { asked = c.asked_length.ensures.asked; goes_on = c.if-self.false; outputs = refl; next = c.in-Ok.ensures.next };
+}
