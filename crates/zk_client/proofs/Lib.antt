@@ -13,3 +13,4 @@ pub mod Turning
 pub mod Whole
 pub mod Holding
 pub mod Copying
+pub mod PuttingAway

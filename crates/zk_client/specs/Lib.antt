@@ -6,3 +6,4 @@ pub mod Clients
 pub mod Outsides
 pub mod Runs
 pub mod Records
+pub mod SavedSessions

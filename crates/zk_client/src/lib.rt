@@ -22,6 +22,9 @@ mod recorded;
 mod recording;
 mod replies;
 mod running;
+mod saved_fault;
+mod saved_record;
+mod saved_session;
 mod ticks;
 mod turn;
 
@@ -33,3 +36,5 @@ pub use output::{Outcome, Output};
 pub use outside::Outside;
 pub use recording::{Recorded, RecordedTurn};
 pub use running::run;
+pub use saved_fault::SavedFault;
+pub use saved_session::SavedSession;
