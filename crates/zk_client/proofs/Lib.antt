@@ -15,3 +15,4 @@ pub mod Holding
 pub mod Copying
 pub mod Deadlines
 pub mod Behind
+pub mod PuttingAway

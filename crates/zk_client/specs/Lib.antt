@@ -6,6 +6,7 @@ pub mod Clients
 pub mod Outsides
 pub mod Runs
 pub mod Records
+pub mod SavedSessions
 -- what its clauses name, for who stands on this crate alone
 pub use Rattle.zk_turns.specs.Turns
 pub use Rattle.zk_turns.specs.View

@@ -27,6 +27,9 @@ mod recorded;
 mod recording;
 mod replies;
 mod running;
+mod saved_fault;
+mod saved_record;
+mod saved_session;
 mod ticks;
 mod turn;
 
@@ -38,6 +41,8 @@ pub use output::{Outcome, Output};
 pub use outside::Outside;
 pub use recording::{Recorded, RecordedTurn};
 pub use running::run;
+pub use saved_fault::SavedFault;
+pub use saved_session::SavedSession;
 pub use zk_cache::{DataAnswer, Mark};
 pub use zk_conversation::{Call, CreateMode, MOST_PENDING, TalkFault};
 pub use zk_frames::{FrameFault, LONGEST_INCOMING, LONGEST_OUTGOING};

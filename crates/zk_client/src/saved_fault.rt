@@ -1,0 +1,69 @@
+//! Why nothing is taken for a saved session.
+
+ghost use Rattle.std.specs.Prelude.{◌≡◌};
+ghost use Rattle.zk_client.specs.declared.saved_fault.SavedFault.TheVariants as saved_faults;
+
+use std::alloc::AllocError;
+use std::error::Error;
+use std::fmt;
+use zk_jute::TakeError;
+
+/// Why a text, bytes or numbers are no saved session: the first reason that applies, in the order of the variants but for the
+/// last. A place is counted from 0.
+#[derive(Clone, Copy, Debug, PartialEq, Eq)]
+pub enum SavedFault {
+    /// The text has an even number of bytes, and something else than a hexadecimal digit. The place of its first byte.
+    NotHex { place: usize },
+    /// The text has an odd number of bytes: how many. It is told also where not all of them are digits.
+    OddDigits { count: usize },
+    /// The bytes begin with no record of a saved session. It is never for want of memory.
+    Unread(TakeError),
+    /// There are bytes behind the record: how many.
+    BytesBehind { count: usize },
+    /// The password is null. One of no bytes is a password.
+    NoPassword,
+    /// The password has more than 4,194,284 bytes: how many.
+    LongPassword { length: usize },
+    /// The last seen zxid is below 0: which it is.
+    NegativeZxid { last_zxid: i64 },
+    /// The allocator refused a request.
+    Memory,
+}
+
+impl fmt::Display for SavedFault {
+    ghost use Rattle.std.specs.Prelude.{Some};
+    ghost use Rattle.zk_client.specs.SavedSessions.{saved_fault_text};
+
+    ghost output = { λ fault. Some (saved_fault_text fault) };
+
+    fn fmt<W: fmt::Write>(&self, f: &mut fmt::Formatter<W>) -> fmt::Result {
+        match self {
+            SavedFault::NotHex { place } => write!(f, "no hexadecimal digit at place {place}"),
+            SavedFault::OddDigits { count } => {
+                write!(f, "an odd number of hexadecimal digits, {count}")
+            }
+            SavedFault::Unread(fault) => write!(f, "no saved session: {fault}"),
+            SavedFault::BytesBehind { count } => {
+                write!(f, "more behind the saved session: bytes, {count}")
+            }
+            SavedFault::NoPassword => write!(f, "the password is null"),
+            SavedFault::LongPassword { length } => {
+                write!(f, "a password of {length} bytes, and 4194284 are the most")
+            }
+            SavedFault::NegativeZxid { last_zxid } => {
+                write!(f, "the last seen zxid is below 0: {last_zxid}")
+            }
+            SavedFault::Memory => write!(f, "out of memory"),
+        }
+    }
+}
+
+impl Error for SavedFault {}
+
+impl From<AllocError> for SavedFault {
+    ghost from_gives = { λ _ fault. fault ≡ saved_faults.Memory };
+
+    fn from(_e: AllocError) -> SavedFault {
+        SavedFault::Memory
+    }
+}
