@@ -1,4 +1,5 @@
 pub mod Views
+pub mod FaultText
 pub mod Seen
 pub mod Sound
 pub mod Steps

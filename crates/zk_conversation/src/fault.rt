@@ -1,6 +1,7 @@
 //! What can be wrong with a request, and with what arrives.
 
 ghost use Rattle.std.specs.Prelude.{◌≡◌};
+ghost use Rattle.zk_conversation.specs.FaultText.{ask_fault_code, talk_fault_code};
 ghost use Rattle.zk_conversation.specs.declared.fault.AskFault.TheVariants as ask_faults;
 
 use std::alloc::{AllocError, AllocFailed};
@@ -19,17 +20,30 @@ pub enum AskFault {
     Memory,
 }
 
+impl AskFault {
+    /// The code of the fault, `A1` to `A3`.
+    pub fn code(self) -> &'static str
+        ensures { result.now ≡ ask_fault_code self }
+    {
+        match self {
+            AskFault::TooLarge => "A1",
+            AskFault::TooMany => "A2",
+            AskFault::Memory => "A3",
+        }
+    }
+}
+
 impl fmt::Display for AskFault {
     ghost use Rattle.std.specs.Prelude.{Some};
-    ghost use Rattle.zk_conversation.specs.FaultText.{ask_fault_text};
+    ghost use Rattle.zk_conversation.specs.FaultText.{ask_fault_words};
 
-    ghost output = { λ fault. Some (ask_fault_text fault) };
+    ghost output = { λ fault. Some (ask_fault_words fault) };
 
     fn fmt<W: fmt::Write>(&self, f: &mut fmt::Formatter<W>) -> fmt::Result {
         match self {
-            AskFault::TooLarge => write!(f, "A1"),
-            AskFault::TooMany => write!(f, "A2"),
-            AskFault::Memory => write!(f, "A3"),
+            AskFault::TooLarge => write!(f, "the payload has more than 1,048,575 bytes"),
+            AskFault::TooMany => write!(f, "1,024 calls are pending"),
+            AskFault::Memory => write!(f, "out of memory"),
         }
     }
 }
@@ -69,20 +83,43 @@ pub enum TalkFault {
     Memory,
 }
 
+impl TalkFault {
+    /// The code of the fault, `C1` to `C6`: its values are no part of it.
+    pub fn code(self) -> &'static str
+        ensures { result.now ≡ talk_fault_code self }
+    {
+        match self {
+            TalkFault::BadHeader => "C1",
+            TalkFault::NobodyAsked { .. } => "C2",
+            TalkFault::OtherXid { .. } => "C3",
+            TalkFault::BadRecord(_) => "C4",
+            TalkFault::BadNotice(_) => "C5",
+            TalkFault::Memory => "C6",
+        }
+    }
+}
+
 impl fmt::Display for TalkFault {
     ghost use Rattle.std.specs.Prelude.{Some};
-    ghost use Rattle.zk_conversation.specs.FaultText.{talk_fault_text};
+    ghost use Rattle.zk_conversation.specs.FaultText.{talk_fault_words};
 
-    ghost output = { λ fault. Some (talk_fault_text fault) };
+    ghost output = { λ fault. Some (talk_fault_words fault) };
 
     fn fmt<W: fmt::Write>(&self, f: &mut fmt::Formatter<W>) -> fmt::Result {
         match self {
-            TalkFault::BadHeader => write!(f, "C1"),
-            TalkFault::NobodyAsked { came } => write!(f, "C2 {came}"),
-            TalkFault::OtherXid { awaited, came } => write!(f, "C3 {awaited} {came}"),
-            TalkFault::BadRecord(fault) => write!(f, "C4 {fault}"),
-            TalkFault::BadNotice(fault) => write!(f, "C5 {fault}"),
-            TalkFault::Memory => write!(f, "C6"),
+            TalkFault::BadHeader => write!(f, "a payload has fewer than the 16 bytes of a header"),
+            TalkFault::NobodyAsked { came } => {
+                write!(f, "a reply with xid {came} came, and no request is pending")
+            }
+            TalkFault::OtherXid { awaited, came } => {
+                write!(
+                    f,
+                    "a reply is awaited with xid {awaited}, and one came with xid {came}"
+                )
+            }
+            TalkFault::BadRecord(fault) => write!(f, "a reply does not read: {fault}"),
+            TalkFault::BadNotice(fault) => write!(f, "a notice does not read: {fault}"),
+            TalkFault::Memory => write!(f, "out of memory"),
         }
     }
 }

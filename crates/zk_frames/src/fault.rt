@@ -1,5 +1,6 @@
 //! What can be wrong with a frame.
 ghost use Rattle.std.specs.Prelude.{◌≡◌};
+ghost use Rattle.zk_frames.specs.FaultText.{frame_fault_code, put_fault_code};
 
 use std::alloc::AllocError;
 use std::error::Error;
@@ -16,17 +17,30 @@ pub enum FrameFault {
     Memory,
 }
 
+impl FrameFault {
+    /// The code of the fault, `F1` to `F3`.
+    pub fn code(self) -> &'static str
+        ensures { result.now ≡ frame_fault_code self }
+    {
+        match self {
+            FrameFault::Negative => "F1",
+            FrameFault::TooLong => "F2",
+            FrameFault::Memory => "F3",
+        }
+    }
+}
+
 impl fmt::Display for FrameFault {
     ghost use Rattle.std.specs.Prelude.{Some};
-    ghost use Rattle.zk_frames.specs.FaultText.{frame_fault_text};
+    ghost use Rattle.zk_frames.specs.FaultText.{frame_fault_words};
 
-    ghost output = { λ fault. Some (frame_fault_text fault) };
+    ghost output = { λ fault. Some (frame_fault_words fault) };
 
     fn fmt<W: fmt::Write>(&self, f: &mut fmt::Formatter<W>) -> fmt::Result {
         match self {
-            FrameFault::Negative => write!(f, "F1"),
-            FrameFault::TooLong => write!(f, "F2"),
-            FrameFault::Memory => write!(f, "F3"),
+            FrameFault::Negative => write!(f, "the length of a frame is below 0"),
+            FrameFault::TooLong => write!(f, "the length of a frame is above 4,194,304 bytes"),
+            FrameFault::Memory => write!(f, "out of memory"),
         }
     }
 }
@@ -53,16 +67,28 @@ pub enum PutFault {
     Memory,
 }
 
+impl PutFault {
+    /// The code of the fault, `G1` or `G2`.
+    pub fn code(self) -> &'static str
+        ensures { result.now ≡ put_fault_code self }
+    {
+        match self {
+            PutFault::TooLarge => "G1",
+            PutFault::Memory => "G2",
+        }
+    }
+}
+
 impl fmt::Display for PutFault {
     ghost use Rattle.std.specs.Prelude.{Some};
-    ghost use Rattle.zk_frames.specs.FaultText.{put_fault_text};
+    ghost use Rattle.zk_frames.specs.FaultText.{put_fault_words};
 
-    ghost output = { λ fault. Some (put_fault_text fault) };
+    ghost output = { λ fault. Some (put_fault_words fault) };
 
     fn fmt<W: fmt::Write>(&self, f: &mut fmt::Formatter<W>) -> fmt::Result {
         match self {
-            PutFault::TooLarge => write!(f, "G1"),
-            PutFault::Memory => write!(f, "G2"),
+            PutFault::TooLarge => write!(f, "the payload has more than 1,048,575 bytes"),
+            PutFault::Memory => write!(f, "out of memory"),
         }
     }
 }

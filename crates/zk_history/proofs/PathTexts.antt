@@ -176,7 +176,7 @@ parent_valid t u v is utf8 front e =
     let slash = above_slash (path_of t) u e in
     IsPath-front t u v (path_of u) is utf8 front slash.1 slash.0 refl names
 
-slash_ascii : IsAscii (47 ∷ [])
+pub slash_ascii : IsAscii (47 ∷ [])
 slash_ascii zero = omega arith
 slash_ascii (suc i) = omega arith
 

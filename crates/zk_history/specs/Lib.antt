@@ -1,6 +1,7 @@
 pub mod History
 pub mod Path
 pub mod PathFault
+pub mod FaultText
 pub mod Replay
 pub mod Kept
 pub mod Made

@@ -29,6 +29,10 @@ parent_of (name ∷ path) = Some path
 abbrev pub parent_text : Text → Option Text
 parent_text text = option_map text_of (parent_of (path_of text))
 
+-- The text of the child with this name of a text's path: the text, a slash unless it is the root's, and the name.
+abbrev pub child_text : Text → Name → Text
+child_text text name = text_of (name ∷ path_of text)
+
 -- The last name of a path: the root has none.
 abbrev pub name_of : NodePath → Option Name
 name_of [] = None

@@ -1,10 +1,10 @@
--- Why a text is no path: the first of six faults.
-use Rattle.std.specs.Prelude.{ℕ, ◌==◌, ◌≡◌, Bool, ◌||◌, ◌&&◌, not, nat_lt, nat_le, if◌then◌else◌, [], ◌∷◌, length, Option, Some, None, slice_index, chars, bytes_eq, codes}
+-- Why a text is no path, by the first of six faults, and why a path has no child of a name.
+use Rattle.std.specs.Prelude.{ℕ, ◌==◌, ◌≡◌, Bool, ◌||◌, ◌&&◌, not, nat_lt, nat_le, if◌then◌else◌, [], ◌∷◌, length, Option, Some, None, slice_index, chars, bytes_eq}
 use Rattle.std.specs.List.{list_any}
 use Rattle.zk_history.specs.History.{Text, Name, NodePath, path_of}
-use Rattle.zk_history.specs.Path.{is_empty}
+use Rattle.zk_history.specs.Path.{is_empty, has_no_slash, child_text}
 use Rattle.zk_history.specs.declared.path_fault.PathFault.{PathFault}
-use Rattle.zk_history.specs.declared.path_fault.PathFault.TheVariants.{Empty, TooLong, NoSlashFirst, BadCharacter, EmptyName, DotName, Memory}
+use Rattle.zk_history.specs.declared.path_fault.PathFault.TheVariants.{Empty, TooLong, NoSlashFirst, BadCharacter, EmptyName, DotName, SlashInName, Memory}
 
 -- U+0000 to U+001F, U+007F to U+009F, U+E000 to U+F8FF, U+FFF0 to U+FFFF, and all above
 -- ("The ZooKeeper Data Model": the characters that no path may have)
@@ -32,6 +32,14 @@ fault_of text =
 abbrev pub IsPath : Text → Type 0
 IsPath text = fault_of text ≡ None
 
+-- Why a path has no child of this name, if it has none: a name is one name, so it has no slash and is not empty, and then
+-- the child's text has none of the six faults ("The ZooKeeper Data Model": a name is a sequence of path elements separated by a slash).
+abbrev pub child_fault : Text → Name → Option PathFault
+child_fault text name =
+    if not (has_no_slash name) then Some SlashInName
+    else (if is_empty name then Some EmptyName
+    else fault_of (child_text text name))
+
 -- what a refusal says of the text: want of memory says that there is no fault
 abbrev pub fault_told : PathFault → Option PathFault
 fault_told Empty = Some Empty
@@ -40,14 +48,5 @@ fault_told NoSlashFirst = Some NoSlashFirst
 fault_told BadCharacter = Some BadCharacter
 fault_told EmptyName = Some EmptyName
 fault_told DotName = Some DotName
+fault_told SlashInName = Some SlashInName
 fault_told Memory = None
-
--- how a fault is shown
-abbrev pub path_fault_text : PathFault → Text
-path_fault_text Empty = codes "P1"
-path_fault_text TooLong = codes "P2"
-path_fault_text NoSlashFirst = codes "P3"
-path_fault_text BadCharacter = codes "P4"
-path_fault_text EmptyName = codes "P5"
-path_fault_text DotName = codes "P6"
-path_fault_text Memory = codes "P7"

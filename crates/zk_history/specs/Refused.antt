@@ -1,6 +1,6 @@
 -- When a history refuses what it is given: the first fault that applies, and want of memory where none does.
-use Rattle.std.specs.Prelude.{ℕ, ℤ, pos, ◌≡◌, ◌≢◌, ◌≤ℤ◌, ◌<ℤ◌, List, [], Option, codes}
-use Rattle.zk_history.specs.History.{Text, NodePath, Change, Creates, newest}
+use Rattle.std.specs.Prelude.{ℕ, ℤ, pos, ◌≡◌, ◌≢◌, ◌≤ℤ◌, ◌<ℤ◌, List, [], Option}
+use Rattle.zk_history.specs.History.{NodePath, Change, Creates, newest}
 use Rattle.zk_history.specs.Kept.{Kept, IsAccepted, newest_tree}
 use Rattle.zk_history.specs.declared.history_fault.HistoryFault.{HistoryFault}
 use Rattle.zk_history.specs.declared.history_fault.HistoryFault.TheVariants.{Place, Order, Illegal, Memory}
@@ -25,10 +25,3 @@ BeginRefused kept zxid Place = ⊥
 BeginRefused kept zxid Order = zxid ≤ℤ pos (newest 0 kept.transactions)
 BeginRefused kept zxid Illegal = ⊥
 BeginRefused kept zxid Memory = pos (newest 0 kept.transactions) <ℤ zxid
-
--- how a fault is shown
-abbrev pub history_fault_text : HistoryFault → Text
-history_fault_text Place = codes "H1"
-history_fault_text Order = codes "H2"
-history_fault_text Illegal = codes "H3"
-history_fault_text Memory = codes "H4"

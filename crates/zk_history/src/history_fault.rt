@@ -1,5 +1,7 @@
 //! Why a history refuses what it is given.
 
+ghost use Rattle.std.specs.Prelude.{◌≡◌};
+ghost use Rattle.zk_history.specs.FaultText.{history_fault_code};
 ghost use Rattle.zk_history.specs.declared.history_fault.HistoryFault.TheVariants as history_faults;
 
 use std::alloc::AllocError;
@@ -19,27 +21,41 @@ pub enum HistoryFault {
     Memory,
 }
 
+impl HistoryFault {
+    /// The code of the fault, `H1` to `H4`.
+    pub fn code(self) -> &'static str
+        ensures { result.now ≡ history_fault_code self }
+    {
+        match self {
+            HistoryFault::Place => "H1",
+            HistoryFault::Order => "H2",
+            HistoryFault::Illegal => "H3",
+            HistoryFault::Memory => "H4",
+        }
+    }
+}
+
 impl fmt::Display for HistoryFault {
     ghost use Rattle.std.specs.Prelude.{Some};
-    ghost use Rattle.zk_history.specs.Refused.{history_fault_text};
+    ghost use Rattle.zk_history.specs.FaultText.{history_fault_words};
 
-    ghost output = { λ f. Some (history_fault_text f) };
+    ghost output = { λ f. Some (history_fault_words f) };
 
     fn fmt<W: fmt::Write>(&self, f: &mut fmt::Formatter<W>) -> fmt::Result {
-        match self {
-            HistoryFault::Place => write!(f, "H1"),
-            HistoryFault::Order => write!(f, "H2"),
-            HistoryFault::Illegal => write!(f, "H3"),
-            HistoryFault::Memory => write!(f, "H4"),
-        }
+        f.write_str(match self {
+            HistoryFault::Place => {
+                "a node of the first tree comes after the first transaction, or a change before it"
+            }
+            HistoryFault::Order => "a zxid is below 1, or not above the one before",
+            HistoryFault::Illegal => "the tree as it stands does not admit the node or the change",
+            HistoryFault::Memory => "out of memory",
+        })
     }
 }
 
 impl Error for HistoryFault {}
 
 impl From<AllocError> for HistoryFault {
-    ghost use Rattle.std.specs.Prelude.{◌≡◌};
-
     ghost from_gives = { λ _ f. f ≡ history_faults.Memory };
 
     fn from(_e: AllocError) -> HistoryFault {

@@ -1,13 +1,13 @@
 //! Paths of the data tree, from their texts.
 
-ghost use Rattle.std.specs.Prelude.{◌≡◌, ◌≢◌, ◌≤◌, ◌<◌, ◌↔◌, ℕ, [], ◌∷◌, IsTrue, IfOk, IfErr, IfSome, OnOk, length, slice_index};
+ghost use Rattle.std.specs.Prelude.{◌≡◌, ◌≢◌, ◌≤◌, ◌<◌, ◌↔◌, ℕ, [], ◌∷◌, IsTrue, IfOk, IfErr, IfSome, OnOk, Some, None, length, not, slice_index, string_bytes};
 ghost use Rattle.std.specs.Option.{option_copied, option_map};
 ghost use Rattle.zk_history.specs.History.{path_eq, path_of, IsPathText};
-ghost use Rattle.zk_history.specs.Path.{parent_of, parent_text, name_of, is_below};
-ghost use Rattle.zk_history.specs.PathFault.{fault_of, fault_of_names, fault_told, is_refused, IsPath};
+ghost use Rattle.zk_history.specs.Path.{child_text, has_no_slash, parent_of, parent_text, name_of, is_below};
+ghost use Rattle.zk_history.specs.PathFault.{child_fault, fault_of, fault_of_names, fault_told, is_refused, IsPath};
 
 use crate::path_fault::PathFault;
-use std::alloc::{Allocator, Global};
+use std::alloc::{AllocError, Allocator, Global};
 use std::marker::Model;
 
 // The most bytes that a path may have.
@@ -90,6 +90,54 @@ fn last_slash(bytes: &[u8]) -> usize
     last
 }
 
+// How many bytes the text of a child has.
+fn child_len(above: &str, name: &str) -> usize
+    requires { IsPath above.now }
+    ensures { result ≡ length (child_text above.now name.now) }
+{
+    if above.len() == 1 {
+        1 + name.len()
+    } else {
+        above.len() + 1 + name.len()
+    }
+}
+
+// Why the path of a text has no child of this name.
+fn child_fault(above: &str, name: &str) -> Option<PathFault>
+    requires { IsPath above.now }
+    ensures { result ≡ child_fault above.now name.now }
+{
+    if name.as_bytes().contains(&b'/') {
+        return Some(PathFault::SlashInName);
+    }
+    if name.is_empty() {
+        return Some(PathFault::EmptyName);
+    }
+    if child_len(above, name) > MAX_BYTES {
+        return Some(PathFault::TooLong);
+    }
+    if name.chars().any(is_refused) {
+        return Some(PathFault::BadCharacter);
+    }
+    if name == "." || name == ".." {
+        return Some(PathFault::DotName);
+    }
+    None
+}
+
+// The text of the child with this name of the path of a text.
+fn child_text<A: Allocator>(alloc: A, above: &str, name: &str) -> Result<String<A>, AllocError>
+    requires { IsPath above.now }
+    ensures { IfOk result (λ text. string_bytes text ≡ child_text above.now name.now) }
+{
+    let mut text = String::from_str(alloc, above)?;
+    if above.len() > 1 {
+        text.push_str("/")?;
+    }
+    text.push_str(name)?;
+    Ok(text)
+}
+
 impl<A: Allocator> Path<A> {
     /// The path of a text, or the first fault of the text; want of memory is told of a text with no fault alone.
     pub fn new(alloc: A, text: &str) -> Result<Path<A>, PathFault>
@@ -142,6 +190,25 @@ impl<A: Allocator> Path<A> {
             return Some("/");
         }
         Some(&text[..cut])
+    }
+
+    /// The path of the child with this name: this path's text, a `/` unless it is the root, and the name. There is none where
+    /// the name has a slash (`SlashInName`), else where it is empty (`EmptyName`), else where that text has a fault: the one that
+    /// [`Path::new`] tells of it. Want of memory is told where there is such a child alone.
+    pub fn join(&self, alloc: A, name: &str) -> Result<Path<A>, PathFault>
+        ensures path { IfOk result (λ path. path ≡ child_text self.now name.now) }
+        ensures parent { IfOk result (λ path. parent_of (path_of path) ≡ Some (path_of self.now)) }
+        ensures name { IfOk result (λ path. name_of (path_of path) ≡ Some name.now) }
+        ensures accepted { OnOk result (child_fault self.now name.now ≡ None) }
+        ensures refused { IfErr result (λ fault. child_fault self.now name.now ≡ fault_told fault) }
+    {
+        let above = self.as_str();
+        if let Some(fault) = child_fault(above, name) {
+            return Err(fault);
+        }
+        Ok(Path {
+            text: child_text(alloc, above, name)?,
+        })
     }
 
     /// The last name of the path, and none for the root.

@@ -1,6 +1,7 @@
 //! Why a value could not be read or written.
 
 ghost use Rattle.std.specs.Prelude.{◌≡◌};
+ghost use Rattle.zk_jute.specs.FaultText.{take_error_code};
 ghost use Rattle.zk_jute.specs.declared.fault.TakeError.TheVariants as take_errors;
 ghost use Rattle.zk_jute.specs.declared.fault.PutError.TheVariants as put_errors;
 
@@ -26,19 +27,34 @@ pub enum TakeError {
     Memory,
 }
 
+impl TakeError {
+    /// The code of the fault, `J1` to `J5`: its place is no part of it.
+    pub fn code(self) -> &'static str
+        ensures { result.now ≡ take_error_code self }
+    {
+        match self {
+            TakeError::Short(_) => "J1",
+            TakeError::BadLength(_) => "J2",
+            TakeError::BadBool(_) => "J3",
+            TakeError::NotUtf8(_) => "J4",
+            TakeError::Memory => "J5",
+        }
+    }
+}
+
 impl fmt::Display for TakeError {
     ghost use Rattle.std.specs.Prelude.{Some};
-    ghost use Rattle.zk_jute.specs.FaultText.{take_error_text};
+    ghost use Rattle.zk_jute.specs.FaultText.{take_error_words};
 
-    ghost output = { λ e. Some (take_error_text e) };
+    ghost output = { λ e. Some (take_error_words e) };
 
     fn fmt<W: fmt::Write>(&self, f: &mut fmt::Formatter<W>) -> fmt::Result {
         match self {
-            TakeError::Short(place) => write!(f, "J1 at {place}"),
-            TakeError::BadLength(place) => write!(f, "J2 at {place}"),
-            TakeError::BadBool(place) => write!(f, "J3 at {place}"),
-            TakeError::NotUtf8(place) => write!(f, "J4 at {place}"),
-            TakeError::Memory => write!(f, "J5"),
+            TakeError::Short(place) => write!(f, "a value at byte {place} is cut off"),
+            TakeError::BadLength(place) => write!(f, "a length at byte {place} is below -1"),
+            TakeError::BadBool(place) => write!(f, "a boolean at byte {place} is neither 0 nor 1"),
+            TakeError::NotUtf8(place) => write!(f, "a text at byte {place} is not UTF-8"),
+            TakeError::Memory => write!(f, "out of memory"),
         }
     }
 }
@@ -72,9 +88,9 @@ pub enum PutError {
 
 impl fmt::Display for PutError {
     ghost use Rattle.std.specs.Prelude.{Some};
-    ghost use Rattle.zk_jute.specs.FaultText.{put_error_text};
+    ghost use Rattle.zk_jute.specs.FaultText.{put_error_words};
 
-    ghost output = { λ e. Some (put_error_text e) };
+    ghost output = { λ e. Some (put_error_words e) };
 
     fn fmt<W: fmt::Write>(&self, f: &mut fmt::Formatter<W>) -> fmt::Result {
         match self {

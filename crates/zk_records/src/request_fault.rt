@@ -2,6 +2,8 @@
 
 ghost use Rattle.zk_records.specs.declared.request_fault.RequestFault.TheVariants as faults;
 ghost use Rattle.std.specs.Prelude.{◌≡◌};
+ghost use Rattle.std.specs.Option.{option_copied};
+ghost use Rattle.zk_records.specs.FaultText.{request_fault_code};
 
 use std::error::Error;
 use std::fmt;
@@ -16,11 +18,23 @@ pub enum RequestFault {
     Unread(TakeError),
 }
 
+impl RequestFault {
+    /// The code of the fault of reading; an unknown type has none.
+    pub fn code(self) -> Option<&'static str>
+        ensures { option_copied result ≡ request_fault_code self }
+    {
+        match self {
+            RequestFault::Unknown(_) => None,
+            RequestFault::Unread(fault) => Some(fault.code()),
+        }
+    }
+}
+
 impl fmt::Display for RequestFault {
     ghost use Rattle.std.specs.Prelude.{Some};
-    ghost use Rattle.zk_records.specs.FaultText.{request_fault_text};
+    ghost use Rattle.zk_records.specs.FaultText.{request_fault_words};
 
-    ghost output = { λ fault. Some (request_fault_text fault) };
+    ghost output = { λ fault. Some (request_fault_words fault) };
 
     fn fmt<W: fmt::Write>(&self, f: &mut fmt::Formatter<W>) -> fmt::Result {
         match self {

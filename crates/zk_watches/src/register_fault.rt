@@ -1,6 +1,7 @@
 //! Why a path is not registered.
 
 ghost use Rattle.std.specs.Prelude.{◌≡◌};
+ghost use Rattle.zk_watches.specs.FaultText.{register_fault_code};
 ghost use Rattle.zk_watches.specs.declared.register_fault.RegisterFault.TheVariants as register_faults;
 
 use std::alloc::AllocError;
@@ -16,16 +17,28 @@ pub enum RegisterFault {
     Memory,
 }
 
+impl RegisterFault {
+    /// The code of the fault, `W1` or `W2`.
+    pub fn code(self) -> &'static str
+        ensures { result.now ≡ register_fault_code self }
+    {
+        match self {
+            RegisterFault::Full => "W1",
+            RegisterFault::Memory => "W2",
+        }
+    }
+}
+
 impl fmt::Display for RegisterFault {
     ghost use Rattle.std.specs.Prelude.{Some};
-    ghost use Rattle.zk_watches.specs.FaultText.{register_fault_text};
+    ghost use Rattle.zk_watches.specs.FaultText.{register_fault_words};
 
-    ghost output = { λ f. Some (register_fault_text f) };
+    ghost output = { λ f. Some (register_fault_words f) };
 
     fn fmt<W: fmt::Write>(&self, f: &mut fmt::Formatter<W>) -> fmt::Result {
         match self {
-            RegisterFault::Full => write!(f, "W1"),
-            RegisterFault::Memory => write!(f, "W2"),
+            RegisterFault::Full => write!(f, "65,536 paths of the side are watched"),
+            RegisterFault::Memory => write!(f, "out of memory"),
         }
     }
 }
