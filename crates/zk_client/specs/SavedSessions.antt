@@ -5,7 +5,7 @@ use Rattle.std.specs.Int.{w64}
 use Rattle.hex.specs.Hex.{decode_of, encode_lower}
 use Rattle.hex.specs.declared.error.FromHexError.{FromHexError}
 use Rattle.hex.specs.declared.error.FromHexError.TheVariants.{InvalidHexCharacter, OutOfMemory}
-use Rattle.zk_jute.specs.FaultText.{take_error_text}
+use Rattle.zk_jute.specs.FaultText.{take_error_words}
 use Rattle.zk_jute.specs.Layout.{Layout, long, buffer, ◌⨾◌, Value}
 use Rattle.zk_jute.specs.Reading.{reading}
 use Rattle.zk_jute.specs.Spelling.{IsBytes, spelling}
@@ -99,7 +99,7 @@ GivesLater read (Err fault) = fault ≢ Memory → read ≡ Err fault
 abbrev pub saved_fault_text : SavedFault → List ℕ
 saved_fault_text (NotHex place) = codes "no hexadecimal digit at place " ++ decimal place
 saved_fault_text (OddDigits count) = codes "an odd number of hexadecimal digits, " ++ decimal count
-saved_fault_text (Unread fault) = codes "no saved session: " ++ take_error_text fault
+saved_fault_text (Unread fault) = codes "no saved session: " ++ take_error_words fault
 saved_fault_text (BytesBehind count) = codes "more behind the saved session: bytes, " ++ decimal count
 saved_fault_text NoPassword = codes "the password is null"
 saved_fault_text (LongPassword length) = codes "a password of " ++ decimal length ++ codes " bytes, and 4194284 are the most"
