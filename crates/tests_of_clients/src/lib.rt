@@ -12,6 +12,8 @@ mod runs;
 #[cfg(test)]
 mod said;
 #[cfg(test)]
+mod saved_sessions;
+#[cfg(test)]
 mod scripts;
 #[cfg(test)]
 mod servers;
