@@ -1,26 +1,16 @@
-//! Watches a node: prints what it holds at first, and again behind each change.
+//! Watches a node: reads it behind each connection and each report, unless what is kept of it is good.
 use crate::world::World;
 use anyhow::Result;
-use std::alloc::Global;
-use std::io::Write;
 use zk_client::{Call, Client, DataAnswer, Input, Mark, Output, Path, State};
 
-pub fn watch<W: Write>(alloc: Global, node: &Path, world: &mut World, out: &mut W) -> Result<()> {
-    let mut client = Client::new(alloc, 10_000);
-    let mut asked = 0u64;
+pub fn watch(client: &mut Client, node: &Path, world: &mut World) -> Result<()> {
+    let mut is_asked = false;
     for _ in 0..u64::MAX {
-        let is_known = match client.peek_data(node) {
-            Some((DataAnswer::Full(..) | DataAnswer::Absent, mark)) => mark == Mark::Good,
-            _ => false,
-        };
-        let input = if client.state() == State::Connected && !is_known && asked < 2 {
-            let (path, watch) = (Path::new(alloc, node.as_str())?, true);
-            asked += 1;
-            let call = match asked {
-                1 => Call::GetData { path, watch },
-                _ => Call::Exists { path, watch },
-            };
-            Input::Call(asked, call)
+        let is_known = matches!(client.peek_data(node), Some((_, Mark::Good)));
+        let input = if client.state() == State::Connected && !is_known && !is_asked {
+            is_asked = true;
+            let path = Path::new(world.alloc(), node.as_str())?;
+            Input::Call(1, Call::GetData { path, watch: true })
         } else if let Some(input) = world.next(client.deadline())? {
             input
         } else {
@@ -29,8 +19,11 @@ pub fn watch<W: Write>(alloc: Global, node: &Path, world: &mut World, out: &mut 
         for output in client.step_at(world.now(), input)?.iter() {
             match output {
                 Output::Send(frame) => world.send(frame.as_slice())?,
-                Output::Answer { .. } => asked = asked.saturating_sub(1),
-                other => writeln!(out, "{other:?}")?,
+                Output::Answer { .. } => {}
+                other => {
+                    is_asked = false;
+                    world.tell(other)?;
+                }
             }
             if output.ends_connection() {
                 world.close();
@@ -38,8 +31,7 @@ pub fn watch<W: Write>(alloc: Global, node: &Path, world: &mut World, out: &mut 
         }
         if let Some((DataAnswer::Full(Some(data), _), Mark::Good)) = client.peek_data(node) {
             if !is_known {
-                out.write_all(data.as_slice())?;
-                writeln!(out)?;
+                world.show(data.as_slice())?;
             }
         }
     }

@@ -2,8 +2,9 @@
 
 use anyhow::Result;
 use std::alloc::{AllocError, Global};
+use std::fmt::Write;
 use zk_bench::{Bench, Change, History};
-use zk_client::{Input, Path};
+use zk_client::{Input, Output, Path};
 
 /// What happens by itself.
 #[derive(Clone, Copy)]
@@ -29,12 +30,14 @@ static PLAN: [(u64, Event); 7] = [
 /// What the node holds, from the first tree on.
 static VALUES: [&str; 4] = ["one", "two", "three", "four"];
 
-/// A server, the connection to it, and the moment.
+/// A server, the connection to it, the moment, and what was told.
 #[derive(Drop)]
 pub struct World {
+    alloc: Global,
     bench: Bench<Global>,
     now: u64,
     done: usize,
+    told: String,
 }
 
 /// A history in which the node takes one value after the other.
@@ -57,10 +60,17 @@ impl World {
     /// A world in which nothing has happened.
     pub fn new(alloc: Global, path: &str) -> Result<World> {
         Ok(World {
+            alloc,
             bench: Bench::new(alloc, history(alloc, path)?),
             now: 0,
             done: 0,
+            told: String::new(alloc),
         })
+    }
+
+    /// Where memory comes from.
+    pub fn alloc(&self) -> Global {
+        self.alloc
     }
 
     /// The moment, in milliseconds.
@@ -116,5 +126,21 @@ impl World {
     /// The connection is closed.
     pub fn close(&mut self) {
         self.bench.disconnect();
+    }
+
+    /// Takes down what the client says.
+    pub fn tell(&mut self, output: &Output) -> Result<()> {
+        Ok(writeln!(self.told, "{output:?}")?)
+    }
+
+    /// Takes down what the node holds.
+    pub fn show(&mut self, data: &[u8]) -> Result<()> {
+        let text = std::str::from_utf8(data)?;
+        Ok(writeln!(self.told, "{text}")?)
+    }
+
+    /// What was taken down.
+    pub fn told(&self) -> &str {
+        self.told.as_str()
     }
 }

@@ -14,6 +14,8 @@ mod runs;
 #[cfg(test)]
 mod said;
 #[cfg(test)]
+mod saved_sessions;
+#[cfg(test)]
 mod scripts;
 #[cfg(test)]
 mod servers;

@@ -38,17 +38,22 @@ impl fmt::Display for SavedFault {
 
     fn fmt<W: fmt::Write>(&self, f: &mut fmt::Formatter<W>) -> fmt::Result {
         match self {
-            SavedFault::NotHex { place } => write!(f, "no hexadecimal digit at place {place}"),
+            SavedFault::NotHex { place } => {
+                write!(f, "the byte at place {place} is no hexadecimal digit")
+            }
             SavedFault::OddDigits { count } => {
-                write!(f, "an odd number of hexadecimal digits, {count}")
+                write!(f, "an odd number of hexadecimal digits: {count}")
             }
             SavedFault::Unread(fault) => write!(f, "no saved session: {fault}"),
             SavedFault::BytesBehind { count } => {
-                write!(f, "more behind the saved session: bytes, {count}")
+                write!(f, "bytes behind the saved session: {count}")
             }
             SavedFault::NoPassword => write!(f, "the password is null"),
             SavedFault::LongPassword { length } => {
-                write!(f, "a password of {length} bytes, and 4194284 are the most")
+                write!(
+                    f,
+                    "a password of {length} bytes, where 4194284 are the most"
+                )
             }
             SavedFault::NegativeZxid { last_zxid } => {
                 write!(f, "the last seen zxid is below 0: {last_zxid}")

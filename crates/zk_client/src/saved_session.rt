@@ -7,6 +7,7 @@ use crate::saved_fault::SavedFault;
 use crate::saved_record::SavedRecord;
 use hex::FromHexError;
 use std::alloc::{AllocError, Allocator, Global};
+use std::fmt;
 use std::marker::Model;
 use zk_jute::{BytesRef, Cursor, PutError, Record, take};
 use zk_session::{LONGEST_PASSWORD, Saved};
@@ -170,6 +171,23 @@ impl<A: Allocator + Copy> SavedSession<A> {
             password: self.password.as_slice(),
             last_zxid: self.last_zxid,
         }
+    }
+}
+
+/// Its id and its last seen zxid. The password is a secret, and is not shown.
+impl<A: Allocator> fmt::Debug for SavedSession<A> {
+    ghost use Rattle.std.specs.Prelude.{Some};
+    ghost use Rattle.zk_client.specs.SavedSessions.{saved_debug_text};
+
+    ghost debug_output = { λ saved. Some (saved_debug_text saved) };
+
+    fn fmt<W: fmt::Write>(&self, f: &mut fmt::Formatter<W>) -> fmt::Result {
+        let session = self.session;
+        let last_zxid = self.last_zxid;
+        write!(
+            f,
+            "SavedSession {{ session: {session}, last_zxid: {last_zxid}, .. }}"
+        )
     }
 }
 
