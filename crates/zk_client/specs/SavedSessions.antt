@@ -97,17 +97,10 @@ GivesLater read (Err fault) = fault ≢ Memory → read ≡ Err fault
 -- ---- how a fault is shown
 
 abbrev pub saved_fault_text : SavedFault → List ℕ
-<<<<<<< HEAD
-saved_fault_text (NotHex place) = codes "no hexadecimal digit at place " ++ decimal place
-saved_fault_text (OddDigits count) = codes "an odd number of hexadecimal digits, " ++ decimal count
-saved_fault_text (Unread fault) = codes "no saved session: " ++ take_error_words fault
-saved_fault_text (BytesBehind count) = codes "more behind the saved session: bytes, " ++ decimal count
-=======
 saved_fault_text (NotHex place) = codes "the byte at place " ++ decimal place ++ codes " is no hexadecimal digit"
 saved_fault_text (OddDigits count) = codes "an odd number of hexadecimal digits: " ++ decimal count
-saved_fault_text (Unread fault) = codes "no saved session: " ++ take_error_text fault
+saved_fault_text (Unread fault) = codes "no saved session: " ++ take_error_words fault
 saved_fault_text (BytesBehind count) = codes "bytes behind the saved session: " ++ decimal count
->>>>>>> 551dbf034e28c9faa0423f1db56feb77b3f0dc32
 saved_fault_text NoPassword = codes "the password is null"
 saved_fault_text (LongPassword length) = codes "a password of " ++ decimal length ++ codes " bytes, where 4194284 are the most"
 saved_fault_text (NegativeZxid last) = codes "the last seen zxid is below 0: " ++ signed_decimal last
