@@ -27,8 +27,10 @@ static PLAN: [(u64, Event); 7] = [
     (82_000, Event::Ends),
 ];
 
-/// What the node holds, from the first tree on.
-static VALUES: [&str; 4] = ["one", "two", "three", "four"];
+/// What the node holds at first, and behind each change.
+static FIRST: &str = "one";
+
+static LATER: [&str; 3] = ["two", "three", "four"];
 
 /// A server, the connection to it, the moment, and what was told.
 #[derive(Drop)]
@@ -40,28 +42,38 @@ pub struct World {
     told: String,
 }
 
-/// A history in which the node takes one value after the other.
-fn history(alloc: Global, path: &str) -> Result<History<Global>> {
-    let mut history = History::new(alloc);
-    for (place, value) in VALUES.iter().enumerate() {
-        let node = Path::new(alloc, path)?;
-        let bytes = Some(Vec::from_slice(alloc, value.as_bytes())?);
-        if place == 0 {
-            history.node(node, bytes, 0)?;
-        } else {
-            history.begin(place as i64, 0)?;
-            history.change(Change::Set(node, bytes))?;
-        }
+/// The node is there, before any change.
+fn make(alloc: Global, path: &str, history: &mut History<Global>) -> Result<()> {
+    let node = Path::new(alloc, path)?;
+    let bytes = Vec::from_slice(alloc, FIRST.as_bytes())?;
+    Ok(history.node(node, Some(bytes), 0)?)
+}
+
+/// One more transaction, which sets the node.
+fn set(alloc: Global, path: &str, value: &str, history: &mut History<Global>) -> Result<()> {
+    history.begin(history.last_zxid().saturating_add(1), 0)?;
+    let node = Path::new(alloc, path)?;
+    let bytes = Vec::from_slice(alloc, value.as_bytes())?;
+    Ok(history.change(Change::Set(node, Some(bytes)))?)
+}
+
+/// The node takes one value after the other.
+fn fill(alloc: Global, path: &str, history: &mut History<Global>) -> Result<()> {
+    make(alloc, path, history)?;
+    for value in &LATER {
+        set(alloc, path, value, history)?;
     }
-    Ok(history)
+    Ok(())
 }
 
 impl World {
     /// A world in which nothing has happened.
     pub fn new(alloc: Global, path: &str) -> Result<World> {
+        let mut history = History::new(alloc);
+        fill(alloc, path, &mut history)?;
         Ok(World {
             alloc,
-            bench: Bench::new(alloc, history(alloc, path)?),
+            bench: Bench::new(alloc, history),
             now: 0,
             done: 0,
             told: String::new(alloc),
