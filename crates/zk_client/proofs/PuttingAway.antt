@@ -1,5 +1,5 @@
 -- What is put away is read again, and what is read was spelled so.
-use Rattle.std.proofs.Common.{◌≡◌, ℕ, zero, suc, ◌<◌, ◌≤◌, ◌^◌, ℤ, pos, negsuc, ◌≤ℤ◌, Bool, true, false, List, [], ◌∷◌, ◌++◌, length, Some, None, Result, Ok, Err, refl, sym, ap, subst, ◌∙◌, arith}
+use Rattle.std.proofs.Common.{◌≡◌, ℕ, zero, suc, ◌<◌, ◌≤◌, ℤ, pos, negsuc, ◌≤ℤ◌, Bool, true, false, List, [], ◌∷◌, ◌++◌, length, Some, None, Result, Ok, Err, refl, sym, ap, subst, ◌∙◌, arith}
 use Rattle.std.specs.Prelude.{IfOk, MatchResult, int_lt, nat_lt, if◌then◌else◌}
 use Rattle.std.specs.Int.{w32, w64, byte_at, bytes_high_first, cast_unsigned}
 use Rattle.std.proofs.lemmas.Bool.{le-ltb}

@@ -1,5 +1,5 @@
 -- A session that is put away, and its spelling as bytes and as text.
-use Rattle.std.specs.Prelude.{◌≡◌, ◌≢◌, ◌≤◌, ℕ, ℤ, pos, ◌≤ℤ◌, int_lt, nat_lt, if◌then◌else◌, List, [], ◌∷◌, ◌++◌, length, codes, Option, Some, None, Result, Ok, Err, MatchResult, FitsSigned}
+use Rattle.std.specs.Prelude.{◌≡◌, ◌≢◌, ◌≤◌, ℕ, ℤ, pos, ◌≤ℤ◌, int_lt, nat_lt, if◌then◌else◌, List, [], ◌∷◌, ◌++◌, length, codes, Some, None, Result, Ok, Err, MatchResult, FitsSigned}
 use Rattle.std.specs.Fmt.{decimal, signed_decimal}
 use Rattle.std.specs.Int.{w64}
 use Rattle.hex.specs.Hex.{decode_of, encode_lower}
@@ -106,6 +106,6 @@ saved_fault_text (LongPassword length) = codes "a password of " ++ decimal lengt
 saved_fault_text (NegativeZxid last) = codes "the last seen zxid is below 0: " ++ signed_decimal last
 saved_fault_text Memory = codes "out of memory"
 
--- how a saved session is shown to those who look for faults: without its password
+-- how {:?} shows a saved session: without its password
 abbrev pub saved_debug_text : PutAway → List ℕ
-saved_debug_text value = codes "SavedSession { session: " ++ signed_decimal value.session ++ codes ", last_zxid: " ++ signed_decimal value.last ++ codes ", .. }"
+saved_debug_text value = codes "SavedSession { session: " ++ (signed_decimal value.session ++ (codes ", last_zxid: " ++ (signed_decimal value.last ++ codes ", .. }")))

@@ -8,14 +8,14 @@ use std::error::Error;
 use std::fmt;
 use zk_jute::TakeError;
 
-/// Why a text, bytes or numbers are no saved session: the first reason that applies, in the order of the variants but for the
-/// last. A place is counted from 0.
+/// Why a text, bytes or numbers are no saved session: the first reason that applies, in the order of the variants. A place is
+/// counted in bytes, from 0.
 #[derive(Clone, Copy, Debug, PartialEq, Eq)]
 pub enum SavedFault {
-    /// The text has an even number of bytes, and something else than a hexadecimal digit. The place of its first byte.
-    NotHex { place: usize },
     /// The text has an odd number of bytes: how many. It is told also where not all of them are digits.
     OddDigits { count: usize },
+    /// The text has a byte that is no hexadecimal digit. The place of the first one.
+    NotHex { place: usize },
     /// The bytes begin with no record of a saved session. It is never for want of memory.
     Unread(TakeError),
     /// There are bytes behind the record: how many.
@@ -26,7 +26,7 @@ pub enum SavedFault {
     LongPassword { length: usize },
     /// The last seen zxid is below 0: which it is.
     NegativeZxid { last_zxid: i64 },
-    /// The allocator refused a request.
+    /// The allocator refused a request. It stands last but for a text, whose bytes take memory before its digits are looked at.
     Memory,
 }
 
@@ -38,11 +38,11 @@ impl fmt::Display for SavedFault {
 
     fn fmt<W: fmt::Write>(&self, f: &mut fmt::Formatter<W>) -> fmt::Result {
         match self {
-            SavedFault::NotHex { place } => {
-                write!(f, "the byte at place {place} is no hexadecimal digit")
-            }
             SavedFault::OddDigits { count } => {
                 write!(f, "an odd number of hexadecimal digits: {count}")
+            }
+            SavedFault::NotHex { place } => {
+                write!(f, "the byte at place {place} is no hexadecimal digit")
             }
             SavedFault::Unread(fault) => write!(f, "no saved session: {fault}"),
             SavedFault::BytesBehind { count } => {

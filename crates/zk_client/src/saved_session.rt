@@ -182,8 +182,8 @@ impl<A: Allocator> fmt::Debug for SavedSession<A> {
     ghost debug_output = { λ saved. Some (saved_debug_text saved) };
 
     fn fmt<W: fmt::Write>(&self, f: &mut fmt::Formatter<W>) -> fmt::Result {
-        let session = self.session;
-        let last_zxid = self.last_zxid;
+        let session = &self.session;
+        let last_zxid = &self.last_zxid;
         write!(
             f,
             "SavedSession {{ session: {session}, last_zxid: {last_zxid}, .. }}"

@@ -1,4 +1,4 @@
-use Rattle.std.proofs.Common.{◌≡◌, Ok, length, inl, inr, ap, ◌∙◌}
+use Rattle.std.proofs.Common.{◌≡◌, length, inl, inr, ap, ◌∙◌}
 use Rattle.hex.proofs.HexLemmas.{decode_of-same}
 use Rattle.zk_client.specs.SavedSessions.{no_digits, saved_bytes}
 use Rattle.zk_client.proofs.PuttingAway.{decode_of-saved_text}
