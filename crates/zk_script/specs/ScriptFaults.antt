@@ -1,6 +1,6 @@
 -- How the reason is shown for which a line of a script is refused.
 use Rattle.std.specs.Prelude.{ℕ, List, ◌++◌, codes}
-use Rattle.zk_history.specs.PathFault.{path_fault_text}
+use Rattle.zk_history.specs.FaultText.{path_fault_code}
 use Rattle.zk_script.specs.declared.script_fault.ScriptFault.{ScriptFault}
 use Rattle.zk_script.specs.declared.script_fault.ScriptFault.TheVariants.{Unknown, Place, Words, Number, Hex, Path, Order, Illegal, Memory}
 
@@ -10,7 +10,7 @@ script_fault_text Place = codes "place"
 script_fault_text Words = codes "words"
 script_fault_text Number = codes "number"
 script_fault_text Hex = codes "hex"
-script_fault_text (Path fault) = codes "path " ++ path_fault_text fault
+script_fault_text (Path fault) = codes "path " ++ path_fault_code fault
 script_fault_text Order = codes "order"
 script_fault_text Illegal = codes "illegal"
 script_fault_text Memory = codes "out of memory"

@@ -44,7 +44,7 @@ impl fmt::Display for ScriptFault {
             ScriptFault::Words => "words",
             ScriptFault::Number => "number",
             ScriptFault::Hex => "hex",
-            ScriptFault::Path(fault) => return write!(f, "path {fault}"),
+            ScriptFault::Path(fault) => return write!(f, "path {}", fault.code()),
             ScriptFault::Order => "order",
             ScriptFault::Illegal => "illegal",
             ScriptFault::Memory => "out of memory",
