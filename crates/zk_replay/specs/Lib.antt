@@ -3,6 +3,7 @@ pub mod CallLines
 pub mod ClientLines
 pub mod ReplayLines
 pub mod Lines
+pub mod FaultTexts
 pub mod Shown
 pub mod Played
 pub mod Courses

@@ -9,8 +9,6 @@ use Rattle.zk_history.specs.declared.side.Side.TheVariants.{Data, Child}
 use Rattle.zk_history.specs.declared.stat.Stat.{Stat}
 use Rattle.zk_records.specs.declared.event.Event.{Event}
 use Rattle.zk_records.specs.declared.event.Event.TheVariants.{Created, Deleted, DataChanged, ChildrenChanged}
-use Rattle.zk_frames.specs.FaultText.{frame_fault_text}
-use Rattle.zk_conversation.specs.FaultText.{talk_fault_text}
 use Rattle.zk_conversation.specs.Results.{Result, NoNode, Refused, Found, Read, Listing, Made, Done}
 use Rattle.zk_session.specs.declared.states.State.{State}
 use Rattle.zk_session.specs.declared.states.State.TheVariants.{Idle, Connecting, Connected, Expired, Closed}
@@ -18,10 +16,12 @@ use Rattle.zk_cache.specs.Kept.{Answer, Absent, Known, Full, Names}
 use Rattle.zk_cache.specs.declared.held.Kept.{Kept}
 use Rattle.zk_cache.specs.declared.held.Mark.{Mark}
 use Rattle.zk_cache.specs.declared.held.Mark.TheVariants.{Good, Stale}
-use Rattle.zk_turns.specs.Turns.{Outcome, Replied, ConnectionLoss, SessionExpired, SessionClosed, NotConnected, TooManyWatches, TooLarge, TooManyPending, Fault, Framed, Talked, Silent, Behind, WatchesRefused, Output, Send, Answer as Answers, Report, Enters, Drop}
+use Rattle.zk_turns.specs.Turns.{Outcome, Replied, Fault, Output, Send, Answer as Answers, Report, Enters, Drop}
+use Rattle.zk_client.specs.FaultText.{fault_code, outcome_code}
 use Rattle.zk_script.specs.Answers.{AreNames, spaced, stat_words, names_text}
 use Rattle.zk_script.specs.Lines.{line}
 use Rattle.zk_script.specs.Words.{bytes_word, text_word}
+use Rattle.zk_replay.specs.FaultTexts.{fault_values}
 
 -- the first six numbers of a Stat, in wire order
 unfoldable pub front_words : Stat → List ℕ
@@ -67,29 +67,22 @@ abbrev pub TellsResult : Result → List ℕ → Type 0
 TellsResult (Listing names stat) text = (told : List ℕ) × TellsSet (set.from_list names) told × (text ≡ told ++ full_words stat)
 TellsResult result text = text ≡ plain_text result
 
--- what is printed where there is no reply
+-- what is printed where there is no reply: why, by its code
+abbrev pub coded : Option (List ℕ) → List ℕ
+coded None = []
+coded (Some code) = codes "-" ++ spaced code
+
 abbrev pub reason_text : Outcome → List ℕ
-reason_text (Replied zxid result) = []
-reason_text ConnectionLoss = codes "- K1"
-reason_text SessionExpired = codes "- K2"
-reason_text SessionClosed = codes "- K3"
-reason_text NotConnected = codes "- K4"
-reason_text TooManyWatches = codes "- K5"
-reason_text TooLarge = codes "- K6"
-reason_text TooManyPending = codes "- K7"
+reason_text outcome = coded (outcome_code outcome)
 
 -- What is printed of what a call is answered: the reply's zxid and its result, or why there is none.
 abbrev pub TellsOutcome : Outcome → List ℕ → Type 0
 TellsOutcome (Replied zxid result) text = (told : List ℕ) × TellsResult result told × (text ≡ signed_decimal zxid ++ 32 ∷ told)
 TellsOutcome outcome text = text ≡ reason_text outcome
 
--- why a connection is given up, with a space before it
-abbrev pub fault_words : Fault → List ℕ
-fault_words (Framed fault) = spaced (frame_fault_text fault)
-fault_words (Talked fault) = spaced (talk_fault_text fault)
-fault_words Silent = codes " D1"
-fault_words (Behind seen came) = codes " D2" ++ (spaced (signed_decimal seen) ++ spaced (signed_decimal came))
-fault_words (WatchesRefused code) = codes " D3" ++ spaced (signed_decimal code)
+-- why a connection is given up, with a space before it: the code of the fault, and its values
+abbrev pub drop_words : Fault → List ℕ
+drop_words fault = spaced (fault_code fault) ++ fault_values fault
 
 abbrev pub side_word : Side → List ℕ
 side_word Data = codes "data"
@@ -114,7 +107,7 @@ plain_line (Send bytes) = line (codes "send") (bytes_word (Some bytes))
 plain_line (Answers ticket outcome) = []
 plain_line (Report path side event) = codes "report" ++ (spaced (side_word side) ++ (spaced (event_word event) ++ (spaced (text_word (Some path)) ++ 10 ∷ [])))
 plain_line (Enters state) = line (codes "state") (state_word state)
-plain_line (Drop fault) = codes "drop" ++ (fault_words fault ++ 10 ∷ [])
+plain_line (Drop fault) = codes "drop" ++ (drop_words fault ++ 10 ∷ [])
 
 -- What is printed of an output: one line.
 abbrev pub TellsOutput : Output → List ℕ → Type 0

@@ -10,6 +10,7 @@ pub mod call_line;
 pub mod client_line;
 pub mod drive_line;
 pub mod driven;
+pub mod faults;
 pub mod names;
 pub mod outputs;
 pub mod peeks;

@@ -3,8 +3,9 @@
 ghost use Rattle.std.specs.Prelude.{◌≡◌, ◌++◌, ◌∷◌, ℕ, List, [], Some, OnOk, IfOk, map, string_bytes};
 ghost use Rattle.zk_client.specs.Views.{fault_view, outcome_view, output_view, said};
 ghost use Rattle.zk_turns.specs.Turns.{Answer, Drop, Enters, Report, Send};
-ghost use Rattle.zk_replay.specs.Shown.{event_word, fault_words, plain_line, side_word, state_word, TellsAll, TellsOutput};
+ghost use Rattle.zk_replay.specs.Shown.{event_word, plain_line, side_word, state_word, TellsAll, TellsOutput};
 
+use crate::faults::push_fault;
 use crate::results::push_outcome;
 use crate::words::push_spaced;
 use std::alloc::{AllocError, Allocator};
@@ -14,30 +15,6 @@ use zk_script::answers::{push_name, push_word};
 use zk_script::lines::push_line;
 use zk_script::words::bytes_to_word;
 use zk_session::State;
-
-/// Adds why a connection is given up, a space before it.
-fn push_fault<A: Allocator + Copy>(
-    text: &mut String<A>,
-    alloc: A,
-    fault: &Fault,
-) -> Result<(), AllocError>
-    ensures { OnOk result (string_bytes text.new ≡ string_bytes text.old ++ fault_words (fault_view fault.now)) }
-{
-    match fault {
-        Fault::Framed(fault) => push_word(text, alloc, fault),
-        Fault::Talked(fault) => push_word(text, alloc, fault),
-        Fault::Silent => text.push_str(" D1"),
-        Fault::Behind { seen, came } => {
-            text.push_str(" D2")?;
-            push_word(text, alloc, seen)?;
-            push_word(text, alloc, came)
-        }
-        Fault::WatchesRefused { code } => {
-            text.push_str(" D3")?;
-            push_word(text, alloc, code)
-        }
-    }
-}
 
 /// The word for a side.
 pub fn side_to_word(side: Side) -> &'static str

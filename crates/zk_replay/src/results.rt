@@ -7,9 +7,10 @@ ghost use Rattle.zk_conversation.specs.Results.{Found, Read, Listing, Made};
 ghost use Rattle.zk_records.specs.Codes.{code_number};
 ghost use Rattle.zk_turns.specs.Turns.{Replied};
 ghost use Rattle.zk_script.specs.Words.{bytes_word};
-ghost use Rattle.zk_replay.specs.Shown.{front_words, back_words, full_words, plain_text, code_text, TellsSet, TellsResult, TellsOutcome};
+ghost use Rattle.zk_replay.specs.Shown.{reason_text, front_words, back_words, full_words, plain_text, code_text, TellsSet, TellsResult, TellsOutcome};
 
 use crate::names::push_listing;
+use crate::words::push_spaced;
 use std::alloc::{AllocError, Allocator};
 use zk_client::{CallResult, Outcome};
 use zk_records::{Code, Stat};
@@ -164,6 +165,19 @@ fn push_reply<A: Allocator + Copy>(
     push_result(text, alloc, found)
 }
 
+/// Adds why there is no reply, by its code.
+fn push_reason<A: Allocator>(text: &mut String<A>, outcome: &Outcome<A>) -> Result<(), AllocError>
+    ensures { OnOk result (string_bytes text.new ≡ string_bytes text.old ++ reason_text (outcome_view outcome.now)) }
+{
+    match outcome.code() {
+        None => Ok(()),
+        Some(code) => {
+            text.push_str("-")?;
+            push_spaced(text, code)
+        }
+    }
+}
+
 /// Adds what a call is answered: the zxid of its reply and what it brought, or why there is none.
 pub fn push_outcome<A: Allocator + Copy>(
     text: &mut String<A>,
@@ -177,12 +191,6 @@ pub fn push_outcome<A: Allocator + Copy>(
             zxid,
             result: found,
         } => push_reply(text, alloc, zxid, found),
-        Outcome::ConnectionLoss => text.push_str("- K1"),
-        Outcome::SessionExpired => text.push_str("- K2"),
-        Outcome::SessionClosed => text.push_str("- K3"),
-        Outcome::NotConnected => text.push_str("- K4"),
-        Outcome::TooManyWatches => text.push_str("- K5"),
-        Outcome::TooLarge => text.push_str("- K6"),
-        Outcome::TooManyPending => text.push_str("- K7"),
+        _ => push_reason(text, outcome),
     }
 }
