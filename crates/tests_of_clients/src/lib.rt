@@ -4,6 +4,8 @@
 #[cfg(test)]
 mod counts;
 #[cfg(test)]
+mod faults;
+#[cfg(test)]
 mod happens;
 #[cfg(test)]
 mod limits;

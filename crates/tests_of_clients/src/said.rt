@@ -13,13 +13,7 @@ fn word<A: Allocator>(output: &Output<A>) -> &'static str {
 }
 
 fn answer<A: Allocator>(outcome: &Outcome<A>) -> &'static str {
-    match outcome {
-        Outcome::Replied { .. } => "replied",
-        Outcome::TooManyWatches => "K5",
-        Outcome::TooLarge => "K6",
-        Outcome::TooManyPending => "K7",
-        _ => "refused",
-    }
+    outcome.code().unwrap_or("replied")
 }
 
 fn first<A: Allocator>(outputs: &[Output<A>]) -> &'static str {

@@ -43,20 +43,20 @@ enum Want {
 
 // What the reply is, cut to that many bytes or more.
 static READ_CUTS: [(usize, Want); 15] = [
-    (0, Want::Fault("C1")),
-    (16, Want::Fault("C4 J1 at 16")),
-    (20, Want::Fault("C4 J1 at 20")),
-    (22, Want::Fault("C4 J1 at 22")),
-    (30, Want::Fault("C4 J1 at 30")),
-    (38, Want::Fault("C4 J1 at 38")),
-    (46, Want::Fault("C4 J1 at 46")),
-    (54, Want::Fault("C4 J1 at 54")),
-    (58, Want::Fault("C4 J1 at 58")),
-    (62, Want::Fault("C4 J1 at 62")),
-    (66, Want::Fault("C4 J1 at 66")),
-    (74, Want::Fault("C4 J1 at 74")),
-    (78, Want::Fault("C4 J1 at 78")),
-    (82, Want::Fault("C4 J1 at 82")),
+    (0, Want::Fault("a payload has fewer than the 16 bytes of a header")),
+    (16, Want::Fault("a reply does not read: a value at byte 16 is cut off")),
+    (20, Want::Fault("a reply does not read: a value at byte 20 is cut off")),
+    (22, Want::Fault("a reply does not read: a value at byte 22 is cut off")),
+    (30, Want::Fault("a reply does not read: a value at byte 30 is cut off")),
+    (38, Want::Fault("a reply does not read: a value at byte 38 is cut off")),
+    (46, Want::Fault("a reply does not read: a value at byte 46 is cut off")),
+    (54, Want::Fault("a reply does not read: a value at byte 54 is cut off")),
+    (58, Want::Fault("a reply does not read: a value at byte 58 is cut off")),
+    (62, Want::Fault("a reply does not read: a value at byte 62 is cut off")),
+    (66, Want::Fault("a reply does not read: a value at byte 66 is cut off")),
+    (74, Want::Fault("a reply does not read: a value at byte 74 is cut off")),
+    (78, Want::Fault("a reply does not read: a value at byte 78 is cut off")),
+    (82, Want::Fault("a reply does not read: a value at byte 82 is cut off")),
     (90, Want::Reply(7, 5)),
 ];
 
@@ -67,11 +67,11 @@ static NOTICE: [u8; 30] = [
 ];
 
 static NOTICE_CUTS: [(usize, Want); 6] = [
-    (0, Want::Fault("C1")),
-    (16, Want::Fault("C5 J1 at 16")),
-    (20, Want::Fault("C5 J1 at 20")),
-    (24, Want::Fault("C5 J1 at 24")),
-    (28, Want::Fault("C5 J1 at 28")),
+    (0, Want::Fault("a payload has fewer than the 16 bytes of a header")),
+    (16, Want::Fault("a notice does not read: a value at byte 16 is cut off")),
+    (20, Want::Fault("a notice does not read: a value at byte 20 is cut off")),
+    (24, Want::Fault("a notice does not read: a value at byte 24 is cut off")),
+    (28, Want::Fault("a notice does not read: a value at byte 28 is cut off")),
     (30, Want::Notice("/a")),
 ];
 
@@ -344,25 +344,25 @@ static HOSTILE: [(Before, &[u8], Want); 13] = [
     (
         Before::Nothing,
         &[0, 0, 0, 5, 0, 0, 0, 0, 0, 0, 0, 9, 0, 0, 0, 0],
-        Want::Fault("C2 5"),
+        Want::Fault("a reply with xid 5 came, and no request is pending"),
     ),
-    (Before::Nothing, &RESPONSE, Want::Fault("C2 0")),
-    (Before::Nothing, &[], Want::Fault("C1")),
+    (Before::Nothing, &RESPONSE, Want::Fault("a reply with xid 0 came, and no request is pending")),
+    (Before::Nothing, &[], Want::Fault("a payload has fewer than the 16 bytes of a header")),
     // another xid than the oldest request's
     (
         Before::Data,
         &[0, 0, 0, 2, 0, 0, 0, 0, 0, 0, 0, 5, 0, 0, 0, 0],
-        Want::Fault("C3 1 2"),
+        Want::Fault("a reply is awaited with xid 1, and one came with xid 2"),
     ),
     (
         Before::Data,
         &[0xff, 0xff, 0xff, 0xf8, 0, 0, 0, 0, 0, 0, 0, 8, 0, 0, 0, 0],
-        Want::Fault("C3 1 -8"),
+        Want::Fault("a reply is awaited with xid 1, and one came with xid -8"),
     ),
     (
         Before::Part,
         &[0, 0, 0, 1, 0, 0, 0, 0, 0, 0, 0, 8, 0, 0, 0, 0],
-        Want::Fault("C3 -8 1"),
+        Want::Fault("a reply is awaited with xid -8, and one came with xid 1"),
     ),
     (
         Before::Part,
@@ -377,7 +377,7 @@ static HOSTILE: [(Before, &[u8], Want); 13] = [
         &[
             0, 0, 0, 1, 0, 0, 0, 0, 0, 0, 0, 5, 0, 0, 0, 0, 0, 0, 0, 1, 0, 0, 0, 1, 0xff,
         ],
-        Want::Fault("C4 J4 at 24"),
+        Want::Fault("a reply does not read: a text at byte 24 is not UTF-8"),
     ),
     // an err other than 0 has no record
     (
@@ -405,7 +405,7 @@ static HOSTILE: [(Before, &[u8], Want); 13] = [
         Want::Skipped,
     ),
     // no answer to the ConnectRequest
-    (Before::Opening, &[], Want::Fault("C4 J1 at 0")),
+    (Before::Opening, &[], Want::Fault("a reply does not read: a value at byte 0 is cut off")),
 ];
 
 #[derive(Drop)]

@@ -4,6 +4,8 @@
 #[cfg(test)]
 mod conversation;
 #[cfg(test)]
+mod faults;
+#[cfg(test)]
 mod kept_answers;
 #[cfg(test)]
 mod refusals;

@@ -1,6 +1,6 @@
 //! The kinds of the encoding: each read and written again, its first faults with their places, and refused memory.
 
-use crate::checks::{holds, prints};
+use crate::checks::holds;
 use crate::refused_memory::{Steps, refuse_each};
 use refusing::Refusing;
 use std::alloc::{Allocator, Global};
@@ -188,10 +188,4 @@ fn tells_where_the_first_fault_is(rt: HostRuntime) {
 fn tells_a_boolean_that_is_none(rt: HostRuntime) {
     let (fault, _) = refused::<_, bool>(rt.alloc(), &[2]);
     holds(&rt, fault == Some(TakeError::BadBool(0)), "a boolean");
-}
-
-#[test]
-fn prints_faults(rt: HostRuntime) {
-    prints(&rt, &TakeError::BadBool(36), "J3 at 36");
-    prints(&rt, &PutError::TooLong, "too long");
 }

@@ -1,6 +1,6 @@
 //! Histories: what is told of each path at each zxid, also where memory is refused, and why a line is refused.
 
-use crate::checks::{holds, prints};
+use crate::checks::holds;
 use crate::refused_memory::{Steps, refuse_each};
 use refusing::Refusing;
 use std::alloc::{AllocError, Allocator, Global};
@@ -124,7 +124,7 @@ static MADE_AND_DELETED_TOLD: [Row; 4] = [
     ),
 ];
 
-// Lines, one more that is refused behind them, and its fault as it is printed.
+// Lines, one more that is refused behind them, and the code of its fault.
 static REFUSED: [(&[Line], Line, &str); 5] = [
     (&[Line::Tx(2, 5)], Line::Tx(2, 6), "H2"),
     (&[], Line::Tx(0, 6), "H2"),
@@ -396,6 +396,6 @@ fn refuses_by_number(rt: HostRuntime) {
     for (lines, last, told) in &REFUSED {
         let mut history = history_of(&rt, *lines);
         let fault = take(rt.alloc(), &mut history, last).expect_err(&rt, told);
-        prints(&rt, &fault, told);
+        holds(&rt, fault.code() == *told, *told);
     }
 }

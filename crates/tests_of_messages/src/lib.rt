@@ -8,6 +8,8 @@ mod checks;
 #[cfg(test)]
 mod encoding;
 #[cfg(test)]
+mod faults;
+#[cfg(test)]
 mod frames;
 #[cfg(test)]
 mod histories;

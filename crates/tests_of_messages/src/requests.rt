@@ -1,6 +1,6 @@
 //! Requests: the protocol's own, read and written again, owned and lent, and a type that is none.
 
-use crate::checks::{bytes, holds, prints};
+use crate::checks::{bytes, holds};
 use crate::refused_memory::{Steps, refuse_each};
 use refusing::Refusing;
 use std::alloc::{Allocator, Global};
@@ -141,12 +141,6 @@ fn another_type_is_unknown(rt: HostRuntime) {
     let mut at = Cursor::new(bytes(&rt, "0000000100000063"));
     let came = pass(rt.alloc(), &mut at, &mut out);
     holds(&rt, came == Err(RequestFault::Unknown(99)), "99");
-}
-
-#[test]
-fn prints_faults(rt: HostRuntime) {
-    prints(&rt, &RequestFault::Unknown(99), "unknown type 99");
-    prints(&rt, &RequestFault::Unread(TakeError::Short(8)), "J1 at 8");
 }
 
 // What came of reading a request and writing it, and how many bytes were left to read, and were written.

@@ -5,7 +5,8 @@ use Rattle.hex.specs.Hex.{decode_of}
 use Rattle.hex.specs.declared.error.FromHexError.{FromHexError}
 use Rattle.zk_jute.specs.declared.fault.TakeError.{TakeError}
 use Rattle.zk_jute.specs.declared.fault.TakeError.TheVariants as jute
-use Rattle.zk_jute.specs.FaultText.{take_error_text}
+use Rattle.zk_frames.specs.FaultText.{frame_fault_code}
+use Rattle.zk_frames.specs.declared.fault.FrameFault.TheVariants as frame_faults
 use Rattle.zk_jute.specs.Layout.{Layout, Value, ◌⨾◌}
 use Rattle.zk_jute.specs.Spelling.{spelling, Fits}
 use Rattle.zk_jute.specs.Reading.{reading}
@@ -19,6 +20,7 @@ use Rattle.zk_records.specs.Operations.{request_layout}
 use Rattle.zk_records.specs.Asked.{Asked, asked_value, request_at}
 use Rattle.zk_script.specs.Words.{bytes_word, optional_boolean_word}
 use Rattle.zk_script.specs.Lines.{line}
+use Rattle.zk_replay.specs.FaultTexts.{take_error_text}
 use Rattle.zk_commands.specs.declared.fault.ShowFault.{ShowFault}
 use Rattle.zk_commands.specs.declared.fault.ShowFault.TheVariants.{Hex, Incomplete, Negative, TooLong, BytesAfter, Unknown, Reading, Memory}
 use Rattle.zk_commands.specs.declared.kind.Kind.{Kind}
@@ -158,8 +160,8 @@ pub data IsFault (kind : Kind) (hex : List ℕ) (fault : ShowFault) : Type 0 whe
 abbrev pub fault_text : ShowFault → List ℕ
 fault_text Hex = codes "fault: hex"
 fault_text Incomplete = codes "fault: incomplete frame"
-fault_text Negative = codes "fault: F1"
-fault_text TooLong = codes "fault: F2"
+fault_text Negative = codes "fault: " ++ frame_fault_code frame_faults.Negative
+fault_text TooLong = codes "fault: " ++ frame_fault_code frame_faults.TooLong
 fault_text BytesAfter = codes "fault: bytes after the frame"
 fault_text (Unknown number) = codes "fault: unknown type " ++ signed_decimal number
 fault_text (Reading e) = codes "fault: " ++ take_error_text e

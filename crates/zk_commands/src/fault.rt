@@ -1,8 +1,10 @@
 //! Why nothing could be shown.
 
 use std::fmt;
+use zk_frames::FrameFault;
 use zk_jute::TakeError;
 use zk_records::RequestFault;
+use zk_replay::faults::Told;
 
 /// Why nothing could be shown: the first that applies, in this order.
 #[derive(Clone, Copy, Debug, PartialEq, Eq)]
@@ -35,11 +37,11 @@ impl fmt::Display for ShowFault {
         match self {
             ShowFault::Hex => write!(f, "fault: hex"),
             ShowFault::Incomplete => write!(f, "fault: incomplete frame"),
-            ShowFault::Negative => write!(f, "fault: F1"),
-            ShowFault::TooLong => write!(f, "fault: F2"),
+            ShowFault::Negative => write!(f, "fault: {}", FrameFault::Negative.code()),
+            ShowFault::TooLong => write!(f, "fault: {}", FrameFault::TooLong.code()),
             ShowFault::BytesAfter => write!(f, "fault: bytes after the frame"),
             ShowFault::Unknown(number) => write!(f, "fault: unknown type {number}"),
-            ShowFault::Reading(e) => write!(f, "fault: {e}"),
+            ShowFault::Reading(e) => write!(f, "fault: {}", Told(*e)),
             ShowFault::Memory => write!(f, "out of memory"),
         }
     }
