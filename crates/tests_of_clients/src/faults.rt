@@ -35,7 +35,7 @@ static FAULTS: [(Fault, &str, &str); 5] = [
     ),
 ];
 
-static OUTCOMES: [(Outcome<Global>, Option<&str>, &str); 8] = [
+const OUTCOMES: [(Outcome<Global>, Option<&str>, &str); 8] = [
     (
         Outcome::Replied {
             zxid: 5,

@@ -43,20 +43,62 @@ enum Want {
 
 // What the reply is, cut to that many bytes or more.
 static READ_CUTS: [(usize, Want); 15] = [
-    (0, Want::Fault("a payload has fewer than the 16 bytes of a header")),
-    (16, Want::Fault("a reply does not read: a value at byte 16 is cut off")),
-    (20, Want::Fault("a reply does not read: a value at byte 20 is cut off")),
-    (22, Want::Fault("a reply does not read: a value at byte 22 is cut off")),
-    (30, Want::Fault("a reply does not read: a value at byte 30 is cut off")),
-    (38, Want::Fault("a reply does not read: a value at byte 38 is cut off")),
-    (46, Want::Fault("a reply does not read: a value at byte 46 is cut off")),
-    (54, Want::Fault("a reply does not read: a value at byte 54 is cut off")),
-    (58, Want::Fault("a reply does not read: a value at byte 58 is cut off")),
-    (62, Want::Fault("a reply does not read: a value at byte 62 is cut off")),
-    (66, Want::Fault("a reply does not read: a value at byte 66 is cut off")),
-    (74, Want::Fault("a reply does not read: a value at byte 74 is cut off")),
-    (78, Want::Fault("a reply does not read: a value at byte 78 is cut off")),
-    (82, Want::Fault("a reply does not read: a value at byte 82 is cut off")),
+    (
+        0,
+        Want::Fault("a payload has fewer than the 16 bytes of a header"),
+    ),
+    (
+        16,
+        Want::Fault("a reply does not read: a value at byte 16 is cut off"),
+    ),
+    (
+        20,
+        Want::Fault("a reply does not read: a value at byte 20 is cut off"),
+    ),
+    (
+        22,
+        Want::Fault("a reply does not read: a value at byte 22 is cut off"),
+    ),
+    (
+        30,
+        Want::Fault("a reply does not read: a value at byte 30 is cut off"),
+    ),
+    (
+        38,
+        Want::Fault("a reply does not read: a value at byte 38 is cut off"),
+    ),
+    (
+        46,
+        Want::Fault("a reply does not read: a value at byte 46 is cut off"),
+    ),
+    (
+        54,
+        Want::Fault("a reply does not read: a value at byte 54 is cut off"),
+    ),
+    (
+        58,
+        Want::Fault("a reply does not read: a value at byte 58 is cut off"),
+    ),
+    (
+        62,
+        Want::Fault("a reply does not read: a value at byte 62 is cut off"),
+    ),
+    (
+        66,
+        Want::Fault("a reply does not read: a value at byte 66 is cut off"),
+    ),
+    (
+        74,
+        Want::Fault("a reply does not read: a value at byte 74 is cut off"),
+    ),
+    (
+        78,
+        Want::Fault("a reply does not read: a value at byte 78 is cut off"),
+    ),
+    (
+        82,
+        Want::Fault("a reply does not read: a value at byte 82 is cut off"),
+    ),
     (90, Want::Reply(7, 5)),
 ];
 
@@ -67,11 +109,26 @@ static NOTICE: [u8; 30] = [
 ];
 
 static NOTICE_CUTS: [(usize, Want); 6] = [
-    (0, Want::Fault("a payload has fewer than the 16 bytes of a header")),
-    (16, Want::Fault("a notice does not read: a value at byte 16 is cut off")),
-    (20, Want::Fault("a notice does not read: a value at byte 20 is cut off")),
-    (24, Want::Fault("a notice does not read: a value at byte 24 is cut off")),
-    (28, Want::Fault("a notice does not read: a value at byte 28 is cut off")),
+    (
+        0,
+        Want::Fault("a payload has fewer than the 16 bytes of a header"),
+    ),
+    (
+        16,
+        Want::Fault("a notice does not read: a value at byte 16 is cut off"),
+    ),
+    (
+        20,
+        Want::Fault("a notice does not read: a value at byte 20 is cut off"),
+    ),
+    (
+        24,
+        Want::Fault("a notice does not read: a value at byte 24 is cut off"),
+    ),
+    (
+        28,
+        Want::Fault("a notice does not read: a value at byte 28 is cut off"),
+    ),
     (30, Want::Notice("/a")),
 ];
 
@@ -346,8 +403,16 @@ static HOSTILE: [(Before, &[u8], Want); 13] = [
         &[0, 0, 0, 5, 0, 0, 0, 0, 0, 0, 0, 9, 0, 0, 0, 0],
         Want::Fault("a reply with xid 5 came, and no request is pending"),
     ),
-    (Before::Nothing, &RESPONSE, Want::Fault("a reply with xid 0 came, and no request is pending")),
-    (Before::Nothing, &[], Want::Fault("a payload has fewer than the 16 bytes of a header")),
+    (
+        Before::Nothing,
+        &RESPONSE,
+        Want::Fault("a reply with xid 0 came, and no request is pending"),
+    ),
+    (
+        Before::Nothing,
+        &[],
+        Want::Fault("a payload has fewer than the 16 bytes of a header"),
+    ),
     // another xid than the oldest request's
     (
         Before::Data,
@@ -405,7 +470,11 @@ static HOSTILE: [(Before, &[u8], Want); 13] = [
         Want::Skipped,
     ),
     // no answer to the ConnectRequest
-    (Before::Opening, &[], Want::Fault("a reply does not read: a value at byte 0 is cut off")),
+    (
+        Before::Opening,
+        &[],
+        Want::Fault("a reply does not read: a value at byte 0 is cut off"),
+    ),
 ];
 
 #[derive(Drop)]

@@ -9,11 +9,7 @@ use zk_jute::{PutError, TakeError};
 use zk_records::RequestFault;
 
 static READING: [(TakeError, &str, &str); 5] = [
-    (
-        TakeError::Short(8),
-        "J1",
-        "a value at byte 8 is cut off",
-    ),
+    (TakeError::Short(8), "J1", "a value at byte 8 is cut off"),
     (
         TakeError::BadLength(4),
         "J2",

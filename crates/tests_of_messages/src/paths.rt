@@ -125,7 +125,7 @@ fn refuses_a_path_of_4097_bytes(rt: HostRuntime) {
 }
 
 // The code of what is wrong with the child of this name, and none where it is there.
-fn child_code(path: &Path, alloc: Global, name: &str) -> Option<&'static str> {
+fn child_code(path: &Path<Global>, alloc: Global, name: &str) -> Option<&'static str> {
     match path.join(alloc, name) {
         Ok(_) => None,
         Err(fault) => Some(fault.code()),
