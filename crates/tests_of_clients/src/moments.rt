@@ -13,7 +13,13 @@ type Row = (u64, Option<Happens>, bool, Option<u64>, u32);
 static HEALTHY: [Row; 7] = [
     (0, None, false, None, 40_000),
     (0, Some(Happens::Opens), false, Some(26_667), 40_000),
-    (15_000, Some(Happens::Comes(ACCEPTED)), false, Some(0), 30_000),
+    (
+        15_000,
+        Some(Happens::Comes(ACCEPTED)),
+        false,
+        Some(0),
+        30_000,
+    ),
     (15_000, None, false, Some(25_000), 30_000),
     (21_000, None, false, Some(25_000), 30_000),
     (25_000, None, false, Some(35_000), 30_000),
