@@ -1,2 +1,3 @@
 pub mod TrailLemmas
 pub mod WaitLemmas
+pub mod GiveLemmas

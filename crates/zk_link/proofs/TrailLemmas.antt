@@ -1,12 +1,15 @@
 -- Turns, one behind the other.
-use Rattle.std.proofs.Common.{◌≡◌, ◌≤◌, inl, inr, ℕ, false, true, List, [], ◌∷◌, ◌++◌, refl, sym, subst, ◌∙◌, ◌⊎◌}
+use Rattle.std.proofs.Common.{◌≡◌, ◌≤◌, ◌<◌, length, inl, inr, ℕ, false, true, List, [], ◌∷◌, ◌++◌, refl, sym, subst, ◌∙◌, ◌⊎◌}
 use Rattle.std.specs.Prelude.{Result, Ok, Err, OnOk, IfErr}
 use Rattle.std.specs.List.{FoldsTo}
+use Rattle.std.proofs.lemmas.List.{length-map}
 use Rattle.zk_turns.specs.Turns.{Start, Item, Turned, Input, Opened, Cut, Bytes, Now, Call, Turn}
 use Rattle.zk_turns.specs.View.{View}
 use Rattle.zk_turns.specs.Rule.{Rule, Stands, HaltsAs}
 use Rattle.zk_turns.proofs.Stepped.{one_turn}
 use Rattle.zk_conversation.specs.Calls as call
+use Rattle.zk_client.specs.declared.output.Output.{Output as Made}
+use Rattle.zk_client.specs.Views.{said}
 use Rattle.zk_link.specs.declared.stop.Stop.{Stop}
 use Rattle.zk_link.specs.declared.stop.Stop.TheVariants.{Halted, Memory}
 use Rattle.zk_link.specs.Trails.{Trail, Takes, Goes, IsOwn, Comes, Asks, Fails, Stops, Hears, HearsThen, FailsThen, onto}
@@ -161,19 +164,19 @@ module _ (old before : Trail) (ticket : ℕ) (asked : call.Call) (new : Trail) (
 -- ---- results of calls
 
 -- from one trail on, as from the same one
-pub from : {X E : Type 0} (result : Result X E) (old same new : Trail) → same ≡ old → OnOk result (Comes same new) → OnOk result (Comes old new)
-from result old same new e = on_ok (Comes same new) (Comes old new) result (subst (λ (t : Trail). Comes t new) e)
+pub from_same : {X E : Type 0} (result : Result X E) (old same new : Trail) → same ≡ old → OnOk result (Comes same new) → OnOk result (Comes old new)
+from_same result old same new e = on_ok (Comes same new) (Comes old new) result (subst (λ (t : Trail). Comes t new) e)
 
-pub stops_from : {X : Type 0} (result : Result X Stop) (old same new : Trail) → same ≡ old → IfErr result (λ stop. Stops stop same new) → IfErr result (λ stop. Stops stop old new)
-stops_from result old same new e =
+pub stops_from_same : {X : Type 0} (result : Result X Stop) (old same new : Trail) → same ≡ old → IfErr result (λ stop. Stops stop same new) → IfErr result (λ stop. Stops stop old new)
+stops_from_same result old same new e =
     if_err (λ stop. Stops stop same new) (λ stop. Stops stop old new) result (λ stop. subst (λ (t : Trail). Stops stop t new) e)
 
 -- to another one, as to the same one
-pub to : {X E : Type 0} (result : Result X E) (old new same : Trail) → same ≡ new → OnOk result (Comes old new) → OnOk result (Comes old same)
-to result old new same e = on_ok (Comes old new) (Comes old same) result (subst (λ (t : Trail). Comes old t) (sym e))
+pub to_same : {X E : Type 0} (result : Result X E) (old new same : Trail) → same ≡ new → OnOk result (Comes old new) → OnOk result (Comes old same)
+to_same result old new same e = on_ok (Comes old new) (Comes old same) result (subst (λ (t : Trail). Comes old t) (sym e))
 
-pub stops_to : {X : Type 0} (result : Result X Stop) (old new same : Trail) → same ≡ new → IfErr result (λ stop. Stops stop old new) → IfErr result (λ stop. Stops stop old same)
-stops_to result old new same e =
+pub stops_to_same : {X : Type 0} (result : Result X Stop) (old new same : Trail) → same ≡ new → IfErr result (λ stop. Stops stop old new) → IfErr result (λ stop. Stops stop old same)
+stops_to_same result old new same e =
     if_err (λ stop. Stops stop old new) (λ stop. Stops stop old same) result (λ stop. subst (λ (t : Trail). Stops stop old t) (sym e))
 
 -- behind turns that came
@@ -190,3 +193,16 @@ err_at_once result old new = if_err (λ stop. Fails stop old new) (λ stop. Stop
 -- nothing came of it at all
 pub lost_at_once : (old new : Trail) → new.view ≡ old.view → new.given ≡ old.given → Stops Memory old new
 lost_at_once old new view given = at_once Memory old new (inl view, given)
+
+pub always : {X E : Type 0} (P : Type 0) (result : Result X E) → P → OnOk result P
+always P (Ok x) p = p
+always P (Err e) p = tt
+
+-- more outputs are as many more that were given
+pub more_given : {A : Type 0} (few many : List (Made A)) → length few < length many → length (said few) < length (said many)
+more_given few many h = simp length-map h
+
+-- a turn of which nothing is given
+pub lost_turn : (stop : Stop) (old new : Trail) (turn : Turn) → stop ≡ Memory → Rule old.view turn new.view → new.given ≡ old.given → Fails stop old new
+lost_turn Halted old new turn e rule given = absurd cc
+lost_turn Memory old new turn e rule given = (inr (turn, rule), given)

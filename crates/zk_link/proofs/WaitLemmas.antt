@@ -1,5 +1,5 @@
 -- Pauses grow.
-use Rattle.std.proofs.Common.{◌≡◌, ◌≤◌, ◌<◌, ℕ, zero, suc, ◌*◌, ◌^◌, min, sym, arith}
+use Rattle.std.proofs.Common.{◌≡◌, ◌≤◌, ◌<◌, ℕ, zero, suc, ◌+◌, ◌*◌, ◌^◌, min, max, sym, arith}
 use Rattle.std.proofs.Math.Nat.{min-le_left, min-le_right, le-min, min-eq_left}
 use Rattle.std.proofs.Math.Pow.{pow_mono}
 use Rattle.zk_link.specs.Waits.{pause_ms}
@@ -31,3 +31,17 @@ at_least failures h = longer 1 failures (omega arith)
 pub at_most : (failures : ℕ) → pause_ms failures ≤ 10000
 at_most zero = omega arith
 at_most (suc n) = min-le_left 10000 (100 * 2 ^ n)
+
+-- the later of two
+pub not_before_first : (later one other : ℕ) → later ≡ max one other → one ≤ later
+not_before_first later one other e = omega arith
+
+pub not_before_second : (later one other : ℕ) → later ≡ max one other → other ≤ later
+not_before_second later one other e = omega arith
+
+-- a wait that ends at the earlier of two
+pub ends_by : (latest wait end one other : ℕ) → end ≡ min one other → latest + wait ≤ end → latest + wait ≤ one
+ends_by latest wait end one other e h = omega arith
+
+pub is_before : (latest wait end one other moment : ℕ) → end ≡ min one other → latest + wait ≤ end → moment < latest + wait → moment < other
+is_before latest wait end one other moment e h below = omega arith

@@ -32,7 +32,11 @@ pub(crate) fn give<A: Allocator>(
     ensures ok { OnOk result (said outputs.new.items ≡ said outputs.old.items ++ filter is_given (said made.items)) }
     ensures err { OnErr result (outputs.new.items ≡ outputs.old.items) }
 {
-    made.retain(|output| is_given(output));
+    made.retain(
+        |output: &Output<A>| -> bool
+            ensures { result ≡ is_given (output_view output.now) }
+        { is_given(output) },
+    );
     outputs.append(&mut made)
 }
 

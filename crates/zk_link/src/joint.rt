@@ -1,13 +1,15 @@
 //! A client and the connection that it has: one input at a time.
 
-ghost use Rattle.std.specs.Prelude.{◌≡◌, ◌≤◌, ◌<◌, ◌+◌, ℕ, false, is_some, IfErr, IfOk, OnOk};
+ghost use Rattle.std.specs.Prelude.{◌≡◌, ◌≤◌, ◌<◌, ◌+◌, ◌++◌, ℕ, false, is_some, IfErr, OnOk};
+ghost use Rattle.std.specs.List.{filter};
 ghost use Rattle.zk_conversation.specs.Views.{call_view};
 ghost use Rattle.zk_turns.specs.Turns.{Call as Calls};
 ghost use Rattle.zk_turns.specs.Kept.{is_final};
 ghost use Rattle.zk_turns.specs.Taken.{NothingIsDue};
 ghost use Rattle.zk_client.specs.Clients.{view_of};
 ghost use Rattle.zk_client.specs.Views.{input_view, said};
-ghost use Rattle.zk_link.specs.Trails.{bare_of, kept, trail_of, Asks, Comes, Fails, FailsThen, Hears, HearsThen, Stops};
+ghost use Rattle.zk_link.specs.declared.stop.Stop.TheVariants.{Memory};
+ghost use Rattle.zk_link.specs.Trails.{is_given, kept, trail_of, Asks, Comes, Fails, FailsThen, Hears, HearsThen, Stops};
 
 use crate::give::{give, has_end, is_sent};
 use crate::stop::Stop;
@@ -32,7 +34,11 @@ fn wait_between(latest: u64, end: u64) -> u64
     ensures most { result ≤ 3600000 }
     ensures end { 1 < result → latest + result ≤ end }
 {
-    end.saturating_sub(latest).clamp(1, LONGEST_WAIT)
+    let wait = end.saturating_sub(latest);
+    if wait == 0 {
+        return 1;
+    }
+    wait.min(LONGEST_WAIT)
 }
 
 impl<A: Allocator + Copy, S: Write + Drop> Joint<A, S> {
@@ -51,7 +57,9 @@ impl<A: Allocator + Copy, S: Write + Drop> Joint<A, S> {
 
     /// Writes what goes to the server, where there is a connection. Whether all of it was written.
     fn send(&mut self, outputs: &[Output<A>]) -> bool
-        ensures { bare_of self.new ≡ bare_of self.old }
+        ensures client { self.new.client ≡ self.old.client }
+        ensures latest { self.new.latest ≡ self.old.latest }
+        ensures stream { is_some self.new.stream ≡ is_some self.old.stream }
     {
         match &mut self.stream {
             Some(stream) => is_sent(stream, outputs),
@@ -70,8 +78,28 @@ impl<A: Allocator + Copy, S: Write + Drop> Joint<A, S> {
         }
     }
 
-    /// Hands the client one input. What goes to the server is written, the connection that is over with an output is let go, and the
-    /// rest is given. Whether all was written.
+    /// Does what a client says: what goes to the server is written, the connection that is over with an output is let go, and the rest is
+    /// given. Whether all was written.
+    fn deliver(
+        &mut self,
+        made: Vec<Output<A>, A>,
+        outputs: &mut Vec<Output<A>, A>,
+    ) -> Result<bool, Stop>
+        ensures client { self.new.client ≡ self.old.client }
+        ensures latest { self.new.latest ≡ self.old.latest }
+        ensures stream { is_some self.new.stream ≡ kept (said made.items) (is_some self.old.stream) }
+        ensures given { OnOk result (said outputs.new.items ≡ said outputs.old.items ++ filter is_given (said made.items)) }
+        ensures err { IfErr result (λ stop. (stop ≡ Memory) × (outputs.new.items ≡ outputs.old.items)) }
+    {
+        let is_sent = self.send(made.as_slice());
+        self.let_go(made.as_slice());
+        match give(made, outputs) {
+            Ok(()) => Ok(is_sent),
+            Err(_) => Err(Stop::Memory),
+        }
+    }
+
+    /// Hands the client one input, and does what it says. Whether all was written that goes to the server.
     fn hear(&mut self, input: Input<A>, outputs: &mut Vec<Output<A>, A>) -> Result<bool, Stop>
         ensures ok { OnOk result (Hears (trail_of self.old outputs.old.items) (input_view input) (trail_of self.new outputs.new.items)) }
         ensures latest { self.new.latest ≡ self.old.latest }
@@ -80,12 +108,7 @@ impl<A: Allocator + Copy, S: Write + Drop> Joint<A, S> {
         let Ok(made) = self.client.step(input) else {
             return Err(Stop::Halted);
         };
-        let is_sent = self.send(made.as_slice());
-        self.let_go(made.as_slice());
-        match give(made, outputs) {
-            Ok(()) => Ok(is_sent),
-            Err(_) => Err(Stop::Memory),
-        }
+        self.deliver(made, outputs)
     }
 
     /// The connection is over.

@@ -95,6 +95,7 @@ impl<'a, A: Allocator + Copy, D: Dial + Drop, C: Clock + Drop> Link<'a, A, D, C>
     }
 
     /// Goes on until this moment, or until there is something for the caller, or the session is over.
+    #[tactic(auto, using(crate::proofs::TrailLemmas::more_given))]
     pub fn go_on(&mut self, until: u64, outputs: &mut Vec<Output<A>, A>) -> Result<(), Stop>
         ensures ok { OnOk result (Comes (trail_of self.old.joint outputs.old.items) (trail_of self.new.joint outputs.new.items)) }
         ensures come { OnOk result (HasCome until (trail_of self.old.joint outputs.old.items) (trail_of self.new.joint outputs.new.items)) }
