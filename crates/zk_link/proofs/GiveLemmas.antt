@@ -1,9 +1,9 @@
 -- What is given of what a client says.
 use Rattle.std.proofs.Common.{◌≡◌, Bool, true, false, List, [], ◌∷◌, ◌++◌, refl, ap, ◌∙◌}
-use Rattle.std.specs.Prelude.{Result, Ok, Err, is_ok, OnOk, OnErr, if◌then◌else◌}
-use Rattle.std.specs.List.{filter}
+use Rattle.std.specs.Prelude.{Result, Ok, Err, ◌||◌, is_ok, OnOk, OnErr, if◌then◌else◌}
+use Rattle.std.specs.List.{filter, list_any}
 use Rattle.std.proofs.lemmas.List.{map-append}
-use Rattle.zk_turns.specs.Turns.{Output}
+use Rattle.zk_turns.specs.Turns.{Output, ends_connection}
 use Rattle.zk_client.specs.declared.output.Output.{Output as Made}
 use Rattle.zk_client.specs.Views.{output_view, said}
 use Rattle.zk_link.specs.Trails.{is_given}
@@ -31,3 +31,8 @@ gives (Err x) old made given new e f = tt
 pub keeps : {A X E : Type 0} (result : Result X E) (old given new : List (Made A)) → new ≡ (if is_ok result then old ++ given else old) → OnErr result (new ≡ old)
 keeps (Ok x) old given new f = tt
 keeps (Err x) old given new f = f
+
+-- a test of what outputs say is one of the outputs
+pub ends_said : {A : Type 0} (made : List (Made A)) → list_any ends_connection (said made) ≡ list_any (λ output. ends_connection (output_view output)) made
+ends_said [] = refl
+ends_said (output ∷ made) = ap (λ (b : Bool). ends_connection (output_view output) || b) (ends_said made)
