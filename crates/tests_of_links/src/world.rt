@@ -1,0 +1,125 @@
+//! A server in memory, and the moments that go by.
+
+use anyhow::Result;
+use std::alloc::{AllocError, Global};
+use std::rc::Rc;
+use zk_bench::{Bench, History};
+use zk_client::Path;
+
+/// The most requests that are processed behind one write.
+const REQUESTS: usize = 16;
+
+/// What happens to connections: how many are refused at first, how many then are silent, how many bytes pass on the next one, and how
+/// many bytes a read brings at most.
+#[derive(Clone, Copy)]
+pub struct Plan {
+    pub refusals: u32,
+    pub silences: u32,
+    pub passes: usize,
+    pub piece: usize,
+}
+
+/// A server that answers each request as it comes, the connection to it, and the moment.
+#[derive(Drop)]
+pub struct World {
+    plan: Plan,
+    bench: Bench<Global>,
+    held: Option<Rc<u32, Global>>,
+    now: u64,
+    dials: u32,
+    left: usize,
+}
+
+/// A history in which a node is there.
+fn history(alloc: Global) -> Result<History<Global>> {
+    let mut history = History::new(alloc);
+    history.node(Path::new(alloc, "/a")?, None, 0)?;
+    Ok(history)
+}
+
+impl World {
+    /// A world in which nothing has happened.
+    pub fn new(alloc: Global, plan: Plan) -> Result<World> {
+        Ok(World {
+            plan,
+            bench: Bench::new(alloc, history(alloc)?),
+            held: None,
+            now: 0,
+            dials: 0,
+            left: 0,
+        })
+    }
+
+    /// The moment.
+    pub fn now(&self) -> u64 {
+        self.now
+    }
+
+    /// How many connections were asked for.
+    pub fn dials(&self) -> u32 {
+        self.dials
+    }
+
+    /// Moments go by.
+    pub fn wait(&mut self, ms: u64) {
+        self.now = self.now.saturating_add(ms);
+    }
+
+    /// Whether a connection is held by somebody else.
+    pub fn is_held(&self) -> bool {
+        match &self.held {
+            Some(held) => Rc::strong_count(held) > 1,
+            None => false,
+        }
+    }
+
+    /// A connection is asked for. What is held as long as it is there, and none where it is refused.
+    pub fn dial(&mut self, alloc: Global) -> Option<Rc<u32, Global>> {
+        self.dials = self.dials.saturating_add(1);
+        let quiet = self.plan.refusals.saturating_add(self.plan.silences);
+        self.left = if self.dials == quiet.saturating_add(1) {
+            self.plan.passes
+        } else {
+            usize::MAX
+        };
+        if self.dials <= self.plan.refusals {
+            return None;
+        }
+        self.bench.connect(1);
+        self.held = Some(Rc::new(alloc, self.dials).ok()?);
+        self.held.as_ref()?.clone().ok()
+    }
+
+    /// Whether the connection is silent.
+    fn is_silent(&self) -> bool {
+        self.dials <= self.plan.refusals.saturating_add(self.plan.silences)
+    }
+
+    /// Whether no byte passes any more.
+    pub fn is_closed(&self) -> bool {
+        self.left == 0
+    }
+
+    /// The bytes that come, at most so many.
+    pub fn read(&mut self, most: usize) -> Result<Vec<u8>, AllocError> {
+        let bytes = self
+            .bench
+            .output(most.min(self.plan.piece).min(self.left))?;
+        self.left = self.left.saturating_sub(bytes.len());
+        Ok(bytes)
+    }
+
+    /// The first of these bytes go, as many as pass.
+    pub fn write(&mut self, bytes: &[u8]) -> Result<usize, AllocError> {
+        let count = bytes.len().min(self.left);
+        self.left -= count;
+        if self.is_silent() {
+            return Ok(count);
+        }
+        self.bench.receive(&bytes[..count])?;
+        for _ in 0..REQUESTS {
+            self.bench.process()?;
+        }
+        Ok(count)
+    }
+}

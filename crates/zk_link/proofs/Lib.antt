@@ -1,0 +1,3 @@
+pub mod TrailLemmas
+pub mod WaitLemmas
+pub mod GiveLemmas

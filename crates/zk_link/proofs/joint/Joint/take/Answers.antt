@@ -1,0 +1,30 @@
+use Rattle.std.proofs.Common.{rules, inl, inr}
+use Rattle.zk_client.specs.Views.{input_view}
+use Rattle.zk_link.specs.declared.stop.Stop.{Stop}
+use Rattle.zk_link.specs.Trails.{trail_of, Comes, Fails, FailsThen, HearsThen}
+use Rattle.zk_link.proofs.TrailLemmas.{if_err, nothing, on_ok}
+use Rattle.zk_link.proofs.joint.Joint.take.Goals as goal
+
+pub returns-then-is_sent-clause-ok : goal.returns-then-is_sent-clause-ok
+returns-then-is_sent-clause-ok g c =
+    let new = (trail_of c.hear.new.self c.hear.new.outputs.items) in
+    record { between = new; hears = c.in_ok-is_sent.ensures.ok; rest = nothing new }
+
+pub returns-clause-ok : goal.returns-clause-ok
+returns-clause-ok g c =
+    let between = (trail_of c.hear.new.self c.hear.new.outputs.items) in
+    let new = (trail_of c.cut.new.self c.cut.new.outputs.items) in
+    on_ok (Comes between new) (HearsThen (trail_of c.args.self.now c.args.outputs.now.items) (input_view c.args.input) new) c.cut.result
+    (λ (comes : Comes between new). record { between = between; hears = c.in_ok-is_sent.ensures.ok; rest = comes }) c.cut.ensures.ok
+
+pub returns-clause-err : goal.returns-clause-err
+returns-clause-err g c =
+    let between = (trail_of c.hear.new.self c.hear.new.outputs.items) in
+    let new = (trail_of c.cut.new.self c.cut.new.outputs.items) in
+    if_err (λ stop. Fails stop between new) (λ stop. FailsThen stop (trail_of c.args.self.now c.args.outputs.now.items) (input_view c.args.input) new) c.cut.result
+    (λ (stop : Stop) (fails : Fails stop between new). inr (between, c.in_ok-is_sent.ensures.ok, fails)) c.cut.ensures.err
+
+pub returns-in_err-is_sent-clause-err : goal.returns-in_err-is_sent-clause-err
+returns-in_err-is_sent-clause-err g c =
+    let failed : FailsThen c.in_err-is_sent.field-0.0 (trail_of c.args.self.now c.args.outputs.now.items) (input_view c.args.input) (trail_of c.hear.new.self c.hear.new.outputs.items) = inl c.in_err-is_sent.ensures.err in
+    search rules

@@ -1,0 +1,39 @@
+//! What a connection brings.
+
+use crate::dial::Stream;
+use std::alloc::{AllocError, Allocator};
+use std::io::ErrorKind;
+
+/// What a connection brings within a time.
+#[derive(Drop)]
+pub(crate) enum Brought<A: Allocator> {
+    Piece(Vec<u8, A>),
+    Nothing,
+    End,
+}
+
+/// Whether a read that failed so may succeed later: nothing came in time, or it was interrupted.
+fn is_late(kind: ErrorKind) -> bool {
+    matches!(
+        kind,
+        ErrorKind::WouldBlock | ErrorKind::TimedOut | ErrorKind::Interrupted
+    )
+}
+
+/// What a connection brings within so many milliseconds. It ends where it has no more bytes, and where it fails.
+pub(crate) fn bring<A: Allocator, S: Stream>(
+    alloc: A,
+    stream: &mut S,
+    room: &mut Vec<u8, A>,
+    ms: u64,
+) -> Result<Brought<A>, AllocError> {
+    if stream.wait_at_most(ms).is_err() {
+        return Ok(Brought::End);
+    }
+    match stream.read(room.as_mut_slice()) {
+        Ok(0) => Ok(Brought::End),
+        Ok(count) => Ok(Brought::Piece(Vec::from_slice(alloc, &room[..count])?)),
+        Err(fault) if is_late(fault.kind()) => Ok(Brought::Nothing),
+        Err(_) => Ok(Brought::End),
+    }
+}

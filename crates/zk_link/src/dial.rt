@@ -1,0 +1,43 @@
+//! How connections begin.
+
+use std::io::{self, Read, Write};
+
+/// A connection, which ends where it is dropped.
+pub trait Stream: Read + Write + Drop {
+    /// No read from now on waits longer than so many milliseconds, at least 1: one that would is an error of the kind `WouldBlock` or
+    /// `TimedOut`.
+    fn wait_at_most(&mut self, ms: u64) -> io::Result<()>;
+}
+
+/// What connects to addresses.
+pub trait Dial {
+    /// Its connections.
+    type Stream: Stream;
+
+    /// Connects to an address, within so many milliseconds, at least 1. An error where nothing answers there in time.
+    fn dial(&mut self, address: &str, within_ms: u64) -> io::Result<Self::Stream>;
+}
+
+/// Addresses whose turn comes one after the other, from the first on, and behind the last the first again.
+#[derive(Drop)]
+pub struct Ring<'a> {
+    addresses: &'a [&'a str],
+    next: usize,
+}
+
+impl<'a> Ring<'a> {
+    /// From the first address on.
+    pub fn new(addresses: &'a [&'a str]) -> Ring<'a> {
+        Ring { addresses, next: 0 }
+    }
+
+    /// The address whose turn it is, and none where there are no addresses.
+    pub fn turn(&mut self) -> Option<&'a str> {
+        let address = self.addresses.get(self.next)?;
+        self.next += 1;
+        if self.next >= self.addresses.len() {
+            self.next = 0;
+        }
+        Some(*address)
+    }
+}

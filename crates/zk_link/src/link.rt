@@ -1,0 +1,208 @@
+//! The link.
+
+ghost use Rattle.std.specs.Prelude.{◌≡◌, ◌≤◌, ◌⊎◌, true, false, is_some, IfErr, IfOk, IsTrue, ◌↔◌, OnOk};
+ghost use Rattle.zk_conversation.specs.Views.{call_view};
+ghost use Rattle.zk_turns.specs.Turns.{Call as Calls};
+ghost use Rattle.zk_turns.specs.Kept.{is_final};
+ghost use Rattle.zk_client.specs.Clients.{view_of};
+ghost use Rattle.zk_link.specs.Trails.{bare_of, trail_of, Asks, Comes, Stops};
+ghost use Rattle.zk_link.specs.Waits.{HasCome};
+
+use crate::bring::{Brought, bring};
+use crate::clock::Clock;
+use crate::dial::{Dial, Ring};
+use crate::joint::Joint;
+use crate::pause::pause_after;
+use crate::stop::Stop;
+use std::alloc::{AllocError, Allocator};
+use zk_client::{Call, Client, Output, State};
+
+/// The most bytes that one read is asked for.
+const PIECE: usize = 65_536;
+
+/// A connection to the next address, and none where none is made in time.
+fn dial_next<D: Dial>(dial: &mut D, ring: &mut Ring<'_>, within_ms: u64) -> Option<D::Stream> {
+    let address = ring.turn()?;
+    dial.dial(address, within_ms).ok()
+}
+
+/// A client, the connection that it has, and what it takes to have the next one.
+#[derive(Drop)]
+pub struct Link<'a, A: Allocator + Copy, D: Dial + Drop, C: Clock + Drop> {
+    joint: Joint<A, D::Stream>,
+    alloc: A,
+    dial: D,
+    clock: C,
+    ring: Ring<'a>,
+    room: Vec<u8, A>,
+    failures: u32,
+    dial_at: u64,
+}
+
+impl<'a, A: Allocator + Copy, D: Dial + Drop, C: Clock + Drop> Link<'a, A, D, C> {
+    /// A client with no connection yet, and the addresses that are dialled in turn. An error is want of memory for a piece of 65,536
+    /// bytes.
+    pub fn new(
+        alloc: A,
+        client: Client<A>,
+        dial: D,
+        clock: C,
+        addresses: &'a [&'a str],
+    ) -> Result<Link<'a, A, D, C>, AllocError>
+        ensures client { IfOk result (λ link. view_of link.joint.client ≡ view_of client) }
+        ensures closed { IfOk result (λ link. is_some link.joint.stream ≡ false) }
+        ensures latest { IfOk result (λ link. link.joint.latest ≡ 0) }
+    {
+        Ok(Link {
+            joint: Joint::new(client),
+            alloc,
+            dial,
+            clock,
+            ring: Ring::new(addresses),
+            room: vec![in alloc; 0; PIECE]?,
+            failures: 0,
+            dial_at: 0,
+        })
+    }
+
+    /// The client.
+    pub fn client(&self) -> &Client<A>
+        ensures { view_of result.now ≡ view_of self.now.joint.client }
+    {
+        &self.joint.client
+    }
+
+    /// The clock's moment, in milliseconds; the latest that was told where the clock has gone back.
+    pub fn now(&mut self) -> u64
+        ensures joint { self.new.joint ≡ self.old.joint }
+        ensures latest { self.old.joint.latest ≤ result }
+    {
+        self.clock.now().max(self.joint.latest)
+    }
+
+    /// Hands in a call, at the clock's moment.
+    pub fn ask(
+        &mut self,
+        ticket: u64,
+        call: Call<A>,
+        outputs: &mut Vec<Output<A>, A>,
+    ) -> Result<(), Stop>
+        ensures ok { OnOk result (Asks (trail_of self.old.joint outputs.old.items) (Calls ticket (call_view call)) (trail_of self.new.joint outputs.new.items)) }
+        ensures err { IfErr result (λ stop. Stops stop (trail_of self.old.joint outputs.old.items) (trail_of self.new.joint outputs.new.items)) }
+    {
+        let now = self.clock.now();
+        self.joint.call_at(now, ticket, call, outputs)
+    }
+
+    /// Goes on until this moment, or until there is something for the caller, or the session is over.
+    #[tactic(auto, using(crate::proofs::TrailLemmas::more_given))]
+    pub fn go_on(&mut self, until: u64, outputs: &mut Vec<Output<A>, A>) -> Result<(), Stop>
+        ensures ok { OnOk result (Comes (trail_of self.old.joint outputs.old.items) (trail_of self.new.joint outputs.new.items)) }
+        ensures come { OnOk result (HasCome until (trail_of self.old.joint outputs.old.items) (trail_of self.new.joint outputs.new.items)) }
+        ensures err { IfErr result (λ stop. Stops stop (trail_of self.old.joint outputs.old.items) (trail_of self.new.joint outputs.new.items)) }
+    {
+        let before = outputs.len();
+        for _ in 0..u64::MAX {
+            if before < outputs.len() {
+                return Ok(());
+            }
+            if self.is_done(until) {
+                return Ok(());
+            }
+            self.round(until, outputs)?;
+        }
+        self.joint.tell(until, outputs)
+    }
+
+    /// Whether the moment was told, or the session is over.
+    fn is_done(&self, until: u64) -> bool
+        ensures { result ≡ true → (until ≤ self.now.joint.latest) ⊎ (is_final (view_of self.now.joint.client).standing.state ≡ true) }
+    {
+        if until <= self.joint.latest {
+            return true;
+        }
+        self.joint.is_over()
+    }
+
+    /// Listens where there is a connection, and else waits for one.
+    fn round(&mut self, until: u64, outputs: &mut Vec<Output<A>, A>) -> Result<(), Stop>
+        ensures ok { OnOk result (Comes (trail_of self.old.joint outputs.old.items) (trail_of self.new.joint outputs.new.items)) }
+        ensures err { IfErr result (λ stop. Stops stop (trail_of self.old.joint outputs.old.items) (trail_of self.new.joint outputs.new.items)) }
+    {
+        if self.joint.stream.is_some() {
+            self.listen(until, outputs)
+        } else {
+            self.reach(until, outputs)
+        }
+    }
+
+    /// What the connection brings until something is due.
+    fn next_brought(&mut self, until: u64) -> Result<Brought<A>, AllocError>
+        ensures { bare_of self.new.joint ≡ bare_of self.old.joint }
+    {
+        let wait = self.joint.longest_wait(until);
+        match &mut self.joint.stream {
+            Some(stream) => bring(self.alloc, stream, &mut self.room, wait),
+            None => Ok(Brought::Nothing),
+        }
+    }
+
+    /// A client that is connected has reached its server: no attempt has failed since.
+    fn note(&mut self)
+        ensures { self.new.joint ≡ self.old.joint }
+    {
+        if matches!(self.joint.client.state(), State::Connected) {
+            self.failures = 0;
+            self.dial_at = 0;
+        }
+    }
+
+    /// Hands the client what the connection brings next, at the moment at which it did.
+    fn hand(&mut self, brought: Brought<A>, outputs: &mut Vec<Output<A>, A>) -> Result<(), Stop>
+        ensures ok { OnOk result (Comes (trail_of self.old.joint outputs.old.items) (trail_of self.new.joint outputs.new.items)) }
+        ensures err { IfErr result (λ stop. Stops stop (trail_of self.old.joint outputs.old.items) (trail_of self.new.joint outputs.new.items)) }
+    {
+        let now = self.clock.now();
+        match brought {
+            Brought::Piece(bytes) => self.joint.bytes_at(now, bytes, outputs),
+            Brought::Nothing => self.joint.tell(now, outputs),
+            Brought::End => self.joint.cut_at(now, outputs),
+        }
+    }
+
+    /// Listens until something comes, or is due.
+    fn listen(&mut self, until: u64, outputs: &mut Vec<Output<A>, A>) -> Result<(), Stop>
+        ensures ok { OnOk result (Comes (trail_of self.old.joint outputs.old.items) (trail_of self.new.joint outputs.new.items)) }
+        ensures err { IfErr result (λ stop. Stops stop (trail_of self.old.joint outputs.old.items) (trail_of self.new.joint outputs.new.items)) }
+    {
+        let Ok(brought) = self.next_brought(until) else {
+            return Err(Stop::Memory);
+        };
+        let outcome = self.hand(brought, outputs);
+        self.note();
+        outcome
+    }
+
+    /// Dials the next address, where its moment has come, for a third of the timeout at most; and else waits for that moment. Each attempt
+    /// counts as one that failed until the client is connected.
+    fn reach(&mut self, until: u64, outputs: &mut Vec<Output<A>, A>) -> Result<(), Stop>
+        ensures ok { OnOk result (Comes (trail_of self.old.joint outputs.old.items) (trail_of self.new.joint outputs.new.items)) }
+        ensures err { IfErr result (λ stop. Stops stop (trail_of self.old.joint outputs.old.items) (trail_of self.new.joint outputs.new.items)) }
+    {
+        let now = self.clock.now().max(self.joint.latest);
+        if now < self.dial_at {
+            self.clock
+                .pause(self.dial_at.min(until).saturating_sub(now));
+            return self.joint.tell(self.clock.now(), outputs);
+        }
+        let within = u64::from(self.joint.client.timeout_ms() / 3).max(1);
+        let stream = dial_next(&mut self.dial, &mut self.ring, within);
+        let now = self.clock.now().max(self.joint.latest);
+        self.failures = self.failures.saturating_add(1);
+        self.dial_at = now.saturating_add(pause_after(self.failures));
+        match stream {
+            Some(stream) => self.joint.open_at(now, stream, outputs),
+            None => self.joint.tell(now, outputs),
+        }
+    }
+}
