@@ -53,7 +53,7 @@ pub fn play<W: Write>(alloc: Global, row: &Row, out: &mut W) -> Result<()> {
     writeln!(out, "== {}", row.name)?;
     let world = RefCell::new(World::new(alloc, row.plan)?);
     let (dial, clock) = (Shared::new(alloc, &world), Shared::new(alloc, &world));
-    let mut link = Link::new(alloc, Client::new(alloc, 9_000), dial, clock, &["a", "b"])?;
+    let mut link = Link::new(alloc, Client::new(alloc, 9_000), dial, clock, &["a", "b"]);
     let mut ticket = 0u64;
     for _ in 0..MOST {
         let mut outputs = Vec::new(alloc);

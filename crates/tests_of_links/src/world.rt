@@ -102,9 +102,7 @@ impl World {
 
     /// The bytes that come, at most so many.
     pub fn read(&mut self, most: usize) -> Result<Vec<u8>, AllocError> {
-        let bytes = self
-            .bench
-            .output(most.min(self.plan.piece).min(self.left))?;
+        let bytes = self.bench.output(most.min(self.plan.piece).min(self.left))?;
         self.left = self.left.saturating_sub(bytes.len());
         Ok(bytes)
     }

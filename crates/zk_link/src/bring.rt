@@ -4,12 +4,23 @@ use crate::dial::Stream;
 use std::alloc::{AllocError, Allocator};
 use std::io::ErrorKind;
 
+/// The most bytes that one read is asked for.
+const PIECE: usize = 65_536;
+
 /// What a connection brings within a time.
 #[derive(Drop)]
 pub(crate) enum Brought<A: Allocator> {
     Piece(Vec<u8, A>),
     Nothing,
     End,
+}
+
+/// Makes room for a piece, where there is none yet.
+pub(crate) fn make_room<A: Allocator>(room: &mut Vec<u8, A>) -> Result<(), AllocError> {
+    if room.is_empty() {
+        return room.resize(PIECE, 0);
+    }
+    Ok(())
 }
 
 /// Whether a read that failed so may succeed later: nothing came in time, or it was interrupted.

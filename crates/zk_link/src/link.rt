@@ -8,7 +8,7 @@ ghost use Rattle.zk_client.specs.Clients.{view_of};
 ghost use Rattle.zk_link.specs.Trails.{bare_of, trail_of, Asks, Comes, Stops};
 ghost use Rattle.zk_link.specs.Waits.{HasCome};
 
-use crate::bring::{Brought, bring};
+use crate::bring::{Brought, bring, make_room};
 use crate::clock::Clock;
 use crate::dial::{Dial, Ring};
 use crate::joint::Joint;
@@ -16,9 +16,6 @@ use crate::pause::pause_after;
 use crate::stop::Stop;
 use std::alloc::{AllocError, Allocator};
 use zk_client::{Call, Client, Output, State};
-
-/// The most bytes that one read is asked for.
-const PIECE: usize = 65_536;
 
 /// A connection to the next address, and none where none is made in time.
 fn dial_next<D: Dial>(dial: &mut D, ring: &mut Ring<'_>, within_ms: u64) -> Option<D::Stream> {
@@ -40,29 +37,28 @@ pub struct Link<'a, A: Allocator + Copy, D: Dial + Drop, C: Clock + Drop> {
 }
 
 impl<'a, A: Allocator + Copy, D: Dial + Drop, C: Clock + Drop> Link<'a, A, D, C> {
-    /// A client with no connection yet, and the addresses that are dialled in turn. An error is want of memory for a piece of 65,536
-    /// bytes.
+    /// A client with no connection yet, and the addresses that are dialled in turn.
     pub fn new(
         alloc: A,
         client: Client<A>,
         dial: D,
         clock: C,
         addresses: &'a [&'a str],
-    ) -> Result<Link<'a, A, D, C>, AllocError>
-        ensures client { IfOk result (λ link. view_of link.joint.client ≡ view_of client) }
-        ensures closed { IfOk result (λ link. is_some link.joint.stream ≡ false) }
-        ensures latest { IfOk result (λ link. link.joint.latest ≡ 0) }
+    ) -> Link<'a, A, D, C>
+        ensures client { view_of result.joint.client ≡ view_of client }
+        ensures closed { is_some result.joint.stream ≡ false }
+        ensures latest { result.joint.latest ≡ 0 }
     {
-        Ok(Link {
+        Link {
             joint: Joint::new(client),
             alloc,
             dial,
             clock,
             ring: Ring::new(addresses),
-            room: vec![in alloc; 0; PIECE]?,
+            room: Vec::new(alloc),
             failures: 0,
             dial_at: 0,
-        })
+        }
     }
 
     /// The client.
@@ -140,6 +136,7 @@ impl<'a, A: Allocator + Copy, D: Dial + Drop, C: Clock + Drop> Link<'a, A, D, C>
     fn next_brought(&mut self, until: u64) -> Result<Brought<A>, AllocError>
         ensures { bare_of self.new.joint ≡ bare_of self.old.joint }
     {
+        make_room(&mut self.room)?;
         let wait = self.joint.longest_wait(until);
         match &mut self.joint.stream {
             Some(stream) => bring(self.alloc, stream, &mut self.room, wait),
@@ -183,8 +180,23 @@ impl<'a, A: Allocator + Copy, D: Dial + Drop, C: Clock + Drop> Link<'a, A, D, C>
         outcome
     }
 
-    /// Dials the next address, where its moment has come, for a third of the timeout at most; and else waits for that moment. Each attempt
-    /// counts as one that failed until the client is connected.
+    /// Dials the next address, for a third of the timeout at most. An attempt counts as one that failed until the client is connected.
+    fn attempt(&mut self, outputs: &mut Vec<Output<A>, A>) -> Result<(), Stop>
+        ensures ok { OnOk result (Comes (trail_of self.old.joint outputs.old.items) (trail_of self.new.joint outputs.new.items)) }
+        ensures err { IfErr result (λ stop. Stops stop (trail_of self.old.joint outputs.old.items) (trail_of self.new.joint outputs.new.items)) }
+    {
+        let within = u64::from(self.joint.client.timeout_ms() / 3).max(1);
+        let stream = dial_next(&mut self.dial, &mut self.ring, within);
+        let now = self.clock.now().max(self.joint.latest);
+        self.failures = self.failures.saturating_add(1);
+        self.dial_at = now.saturating_add(pause_after(self.failures));
+        match stream {
+            Some(stream) => self.joint.open_at(now, stream, outputs),
+            None => self.joint.tell(now, outputs),
+        }
+    }
+
+    /// Dials, where the moment for it has come, and else waits for that moment.
     fn reach(&mut self, until: u64, outputs: &mut Vec<Output<A>, A>) -> Result<(), Stop>
         ensures ok { OnOk result (Comes (trail_of self.old.joint outputs.old.items) (trail_of self.new.joint outputs.new.items)) }
         ensures err { IfErr result (λ stop. Stops stop (trail_of self.old.joint outputs.old.items) (trail_of self.new.joint outputs.new.items)) }
@@ -195,14 +207,6 @@ impl<'a, A: Allocator + Copy, D: Dial + Drop, C: Clock + Drop> Link<'a, A, D, C>
                 .pause(self.dial_at.min(until).saturating_sub(now));
             return self.joint.tell(self.clock.now(), outputs);
         }
-        let within = u64::from(self.joint.client.timeout_ms() / 3).max(1);
-        let stream = dial_next(&mut self.dial, &mut self.ring, within);
-        let now = self.clock.now().max(self.joint.latest);
-        self.failures = self.failures.saturating_add(1);
-        self.dial_at = now.saturating_add(pause_after(self.failures));
-        match stream {
-            Some(stream) => self.joint.open_at(now, stream, outputs),
-            None => self.joint.tell(now, outputs),
-        }
+        self.attempt(outputs)
     }
 }

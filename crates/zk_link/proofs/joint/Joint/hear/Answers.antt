@@ -2,7 +2,6 @@ use Rattle.std.proofs.Common.{◌≡◌, ◌++◌, ap}
 use Rattle.std.specs.List.{filter}
 use Rattle.zk_turns.specs.Turns.{Turn}
 use Rattle.zk_turns.specs.Rule.{Rule}
-use Rattle.zk_client.specs.Clients.{view_of}
 use Rattle.zk_client.specs.Views.{input_view, said, turn_of}
 use Rattle.zk_link.specs.declared.stop.Stop.{Stop}
 use Rattle.zk_link.specs.declared.stop.Stop.TheVariants.{Memory}

@@ -1,6 +1,5 @@
 use Rattle.std.proofs.Common.{◌≤◌}
 use Rattle.zk_turns.specs.Turns.{Now}
-use Rattle.zk_link.specs.declared.stop.Stop.{Stop}
 use Rattle.zk_link.specs.Trails.{trail_of, Comes, FailsThen, HearsThen, Stops}
 use Rattle.zk_link.proofs.TrailLemmas.{if_err, on_ok, tells, tells_stops}
 use Rattle.zk_link.proofs.WaitLemmas.{not_before_first, not_before_second}

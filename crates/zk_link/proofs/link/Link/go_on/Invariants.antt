@@ -1,4 +1,3 @@
-use Rattle.std.proofs.Common.{◌≡◌}
 use Rattle.zk_link.specs.Trails.{trail_of, Comes}
 use Rattle.zk_link.proofs.link.Link.go_on.Given as goal
 
