@@ -1,2 +1,3 @@
+pub mod StopText
 pub mod Trails
 pub mod Waits

@@ -55,6 +55,16 @@ impl<A: Allocator + Copy, S: Write + Drop> Joint<A, S> {
         }
     }
 
+    /// Another client, with no connection yet. No moment that it is told is below those that were told before.
+    pub(crate) fn renew(&mut self, client: Client<A>)
+        ensures client { view_of self.new.client ≡ view_of client }
+        ensures closed { is_some self.new.stream ≡ false }
+        ensures latest { self.new.latest ≡ self.old.latest }
+    {
+        self.stream = None;
+        self.client = client;
+    }
+
     /// Writes what goes to the server, where there is a connection. Whether all of it was written.
     fn send(&mut self, outputs: &[Output<A>]) -> bool
         ensures client { self.new.client ≡ self.old.client }

@@ -61,6 +61,16 @@ impl<'a, A: Allocator + Copy, D: Dial + Drop, C: Clock + Drop> Link<'a, A, D, C>
         }
     }
 
+    /// Goes on with another client, as where the session has expired. The connection that is there is let go; the next one is dialled at
+    /// the moment, and at the address, that were next.
+    pub fn renew(&mut self, client: Client<A>)
+        ensures client { view_of self.new.joint.client ≡ view_of client }
+        ensures closed { is_some self.new.joint.stream ≡ false }
+        ensures latest { self.new.joint.latest ≡ self.old.joint.latest }
+    {
+        self.joint.renew(client);
+    }
+
     /// The client.
     pub fn client(&self) -> &Client<A>
         ensures { view_of result.now ≡ view_of self.now.joint.client }

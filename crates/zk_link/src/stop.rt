@@ -1,5 +1,8 @@
 //! Want of memory.
 
+use std::error::Error;
+use std::fmt;
+
 /// Memory was refused, so that a link goes on no further.
 #[derive(Clone, Copy, Debug, PartialEq, Eq)]
 pub enum Stop {
@@ -8,3 +11,19 @@ pub enum Stop {
     /// To the link: what was read is no turn, or what the last turn said was not given.
     Memory,
 }
+
+impl fmt::Display for Stop {
+    ghost use Rattle.std.specs.Prelude.{Some};
+    ghost use Rattle.zk_link.specs.StopText.{stop_words};
+
+    ghost output = { λ stop. Some (stop_words stop) };
+
+    fn fmt<W: fmt::Write>(&self, f: &mut fmt::Formatter<W>) -> fmt::Result {
+        f.write_str(match self {
+            Stop::Halted => "out of memory: the client has no use from now on",
+            Stop::Memory => "out of memory: what came, or what the client said of it, was lost",
+        })
+    }
+}
+
+impl Error for Stop {}
