@@ -1,21 +1,22 @@
 #!/usr/bin/env bash
-# Runs `zk_shell live` against real ZooKeeper servers: one alone, and an ensemble of three of which one stops. What is printed is
-# checked line by line. All traffic stays on 127.0.0.1; servers and folders are gone at the end, however it ends.
+# Runs `zk_shell live`, `zk_shell watch` and the example `config_follower` against real ZooKeeper servers: one alone, and ensembles of
+# three of which one stops. What is printed is checked line by line. All traffic stays on 127.0.0.1; servers and folders are gone at the
+# end, however it ends.
 #
-# usage: scripts/real_server.sh [PROGRAM]     PROGRAM is a zk_shell that is built; without it, this one is built first.
+# usage: scripts/real_server.sh [ZK_SHELL CONFIG_FOLLOWER]     the two programs; without them, they are built first.
 # The last line is `passed`, or `skipped: ..` where there is no server to be had. Else the exit status is 1.
 set -euo pipefail
 top=$(cd "$(dirname "$0")/.." && pwd)
 jars=/usr/share/java/zookeeper.jar:/usr/share/java/slf4j-simple.jar
 folder=$(mktemp -d)
-declare -A servers=() known=()
+declare -A servers=() known=() begun=() seen=()
 gates=()
 
 # Ends each process that was started here, by its number, and removes the folder.
 clean() {
     trap - EXIT
     local process
-    for process in ${servers[@]+"${servers[@]}"} ${gates[@]+"${gates[@]}"}; do
+    for process in ${servers[@]+"${servers[@]}"} ${gates[@]+"${gates[@]}"} ${begun[@]+"${begun[@]}"}; do
         kill -KILL "$process" 2>/dev/null || true
         wait "$process" 2>/dev/null || true
     done
@@ -55,7 +56,10 @@ install_server() {
 
 build() {
     (cd "$top/crates/zk_shell" && rt run -- --help) >"$folder/build.log" 2>&1 || fail "zk_shell is not built"
+    (cd "$top/crates/config_follower" && rt run) >"$folder/build.log" 2>&1 || true
     program=$top/crates/zk_shell/out/zk_shell
+    follower=$top/crates/config_follower/out/config_follower
+    [[ -x $follower ]] || fail "config_follower is not built"
 }
 
 # So many ports that nothing listens at.
@@ -194,6 +198,54 @@ expect() {
     done
     [[ ${#want[@]} == "${#got[@]}" ]] || fail "$1 prints more: '${got[${#want[@]}]}'"
     echo "$1: ${#got[@]} lines as wanted"
+}
+
+# Runs a command in the background. What it prints is in NAME.out; `sees` goes through it line by line.
+begin() {
+    local name=$1
+    shift
+    "$@" >"$folder/$name.out" 2>"$folder/$name.err" &
+    begun[$name]=$!
+    seen[$name]=0
+}
+
+has_line() {
+    (($(wc -l <"$folder/$1.out") > seen[$1]))
+}
+
+# Waits for the next lines that NAME prints, and checks them against those on standard input.
+sees() {
+    local name=$1 want got
+    while IFS= read -r want; do
+        within 40 has_line "$name" || fail "$name does not print '$want': $(cat "$folder/$name.err")"
+        seen[$name]=$((seen[$name] + 1))
+        got=$(sed -n "${seen[$name]}p" "$folder/$name.out")
+        is_line "$want" "$got" || fail "$name, line ${seen[$name]}: '$got' where '$want' is wanted"
+    done
+}
+
+# Checks that NAME has printed nothing further.
+is_quiet() {
+    ! has_line "$1" || fail "$1 prints more: '$(sed -n "$((seen[$1] + 1))p" "$folder/$1.out")'"
+}
+
+# Waits until NAME ends by itself, well, with nothing further printed.
+ends() {
+    local status=0
+    wait "${begun[$1]}" || status=$?
+    unset "begun[$1]"
+    [[ $status == 0 && ! -s $folder/$1.err ]] || fail "$1 ends with $status: $(cat "$folder/$1.err")"
+    is_quiet "$1"
+    echo "$1: ${seen[$1]} lines as wanted"
+}
+
+# Ends NAME.
+end_by_force() {
+    kill "${begun[$1]}"
+    wait "${begun[$1]}" 2>/dev/null || true
+    unset "begun[$1]"
+    is_quiet "$1"
+    echo "$1: ${seen[$1]} lines as wanted"
 }
 
 # Checks that numbers of these names rise.
@@ -352,6 +404,11 @@ run_alone() {
     rises @create @two @refused @b @queue @full @gone @a @again @three @c @write @closed
     rises @three @later @write
     run_resumed "$port"
+    run_changes "$port"
+    run_idle "$port"
+    run_expired "$port"
+    run_closed "$port"
+    run_follower "$port"
     stop_server one
 }
 
@@ -387,6 +444,129 @@ state Connecting
 state Expired
 answer 1 - K2
 EOF
+}
+
+# A watch of both sides of a node that is not there at first, that comes, changes, has a child, loses it, and goes.
+run_changes() {
+    local at=127.0.0.1:$1
+    begin changes "$program" watch "$at" --data /changes --children /changes --timeout 10000
+    sees changes <<'EOF'
+state Connecting
+state Connected
+/changes data absent good last @
+EOF
+    outside "$1" create /changes one
+    sees changes <<'EOF'
+/changes data absent stale last @
+/changes data full 6f6e65 @come @come @made @made 0 0 3 good last @
+/changes names 0 @come good last @
+EOF
+    outside "$1" set /changes two
+    sees changes <<'EOF'
+/changes data full 6f6e65 @come @come @made @made 0 0 3 stale last @
+/changes data full 74776f @come @changed @made @reset 1 0 3 good last @
+EOF
+    outside "$1" create /changes/a x
+    sees changes <<'EOF'
+/changes names 0 @come stale last @
+/changes names 1 a @child good last @
+EOF
+    outside "$1" delete /changes/a
+    sees changes <<'EOF'
+/changes names 1 a @child stale last @
+/changes names 0 @gone good last @
+EOF
+    outside "$1" delete /changes
+    sees changes <<'EOF'
+/changes data full 74776f @come @changed @made @reset 1 0 3 stale last @
+/changes names 0 @gone stale last @
+/changes data absent good last @
+EOF
+    end_by_force changes
+    rises @come @changed @child @gone
+}
+
+# A watch whose session is idle for three of its timeouts: it stays, and then a change is told. Its time is over, and it is closed.
+run_idle() {
+    local name=idle-$1 at=127.0.0.1:$1
+    outside "$1" create "/$name" one
+    begin "$name" "$program" watch "$at" --data "/$name" --timeout 4000 --for 25
+    sees "$name" <<EOF
+state Connecting
+state Connected
+/$name data full 6f6e65 @made-$1 @made-$1 @ @ 0 0 3 good last @
+EOF
+    sleep 13
+    is_quiet "$name"
+    outside "$1" set "/$name" two
+    sees "$name" <<EOF
+/$name data full 6f6e65 @made-$1 @made-$1 @ @ 0 0 3 stale last @
+/$name data full 74776f @made-$1 @set-$1 @ @ 1 0 3 good last @
+state Closed
+EOF
+    ends "$name"
+}
+
+# A watch whose process is stopped until its session has expired: a new one is begun.
+run_expired() {
+    local at=127.0.0.1:$1
+    outside "$1" create /expires one
+    begin expires "$program" watch "$at" --data /expires --timeout 4000
+    sees expires <<'EOF'
+state Connecting
+state Connected
+/expires data full 6f6e65 @expires @expires @ @ 0 0 3 good last @
+EOF
+    kill -STOP "${begun[expires]}"
+    sleep 10
+    outside "$1" set /expires two
+    kill -CONT "${begun[expires]}"
+    sees expires <<'EOF'
+drop D1
+state Idle
+state Connecting
+state Expired
+/expires data none last @
+session new
+state Connecting
+state Connected
+/expires data full 74776f @expires @twice @ @ 1 0 3 good last @
+EOF
+    end_by_force expires
+}
+
+# A watch whose standard output is closed: it ends at its next line, with the status of a write that failed.
+run_closed() {
+    local status
+    outside "$1" create /closes one
+    (
+        status=0
+        timeout 60 "$program" watch "127.0.0.1:$1" --data /closes --timeout 10000 2>"$folder/closes.err" || status=$?
+        echo "$status" >"$folder/closes.status"
+    ) | sed 3q >"$folder/closes.out"
+    outside "$1" set /closes two
+    within 20 test -s "$folder/closes.status" || fail "a watch goes on behind the end of its output"
+    [[ $(cat "$folder/closes.status") == 4 ]] || fail "a watch whose output is closed ends with $(cat "$folder/closes.status")"
+    echo "closes: status 4 as wanted"
+}
+
+# The example over a link: it follows a node through a server that is gone for a while, and through a minute in which nothing happens.
+run_follower() {
+    outside "$1" create /follow one
+    begin follow "$follower" /follow "127.0.0.1:$1"
+    sees follow <<<one
+    outside "$1" set /follow two
+    sees follow <<<two
+    stop_server one
+    start_server one
+    within 60 serves "$1" || fail "the server does not serve again"
+    outside "$1" set /follow three
+    sees follow <<<three
+    sleep 60
+    is_quiet follow
+    outside "$1" set /follow four
+    sees follow <<<four
+    end_by_force follow
 }
 
 # An ensemble of three: the server of the session stops, and the session goes on at the next address that connects.
@@ -499,13 +679,71 @@ run_ensemble() {
     done
 }
 
+# An ensemble of three. The server of a watch is stopped so that nothing tells: it is left once nothing was heard for two thirds of the
+# timeout, and what was changed meanwhile is told by the next server. That one ends, and the third tells a further change.
+run_stopped() {
+    local number port since
+    local -a ports numbers=() at=()
+    read -ra ports < <(free_ports 9)
+    known=()
+    start_three stopped "${ports[@]}"
+    for number in 1 2 3; do
+        port=${ports[number - 1]}
+        if [[ $(mode_of "$port") == leader ]]; then
+            numbers+=("$number") at+=("127.0.0.1:$port")
+        else
+            numbers=("$number" ${numbers[@]+"${numbers[@]}"}) at=("127.0.0.1:$port" ${at[@]+"${at[@]}"})
+        fi
+    done
+    outside "${at[2]#*:}" create /stopped one
+    begin stopped "$program" watch "${at[@]}" --data /stopped --timeout 20000
+    sees stopped <<'EOF'
+state Connecting
+state Connected
+/stopped data full 6f6e65 @stopped @stopped @ @ 0 0 3 good last @
+EOF
+    kill -STOP "${servers[stopped-${numbers[0]}]}"
+    since=$SECONDS
+    outside "${at[2]#*:}" set /stopped two
+    outside "${at[2]#*:}" set /stopped three
+    sees stopped <<<'drop D1'
+    ((SECONDS - since <= 15)) || fail "a silent server is left after $((SECONDS - since)) seconds"
+    sees stopped <<'EOF'
+state Idle
+state Connecting
+state Connected
+/stopped data full 6f6e65 @stopped @stopped @ @ 0 0 3 stale last @
+/stopped data full 7468726565 @stopped @three @ @ 2 0 5 good last @
+EOF
+    kill -CONT "${servers[stopped-${numbers[0]}]}"
+    within 60 serves "${at[0]#*:}" || fail "the server that was stopped does not serve again"
+    stop_server "stopped-${numbers[1]}"
+    sees stopped <<'EOF'
+state Idle
+state Connecting
+state Connected
+EOF
+    outside "${at[2]#*:}" set /stopped four
+    sees stopped <<'EOF'
+/stopped data full 7468726565 @stopped @three @ @ 2 0 5 stale last @
+/stopped data full 666f7572 @stopped @four @ @ 3 0 4 good last @
+EOF
+    end_by_force stopped
+    rises @stopped @three @four
+    run_idle "${at[2]#*:}"
+    for number in "${!servers[@]}"; do
+        stop_server "$number"
+    done
+}
+
 install_server || {
     echo "skipped: the package zookeeper cannot be had"
     exit 0
 }
-program=${1-}
-[[ -n $program ]] || build
+program=${1-} follower=${2-}
+[[ -n $program && -n $follower ]] || build
 run_alone
 run_ensemble follower
 run_ensemble leader
+run_stopped
 echo passed
