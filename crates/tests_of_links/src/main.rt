@@ -4,11 +4,13 @@
 
 mod partner;
 mod played;
+mod swept;
 mod world;
 
 use anyhow::Result;
 use played::{Row, play};
 use std::io;
+use swept::{close_at_each_byte, refuse_each_request};
 use world::Plan;
 
 /// The rows: what a partner does, and until which moment a link goes on.
@@ -80,5 +82,6 @@ fn main(rt: HostRuntime) -> Result<()> {
     for row in &ROWS {
         play(rt.alloc(), row, &mut out)?;
     }
-    Ok(())
+    close_at_each_byte(rt.alloc(), &mut out)?;
+    refuse_each_request(rt.alloc(), &mut out)
 }

@@ -3,7 +3,7 @@
 use crate::partner::Shared;
 use crate::world::{Plan, World};
 use anyhow::Result;
-use std::alloc::Global;
+use std::alloc::{Allocator, Global};
 use std::cell::RefCell;
 use std::io::Write;
 use zk_client::{Call, Client, Outcome, Output, Path, State};
@@ -16,7 +16,7 @@ const MOST: u32 = 30;
 static ADDRESSES: [&str; 2] = ["a", "b"];
 
 /// A link over a world in memory.
-type Played<'a> = Link<'a, Global, Shared<'a>, Shared<'a>>;
+pub type Played<'a, A = Global> = Link<'a, A, Shared<'a>, Shared<'a>>;
 
 /// A row of the test.
 pub struct Row {
@@ -51,7 +51,7 @@ fn print_all<W: Write>(world: &RefCell<World>, outputs: &[Output], out: &mut W) 
 }
 
 /// Whether the client is connected by one of these.
-fn is_connected(outputs: &[Output]) -> bool {
+pub fn is_connected<A: Allocator>(outputs: &[Output<A>]) -> bool {
     outputs
         .iter()
         .any(|output| matches!(output, Output::State(State::Connected)))
