@@ -8,7 +8,7 @@ ghost use Rattle.zk_live.specs.Lives.{IsOutcome};
 
 use std::alloc::Global;
 use std::io::{self, Write};
-use zk_live::dial::Dial;
+use zk_link::Dial;
 use zk_live::live::live;
 
 /// The server's address, which the script doesn't see.

@@ -4,7 +4,7 @@ use std::alloc::Global;
 use std::io::{self, ErrorKind, Read, Write};
 use zk_bench::Bench;
 use zk_history::History;
-use zk_live::dial::Dial;
+use zk_link::{Dial, Stream};
 
 /// The most requests that are processed behind one write: a client writes a frame at a time, and parts of setWatches too.
 const REQUESTS: usize = 16;
@@ -43,6 +43,13 @@ impl Write for Connection {
     }
 }
 
+impl Stream for Connection {
+    /// A read waits for nothing.
+    fn wait_at_most(&mut self, _ms: u64) -> io::Result<()> {
+        Ok(())
+    }
+}
+
 /// What connects to a server with an empty tree, once.
 #[derive(Drop)]
 pub struct Once {
@@ -61,7 +68,7 @@ impl Once {
 impl Dial for Once {
     type Stream = Connection;
 
-    fn dial(&mut self, _address: &str) -> io::Result<Connection> {
+    fn dial(&mut self, _address: &str, _within_ms: u64) -> io::Result<Connection> {
         let Some(mut bench) = self.bench.take() else {
             return Err(ErrorKind::ConnectionRefused.into());
         };

@@ -2,7 +2,8 @@
 
 use std::alloc::Global;
 use std::io::{self, ErrorKind, Read, Write};
-use zk_live::dial::Dial;
+use std::rc::Rc;
+use zk_link::{Dial, Stream};
 
 /// What the client is to send, and what it is answered then.
 #[derive(Drop)]
@@ -65,6 +66,7 @@ pub fn dialled_of<'a>(alloc: Global, lines: &'a str) -> io::Result<Vec<Dialled<'
 /// last were read, and how many bytes still pass.
 #[derive(Drop)]
 pub struct Partner<'a> {
+    _held: Rc<usize, Global>,
     turns: &'a [Turn],
     whole: usize,
     came: usize,
@@ -139,22 +141,41 @@ impl<'a> Write for Partner<'a> {
     }
 }
 
+impl<'a> Stream for Partner<'a> {
+    /// A read waits for nothing.
+    fn wait_at_most(&mut self, _ms: u64) -> io::Result<()> {
+        Ok(())
+    }
+}
+
 /// What dials these addresses, in order, of which so many were. The first connection passes so many bytes, read and written
-/// together, and fails then.
+/// together, and fails then. None is made while the one before is held.
 #[derive(Drop)]
 pub struct Partners<'a> {
+    alloc: Global,
     dialled: &'a [Dialled<'a>],
+    held: Option<Rc<usize, Global>>,
     done: usize,
     left: usize,
 }
 
 impl<'a> Partners<'a> {
     /// None was dialled yet.
-    pub fn new(dialled: &'a [Dialled<'a>], left: usize) -> Partners<'a> {
+    pub fn new(alloc: Global, dialled: &'a [Dialled<'a>], left: usize) -> Partners<'a> {
         Partners {
+            alloc,
             dialled,
+            held: None,
             done: 0,
             left,
+        }
+    }
+
+    /// Whether the last connection is held by somebody else.
+    pub fn is_held(&self) -> bool {
+        match &self.held {
+            Some(held) => Rc::strong_count(held) > 1,
+            None => false,
         }
     }
 }
@@ -162,7 +183,10 @@ impl<'a> Partners<'a> {
 impl<'a> Dial for Partners<'a> {
     type Stream = Partner<'a>;
 
-    fn dial(&mut self, address: &str) -> io::Result<Partner<'a>> {
+    fn dial(&mut self, address: &str, _within_ms: u64) -> io::Result<Partner<'a>> {
+        if self.is_held() {
+            return Err(ErrorKind::InvalidInput.into());
+        }
         let Some(due) = self.dialled.get(self.done) else {
             return Err(ErrorKind::ConnectionRefused.into());
         };
@@ -175,7 +199,10 @@ impl<'a> Dial for Partners<'a> {
         }
         let left = self.left;
         self.left = usize::MAX;
+        let held = Rc::new(self.alloc, self.done)?;
+        self.held = Some(held.clone()?);
         Ok(Partner {
+            _held: held,
             turns: due.turns.as_slice(),
             whole: 0,
             came: 0,

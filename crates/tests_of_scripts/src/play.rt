@@ -15,7 +15,7 @@ use zk_commands::replay::replay;
 use zk_commands::run::run;
 use zk_commands::show::show;
 use zk_commands::status::Status;
-use zk_live::dial::Dial;
+use zk_link::Dial;
 
 /// What a command printed, told and answered, in one text.
 fn joined(printed: Vec<u8>, told: Vec<u8>, status: Status) -> Vec<u8> {
@@ -31,7 +31,7 @@ fn joined(printed: Vec<u8>, told: Vec<u8>, status: Status) -> Vec<u8> {
 pub fn outcome<I: Read>(alloc: Global, case: &Case, left: usize, input: &mut I) -> Vec<u8> {
     let mut out = Vec::new(alloc);
     let mut errors = Vec::new(alloc);
-    let mut dial = Partners::new(case.dialled.as_slice(), left);
+    let mut dial = Partners::new(alloc, case.dialled.as_slice(), left);
     let words = case.words.as_slice();
     let status = run(alloc, &mut dial, input, &mut out, &mut errors, words);
     joined(out, errors, status)
@@ -70,7 +70,7 @@ pub fn disturbed<I: Read>(
     let heap = Refusing::after(passed, alloc);
     let mut out = FailsOnce::new(Vec::new(alloc), written);
     let mut errors = Vec::new(alloc);
-    let mut dial = Partners::new(case.dialled.as_slice(), usize::MAX);
+    let mut dial = Partners::new(alloc, case.dialled.as_slice(), usize::MAX);
     let status = perform(&heap, command, &mut dial, input, &mut out, &mut errors);
     (joined(out.into_bytes(), errors, status), heap.has_refused())
 }

@@ -6,6 +6,7 @@ use Rattle.zk_turns.specs.View.{View}
 use Rattle.zk_turns.specs.Rule.{Rule, Stands, HaltsAs}
 use Rattle.zk_client.specs.declared.output.Output.{Output as Made}
 use Rattle.zk_client.specs.Clients.{view_of}
+use Rattle.zk_client.specs.Steps.{IsQuiet}
 use Rattle.zk_client.specs.Views.{said}
 use Rattle.zk_link.specs.declared.joint.Joint.{Joint}
 use Rattle.zk_link.specs.declared.stop.Stop.{Stop}
@@ -94,6 +95,11 @@ pub record Asks (old : Trail) (input : Input) (new : Trail) : Type 0 where
 abbrev pub Fails : Stop → Trail → Trail → Type 0
 Fails Halted old new = HaltsAs old.view new.view × (new.given ≡ old.given)
 Fails Memory old new = ((new.view ≡ old.view) ⊎ ((turn : Turn) × Rule old.view turn new.view)) × (new.given ≡ old.given)
+
+-- A client halts at no input of which nothing comes.
+abbrev pub IsLoud : Stop → View → Input → Type 0
+IsLoud Halted view input = ¬ (IsQuiet view input)
+IsLoud Memory view input = ⊤
 
 -- Turns, and then want of memory.
 pub record Stops (stop : Stop) (old new : Trail) : Type 0 where

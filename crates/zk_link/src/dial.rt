@@ -40,4 +40,15 @@ impl<'a> Ring<'a> {
         }
         Some(*address)
     }
+
+    /// The first connection that is made, each within so many milliseconds, at least 1. Each address is dialled once at most.
+    pub fn connect<D: Dial>(&mut self, dial: &mut D, within_ms: u64) -> Option<D::Stream> {
+        for _ in self.addresses {
+            let address = self.turn()?;
+            if let Ok(stream) = dial.dial(address, within_ms) {
+                return Some(stream);
+            }
+        }
+        None
+    }
 }

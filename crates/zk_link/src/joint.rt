@@ -1,20 +1,21 @@
 //! A client and the connection that it has: one input at a time.
 
-ghost use Rattle.std.specs.Prelude.{◌≡◌, ◌≤◌, ◌<◌, ◌+◌, ◌++◌, ℕ, false, is_some, IfErr, OnOk};
+ghost use Rattle.std.specs.Prelude.{◌≡◌, ◌≤◌, ◌<◌, ◌+◌, ◌++◌, ℕ, false, true, is_some, IfErr, OnOk};
 ghost use Rattle.std.specs.List.{filter};
 ghost use Rattle.zk_conversation.specs.Views.{call_view};
-ghost use Rattle.zk_turns.specs.Turns.{Call as Calls};
+ghost use Rattle.zk_turns.specs.Turns.{Call as Calls, Cut};
 ghost use Rattle.zk_turns.specs.Kept.{is_final};
 ghost use Rattle.zk_turns.specs.Taken.{NothingIsDue};
 ghost use Rattle.zk_client.specs.Clients.{view_of};
 ghost use Rattle.zk_client.specs.Views.{input_view, said};
 ghost use Rattle.zk_link.specs.declared.stop.Stop.TheVariants.{Memory};
-ghost use Rattle.zk_link.specs.Trails.{is_given, kept, trail_of, Asks, Comes, Fails, FailsThen, Hears, HearsThen, Stops};
+ghost use Rattle.zk_link.specs.Trails.{bare_of, is_given, kept, trail_of, Asks, Comes, Fails, FailsThen, Hears, HearsThen, IsLoud, Stops};
 
+use crate::bring::{Brought, bring, make_room};
+use crate::dial::Stream;
 use crate::give::{give, has_end, is_sent};
 use crate::stop::Stop;
-use std::alloc::Allocator;
-use std::io::Write;
+use std::alloc::{AllocError, Allocator};
 use zk_client::{Call, Client, Input, Output, State};
 
 /// The longest wait, in milliseconds: an hour.
@@ -23,9 +24,12 @@ const LONGEST_WAIT: u64 = 3_600_000;
 /// A client, its connection, if it has one, and the latest moment that it was told.
 #[derive(Drop)]
 pub struct Joint<A: Allocator + Copy, S: Drop> {
+    /// The client. What it says is done where [`hear`](Joint::hear) hands it an input.
     pub client: Client<A>,
-    pub stream: Option<S>,
-    pub latest: u64,
+    pub(crate) stream: Option<S>,
+    pub(crate) latest: u64,
+    alloc: A,
+    room: Vec<u8, A>,
 }
 
 /// How many milliseconds a read may wait from one moment to another, at least 1 and at most an hour.
@@ -41,9 +45,9 @@ fn wait_between(latest: u64, end: u64) -> u64
     wait.min(LONGEST_WAIT)
 }
 
-impl<A: Allocator + Copy, S: Write + Drop> Joint<A, S> {
+impl<A: Allocator + Copy, S: Stream> Joint<A, S> {
     /// A client with no connection yet, which was told no moment.
-    pub(crate) fn new(client: Client<A>) -> Joint<A, S>
+    pub fn new(alloc: A, client: Client<A>) -> Joint<A, S>
         ensures client { view_of result.client ≡ view_of client }
         ensures closed { is_some result.stream ≡ false }
         ensures latest { result.latest ≡ 0 }
@@ -52,6 +56,8 @@ impl<A: Allocator + Copy, S: Write + Drop> Joint<A, S> {
             client,
             stream: None,
             latest: 0,
+            alloc,
+            room: Vec::new(alloc),
         }
     }
 
@@ -63,6 +69,31 @@ impl<A: Allocator + Copy, S: Write + Drop> Joint<A, S> {
     {
         self.stream = None;
         self.client = client;
+    }
+
+    /// Whether there is a connection.
+    pub fn is_open(&self) -> bool
+        ensures { result ≡ is_some self.now.stream }
+    {
+        self.stream.is_some()
+    }
+
+    /// Takes a connection that begins; one that is there is let go. It is on the caller to tell the client, by [`Input::Opened`].
+    pub fn hold(&mut self, stream: S)
+        ensures { bare_of self.new ≡ record (bare_of self.old) { is_open = true } }
+    {
+        self.stream = Some(stream);
+    }
+
+    /// What the connection brings within so many milliseconds, at least 1. Where there is none, it is over.
+    pub fn read(&mut self, ms: u64) -> Result<Brought<A>, AllocError>
+        ensures { bare_of self.new ≡ bare_of self.old }
+    {
+        make_room(&mut self.room)?;
+        match &mut self.stream {
+            Some(stream) => bring(self.alloc, stream, &mut self.room, ms),
+            None => Ok(Brought::End),
+        }
     }
 
     /// Writes what goes to the server, where there is a connection. Whether all of it was written.
@@ -109,11 +140,16 @@ impl<A: Allocator + Copy, S: Write + Drop> Joint<A, S> {
         }
     }
 
-    /// Hands the client one input, and does what it says. Whether all was written that goes to the server.
-    fn hear(&mut self, input: Input<A>, outputs: &mut Vec<Output<A>, A>) -> Result<bool, Stop>
+    /// Hands the client one input, and does what it says: what goes to the server is written, the connection that is over with an output
+    /// is let go, and the rest is given, behind what `outputs` has. Whether all was written that goes to the server: where it was not, the
+    /// connection is over, and [`cut`](Joint::cut) is due. What a moment makes due is heard by [`Input::Now`].
+    ///
+    /// An error is want of memory, of the client or for what is given. An input of which nothing comes halts no client.
+    pub fn hear(&mut self, input: Input<A>, outputs: &mut Vec<Output<A>, A>) -> Result<bool, Stop>
         ensures ok { OnOk result (Hears (trail_of self.old outputs.old.items) (input_view input) (trail_of self.new outputs.new.items)) }
         ensures latest { self.new.latest ≡ self.old.latest }
         ensures err { IfErr result (λ stop. Fails stop (trail_of self.old outputs.old.items) (trail_of self.new outputs.new.items)) }
+        ensures loud { IfErr result (λ stop. IsLoud stop (view_of self.old.client) (input_view input)) }
     {
         let Ok(made) = self.client.step(input) else {
             return Err(Stop::Halted);
@@ -121,11 +157,12 @@ impl<A: Allocator + Copy, S: Write + Drop> Joint<A, S> {
         self.deliver(made, outputs)
     }
 
-    /// The connection is over.
-    fn cut(&mut self, outputs: &mut Vec<Output<A>, A>) -> Result<(), Stop>
-        ensures ok { OnOk result (Comes (trail_of self.old outputs.old.items) (trail_of self.new outputs.new.items)) }
+    /// The connection is over: it is let go, if it is there still, and the client is told.
+    pub fn cut(&mut self, outputs: &mut Vec<Output<A>, A>) -> Result<(), Stop>
+        ensures ok { OnOk result (Hears (record (trail_of self.old outputs.old.items) { is_open = false }) Cut (trail_of self.new outputs.new.items)) }
         ensures latest { self.new.latest ≡ self.old.latest }
         ensures err { IfErr result (λ stop. Fails stop (trail_of self.old outputs.old.items) (trail_of self.new outputs.new.items)) }
+        ensures loud { IfErr result (λ stop. IsLoud stop (view_of self.old.client) Cut) }
     {
         self.stream = None;
         self.hear(Input::Cut, outputs)?;
@@ -162,7 +199,7 @@ impl<A: Allocator + Copy, S: Write + Drop> Joint<A, S> {
         ensures ok { OnOk result (Comes (trail_of self.old outputs.old.items) (trail_of self.new outputs.new.items)) }
         ensures err { IfErr result (λ stop. Stops stop (trail_of self.old outputs.old.items) (trail_of self.new outputs.new.items)) }
     {
-        if self.stream.is_some() {
+        if self.is_open() {
             return self.cut(outputs);
         }
         Ok(())
@@ -183,10 +220,10 @@ impl<A: Allocator + Copy, S: Write + Drop> Joint<A, S> {
         ensures ok { OnOk result (Comes (trail_of self.old outputs.old.items) (trail_of self.new outputs.new.items)) }
         ensures err { IfErr result (λ stop. Stops stop (trail_of self.old outputs.old.items) (trail_of self.new outputs.new.items)) }
     {
-        if self.stream.is_some() {
+        if self.is_open() {
             return Ok(());
         }
-        self.stream = Some(stream);
+        self.hold(stream);
         self.take(Input::Opened, outputs)
     }
 
@@ -210,7 +247,7 @@ impl<A: Allocator + Copy, S: Write + Drop> Joint<A, S> {
         ensures ok { OnOk result (Comes (trail_of self.old outputs.old.items) (trail_of self.new outputs.new.items)) }
         ensures err { IfErr result (λ stop. Stops stop (trail_of self.old outputs.old.items) (trail_of self.new outputs.new.items)) }
     {
-        if self.stream.is_some() {
+        if self.is_open() {
             return self.take(Input::Bytes(bytes), outputs);
         }
         Ok(())

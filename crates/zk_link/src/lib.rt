@@ -4,6 +4,9 @@
 //! until there is something for its caller, and [`Link::ask`] hands in a call. Each input that the client is handed is a turn by its
 //! rule, so that what the law `holds` of `zk_client` says is so of the client of a link.
 //!
+//! A [`Joint`] is a client and the connection that it has, for a loop of another kind: it is handed one input at a time, and waits for
+//! nothing but a read.
+//!
 //! [`Tcp`] dials over a network and [`SystemClock`] is the system's clock; a test has its own [`Dial`] and [`Clock`].
 #![tactic(auto)]
 
@@ -17,8 +20,10 @@ mod pause;
 mod stop;
 mod tcp;
 
+pub use bring::Brought;
 pub use clock::{Clock, SystemClock};
 pub use dial::{Dial, Ring, Stream};
+pub use joint::Joint;
 pub use link::Link;
 pub use pause::pause_after;
 pub use stop::Stop;

@@ -8,7 +8,7 @@ ghost use Rattle.zk_client.specs.Clients.{view_of};
 ghost use Rattle.zk_link.specs.Trails.{bare_of, trail_of, Asks, Comes, Stops};
 ghost use Rattle.zk_link.specs.Waits.{HasCome};
 
-use crate::bring::{Brought, bring, make_room};
+use crate::bring::Brought;
 use crate::clock::Clock;
 use crate::dial::{Dial, Ring};
 use crate::joint::Joint;
@@ -27,11 +27,9 @@ fn dial_next<D: Dial>(dial: &mut D, ring: &mut Ring<'_>, within_ms: u64) -> Opti
 #[derive(Drop)]
 pub struct Link<'a, A: Allocator + Copy, D: Dial + Drop, C: Clock + Drop> {
     joint: Joint<A, D::Stream>,
-    alloc: A,
     dial: D,
     clock: C,
     ring: Ring<'a>,
-    room: Vec<u8, A>,
     failures: u32,
     dial_at: u64,
 }
@@ -50,12 +48,10 @@ impl<'a, A: Allocator + Copy, D: Dial + Drop, C: Clock + Drop> Link<'a, A, D, C>
         ensures latest { result.joint.latest ≡ 0 }
     {
         Link {
-            joint: Joint::new(client),
-            alloc,
+            joint: Joint::new(alloc, client),
             dial,
             clock,
             ring: Ring::new(addresses),
-            room: Vec::new(alloc),
             failures: 0,
             dial_at: 0,
         }
@@ -100,7 +96,10 @@ impl<'a, A: Allocator + Copy, D: Dial + Drop, C: Clock + Drop> Link<'a, A, D, C>
         self.joint.call_at(now, ticket, call, outputs)
     }
 
-    /// Goes on until this moment, or until there is something for the caller, or the session is over.
+    /// Goes on until this moment of the clock, or until there is something for the caller, or the session is over.
+    ///
+    /// No read and no attempt to connect waits past this moment, but for 1 millisecond: one that is to succeed needs a moment that is far
+    /// enough. Behind a session that is over it returns at once.
     #[tactic(auto, using(crate::proofs::TrailLemmas::more_given))]
     pub fn go_on(&mut self, until: u64, outputs: &mut Vec<Output<A>, A>) -> Result<(), Stop>
         ensures ok { OnOk result (Comes (trail_of self.old.joint outputs.old.items) (trail_of self.new.joint outputs.new.items)) }
@@ -135,7 +134,7 @@ impl<'a, A: Allocator + Copy, D: Dial + Drop, C: Clock + Drop> Link<'a, A, D, C>
         ensures ok { OnOk result (Comes (trail_of self.old.joint outputs.old.items) (trail_of self.new.joint outputs.new.items)) }
         ensures err { IfErr result (λ stop. Stops stop (trail_of self.old.joint outputs.old.items) (trail_of self.new.joint outputs.new.items)) }
     {
-        if self.joint.stream.is_some() {
+        if self.joint.is_open() {
             self.listen(until, outputs)
         } else {
             self.reach(until, outputs)
@@ -146,12 +145,8 @@ impl<'a, A: Allocator + Copy, D: Dial + Drop, C: Clock + Drop> Link<'a, A, D, C>
     fn next_brought(&mut self, until: u64) -> Result<Brought<A>, AllocError>
         ensures { bare_of self.new.joint ≡ bare_of self.old.joint }
     {
-        make_room(&mut self.room)?;
         let wait = self.joint.longest_wait(until);
-        match &mut self.joint.stream {
-            Some(stream) => bring(self.alloc, stream, &mut self.room, wait),
-            None => Ok(Brought::Nothing),
-        }
+        self.joint.read(wait)
     }
 
     /// A client that is connected has reached its server: no attempt has failed since.
@@ -190,12 +185,14 @@ impl<'a, A: Allocator + Copy, D: Dial + Drop, C: Clock + Drop> Link<'a, A, D, C>
         outcome
     }
 
-    /// Dials the next address, for a third of the timeout at most. An attempt counts as one that failed until the client is connected.
-    fn attempt(&mut self, outputs: &mut Vec<Output<A>, A>) -> Result<(), Stop>
+    /// Dials the next address, for so many milliseconds and a third of the timeout at most. An attempt counts as one that failed until the
+    /// client is connected.
+    fn attempt(&mut self, most: u64, outputs: &mut Vec<Output<A>, A>) -> Result<(), Stop>
         ensures ok { OnOk result (Comes (trail_of self.old.joint outputs.old.items) (trail_of self.new.joint outputs.new.items)) }
         ensures err { IfErr result (λ stop. Stops stop (trail_of self.old.joint outputs.old.items) (trail_of self.new.joint outputs.new.items)) }
     {
-        let within = u64::from(self.joint.client.timeout_ms() / 3).max(1);
+        let third = u64::from(self.joint.client.timeout_ms() / 3);
+        let within = third.min(most).max(1);
         let stream = dial_next(&mut self.dial, &mut self.ring, within);
         let now = self.clock.now().max(self.joint.latest);
         self.failures = self.failures.saturating_add(1);
@@ -212,11 +209,11 @@ impl<'a, A: Allocator + Copy, D: Dial + Drop, C: Clock + Drop> Link<'a, A, D, C>
         ensures err { IfErr result (λ stop. Stops stop (trail_of self.old.joint outputs.old.items) (trail_of self.new.joint outputs.new.items)) }
     {
         let now = self.clock.now().max(self.joint.latest);
-        if now < self.dial_at {
+        if now < self.dial_at || until <= now {
             self.clock
                 .pause(self.dial_at.min(until).saturating_sub(now));
             return self.joint.tell(self.clock.now(), outputs);
         }
-        self.attempt(outputs)
+        self.attempt(until.saturating_sub(now), outputs)
     }
 }

@@ -1,17 +1,21 @@
 -- What a connection brings, one piece behind another.
-use Rattle.std.proofs.Common.{◌≡◌, inl, inr, ℕ, Bool, false, List, [], ◌∷◌, ◌++◌, refl, sym, ap, ◌∙◌, append_assoc}
-use Rattle.std.specs.List.{FoldsTo}
+use Rattle.std.proofs.Common.{◌≡◌, inl, inr, ℕ, Bool, false, List, [], ◌∷◌, ◌++◌, refl, sym, subst, ap, ◌∙◌, append_assoc}
+use Rattle.std.specs.List.{filter, FoldsTo}
 use Rattle.std.proofs.lemmas.List.{append-nil}
-use Rattle.zk_turns.specs.Turns.{Input, Opened, Bytes, Cut, Cuts, Output}
+use Rattle.zk_turns.specs.Turns.{Input, Opened, Bytes, Cut, Cuts, Output, Send, Answer, Report, Enters, Drop}
 use Rattle.zk_turns.specs.View.{View}
 use Rattle.zk_turns.specs.Rule.{after_signals}
 use Rattle.zk_session.specs.declared.states.State.{State}
 use Rattle.zk_session.specs.declared.states.State.TheVariants.{Idle, Connecting, Connected, Expired, Closed}
-use Rattle.std.specs.Prelude.{codes}
+use Rattle.std.specs.Prelude.{codes, if◌then◌else◌}
+use Rattle.zk_link.specs.declared.stop.Stop.{Stop as LinkStop}
+use Rattle.zk_link.specs.declared.stop.Stop.TheVariants as link
+use Rattle.zk_link.specs.Trails.{is_given, Fails, Hears as LinkHears, IsLoud, Trail}
 use Rattle.zk_replay.specs.declared.stop.Stop.{Stop}
 use Rattle.zk_replay.specs.declared.stop.Stop.TheVariants as stops
-use Rattle.zk_replay.specs.Played.{IfHalted}
+use Rattle.zk_replay.specs.Played.{IfHalted, IsWant}
 use Rattle.zk_live.specs.Heard.{is_waiting, tape, AllBrought, Awaits, Brings, Connects, Halts, HaltsAmong, HaltsAwaiting, HaltsBrought, HaltsConnecting, Hears, IsBrought, MayEnd, Takes, Tape, TellsEach, TellsHeard}
+use Rattle.zk_live.specs.Wants.{want_of}
 
 -- one more output
 pub one_more : (outputs : List Output) (output : Output) (text told : List ℕ) → TellsEach outputs text → TellsHeard output told
@@ -19,6 +23,43 @@ pub one_more : (outputs : List Output) (output : Output) (text told : List ℕ) 
 one_more [] output text told none tells = (told, [], tells, refl, ap (λ x. x ++ told) none ∙ sym (append-nil told))
 one_more (first ∷ outputs) output text told all tells =
     (all.0, all.1 ++ told, all.2, one_more outputs output all.1 told all.3 tells, ap (λ x. x ++ told) all.4 ∙ append_assoc all.0 all.1 told)
+
+-- one output, given or sent, and what is printed of it
+told_first : (output : Output) (given outputs : List Output) (text : List ℕ) → ((rest : List ℕ) → TellsEach given rest → TellsEach outputs rest)
+    → TellsEach (if is_given output then output ∷ given else given) text → TellsEach (output ∷ outputs) text
+told_first (Send bytes) given outputs text all tells = ([], text, refl, all text tells, refl)
+told_first (Answer ticket outcome) given outputs text all tells = (tells.0, tells.1, tells.2, all tells.1 tells.3, tells.4)
+told_first (Report path side event) given outputs text all tells = (tells.0, tells.1, tells.2, all tells.1 tells.3, tells.4)
+told_first (Enters state) given outputs text all tells = (tells.0, tells.1, tells.2, all tells.1 tells.3, tells.4)
+told_first (Drop fault) given outputs text all tells = (tells.0, tells.1, tells.2, all tells.1 tells.3, tells.4)
+
+-- What is printed of the outputs that are given is what is printed of all.
+told_all : (outputs : List Output) (text : List ℕ) → TellsEach (filter is_given outputs) text → TellsEach outputs text
+told_all [] text none = none
+told_all (output ∷ outputs) text tells = told_first output (filter is_given outputs) outputs text (told_all outputs) tells
+
+-- one input, of which what is given is printed
+pub heard : (old new : Trail) (input : Input) (before told after : List ℕ) → old.given ≡ [] → LinkHears old input new → TellsEach new.given told
+    → after ≡ before ++ told → Hears (tape old.view before) input (tape new.view after)
+heard old new input before told after none hears tells printed =
+    let given : new.given ≡ filter is_given hears.outputs = hears.given ∙ ap (λ g. g ++ filter is_given hears.outputs) none in
+    record {
+      outputs = hears.outputs;
+      told = told;
+      rule = hears.rule;
+      tells = told_all hears.outputs told (subst (λ (g : List Output). TellsEach g told) given tells);
+      printed = printed;
+    }
+
+-- want of memory at one input
+pub halted : (stop : LinkStop) (old new : Trail) (input : Input) (text : List ℕ) → Fails stop old new → IsLoud stop old.view input
+    → IfHalted (Halts (tape old.view text) input (tape new.view text)) (want_of stop)
+halted link.Halted old new input text fails loud = record { halts = record { loud = loud; halts = fails.0 }; printed = refl }
+halted link.Memory old new input text fails loud = tt
+
+pub wants : (stop : LinkStop) → IsWant (want_of stop)
+wants link.Halted = tt
+wants link.Memory = tt
 
 -- nothing came
 pub nothing : (here : Tape) → Brings here here

@@ -4,3 +4,4 @@ pub mod Lines
 pub mod Begins
 pub mod Heard
 pub mod Lives
+pub mod Wants

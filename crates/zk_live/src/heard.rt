@@ -1,13 +1,16 @@
 //! What a client says to an input, as printed lines: all but what goes to the server.
 
 ghost use Rattle.std.specs.Prelude.{◌≡◌, ◌++◌, ℕ, List, IfOk, IfErr, OnOk, string_bytes};
+ghost use Rattle.zk_turns.specs.Turns.{Cut};
 ghost use Rattle.zk_client.specs.Clients.{view_of};
 ghost use Rattle.zk_client.specs.Views.{input_view, output_view, said};
 ghost use Rattle.zk_replay.specs.Played.{IfHalted, IsWant};
 ghost use Rattle.zk_live.specs.Heard.{tape, Halts, Hears, TellsEach, TellsHeard};
+ghost use Rattle.zk_live.specs.Wants.{want_of};
 
 use std::alloc::{AllocError, Allocator};
-use zk_client::{Client, Input, Output};
+use zk_client::{Input, Output};
+use zk_link::{Joint, Stream};
 use zk_replay::outputs::push_output;
 use zk_replay::stop::Stop;
 
@@ -36,19 +39,71 @@ fn heard_text<A: Allocator + Copy>(alloc: A, outputs: &[Output<A>]) -> Result<St
     Ok(text)
 }
 
-/// Hands a client an input, and adds what is printed of what it says. Where that is answered by a halt, the client has halted.
-pub fn hear<A: Allocator + Copy>(
+/// Adds what is printed of outputs.
+fn push_told<A: Allocator + Copy>(
     alloc: A,
-    client: &mut Client<A>,
+    outputs: &[Output<A>],
+    text: &mut String<A>,
+) -> Result<(), AllocError>
+    ensures { OnOk result ((told : List ℕ) × TellsEach (said outputs.now) told × (string_bytes text.new ≡ string_bytes text.old ++ told)) }
+{
+    let told = heard_text(alloc, outputs)?;
+    text.push_str(told.as_str())
+}
+
+/// Why a line is not done, where a link has no memory.
+fn want_of(stop: zk_link::Stop) -> Stop
+    ensures { result ≡ want_of stop }
+{
+    match stop {
+        zk_link::Stop::Halted => Stop::Halted,
+        zk_link::Stop::Memory => Stop::Memory,
+    }
+}
+
+/// What a client says to an input but for what goes to the server, and whether all of that was written.
+#[derive(Drop)]
+pub struct Heard<A: Allocator> {
+    pub outputs: Vec<Output<A>, A>,
+    pub is_sent: bool,
+}
+
+/// Hands a client an input, and adds what is printed of what it says. Where that is answered by a halt, the client has halted.
+pub fn hear<A: Allocator + Copy, S: Stream>(
+    alloc: A,
+    joint: &mut Joint<A, S>,
     input: Input<A>,
     text: &mut String<A>,
-) -> Result<Vec<Output<A>, A>, Stop>
-    ensures ok { OnOk result (Hears (tape (view_of client.old) (string_bytes text.old)) (input_view input) (tape (view_of client.new) (string_bytes text.new))) }
+) -> Result<Heard<A>, Stop>
+    ensures ok { OnOk result (Hears (tape (view_of joint.old.client) (string_bytes text.old)) (input_view input) (tape (view_of joint.new.client) (string_bytes text.new))) }
     ensures err { IfErr result IsWant }
-    ensures halt { IfErr result (IfHalted (Halts (tape (view_of client.old) (string_bytes text.old)) (input_view input) (tape (view_of client.new) (string_bytes text.new)))) }
+    ensures halt { IfErr result (IfHalted (Halts (tape (view_of joint.old.client) (string_bytes text.old)) (input_view input) (tape (view_of joint.new.client) (string_bytes text.new)))) }
 {
-    let outputs = client.step(input)?;
-    let told = heard_text(alloc, outputs.as_slice())?;
-    text.push_str(told.as_str())?;
-    Ok(outputs)
+    let mut outputs = Vec::new(alloc);
+    let is_sent = match joint.hear(input, &mut outputs) {
+        Ok(is_sent) => is_sent,
+        Err(stop) => return Err(want_of(stop)),
+    };
+    push_told(alloc, outputs.as_slice(), text)?;
+    Ok(Heard { outputs, is_sent })
+}
+
+/// Ends the connection, and adds what is printed of what the client says to that. Where that is answered by a halt, it has halted.
+pub fn cut<A: Allocator + Copy, S: Stream>(
+    alloc: A,
+    joint: &mut Joint<A, S>,
+    text: &mut String<A>,
+) -> Result<(), Stop>
+    ensures ok { OnOk result (Hears (tape (view_of joint.old.client) (string_bytes text.old)) Cut (tape (view_of joint.new.client) (string_bytes text.new))) }
+    ensures err { IfErr result IsWant }
+    ensures halt { IfErr result (IfHalted (Halts (tape (view_of joint.old.client) (string_bytes text.old)) Cut (tape (view_of joint.new.client) (string_bytes text.new)))) }
+{
+    let mut outputs = Vec::new(alloc);
+    if let Err(stop) = joint.cut(&mut outputs) {
+        return Err(want_of(stop));
+    }
+    match push_told(alloc, outputs.as_slice(), text) {
+        Ok(()) => Ok(()),
+        Err(_) => Err(Stop::Memory),
+    }
 }

@@ -14,12 +14,11 @@ ghost use Rattle.zk_live.specs.LiveLines.{DrivesLine, says_at};
 ghost use Rattle.zk_live.specs.Lives.{progress, DoesLive, EndsFrom, Goes, HaltsLine, HaltsLive, IsOutcome, TakesLine};
 
 use crate::begun::{begin_of, end_at};
-use crate::dial::{Dial, Ring};
-use crate::link::{Link, room};
+use crate::link::Link;
 use crate::live_line::{LiveLine, said_line};
 use std::alloc::{AllocError, Allocator};
-use std::io::{Read, Write};
 use zk_client::Input;
+use zk_link::{Dial, Ring, Stream};
 use zk_replay::begin_line::BeginLine;
 use zk_replay::client_line::ClientLine;
 use zk_replay::driven::{begun, driven};
@@ -35,24 +34,22 @@ struct Session<'a, A: Allocator + Copy, S: Drop> {
     is_begun: bool,
 }
 
-impl<'a, A: Allocator + Copy, S: Read + Write + Drop> Session<'a, A, S> {
+impl<'a, A: Allocator + Copy, S: Stream> Session<'a, A, S> {
     /// Does what a line says that is the same whatever is at the other end.
     fn drive(&mut self, alloc: A, line: ClientLine<A>) -> Result<String<A>, Stop>
-        ensures ok { IfOk result (λ text. DoesLive (DrivesLine (client_value_of line)) (view_of self.old.link.client) (view_of self.new.link.client) (string_bytes text)) }
+        ensures ok { IfOk result (λ text. DoesLive (DrivesLine (client_value_of line)) (view_of self.old.link.joint.client) (view_of self.new.link.joint.client) (string_bytes text)) }
         ensures err { IfErr result IsWant }
-        ensures halt { IfErr result (IfHalted (HaltsLive (DrivesLine (client_value_of line)) (view_of self.old.link.client) (view_of self.new.link.client))) }
+        ensures halt { IfErr result (IfHalted (HaltsLive (DrivesLine (client_value_of line)) (view_of self.old.link.joint.client) (view_of self.new.link.joint.client))) }
         ensures begun { self.new.is_begun ≡ self.old.is_begun }
     {
         let mut text = String::new(alloc);
         match line {
-            ClientLine::Cut => {
-                self.link.cut(alloc, &mut text)?;
-            }
+            ClientLine::Cut => self.link.cut(alloc, &mut text)?,
             ClientLine::Now(moment) => {
                 self.link.take(alloc, Input::Now(moment), &mut text)?;
             }
             ClientLine::Call(asked) => self.link.ask(alloc, asked, &mut text)?,
-            line => return driven(alloc, &mut self.link.client, line),
+            line => return driven(alloc, &mut self.link.joint.client, line),
         }
         Ok(text)
     }
@@ -64,9 +61,9 @@ impl<'a, A: Allocator + Copy, S: Read + Write + Drop> Session<'a, A, S> {
         dial: &mut D,
         line: LiveLine<A>,
     ) -> Result<String<A>, Stop>
-        ensures ok { IfOk result (λ text. DoesLive (live_value_of line) (view_of self.old.link.client) (view_of self.new.link.client) (string_bytes text)) }
+        ensures ok { IfOk result (λ text. DoesLive (live_value_of line) (view_of self.old.link.joint.client) (view_of self.new.link.joint.client) (string_bytes text)) }
         ensures err { IfErr result IsWant }
-        ensures halt { IfErr result (IfHalted (HaltsLive (live_value_of line) (view_of self.old.link.client) (view_of self.new.link.client))) }
+        ensures halt { IfErr result (IfHalted (HaltsLive (live_value_of line) (view_of self.old.link.joint.client) (view_of self.new.link.joint.client))) }
         ensures begun { self.new.is_begun ≡ self.old.is_begun }
     {
         let mut text = String::new(alloc);
@@ -86,9 +83,9 @@ impl<'a, A: Allocator + Copy, S: Read + Write + Drop> Session<'a, A, S> {
         dial: &mut D,
         line: &[u8],
     ) -> Result<String<A>, Stop>
-        ensures ok { IfOk result (λ text. TakesLine line.now self.old.is_begun (view_of self.old.link.client) self.new.is_begun (view_of self.new.link.client) (string_bytes text)) }
+        ensures ok { IfOk result (λ text. TakesLine line.now self.old.is_begun (view_of self.old.link.joint.client) self.new.is_begun (view_of self.new.link.joint.client) (string_bytes text)) }
         ensures err { IfErr result (IsDue (says_at (words_of line.now) self.old.is_begun)) }
-        ensures halt { IfErr result (IfHalted (HaltsLine line.now self.old.is_begun (view_of self.old.link.client) (view_of self.new.link.client))) }
+        ensures halt { IfErr result (IfHalted (HaltsLine line.now self.old.is_begun (view_of self.old.link.joint.client) (view_of self.new.link.joint.client))) }
     {
         let Some(line) = said_line(alloc, line, self.is_begun)? else {
             return Ok(String::new(alloc));
@@ -106,9 +103,9 @@ impl<'a, A: Allocator + Copy, S: Read + Write + Drop> Session<'a, A, S> {
         line: &[u8],
         text: &mut String<A>,
     ) -> Result<(), Stop>
-        ensures ok { OnOk result (Goes (progress (view_of self.old.link.client) self.old.is_begun (string_bytes text.old)) line.now (progress (view_of self.new.link.client) self.new.is_begun (string_bytes text.new))) }
+        ensures ok { OnOk result (Goes (progress (view_of self.old.link.joint.client) self.old.is_begun (string_bytes text.old)) line.now (progress (view_of self.new.link.joint.client) self.new.is_begun (string_bytes text.new))) }
         ensures err { IfErr result (IsDue (says_at (words_of line.now) self.old.is_begun)) }
-        ensures halt { IfErr result (IfHalted (HaltsLine line.now self.old.is_begun (view_of self.old.link.client) (view_of self.new.link.client))) }
+        ensures halt { IfErr result (IfHalted (HaltsLine line.now self.old.is_begun (view_of self.old.link.joint.client) (view_of self.new.link.joint.client))) }
         ensures same { OnErr result (string_bytes text.new ≡ string_bytes text.old) }
     {
         let printed = self.read(alloc, dial, line)?;
@@ -127,7 +124,7 @@ fn read_lines<A: Allocator + Copy, D: Dial>(
     lines: &[&[u8]],
     told: String<A>,
 ) -> Outcome<A>
-    ensures { EndsFrom (progress (view_of session.old.link.client) session.old.is_begun (string_bytes told)) (map (λ l. l.now) lines.now) (string_bytes result.text) result.end }
+    ensures { EndsFrom (progress (view_of session.old.link.joint.client) session.old.is_begun (string_bytes told)) (map (λ l. l.now) lines.now) (string_bytes result.text) result.end }
 {
     let mut text = told;
     for (index, line) in lines.iter().enumerate() {
@@ -141,19 +138,18 @@ fn read_lines<A: Allocator + Copy, D: Dial>(
 }
 
 /// The client that a line asks for, with no connection yet.
-fn made<'a, A: Allocator + Copy, S: Read + Write + Drop>(
+fn made<'a, A: Allocator + Copy, S: Stream>(
     alloc: A,
     addresses: &'a [&'a str],
     begin: BeginLine<A>,
 ) -> Result<Session<'a, A, S>, AllocError>
     requires { CanBegin (begin_value_of begin) }
-    ensures view { IfOk result (λ session. view_of session.link.client ≡ view_at (start_of (begin_value_of begin)) []) }
+    ensures view { IfOk result (λ session. view_of session.link.joint.client ≡ view_at (start_of (begin_value_of begin)) []) }
     ensures begun { IfOk result (λ session. session.is_begun ≡ false) }
 {
-    let room = room(alloc)?;
     let client = begun(alloc, begin)?;
     Ok(Session {
-        link: Link::new(client, room),
+        link: Link::new(alloc, client),
         ring: Ring::new(addresses),
         is_begun: false,
     })
@@ -176,7 +172,7 @@ fn connected<A: Allocator + Copy, D: Dial>(
     lines: &[&[u8]],
 ) -> Outcome<A>
     requires { session.old.is_begun ≡ false }
-    ensures { (begin : BeginValue) → begun_by (map (λ l. l.now) lines.now) ≡ Begins begin → view_of session.old.link.client ≡ view_at (start_of begin) []
+    ensures { (begin : BeginValue) → begun_by (map (λ l. l.now) lines.now) ≡ Begins begin → view_of session.old.link.joint.client ≡ view_at (start_of begin) []
         → IsOutcome (map (λ l. l.now) lines.now) (string_bytes result.text) result.end }
 {
     match session.act(alloc, dial, LiveLine::Open) {
@@ -221,8 +217,9 @@ fn live_lines<A: Allocator + Copy, D: Dial>(
 /// Drives a client by a script, over connections to the addresses, which are tried in turn: what its lines print, and how they end.
 ///
 /// The client asks for 30,000 milliseconds, or takes up the session that the first line says. It is connected before the lines
-/// are read. After a call, bytes are read until its answer has come or the connection has ended. A read or a write that fails,
-/// and an end of the bytes, is a cut, and so is a wait of more than 1,000,000 pieces. Text comes with the outcome.
+/// are read. After a call, bytes are read until its answer has come or the connection has ended. An address is dialled, and a read
+/// waits, for the session's timeout at most. A read or a write that fails, a read for which nothing comes in that time, and an end of
+/// the bytes is a cut, and so is a wait of more than 1,000,000 pieces. Text comes with the outcome.
 pub fn live<A: Allocator + Copy, D: Dial>(
     alloc: A,
     dial: &mut D,

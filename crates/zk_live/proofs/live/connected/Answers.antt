@@ -13,13 +13,13 @@ pub returns-in-Ok : goal.returns-in-Ok
 returns-in-Ok g c = λ begin first made.
     let lines : List Text = map (λ l. l.now) c.args.lines.now in
     let new = c.act.new.self in
-    let view = view_of new.link.client in
+    let view = view_of new.link.joint.client in
     let told = string_bytes c.in-Ok.text in
     let text = string_bytes c.read_lines.result.text in
     let end = c.read_lines.result.end in
     let same : new.is_begun ≡ false = c.in-Ok.ensures.begun ∙ c.requires in
     lived lines begin view told text end first
-    (moved (view_of c.args.session.now.link.client) (view_at (start_of begin) []) (tape view told) made c.in-Ok.ensures.ok)
+    (moved (view_of c.args.session.now.link.joint.client) (view_at (start_of begin) []) (tape view told) made c.in-Ok.ensures.ok)
     (unbegun view new.is_begun told lines text end same c.read_lines.ensures)
 
 pub returns-in-Err : goal.returns-in-Err
@@ -28,4 +28,4 @@ returns-in-Err g c = λ begin first made.
     let stop = c.in-Err.stop in
     rw (c.nothing.ensures.end, c.end_at.ensures)
     (unlived lines (string_bytes c.nothing.result.text) (end_at 0 stop) c.nothing.ensures.text
-    (want lines begin (view_of c.args.session.now.link.client) (view_of c.act.new.self.link.client) 0 stop first made c.in-Err.ensures.err c.in-Err.ensures.halt))
+    (want lines begin (view_of c.args.session.now.link.joint.client) (view_of c.act.new.self.link.joint.client) 0 stop first made c.in-Err.ensures.err c.in-Err.ensures.halt))

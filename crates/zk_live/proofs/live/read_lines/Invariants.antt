@@ -8,5 +8,5 @@ use Rattle.zk_live.proofs.live.read_lines.Given as goal
 -- the lines so far are taken, and the text is what was printed before them and what they print
 abbrev pub invariant-loop-index : goal.invariant-loop-index
 invariant-loop-index g l =
-    FoldsTo Goes (progress (view_of l.initial.session.link.client) l.initial.session.is_begun (string_bytes l.initial.text))
-    (map (λ p. p.now) (take l.index l.lines)) (progress (view_of l.session.link.client) l.session.is_begun (string_bytes l.text))
+    FoldsTo Goes (progress (view_of l.initial.session.link.joint.client) l.initial.session.is_begun (string_bytes l.initial.text))
+    (map (λ p. p.now) (take l.index l.lines)) (progress (view_of l.session.link.joint.client) l.session.is_begun (string_bytes l.text))

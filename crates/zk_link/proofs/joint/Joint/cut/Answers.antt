@@ -1,10 +1,7 @@
 use Rattle.std.proofs.Common.{rules, refl, false}
 use Rattle.zk_link.specs.Trails.{trail_of}
-use Rattle.zk_link.proofs.TrailLemmas.{cuts, same_fails}
+use Rattle.zk_link.proofs.TrailLemmas.{same_fails}
 use Rattle.zk_link.proofs.joint.Joint.cut.Goals as goal
-
-pub returns-clause-ok : goal.returns-clause-ok
-returns-clause-ok g c = cuts (trail_of c.args.self.now c.args.outputs.now.items) (trail_of c.hear.new.self c.hear.new.outputs.items) c.in_ok-hear.ensures.ok
 
 pub returns-in_err-hear-clause-err : goal.returns-in_err-hear-clause-err
 returns-in_err-hear-clause-err g c =

@@ -1,8 +1,9 @@
-use Rattle.std.proofs.Common.{rules, inl, inr}
+use Rattle.std.proofs.Common.{rules, inl, inr, false}
+use Rattle.zk_turns.specs.Turns.{Cut}
 use Rattle.zk_client.specs.Views.{input_view}
 use Rattle.zk_link.specs.declared.stop.Stop.{Stop}
-use Rattle.zk_link.specs.Trails.{trail_of, Comes, Fails, FailsThen, HearsThen}
-use Rattle.zk_link.proofs.TrailLemmas.{if_err, nothing, on_ok}
+use Rattle.zk_link.specs.Trails.{trail_of, Fails, FailsThen, Hears, HearsThen}
+use Rattle.zk_link.proofs.TrailLemmas.{cuts, if_err, nothing, on_ok}
 use Rattle.zk_link.proofs.joint.Joint.take.Goals as goal
 
 pub returns-then-is_sent-clause-ok : goal.returns-then-is_sent-clause-ok
@@ -14,8 +15,9 @@ pub returns-clause-ok : goal.returns-clause-ok
 returns-clause-ok g c =
     let between = (trail_of c.hear.new.self c.hear.new.outputs.items) in
     let new = (trail_of c.cut.new.self c.cut.new.outputs.items) in
-    on_ok (Comes between new) (HearsThen (trail_of c.args.self.now c.args.outputs.now.items) (input_view c.args.input) new) c.cut.result
-    (λ (comes : Comes between new). record { between = between; hears = c.in_ok-is_sent.ensures.ok; rest = comes }) c.cut.ensures.ok
+    let end = Hears (record between { is_open = false }) Cut new in
+    on_ok end (HearsThen (trail_of c.args.self.now c.args.outputs.now.items) (input_view c.args.input) new) c.cut.result
+    (λ (hears : end). record { between = between; hears = c.in_ok-is_sent.ensures.ok; rest = cuts between new hears }) c.cut.ensures.ok
 
 pub returns-clause-err : goal.returns-clause-err
 returns-clause-err g c =

@@ -9,34 +9,34 @@ pub loop-preserved : goal.loop-preserved
 loop-preserved g c =
     let l = c.loop in
     let new = c.bring.new in
-    behind (tape (view_of c.args.self.now.client) (string_bytes c.args.text.now)) (tape (view_of l.self.client) (string_bytes l.text))
-    (tape (view_of new.self.client) (string_bytes new.text)) l.invariant c.in_ok-bring.ensures.ok
+    behind (tape (view_of c.args.self.now.joint.client) (string_bytes c.args.text.now)) (tape (view_of l.self.joint.client) (string_bytes l.text))
+    (tape (view_of new.self.joint.client) (string_bytes new.text)) l.invariant c.in_ok-bring.ensures.ok
 
 pub returns-clause-ok : goal.returns-clause-ok
 returns-clause-ok g c =
     let l = c.loop in
     let new = c.cut.new in
-    ended (tape (view_of c.args.self.now.client) (string_bytes c.args.text.now)) (tape (view_of l.self.client) (string_bytes l.text))
-    (tape (view_of new.self.client) (string_bytes new.text)) l.invariant c.in_ok-cut.ensures.ok
+    ended (tape (view_of c.args.self.now.joint.client) (string_bytes c.args.text.now)) (tape (view_of l.self.joint.client) (string_bytes l.text))
+    (tape (view_of new.self.joint.client) (string_bytes new.text)) l.invariant c.in_ok-cut.ensures.ok
 
 pub returns-clause-settled : goal.returns-clause-settled
 returns-clause-settled g c =
     let l = c.loop in
     let new = c.cut.new in
-    cut_settles (tape (view_of l.self.client) (string_bytes l.text)) (tape (view_of new.self.client) (string_bytes new.text)) c.in_ok-cut.ensures.ok
+    cut_settles (tape (view_of l.self.joint.client) (string_bytes l.text)) (tape (view_of new.self.joint.client) (string_bytes new.text)) c.in_ok-cut.ensures.ok
 
 pub returns-in_err-bring-clause-halt : goal.returns-in_err-bring-clause-halt
 returns-in_err-bring-clause-halt g c =
     let l = c.loop in
     let new = c.bring.new in
-    let halted = halts_behind (tape (view_of c.args.self.now.client) (string_bytes c.args.text.now)) (tape (view_of l.self.client) (string_bytes l.text))
-    (tape (view_of new.self.client) (string_bytes new.text)) c.in_err-bring.field-0.0 l.invariant c.in_err-bring.ensures.halt in
+    let halted = halts_behind (tape (view_of c.args.self.now.joint.client) (string_bytes c.args.text.now)) (tape (view_of l.self.joint.client) (string_bytes l.text))
+    (tape (view_of new.self.joint.client) (string_bytes new.text)) c.in_err-bring.field-0.0 l.invariant c.in_err-bring.ensures.halt in
     search rules
 
 pub returns-in_err-cut-clause-halt : goal.returns-in_err-cut-clause-halt
 returns-in_err-cut-clause-halt g c =
     let l = c.loop in
     let new = c.cut.new in
-    let halted = halts_ended (tape (view_of c.args.self.now.client) (string_bytes c.args.text.now)) (tape (view_of l.self.client) (string_bytes l.text))
-    (tape (view_of new.self.client) (string_bytes new.text)) c.in_err-cut.field-0.0 l.invariant c.in_err-cut.ensures.halt in
+    let halted = halts_ended (tape (view_of c.args.self.now.joint.client) (string_bytes c.args.text.now)) (tape (view_of l.self.joint.client) (string_bytes l.text))
+    (tape (view_of new.self.joint.client) (string_bytes new.text)) c.in_err-cut.field-0.0 l.invariant c.in_err-cut.ensures.halt in
     search rules

@@ -9,15 +9,15 @@ pub loop-preserved : goal.loop-preserved
 loop-preserved g c =
     let l = c.loop in
     let new = c.bring.new in
-    behind (tape (view_of c.args.self.now.client) (string_bytes c.args.text.now)) (tape (view_of l.self.client) (string_bytes l.text))
-    (tape (view_of new.self.client) (string_bytes new.text)) l.invariant c.in_ok-outputs.ensures.ok
+    behind (tape (view_of c.args.self.now.joint.client) (string_bytes c.args.text.now)) (tape (view_of l.self.joint.client) (string_bytes l.text))
+    (tape (view_of new.self.joint.client) (string_bytes new.text)) l.invariant c.in_ok-outputs.ensures.ok
 
 pub returns-clause-ok : goal.returns-clause-ok
 returns-clause-ok g c =
     let l = c.loop in
     let new = c.cut.new in
-    ended (tape (view_of c.args.self.now.client) (string_bytes c.args.text.now)) (tape (view_of l.self.client) (string_bytes l.text))
-    (tape (view_of new.self.client) (string_bytes new.text)) l.invariant c.in_ok-cut.ensures.ok
+    ended (tape (view_of c.args.self.now.joint.client) (string_bytes c.args.text.now)) (tape (view_of l.self.joint.client) (string_bytes l.text))
+    (tape (view_of new.self.joint.client) (string_bytes new.text)) l.invariant c.in_ok-cut.ensures.ok
 
 pub returns-in_err-outputs-clause-halt : goal.returns-in_err-outputs-clause-halt
 returns-in_err-outputs-clause-halt g c =
@@ -25,8 +25,8 @@ returns-in_err-outputs-clause-halt g c =
     let new = c.bring.new in
     let p = err_from_is_err_and c.from_residual.result c.from_residual.ensures.1 in
     rw (p.1, p.2)
-    (halts_behind (tape (view_of c.args.self.now.client) (string_bytes c.args.text.now)) (tape (view_of l.self.client) (string_bytes l.text))
-    (tape (view_of new.self.client) (string_bytes new.text)) c.in_err-outputs.field-0.0 l.invariant c.in_err-outputs.ensures.halt)
+    (halts_behind (tape (view_of c.args.self.now.joint.client) (string_bytes c.args.text.now)) (tape (view_of l.self.joint.client) (string_bytes l.text))
+    (tape (view_of new.self.joint.client) (string_bytes new.text)) c.in_err-outputs.field-0.0 l.invariant c.in_err-outputs.ensures.halt)
 
 pub returns-in_err-cut-clause-halt : goal.returns-in_err-cut-clause-halt
 returns-in_err-cut-clause-halt g c =
@@ -34,5 +34,5 @@ returns-in_err-cut-clause-halt g c =
     let new = c.cut.new in
     let p = err_from_is_err_and c.from_residual-in_err-cut.result c.from_residual-in_err-cut.ensures.1 in
     rw (p.1, p.2)
-    (halts_ended (tape (view_of c.args.self.now.client) (string_bytes c.args.text.now)) (tape (view_of l.self.client) (string_bytes l.text))
-    (tape (view_of new.self.client) (string_bytes new.text)) c.in_err-cut.field-0.0 l.invariant c.in_err-cut.ensures.halt)
+    (halts_ended (tape (view_of c.args.self.now.joint.client) (string_bytes c.args.text.now)) (tape (view_of l.self.joint.client) (string_bytes l.text))
+    (tape (view_of new.self.joint.client) (string_bytes new.text)) c.in_err-cut.field-0.0 l.invariant c.in_err-cut.ensures.halt)

@@ -5,4 +5,4 @@ use Rattle.zk_live.proofs.link.Link.wait.Given as goal
 
 -- what the connection has brought so far
 abbrev pub invariant-loop : goal.invariant-loop
-invariant-loop g l = Brings (tape (view_of l.initial.self.client) (string_bytes l.initial.text)) (tape (view_of l.self.client) (string_bytes l.text))
+invariant-loop g l = Brings (tape (view_of l.initial.self.joint.client) (string_bytes l.initial.text)) (tape (view_of l.self.joint.client) (string_bytes l.text))
