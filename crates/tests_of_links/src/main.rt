@@ -14,11 +14,12 @@ use swept::{close_at_each_byte, refuse_each_request};
 use world::Plan;
 
 /// The rows: what a partner does, and until which moment a link goes on.
-static ROWS: [Row; 6] = [
+static ROWS: [Row; 7] = [
     Row {
         name: "answers",
         plan: Plan {
             refusals: 0,
+            is_late: false,
             silences: 0,
             passes: usize::MAX,
             piece: usize::MAX,
@@ -29,6 +30,7 @@ static ROWS: [Row; 6] = [
         name: "byte by byte",
         plan: Plan {
             refusals: 0,
+            is_late: false,
             silences: 0,
             passes: usize::MAX,
             piece: 1,
@@ -39,6 +41,7 @@ static ROWS: [Row; 6] = [
         name: "stays silent",
         plan: Plan {
             refusals: 0,
+            is_late: false,
             silences: 2,
             passes: usize::MAX,
             piece: usize::MAX,
@@ -49,6 +52,7 @@ static ROWS: [Row; 6] = [
         name: "refuses",
         plan: Plan {
             refusals: 9,
+            is_late: false,
             silences: 0,
             passes: usize::MAX,
             piece: usize::MAX,
@@ -56,9 +60,21 @@ static ROWS: [Row; 6] = [
         until: 40_000,
     },
     Row {
+        name: "does not answer a dial",
+        plan: Plan {
+            refusals: 2,
+            is_late: true,
+            silences: 0,
+            passes: usize::MAX,
+            piece: usize::MAX,
+        },
+        until: 4_000,
+    },
+    Row {
         name: "closes at once",
         plan: Plan {
             refusals: 0,
+            is_late: false,
             silences: 0,
             passes: 0,
             piece: usize::MAX,
@@ -69,6 +85,7 @@ static ROWS: [Row; 6] = [
         name: "closes within the call",
         plan: Plan {
             refusals: 0,
+            is_late: false,
             silences: 0,
             passes: 104,
             piece: usize::MAX,

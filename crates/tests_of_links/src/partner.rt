@@ -78,11 +78,11 @@ impl<'a> Shared<'a> {
 impl<'a> Dial for Shared<'a> {
     type Stream = Partner<'a>;
 
-    fn dial(&mut self, _address: &str, _within_ms: u64) -> io::Result<Partner<'a>> {
+    fn dial(&mut self, _address: &str, within_ms: u64) -> io::Result<Partner<'a>> {
         let Ok(mut world) = self.world.try_borrow_mut() else {
             return Err(ErrorKind::Other.into());
         };
-        match world.dial(self.alloc) {
+        match world.dial(self.alloc, within_ms) {
             Some(held) => Ok(Partner {
                 world: self.world,
                 _held: held,

@@ -96,6 +96,7 @@ fn play<A: Allocator + Copy>(heap: Global, alloc: A, plan: Plan) -> Result<Resul
 fn plan(passes: usize) -> Plan {
     Plan {
         refusals: 0,
+        is_late: false,
         silences: 0,
         passes,
         piece: 1,

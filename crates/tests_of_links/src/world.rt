@@ -9,11 +9,12 @@ use zk_client::Path;
 /// The most requests that are processed behind one write.
 const REQUESTS: usize = 16;
 
-/// What happens to connections: how many are refused at first, how many then are silent, how many bytes pass on the next one, and how
-/// many bytes a read brings at most.
+/// What happens to connections: how many are refused at first, whether only once the attempt has lasted as long as it may, how many then
+/// are silent, how many bytes pass on the next one, and how many bytes a read brings at most.
 #[derive(Clone, Copy)]
 pub struct Plan {
     pub refusals: u32,
+    pub is_late: bool,
     pub silences: u32,
     pub passes: usize,
     pub piece: usize,
@@ -73,8 +74,8 @@ impl World {
         }
     }
 
-    /// A connection is asked for. What is held as long as it is there, and none where it is refused.
-    pub fn dial(&mut self, alloc: Global) -> Option<Rc<u32, Global>> {
+    /// A connection is asked for, within so many milliseconds. What is held as long as it is there, and none where it is refused.
+    pub fn dial(&mut self, alloc: Global, within_ms: u64) -> Option<Rc<u32, Global>> {
         self.dials = self.dials.saturating_add(1);
         let quiet = self.plan.refusals.saturating_add(self.plan.silences);
         self.left = if self.dials == quiet.saturating_add(1) {
@@ -83,6 +84,7 @@ impl World {
             usize::MAX
         };
         if self.dials <= self.plan.refusals {
+            self.wait(if self.plan.is_late { within_ms } else { 0 });
             return None;
         }
         self.bench.connect(1);
