@@ -526,8 +526,8 @@ drop D1
 state Idle
 state Connecting
 state Expired
-/expires data none last @
 session new
+/expires data none last 0
 state Connecting
 state Connected
 /expires data full 74776f @expires @twice @ @ 1 0 3 good last @

@@ -16,21 +16,32 @@ type Live<'a> = Link<'a, Global, Tcp<'a, HostRuntime>, SystemClock<'a, HostRunti
 /// The timeout to ask for, in milliseconds.
 const TIMEOUT_MS: i32 = 10_000;
 
+/// Follows a node, over servers that are dialled in turn.
+fn run(rt: &HostRuntime, node: &Path, addresses: &[&str]) -> Result<()> {
+    let client = Client::new(rt.alloc(), TIMEOUT_MS);
+    let (dial, clock) = (Tcp::new(rt), SystemClock::new(rt));
+    let mut link = Link::new(rt.alloc(), client, dial, clock, addresses);
+    let followed = follow(rt.alloc(), &mut link, node, &mut rt.stdout());
+    drop(link);
+    followed
+}
+
+/// Does what the words ask for. The first word is the program's name.
+fn run_words(rt: &HostRuntime, words: &[&str]) -> Result<u8> {
+    let [_, node, addresses @ ..] = words else {
+        println!(rt; "usage: config_follower PATH IP:PORT..")?;
+        return Ok(2);
+    };
+    let node = Path::new(rt.alloc(), node)?;
+    run(rt, &node, addresses)?;
+    Ok(0)
+}
+
 fn main(rt: HostRuntime) -> Result<ExitCode> {
-    let alloc = rt.alloc();
-    let words: Vec<String> = std::env::args(&rt)?.collect(alloc)?;
-    let mut texts = Vec::new(alloc);
+    let words: Vec<String> = std::env::args(&rt)?.collect(rt.alloc())?;
+    let mut texts = Vec::new(rt.alloc());
     for word in words.iter() {
         texts.push(word.as_str())?;
     }
-    let [_, node, addresses @ ..] = texts.as_slice() else {
-        println!(rt; "usage: config_follower PATH IP:PORT..")?;
-        return Ok(ExitCode::from(2));
-    };
-    let node = Path::new(alloc, node)?;
-    let client = Client::new(alloc, TIMEOUT_MS);
-    let (dial, clock) = (Tcp::new(&rt), SystemClock::new(&rt));
-    let mut link = Link::new(alloc, client, dial, clock, addresses);
-    follow(alloc, &mut link, &node, &mut rt.stdout())?;
-    Ok(ExitCode::from(0))
+    Ok(ExitCode::from(run_words(&rt, texts.as_slice())?))
 }
