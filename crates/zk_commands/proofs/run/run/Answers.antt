@@ -1,7 +1,7 @@
 use Rattle.std.proofs.Common.{[], ◌∷◌, ◌++◌, refl, inl, inr}
 use Rattle.zk_script.specs.Scripts.{refusal_text}
-use Rattle.zk_commands.specs.declared.command.LineFault.TheVariants.{Help}
-use Rattle.zk_commands.specs.Run.{shows, answers, plays, rehearses, lives, helps, unshown, stopped, ended, interrupted, broken, first, begins, breaks_off, halts}
+use Rattle.zk_commands.specs.declared.line_fault.LineFault.TheVariants.{Help}
+use Rattle.zk_commands.specs.Run.{shows, answers, plays, rehearses, lives, watches, helps, unshown, stopped, ended, interrupted, broken, first, begins, breaks_off, halts, ceases}
 use Rattle.zk_commands.specs.Show.{fault_text}
 use Rattle.zk_commands.proofs.ScriptLemmas.{appends_nothing}
 use Rattle.zk_commands.proofs.run.run.Goals as goal
@@ -96,6 +96,24 @@ returns-in-Ok-Live-clause-memory g c = λ is.
       halts c.in-Ok-Live.addresses told.0 told.1 told.2 told.3 (rw c.in-Ok-Live.field-0-is at c.in-Ok-Live.ensures.ok) told.4 told.5 told.6 refl,
       told.7,
       c.live_over.ensures.silent (inr is),
+    )
+
+pub returns-in-Ok-Watch-clause-done : goal.returns-in-Ok-Watch-clause-done
+returns-in-Ok-Watch-clause-done g c = λ is.
+    let told = c.watch_over.ensures.done is in (
+      told.0,
+      watches c.in-Ok-Watch.addresses c.in-Ok-Watch.subjects c.in-Ok-Watch.timeout_ms c.in-Ok-Watch.for_ms (rw c.in-Ok-Watch.field-0-is at c.in-Ok-Watch.ensures.ok) told.1,
+      told.2,
+      refl,
+    )
+
+pub returns-in-Ok-Watch-clause-memory : goal.returns-in-Ok-Watch-clause-memory
+returns-in-Ok-Watch-clause-memory g c = λ is.
+    let told = c.watch_over.ensures.memory is in (
+      told.0 ++ told.1,
+      ceases c.in-Ok-Watch.addresses c.in-Ok-Watch.subjects c.in-Ok-Watch.timeout_ms c.in-Ok-Watch.for_ms told.0 told.1 (rw c.in-Ok-Watch.field-0-is at c.in-Ok-Watch.ensures.ok) told.2 told.3 refl,
+      told.4,
+      refl,
     )
 
 pub returns-in-Err-Help-clause-done : goal.returns-in-Err-Help-clause-done
