@@ -22,9 +22,9 @@ pub fn watch_over<A: Allocator + Copy, D: Dial + Drop, C: Clock + Drop, O: Write
     plan: Plan<'_, A>,
     out: &mut O,
 ) -> Status
-    ensures done { result ≡ Status.Done → (text : List ℕ) × IsPrinted (aims_of plan.subjects.items) text × Appends (O.contents out.old) (O.contents out.new) text }
+    ensures done { result ≡ Status.Done → (text : List ℕ) × IsPrinted (aims_of plan.entry.subjects.items) text × Appends (O.contents out.old) (O.contents out.new) text }
     // The line of a halt stands behind what is printed where a step halted.
-    ensures memory { result ≡ Status.Memory → (text told : List ℕ) × IsPrinted (aims_of plan.subjects.items) text × IsHalt told
+    ensures memory { result ≡ Status.Memory → (text told : List ℕ) × IsPrinted (aims_of plan.entry.subjects.items) text × IsHalt told
         × Appends (O.contents out.old) (O.contents out.new) (text ++ told) }
     ensures fault { result ≢ Status.Fault }
     ensures usage { result ≢ Status.Usage }

@@ -1,4 +1,4 @@
-use Rattle.std.proofs.Common.{rules, ◌≡◌, ◌∙◌, [], ap, map, refl, sym, append-nil, Some, None, unwrap_or}
+use Rattle.std.proofs.Common.{rules, ◌≡◌, [], ap, map, refl, sym, append-nil, Some, None, unwrap_or}
 use Rattle.clap.specs.Words.{all_of, found_of, rows_of}
 use Rattle.clap.proofs.WalkLemmas.{raw_values-rows}
 use Rattle.zk_commands.specs.CommandLine.{given}

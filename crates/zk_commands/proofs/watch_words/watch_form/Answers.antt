@@ -1,7 +1,6 @@
-use Rattle.std.proofs.Common.{rules, ◌≡◌, ◌∙◌, ap, ap₂, codes}
+use Rattle.std.proofs.Common.{rules, ◌≡◌, ◌∙◌, ap₂, codes}
 use Rattle.std.proofs.lemmas.Result.{IfOk-weaker}
 use Rattle.clap.specs.Words.{app_of, new_app, with_rule}
-use Rattle.zk_commands.specs.CommandLine.{address_rule, duration_rule, path_rule, timeout_rule}
 use Rattle.zk_commands.proofs.watch_words.watch_form.Goals as goal
 
 pub returns : goal.returns
