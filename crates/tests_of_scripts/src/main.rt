@@ -2,14 +2,15 @@
 //! a new row of a test is a case in each of the two files.
 //!
 //! [`case`] cuts a case into its parts, [`expanded`] writes out its script, and [`play`] runs its command. Each kind of case has a function
-//! that gives what is printed, in [`rows`], [`refused`], [`failing`], [`parts`], [`addresses`] and [`loopback`]; the head of `stdin` tells
-//! the kinds.
+//! that gives what is printed, in [`rows`], [`refused`], [`failing`], [`parts`], [`addresses`], [`held`] and [`loopback`]; the head of
+//! `stdin` tells the kinds.
 #![tactic(auto)]
 
 mod addresses;
 mod case;
 mod expanded;
 mod failing;
+mod held;
 mod loopback;
 mod partner;
 mod parts;
@@ -37,6 +38,7 @@ fn printed<R: Net>(net: &R, alloc: Global, case: &Case) -> Vec<u8> {
         "heads" => parts::heads(alloc, case),
         "ends" => parts::ends(alloc, case),
         "addresses" => addresses::addresses(alloc, case.script),
+        "held" => held::held(alloc, case),
         "loopback" => loopback::loopback(net, alloc),
         _ => Vec::new(alloc),
     }

@@ -1,3 +1,4 @@
+use Rattle.std.proofs.Common.{false}
 use Rattle.zk_turns.specs.Turns.{Cut}
 use Rattle.zk_link.specs.Trails.{trail_of, Comes, Hears}
 use Rattle.zk_link.proofs.TrailLemmas.{cuts, err_at_once, on_ok}

@@ -1,11 +1,12 @@
-use Rattle.std.proofs.Common.{◌≡◌, ◌++◌, ap}
+use Rattle.std.proofs.Common.{◌≡◌, ◌++◌, ap, subst, sym}
 use Rattle.std.specs.List.{filter}
 use Rattle.zk_turns.specs.Turns.{Turn}
 use Rattle.zk_turns.specs.Rule.{Rule}
+use Rattle.zk_client.specs.Clients.{view_of}
 use Rattle.zk_client.specs.Views.{input_view, said, turn_of}
 use Rattle.zk_link.specs.declared.stop.Stop.{Stop}
 use Rattle.zk_link.specs.declared.stop.Stop.TheVariants.{Memory}
-use Rattle.zk_link.specs.Trails.{is_given, trail_of, Fails, Hears}
+use Rattle.zk_link.specs.Trails.{is_given, trail_of, Fails, Hears, IsLoud}
 use Rattle.zk_link.proofs.TrailLemmas.{if_err, lost_turn, on_ok}
 use Rattle.zk_link.proofs.joint.Joint.hear.Goals as goal
 
@@ -27,3 +28,11 @@ returns-clause-err g c =
     let rule : Rule old.view turn new.view = rw c.deliver.ensures.client c.in-Ok.ensures.rule in
     if_err (λ stop. (stop ≡ Memory) × (c.deliver.new.outputs.items ≡ c.args.outputs.now.items)) (λ stop. Fails stop old new) c.deliver.result
     (λ (stop : Stop) (h : (stop ≡ Memory) × (c.deliver.new.outputs.items ≡ c.args.outputs.now.items)). lost_turn stop old new turn h.0 rule (ap said h.1)) c.deliver.ensures.err
+
+pub returns-clause-loud : goal.returns-clause-loud
+returns-clause-loud g c =
+    let view = view_of c.args.self.now.client in
+    let input = input_view c.args.input in
+    if_err (λ stop. (stop ≡ Memory) × (c.deliver.new.outputs.items ≡ c.args.outputs.now.items)) (λ stop. IsLoud stop view input) c.deliver.result
+    (λ (stop : Stop) (h : (stop ≡ Memory) × (c.deliver.new.outputs.items ≡ c.args.outputs.now.items)). subst (λ (s : Stop). IsLoud s view input) (sym h.0) tt)
+    c.deliver.ensures.err

@@ -1,4 +1,4 @@
-use Rattle.std.proofs.Common.{◌≡◌, ◌∙◌, ap, rules, subst, sym, false, true}
+use Rattle.std.proofs.Common.{◌≡◌, ap, rules, subst, false, true}
 use Rattle.std.specs.Prelude.{is_some}
 use Rattle.zk_turns.specs.Turns.{Opened}
 use Rattle.zk_client.specs.Views.{said}

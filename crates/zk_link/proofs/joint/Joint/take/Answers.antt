@@ -1,4 +1,4 @@
-use Rattle.std.proofs.Common.{rules, inl, inr}
+use Rattle.std.proofs.Common.{rules, inl, inr, false}
 use Rattle.zk_turns.specs.Turns.{Cut}
 use Rattle.zk_client.specs.Views.{input_view}
 use Rattle.zk_link.specs.declared.stop.Stop.{Stop}
