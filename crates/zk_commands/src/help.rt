@@ -80,7 +80,8 @@ Printed, each line at once:
   PATH names N NAME.. PZXID MARK last ZXID
   PATH names none last ZXID     What is kept of the names below it
   drop FAULT                    The connection is given up: what came is wrong, or nothing came
-  answer TICKET ZXID code N     The server refused to read node TICKET, which is asked again later
+  answer TICKET ZXID code N     A read was refused, and is tried again a second later. TICKET counts what is
+                                watched, from 1 on: first that of --data, and then that of --children
   halt                          Memory ran out in the client
 
 DATA, SEVEN, NAME, PZXID, MARK and FAULT are as in `zk_shell live --help`; in a PATH a space is printed
