@@ -9,7 +9,7 @@ ghost use Rattle.zk_replay.specs.Played.{IfHalted, IsWant};
 ghost use Rattle.zk_live.specs.Heard.{is_waiting, tape, Awaits, Brings, Connects, Halts, HaltsAmong, HaltsAwaiting, HaltsBrought, HaltsConnecting, Hears, MayEnd, Takes};
 
 use crate::heard::{cut, hear};
-use std::alloc::Allocator;
+use std::alloc::{AllocError, Allocator};
 use zk_client::{Client, Input, Output};
 use zk_link::{Brought, Dial, Joint, Ring, Stream};
 use zk_replay::call_line::Asked;
@@ -38,6 +38,16 @@ fn has_answer<A: Allocator>(outputs: &[Output<A>], asked: u64) -> bool {
     outputs.iter().any(|output| is_answer(output, asked))
 }
 
+/// The piece that a connection has brought, and none where it has ended, or brought nothing in time.
+fn piece_of<A: Allocator>(
+    brought: Result<Brought<A>, AllocError>,
+) -> Result<Option<Vec<u8, A>>, AllocError> {
+    match brought? {
+        Brought::Piece(bytes) => Ok(Some(bytes)),
+        Brought::Nothing | Brought::End => Ok(None),
+    }
+}
+
 impl<A: Allocator + Copy, S: Stream> Link<A, S> {
     /// A client with no connection yet.
     pub fn new(alloc: A, client: Client<A>) -> Link<A, S>
@@ -57,6 +67,19 @@ impl<A: Allocator + Copy, S: Stream> Link<A, S> {
         cut(alloc, &mut self.joint, text)
     }
 
+    /// Ends the connection, where it is over.
+    fn end_if(&mut self, is_over: bool, alloc: A, text: &mut String<A>) -> Result<(), Stop>
+        ensures ok { OnOk result (MayEnd (tape (view_of self.old.joint.client) (string_bytes text.old)) (tape (view_of self.new.joint.client) (string_bytes text.new))) }
+        ensures err { IfErr result IsWant }
+        ensures halt { IfErr result (IfHalted (Halts (tape (view_of self.old.joint.client) (string_bytes text.old)) Cut (tape (view_of self.new.joint.client) (string_bytes text.new)))) }
+    {
+        if !is_over {
+            return Ok(());
+        }
+        self.cut(alloc, text)?;
+        Ok(())
+    }
+
     /// Hands the client an input, and the connection what goes to the server. Where that is not written, the connection ends.
     pub fn take(
         &mut self,
@@ -69,9 +92,7 @@ impl<A: Allocator + Copy, S: Stream> Link<A, S> {
         ensures halt { IfErr result (IfHalted (HaltsAmong (tape (view_of self.old.joint.client) (string_bytes text.old)) (input_view input ∷ Cut ∷ []) (tape (view_of self.new.joint.client) (string_bytes text.new)))) }
     {
         let heard = hear(alloc, &mut self.joint, input, text)?;
-        if !heard.is_sent {
-            self.cut(alloc, text)?;
-        }
+        self.end_if(!heard.is_sent, alloc, text)?;
         Ok(heard.outputs)
     }
 
@@ -80,19 +101,27 @@ impl<A: Allocator + Copy, S: Stream> Link<A, S> {
         u64::from(self.joint.client.timeout_ms()).max(1)
     }
 
+    /// The next piece of the connection, and none where it has ended, or brings nothing in time.
+    fn next_piece(&mut self) -> Result<Option<Vec<u8, A>>, AllocError>
+        ensures { view_of self.new.joint.client ≡ view_of self.old.joint.client }
+    {
+        let wait = self.longest_wait();
+        let brought = self.joint.read(wait);
+        piece_of(brought)
+    }
+
     /// Hands the client what the connection brings next. One that brings nothing in time ends.
     fn bring(&mut self, alloc: A, text: &mut String<A>) -> Result<Vec<Output<A>, A>, Stop>
         ensures ok { OnOk result (Brings (tape (view_of self.old.joint.client) (string_bytes text.old)) (tape (view_of self.new.joint.client) (string_bytes text.new))) }
         ensures err { IfErr result IsWant }
         ensures halt { IfErr result (IfHalted (HaltsBrought (tape (view_of self.old.joint.client) (string_bytes text.old)) (tape (view_of self.new.joint.client) (string_bytes text.new)))) }
     {
-        let wait = self.longest_wait();
-        match self.joint.read(wait)? {
-            Brought::Piece(bytes) => {
+        match self.next_piece()? {
+            Some(bytes) => {
                 let outputs = self.take(alloc, Input::Bytes(bytes), text)?;
                 Ok(outputs)
             }
-            Brought::Nothing | Brought::End => {
+            None => {
                 self.cut(alloc, text)?;
                 Ok(Vec::new(alloc))
             }
@@ -166,19 +195,6 @@ impl<A: Allocator + Copy, S: Stream> Link<A, S> {
         Ok(())
     }
 
-    /// Ends the connection that is there, if there is one.
-    fn give_up(&mut self, alloc: A, text: &mut String<A>) -> Result<(), Stop>
-        ensures ok { OnOk result (MayEnd (tape (view_of self.old.joint.client) (string_bytes text.old)) (tape (view_of self.new.joint.client) (string_bytes text.new))) }
-        ensures err { IfErr result IsWant }
-        ensures halt { IfErr result (IfHalted (Halts (tape (view_of self.old.joint.client) (string_bytes text.old)) Cut (tape (view_of self.new.joint.client) (string_bytes text.new)))) }
-    {
-        if !self.joint.is_open() {
-            return Ok(());
-        }
-        self.cut(alloc, text)?;
-        Ok(())
-    }
-
     /// Ends the connection that is there, and begins one with the next address that connects.
     #[tactic(auto, using(crate::proofs::HeardLemmas::fails))]
     pub fn connect<D: Dial<Stream = S>>(
@@ -192,8 +208,10 @@ impl<A: Allocator + Copy, S: Stream> Link<A, S> {
         ensures err { IfErr result IsWant }
         ensures halt { IfErr result (IfHalted (HaltsConnecting (tape (view_of self.old.joint.client) (string_bytes text.old)) (tape (view_of self.new.joint.client) (string_bytes text.new)))) }
     {
-        self.give_up(alloc, text)?;
-        let Some(stream) = ring.connect(dial, self.longest_wait()) else {
+        let is_open = self.joint.is_open();
+        self.end_if(is_open, alloc, text)?;
+        let within = self.longest_wait();
+        let Some(stream) = ring.connect(dial, within) else {
             text.push_str("down\n")?;
             return Ok(());
         };

@@ -13,12 +13,12 @@ returns-in_ok-outputs-in-Some-clause-ok g c =
     (piece (tape (view_of c.next_piece.new.self.joint.client) (string_bytes c.args.text.now)) (tape (view_of new.self.joint.client) (string_bytes new.text))
     c.in-Some.bytes.items c.in_ok-outputs-in-Some.ensures.ok)
 
-pub returns-in_ok-outputs-in-None-clause-ok : goal.returns-in_ok-outputs-in-None-clause-ok
-returns-in_ok-outputs-in-None-clause-ok g c =
+pub returns-in_ok-cut-in-None-clause-ok : goal.returns-in_ok-cut-in-None-clause-ok
+returns-in_ok-cut-in-None-clause-ok g c =
     let new = c.cut.new in
     rw (← c.next_piece.ensures)
     (one (tape (view_of c.next_piece.new.self.joint.client) (string_bytes c.args.text.now)) (tape (view_of new.self.joint.client) (string_bytes new.text))
-    Cut tt c.in_ok-outputs-in-None.ensures.ok)
+    Cut tt c.in_ok-cut-in-None.ensures.ok)
 
 pub returns-in_err-outputs-in-Some-clause-halt : goal.returns-in_err-outputs-in-Some-clause-halt
 returns-in_err-outputs-in-Some-clause-halt g c =
@@ -27,9 +27,9 @@ returns-in_err-outputs-in-Some-clause-halt g c =
     c.in-Some.bytes.items c.in_err-outputs-in-Some.field-0.0 c.in_err-outputs-in-Some.ensures.halt in
     search rules
 
-pub returns-in_err-outputs-in-None-clause-halt : goal.returns-in_err-outputs-in-None-clause-halt
-returns-in_err-outputs-in-None-clause-halt g c =
+pub returns-in_err-cut-in-None-clause-halt : goal.returns-in_err-cut-in-None-clause-halt
+returns-in_err-cut-in-None-clause-halt g c =
     let new = c.cut.new in
     let halted = halts_cut (tape (view_of c.next_piece.new.self.joint.client) (string_bytes c.args.text.now)) (tape (view_of new.self.joint.client) (string_bytes new.text))
-    c.in_err-outputs-in-None.field-0.0 c.in_err-outputs-in-None.ensures.halt in
+    c.in_err-cut-in-None.field-0.0 c.in_err-cut-in-None.ensures.halt in
     search rules

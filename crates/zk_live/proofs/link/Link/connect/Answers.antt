@@ -1,33 +1,46 @@
-use Rattle.std.proofs.Common.{rules}
+use Rattle.std.proofs.Common.{◌≡◌, [], ◌∷◌, ap, rules, subst}
 use Rattle.std.specs.Prelude.{string_bytes}
+use Rattle.zk_turns.specs.Turns.{Cut, Opened}
+use Rattle.zk_turns.specs.View.{View}
 use Rattle.zk_client.specs.Clients.{view_of}
-use Rattle.zk_live.specs.Heard.{tape}
+use Rattle.zk_link.specs.Trails.{Trail}
+use Rattle.zk_replay.specs.Played.{IfHalted}
+use Rattle.zk_live.specs.Heard.{tape, HaltsAmong, Takes}
 use Rattle.zk_live.proofs.HeardLemmas.{connects, halts_opened, halts_settling}
 use Rattle.zk_live.proofs.link.Link.connect.Goals as goal
 
 pub returns-clause-ok : goal.returns-clause-ok
 returns-clause-ok g c =
-    let ended = c.give_up.new in
+    let ended = c.end_if.new in
     let began = c.take.new in
     let new = c.settle.new in
-    connects (tape (view_of c.args.self.now.joint.client) (string_bytes c.args.text.now)) (tape (view_of ended.self.joint.client) (string_bytes ended.text))
-    (tape (view_of began.self.joint.client) (string_bytes began.text)) (tape (view_of new.self.joint.client) (string_bytes new.text)) c.in_ok-give_up.ensures.ok
-    c.in_ok-take.ensures.ok c.in_ok-settle.ensures.ok c.in_ok-settle.ensures.settled
+    let after = (tape (view_of began.self.joint.client) (string_bytes began.text)) in
+    let same : view_of c.hold.new.self.client ≡ view_of ended.self.joint.client = ap (λ (t : Trail). t.view) c.hold.ensures in
+    connects (tape (view_of c.args.self.now.joint.client) (string_bytes c.args.text.now)) (tape (view_of ended.self.joint.client) (string_bytes ended.text)) after
+    (tape (view_of new.self.joint.client) (string_bytes new.text)) c.in_ok-end_if.ensures.ok
+    (subst (λ (v : View). Takes (tape v (string_bytes ended.text)) Opened after) same c.in_ok-take.ensures.ok) c.in_ok-settle.ensures.ok
+    c.in_ok-settle.ensures.settled
 
 pub returns-in_err-take-clause-halt : goal.returns-in_err-take-clause-halt
 returns-in_err-take-clause-halt g c =
-    let ended = c.give_up.new in
+    let ended = c.end_if.new in
     let new = c.take.new in
+    let stop = c.in_err-take.field-0.0 in
+    let after = (tape (view_of new.self.joint.client) (string_bytes new.text)) in
+    let same : view_of c.hold.new.self.client ≡ view_of ended.self.joint.client = ap (λ (t : Trail). t.view) c.hold.ensures in
     let halted = halts_opened (tape (view_of c.args.self.now.joint.client) (string_bytes c.args.text.now)) (tape (view_of ended.self.joint.client) (string_bytes ended.text))
-    (tape (view_of new.self.joint.client) (string_bytes new.text)) c.in_err-take.field-0.0 c.in_ok-give_up.ensures.ok c.in_err-take.ensures.halt in
+    after stop c.in_ok-end_if.ensures.ok
+    (subst (λ (v : View). IfHalted (HaltsAmong (tape v (string_bytes ended.text)) (Opened ∷ Cut ∷ []) after) stop) same c.in_err-take.ensures.halt) in
     search rules
 
 pub returns-in_err-settle-clause-halt : goal.returns-in_err-settle-clause-halt
 returns-in_err-settle-clause-halt g c =
-    let ended = c.give_up.new in
+    let ended = c.end_if.new in
     let began = c.take.new in
     let new = c.settle.new in
+    let between = (tape (view_of began.self.joint.client) (string_bytes began.text)) in
+    let same : view_of c.hold.new.self.client ≡ view_of ended.self.joint.client = ap (λ (t : Trail). t.view) c.hold.ensures in
     let halted = halts_settling (tape (view_of c.args.self.now.joint.client) (string_bytes c.args.text.now)) (tape (view_of ended.self.joint.client) (string_bytes ended.text))
-    (tape (view_of began.self.joint.client) (string_bytes began.text)) (tape (view_of new.self.joint.client) (string_bytes new.text)) c.in_err-settle.field-0.0
-    c.in_ok-give_up.ensures.ok c.in_ok-take.ensures.ok c.in_err-settle.ensures.halt in
+    between (tape (view_of new.self.joint.client) (string_bytes new.text)) c.in_err-settle.field-0.0 c.in_ok-end_if.ensures.ok
+    (subst (λ (v : View). Takes (tape v (string_bytes ended.text)) Opened between) same c.in_ok-take.ensures.ok) c.in_err-settle.ensures.halt in
     search rules

@@ -1,0 +1,16 @@
+use Rattle.std.proofs.Common.{ap}
+use Rattle.std.specs.Prelude.{string_bytes}
+use Rattle.zk_client.specs.Views.{input_view, said}
+use Rattle.zk_link.specs.Trails.{trail_of}
+use Rattle.zk_live.specs.Heard.{TellsEach}
+use Rattle.zk_live.proofs.HeardLemmas.{heard}
+use Rattle.zk_live.proofs.heard.hear.Goals as goal
+
+pub returns-clause-ok : goal.returns-clause-ok
+returns-clause-ok g c =
+    let old = (trail_of c.args.joint.now c.new-outputs.result.items) in
+    let new = (trail_of c.hear.new.self c.hear.new.outputs.items) in
+    let told = c.in_ok-push_told.ensures in
+    let tells : TellsEach (said c.hear.new.outputs.items) told.0 = rw (← c.as_slice.ensures.value) told.1 in
+    heard old new (input_view c.args.input) (string_bytes c.args.text.now) told.0 (string_bytes c.push_told.new.text) (ap said c.new-outputs.ensures.items)
+    c.in-Ok.ensures.ok tells told.2
