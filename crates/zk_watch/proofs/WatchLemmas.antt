@@ -1,8 +1,11 @@
 -- What is printed, one piece behind another.
-use Rattle.std.proofs.Common.{◌≡◌, ◌⊎◌, inl, inr, ⊤, ℕ, Bool, true, false, List, [], ◌∷◌, ◌++◌, refl, sym, ap, subst, ◌∙◌, append_assoc}
-use Rattle.std.specs.Prelude.{Result, Ok, Err, OnOk, IfErr, codes}
-use Rattle.std.specs.List.{filter, flat_map, Contains, FoldsTo}
-use Rattle.std.proofs.lemmas.List.{append-nil}
+use Rattle.std.proofs.Common.{◌≡◌, ◌<◌, ◌⊎◌, inl, inr, ℕ, length, Bool, true, false, List, [], ◌∷◌, ◌++◌, refl, sym, ap, subst, ◌∙◌, append_assoc}
+use Rattle.std.specs.Prelude.{Option, Result, Ok, Err, OnOk, codes}
+use Rattle.std.specs.Io.KnownBytes.{Appends}
+use Rattle.std.proofs.KnownBytes.{Appends-nil, Appends-trans}
+use Rattle.std.specs.List.{filter, flat_map, slice_index_or, Contains, FoldsTo}
+use Rattle.std.proofs.lemmas.List.{append-nil, length-map}
+use Rattle.std.proofs.Math.ListN.{get_or-map}
 use Rattle.zk_history.specs.History.{Text}
 use Rattle.zk_history.specs.declared.side.Side.{Side}
 use Rattle.zk_session.specs.declared.states.State.TheVariants.{Expired}
@@ -12,34 +15,44 @@ use Rattle.zk_turns.specs.Rule.{Rule, Stands}
 use Rattle.zk_turns.proofs.Stepped.{one_turn}
 use Rattle.zk_replay.specs.Shown.{TellsOutput}
 use Rattle.zk_link.specs.Trails.{is_given, Trail, Takes, Goes, Comes, Asks}
-use Rattle.zk_watch.specs.Watching.{outputs_in, AllStood, Adds, Begins, Does, IsPrinted, IsToldAs, Move, Prints, Runs, Shows, Stood, TellsEach, TellsHeard, TellsSubject, Turns}
+use Rattle.zk_watch.specs.declared.plan.Subject.{Subject}
+use Rattle.zk_watch.specs.Watching.{aim_of, aims_of, outputs_in, AllStood, Adds, Begins, Does, IsPrinted, IsToldAs, Move, Prints, Runs, Shows, Stood, TellsEach, TellsHeard, TellsSubject, Turns}
+
+-- ---- a line
+
+-- three pieces
+pub three_pieces : {X E : Type 0} (result : Result X E) (before a b c amid after : List ℕ) → amid ≡ (before ++ a) ++ b → OnOk result (after ≡ amid ++ c)
+    → OnOk result (after ≡ before ++ (a ++ (b ++ c)))
+three_pieces (Ok x) before a b c amid after first last =
+    last ∙ ap (λ (l : List ℕ). l ++ c) first ∙ append_assoc (before ++ a) b c ∙ append_assoc before a (b ++ c)
+three_pieces (Err e) before a b c amid after first last = tt
 
 -- ---- outputs
 
 -- one whose line is printed
 pub told_line : (output : Output) (is_told : Bool) (text : List ℕ) → IsToldAs output is_told → is_told ≡ true → TellsOutput output text → TellsHeard output text
-told_line (Send bytes) is_told text is yes tells = absurd cc
-told_line (Answer ticket outcome) is_told text is yes tells = inr tells
-told_line (Report path side event) is_told text is yes tells = absurd cc
-told_line (Enters state) is_told text is yes tells = tells
-told_line (Drop fault) is_told text is yes tells = tells
+told_line (Send bytes) is_told text is is_so tells = absurd cc
+told_line (Answer ticket outcome) is_told text is is_so tells = inr tells
+told_line (Report path side event) is_told text is is_so tells = absurd cc
+told_line (Enters state) is_told text is is_so tells = tells
+told_line (Drop fault) is_told text is is_so tells = tells
 
 -- one whose line is not
 pub untold : (output : Output) (is_told : Bool) → IsToldAs output is_told → is_told ≡ false → TellsHeard output []
-untold (Send bytes) is_told is no = refl
-untold (Answer ticket outcome) is_told is no = inl refl
-untold (Report path side event) is_told is no = refl
-untold (Enters state) is_told is no = absurd cc
-untold (Drop fault) is_told is no = absurd cc
+untold (Send bytes) is_told is is_not = refl
+untold (Answer ticket outcome) is_told is is_not = inl refl
+untold (Report path side event) is_told is is_not = refl
+untold (Enters state) is_told is is_not = absurd cc
+untold (Drop fault) is_told is is_not = absurd cc
 
 pub heard_line : {X E : Type 0} (result : Result X E) (output : Output) (is_told : Bool) (before after : List ℕ) → IsToldAs output is_told → is_told ≡ true
     → OnOk result ((told : List ℕ) × TellsOutput output told × (after ≡ before ++ told)) → OnOk result ((told : List ℕ) × TellsHeard output told × (after ≡ before ++ told))
-heard_line (Ok x) output is_told before after is yes tells = (tells.0, told_line output is_told tells.0 is yes tells.1, tells.2)
-heard_line (Err e) output is_told before after is yes tells = tt
+heard_line (Ok x) output is_told before after is is_so tells = (tells.0, told_line output is_told tells.0 is is_so tells.1, tells.2)
+heard_line (Err e) output is_told before after is is_so tells = tt
 
 pub heard_nothing : (output : Output) (is_told : Bool) (before : List ℕ) → IsToldAs output is_told → is_told ≡ false
     → (told : List ℕ) × TellsHeard output told × (before ≡ before ++ told)
-heard_nothing output is_told before is no = ([], untold output is_told is no, sym (append-nil before))
+heard_nothing output is_told before is is_not = ([], untold output is_told is is_not, sym (append-nil before))
 
 -- one more
 pub one_more : (outputs : List Output) (output : Output) (text told : List ℕ) → TellsEach outputs text → TellsHeard output told
@@ -86,6 +99,11 @@ takes_of (turn ∷ turns) old new goes = (goes.0, goes.1.1, takes_of turns goes.
 folds_behind : (first second : List Turn) (old between new : Trail) → FoldsTo Takes old first between → FoldsTo Takes between second new → FoldsTo Takes old (first ++ second) new
 folds_behind [] second old between new same rest = rw same rest
 folds_behind (turn ∷ first) second old between new folds rest = (folds.0, folds.1, folds_behind first second folds.0 between new folds.2 rest)
+
+-- what stands at a place is watched
+pub among : {A : Type 0} (subjects : List (Subject A)) (index : ℕ) (subject : Subject A) → index < length subjects → subject ≡ slice_index_or subjects index subject
+    → Contains (aims_of subjects) (subject.side, subject.path)
+among subjects index subject below is = (index, simp length-map below, get_or-map aim_of subjects index subject ∙ ap aim_of (sym is))
 
 -- a new client
 fresh : (timeout : ℕ) → Stood (view_at (new_start timeout) [])
@@ -182,6 +200,25 @@ module _ (aims : List (Side × Text)) where
 
   pub from_same : (old same : View) (before : List ℕ) (new : View) (after : List ℕ) → same ≡ old → Adds aims same before new after → Adds aims old before new after
   from_same old same before new after is adds = subst (λ (v : View). Adds aims v before new after) is adds
+
+  -- ---- written
+
+  pub more : (old mid same new : View) (a b c : Option (List ℕ)) → same ≡ mid → (told : List ℕ) × Prints aims old told mid × Appends a b told
+      → (told : List ℕ) × Prints aims same told new × Appends b c told → (told : List ℕ) × Prints aims old told new × Appends a c told
+  more old mid same new a b c is first second = (
+    first.0 ++ second.0,
+    prints_behind old first.0 mid second.0 new first.1 (subst (λ (v : View). Prints aims v second.0 new) is second.1),
+    Appends-trans a b c first.0 second.0 first.2 second.2,
+  )
+
+  pub more_last : (old mid same : View) (a b c : Option (List ℕ)) → same ≡ mid → (told : List ℕ) × Prints aims old told mid × Appends a b told
+      → (told : List ℕ) × (last : View) × Prints aims same told last × Appends b c told → (told : List ℕ) × (last : View) × Prints aims old told last × Appends a c told
+  more_last old mid same a b c is first second =
+      let both = more old mid same second.1 a b c is first (second.0, second.2, second.3) in
+      (both.0, second.1, both.1, both.2)
+
+  pub nothing_last : (view : View) (a : Option (List ℕ)) → (told : List ℕ) × (last : View) × Prints aims view told last × Appends a a told
+  nothing_last view a = ([], view, none view, Appends-nil a)
 
   -- ---- where clients stand
 

@@ -10,10 +10,10 @@ mod end;
 mod lines;
 mod notes;
 mod plan;
+mod planned;
 mod told;
-mod watch;
 mod watcher;
 
 pub use end::End;
 pub use plan::{Plan, Subject};
-pub use watch::watch;
+pub use planned::watch;

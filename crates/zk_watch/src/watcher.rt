@@ -1,14 +1,15 @@
 //! A link, and what was printed of subjects.
 
-ghost use Rattle.std.specs.Prelude.{◌≡◌, ◌≢◌, IfErr, IfOk, List, ℕ, OnOk, string_bytes};
+ghost use Rattle.std.specs.Prelude.{◌≡◌, ◌≢◌, true, IfErr, List, [], ℕ, OnOk, string_bytes};
 ghost use Rattle.std.specs.Io.KnownBytes.{Appends};
 ghost use Rattle.zk_client.specs.Clients.{view_of};
-ghost use Rattle.zk_turns.specs.View.{View};
+ghost use Rattle.zk_turns.specs.Turns.{new_start};
+ghost use Rattle.zk_turns.specs.View.{View, view_at};
 ghost use Rattle.zk_watch.specs.Watching.{aims_of, Adds, Prints};
 
 use crate::end::End;
 use crate::lines::{is_known, kept_line, none_line, push_subject};
-use crate::notes::{Note, begin_read, first_moment, is_told, set_told};
+use crate::notes::{Note, begin_read, begun, first_moment, is_told, set_told};
 use crate::plan::Subject;
 use crate::told::heard_text;
 use std::alloc::{AllocError, Allocator};
@@ -62,6 +63,14 @@ fn write<O: Write>(out: &mut O, text: &str) -> Result<(), End>
     Ok(())
 }
 
+/// The moment at which a watch ends that begins at this one.
+fn end_of(begins: u64, for_ms: Option<u64>) -> u64 {
+    match for_ms {
+        Some(ms) => begins.saturating_add(ms),
+        None => u64::MAX,
+    }
+}
+
 impl<'a, A: Allocator + Copy, D: Dial + Drop, C: Clock + Drop> Watcher<'a, A, D, C> {
     /// Whether the client is connected.
     fn is_connected(&self) -> bool {
@@ -98,16 +107,29 @@ impl<'a, A: Allocator + Copy, D: Dial + Drop, C: Clock + Drop> Watcher<'a, A, D,
         Ok(())
     }
 
+    /// Whether the session has expired.
+    fn is_expired(&self) -> bool
+        ensures { result ≡ true → (view_of self.now.link.joint.client).standing.state ≡ State.Expired }
+    {
+        matches!(self.link.client().state(), State::Expired)
+    }
+
+    /// Goes on with a client of a new session.
+    fn renew(&mut self)
+        ensures { (timeout : ℕ) × (view_of self.new.link.joint.client ≡ view_at (new_start timeout) []) }
+    {
+        self.link
+            .renew(Client::new(self.alloc, self.timeout_ms.max(1)));
+    }
+
     /// Begins another session where this one has expired, and says so.
     fn begin_anew(&mut self, subjects: &[Subject<A>], text: &mut String<A>) -> Result<(), End>
         ensures { OnOk result (Adds (aims_of subjects.now) (view_of self.old.link.joint.client) (string_bytes text.old) (view_of self.new.link.joint.client) (string_bytes text.new)) }
     {
-        if !matches!(self.link.client().state(), State::Expired) {
-            return Ok(());
+        if self.is_expired() {
+            self.renew();
+            text.push_str("session new\n")?;
         }
-        text.push_str("session new\n")?;
-        self.link
-            .renew(Client::new(self.alloc, self.timeout_ms.max(1)));
         Ok(())
     }
 
@@ -165,8 +187,7 @@ impl<'a, A: Allocator + Copy, D: Dial + Drop, C: Clock + Drop> Watcher<'a, A, D,
         index: usize,
         text: &mut String<A>,
     ) -> Result<(), AllocError>
-        ensures client { view_of self.new.link.joint.client ≡ view_of self.old.link.joint.client }
-        ensures text { OnOk result (Adds (aims_of subjects.now) (view_of self.old.link.joint.client) (string_bytes text.old) (view_of self.old.link.joint.client) (string_bytes text.new)) }
+        ensures { OnOk result (Adds (aims_of subjects.now) (view_of self.old.link.joint.client) (string_bytes text.old) (view_of self.new.link.joint.client) (string_bytes text.new)) }
     {
         let Some(subject) = subjects.get(index) else {
             return Ok(());
@@ -252,13 +273,17 @@ impl<'a, A: Allocator + Copy, D: Dial + Drop, C: Clock + Drop> Watcher<'a, A, D,
     }
 
     /// Ends the session, and writes what is printed.
-    fn finish<O: Write>(&mut self, subjects: &[Subject<A>], out: &mut O) -> Result<(), End>
-        ensures ok { OnOk result ((told : List ℕ) × Prints (aims_of subjects.now) (view_of self.old.link.joint.client) told (view_of self.new.link.joint.client) × Appends (O.contents out.old) (O.contents out.new) told) }
-        ensures err { IfErr result (λ why. why ≢ End.Stream → out.new ≡ out.old) }
+    fn finish<O: Write>(&mut self, subjects: &[Subject<A>], out: &mut O) -> End
+        ensures { result ≢ End.Stream → (told : List ℕ) × (last : View) × Prints (aims_of subjects.now) (view_of self.old.link.joint.client) told last × Appends (O.contents out.old) (O.contents out.new) told }
     {
         let mut text = String::new(self.alloc);
-        self.close(subjects, &mut text)?;
-        write(out, text.as_str())
+        if let Err(why) = self.close(subjects, &mut text) {
+            return why;
+        }
+        match write(out, text.as_str()) {
+            Ok(()) => End::Over,
+            Err(why) => why,
+        }
     }
 
     /// How a watch ends that ends for this reason: where a write has failed, the session is ended first.
@@ -273,20 +298,41 @@ impl<'a, A: Allocator + Copy, D: Dial + Drop, C: Clock + Drop> Watcher<'a, A, D,
     }
 
     /// Goes on until this moment, and then ends the session.
-    pub(crate) fn run<O: Write>(&mut self, subjects: &[Subject<A>], end: u64, out: &mut O) -> End
+    fn run<O: Write>(&mut self, subjects: &[Subject<A>], end: u64, out: &mut O) -> End
         ensures { result ≢ End.Stream → (told : List ℕ) × (last : View) × Prints (aims_of subjects.now) (view_of self.old.link.joint.client) told last × Appends (O.contents out.old) (O.contents out.new) told }
     {
         for _ in 0..u64::MAX {
             if end <= self.link.now() {
-                break;
+                return self.finish(subjects, out);
             }
             if let Err(why) = self.turn(subjects, end, out) {
                 return self.give_up(subjects, why);
             }
         }
-        match self.finish(subjects, out) {
-            Ok(()) => End::Over,
-            Err(why) => why,
+        self.finish(subjects, out)
+    }
+
+    /// Begins a note for each subject.
+    fn begin_notes(&mut self, count: usize) -> Result<(), AllocError>
+        ensures { self.new.link ≡ self.old.link }
+    {
+        self.notes = begun(self.alloc, count)?;
+        Ok(())
+    }
+
+    /// Goes on for so many milliseconds, and then ends the session.
+    pub(crate) fn watch_for<O: Write>(
+        &mut self,
+        subjects: &[Subject<A>],
+        for_ms: Option<u64>,
+        out: &mut O,
+    ) -> End
+        ensures { result ≢ End.Stream → (told : List ℕ) × (last : View) × Prints (aims_of subjects.now) (view_of self.old.link.joint.client) told last × Appends (O.contents out.old) (O.contents out.new) told }
+    {
+        if self.begin_notes(subjects.len()).is_err() {
+            return End::Memory;
         }
+        let end = end_of(self.link.now(), for_ms);
+        self.run(subjects, end, out)
     }
 }

@@ -1,47 +1,16 @@
 //! A watch.
 
-ghost use Rattle.std.specs.Prelude.{◌≡◌, ℕ, List};
+ghost use Rattle.std.specs.Prelude.{◌≢◌, ℕ, List};
 ghost use Rattle.std.specs.Io.KnownBytes.{Appends};
 ghost use Rattle.zk_watch.specs.Watching.{aims_of, IsPrinted};
 
 use crate::end::End;
-use crate::notes::begun;
-use crate::plan::{Plan, Subject};
+use crate::plan::Plan;
 use crate::watcher::Watcher;
 use std::alloc::Allocator;
 use std::io::Write;
 use zk_client::Client;
 use zk_link::{Clock, Dial, Link};
-
-/// The moment at which a watch ends that begins at this one.
-fn end_of(begins: u64, for_ms: Option<u64>) -> u64 {
-    match for_ms {
-        Some(ms) => begins.saturating_add(ms),
-        None => u64::MAX,
-    }
-}
-
-/// Watches subjects over a link of a client that stands at its beginning.
-fn watch_over<'a, A: Allocator + Copy, D: Dial + Drop, C: Clock + Drop, O: Write>(
-    alloc: A,
-    mut link: Link<'a, A, D, C>,
-    subjects: &[Subject<A>],
-    timeout_ms: i32,
-    for_ms: Option<u64>,
-    out: &mut O,
-) -> End {
-    let Ok(notes) = begun(alloc, subjects.len()) else {
-        return End::Memory;
-    };
-    let end = end_of(link.now(), for_ms);
-    let mut watcher = Watcher {
-        alloc,
-        timeout_ms,
-        link,
-        notes,
-    };
-    watcher.run(subjects, end, out)
-}
 
 /// Watches the subjects of a plan, and prints to `out` what changes, until its time is over or a write fails. Then the session is ended,
 /// which is waited for, a third of the timeout at most.
@@ -61,7 +30,7 @@ pub fn watch<A: Allocator + Copy, D: Dial + Drop, C: Clock + Drop, O: Write>(
     out: &mut O,
 ) -> End
     // Each line is by the rules of what a client says and keeps, and each client of which an answer is shown stands where its turns led.
-    ensures printed { ¬ (result ≡ End.Stream) → (text : List ℕ) × IsPrinted (aims_of plan.subjects.items) text
+    ensures printed { result ≢ End.Stream → (text : List ℕ) × IsPrinted (aims_of plan.entry.subjects.items) text
         × Appends (O.contents out.old) (O.contents out.new) text }
 {
     let Plan {
@@ -72,8 +41,14 @@ pub fn watch<A: Allocator + Copy, D: Dial + Drop, C: Clock + Drop, O: Write>(
     } = plan;
     let timeout_ms = timeout_ms.max(1);
     let client = Client::new(alloc, timeout_ms);
-    let link = Link::new(alloc, client, dial, clock, addresses);
-    let end = watch_over(alloc, link, subjects.as_slice(), timeout_ms, for_ms, out);
+    let mut watcher = Watcher {
+        alloc,
+        timeout_ms,
+        link: Link::new(alloc, client, dial, clock, addresses),
+        notes: Vec::new(alloc),
+    };
+    let end = watcher.watch_for(subjects.as_slice(), for_ms, out);
+    drop(watcher);
     drop(subjects);
     end
 }
