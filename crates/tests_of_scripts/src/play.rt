@@ -15,7 +15,19 @@ use zk_commands::replay::replay;
 use zk_commands::run::run;
 use zk_commands::show::show;
 use zk_commands::status::Status;
-use zk_link::Dial;
+use zk_link::{Clock, Dial};
+
+/// A clock that stands still: no watch is run over it.
+#[derive(Drop)]
+struct Still;
+
+impl Clock for Still {
+    fn now(&mut self) -> u64 {
+        0
+    }
+
+    fn pause(&mut self, _ms: u64) {}
+}
 
 /// What a command printed, told and answered, in one text.
 fn joined(printed: Vec<u8>, told: Vec<u8>, status: Status) -> Vec<u8> {
@@ -31,13 +43,13 @@ fn joined(printed: Vec<u8>, told: Vec<u8>, status: Status) -> Vec<u8> {
 pub fn outcome<I: Read>(alloc: Global, case: &Case, left: usize, input: &mut I) -> Vec<u8> {
     let mut out = Vec::new(alloc);
     let mut errors = Vec::new(alloc);
-    let mut dial = Partners::new(alloc, case.dialled.as_slice(), left);
+    let dial = Partners::new(alloc, case.dialled.as_slice(), left);
     let words = case.words.as_slice();
-    let status = run(alloc, &mut dial, input, &mut out, &mut errors, words);
+    let status = run(alloc, dial, Still, input, &mut out, &mut errors, words);
     joined(out, errors, status)
 }
 
-/// Runs a command over any memory.
+/// Runs a command over any memory; a watch is not run.
 fn perform<A: Allocator + Copy, D: Dial, I: Read, O: Write>(
     alloc: A,
     command: &Command,
@@ -54,6 +66,7 @@ fn perform<A: Allocator + Copy, D: Dial, I: Read, O: Write>(
         Command::Live { addresses } => {
             live_over(alloc, dial, addresses.as_slice(), input, out, errors)
         }
+        Command::Watch { .. } => Status::Usage,
     }
 }
 

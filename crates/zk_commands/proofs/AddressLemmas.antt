@@ -5,8 +5,8 @@ use Rattle.std.specs.Borrow.{Bor}
 use Rattle.std.specs.List.{list_all}
 use Rattle.clap.specs.Words.{Text}
 use Rattle.zk_live.specs.Addresses.{is_address}
-use Rattle.zk_commands.specs.declared.command.LineFault.{LineFault}
-use Rattle.zk_commands.specs.declared.command.LineFault.TheVariants.{Help, Refused, Memory}
+use Rattle.zk_commands.specs.declared.line_fault.LineFault.{LineFault}
+use Rattle.zk_commands.specs.declared.line_fault.LineFault.TheVariants.{Help, Refused, Memory}
 use Rattle.zk_commands.specs.CommandLine.{IsNoHelp, TellsIf}
 
 -- the first word that is no address
@@ -41,3 +41,9 @@ pub tells : (why : Type 0) (fault : LineFault) → IsNoHelp fault → why → Te
 tells why (Help text) none holds = absurd none
 tells why (Refused text) none holds = holds
 tells why Memory none holds = tt
+
+-- a refusal may be told where something holds that this follows from
+pub tells_more : (why other : Type 0) (fault : LineFault) → (why → other) → TellsIf why fault → TellsIf other fault
+tells_more why other (Help text) so told = absurd told
+tells_more why other (Refused text) so told = so told
+tells_more why other Memory so told = tt

@@ -1,5 +1,6 @@
 -- What a command line asks for, by the definition that `clap` gives of a simple command's matches.
-use Rattle.std.specs.Prelude.{◌≡◌, ◌≢◌, ◌⊎◌, true, List, [], ◌∷◌, map, codes, Option, Some}
+use Rattle.std.specs.Prelude.{◌≡◌, ◌≢◌, ◌⊎◌, ◌*◌, ◌==◌, ℕ, ℤ, pos, Bool, true, not, is_some, if◌then◌else◌, List, [], ◌∷◌, ◌++◌, map, codes, Option, Some, None}
+use Rattle.std.specs.Prelude.{option_and_then, option_map, unwrap_or}
 use Rattle.std.specs.Borrow.{Bor}
 use Rattle.std.specs.List.{list_all}
 use Rattle.clap.specs.Words.{App, IsAmong, Row, Rule, Text, all_of, fault_of, first_of, new_app, new_rule, subcommand_of, with_rule, with_subcommand}
@@ -8,11 +9,16 @@ use Rattle.clap.specs.declared.builder.action.ArgAction.TheVariants as action
 use Rattle.clap.specs.declared.builder.value_parser.ValueParser.TheVariants as parser
 use Rattle.clap.specs.declared.error.kind.ErrorKind.{ErrorKind}
 use Rattle.clap.specs.declared.error.kind.ErrorKind.TheVariants as kinds
+use Rattle.zk_history.specs.PathFault.{fault_of as path_fault}
+use Rattle.zk_history.specs.declared.side.Side.{Side}
+use Rattle.zk_history.specs.declared.side.Side.TheVariants.{Data, Child}
 use Rattle.zk_live.specs.Addresses.{is_address}
+use Rattle.zk_script.specs.Numbers.{natural_of}
+use Rattle.zk_watch.specs.Watching.{aims_of}
 use Rattle.zk_commands.specs.declared.command.Command.{Command}
-use Rattle.zk_commands.specs.declared.command.Command.TheVariants.{Show, History, Replay, Rehearse, Live}
-use Rattle.zk_commands.specs.declared.command.LineFault.{LineFault}
-use Rattle.zk_commands.specs.declared.command.LineFault.TheVariants.{Help, Refused, Memory}
+use Rattle.zk_commands.specs.declared.command.Command.TheVariants.{Show, History, Replay, Rehearse, Live, Watch}
+use Rattle.zk_commands.specs.declared.line_fault.LineFault.{LineFault}
+use Rattle.zk_commands.specs.declared.line_fault.LineFault.TheVariants.{Help, Refused, Memory}
 use Rattle.zk_commands.specs.declared.kind.Kind.TheVariants as kind
 use Rattle.zk_commands.specs.Kinds.{kind_word}
 
@@ -51,11 +57,27 @@ address_rule = record (new_rule (codes "ADDRESS")) { required = true; action = S
 abbrev pub live_app : App
 live_app = with_rule (new_app (codes "live")) address_rule
 
+-- an option with a path, which may be used several times
+abbrev pub path_rule : Text → Rule
+path_rule name = record (new_rule name) { long = Some name; value_names = 1; action = Some action.Append }
+
+-- milliseconds, 30,000 of them where no number is given
+abbrev pub timeout_rule : Rule
+timeout_rule = record (new_rule (codes "timeout")) { long = Some (codes "timeout"); value_names = 1; defaults = codes "30000" ∷ [] }
+
+-- seconds
+abbrev pub duration_rule : Rule
+duration_rule = record (new_rule (codes "for")) { long = Some (codes "for"); value_names = 1 }
+
+abbrev pub watch_app : App
+watch_app =
+    with_rule (with_rule (with_rule (with_rule (with_rule (new_app (codes "watch")) address_rule) (path_rule (codes "data"))) (path_rule (codes "children"))) timeout_rule) duration_rule
+
 -- the program: one of its subcommands must be given
 abbrev pub shell_app : Bor (List (Bor Text)) → App
 shell_app names =
-    with_subcommand (with_subcommand (with_subcommand (with_subcommand (with_subcommand (on_top (λ s. record s { subcommand_required = true }) (new_app (codes "zk_shell")))
-    (show_app names).top) history_app.top) replay_app.top) rehearse_app.top) live_app.top
+    with_subcommand (with_subcommand (with_subcommand (with_subcommand (with_subcommand (with_subcommand (on_top (λ s. record s { subcommand_required = true }) (new_app (codes "zk_shell")))
+    (show_app names).top) history_app.top) replay_app.top) rehearse_app.top) live_app.top) watch_app.top
 
 -- the list is that of the kinds
 abbrev pub AreKinds : Bor (List (Bor Text)) → Type 0
@@ -65,6 +87,54 @@ AreKinds names = map (λ n. n.now) names.now ≡ kind_words
 abbrev pub AreAddresses : List Text → List Row → Type 0
 AreAddresses words rows = (all_of (codes "ADDRESS") rows ≡ Some words) × (list_all is_address words ≡ true)
 
+-- the text of a path
+abbrev pub is_path : Text → Bool
+is_path text = not (is_some (path_fault text))
+
+-- the values of an option, in the order in which they were given
+abbrev pub given : Text → List Row → List Text
+given id rows = unwrap_or (all_of id rows) []
+
+-- a side of the node at each path
+abbrev pub aims_at : Side → List Text → List (Side × Text)
+aims_at side paths = map (λ p. (side, p)) paths
+
+-- the data of the nodes that were given for them, and then the names below those that were given for these; each is a path
+abbrev pub AreAims : List (Side × Text) → List Row → Type 0
+AreAims aims rows = (aims ≡ aims_at Data (given (codes "data") rows) ++ aims_at Child (given (codes "children") rows))
+    × (list_all is_path (given (codes "data") rows) ≡ true) × (list_all is_path (given (codes "children") rows) ≡ true)
+
+-- the number, if it is not 0
+abbrev pub above_zero : Option ℕ → Option ℕ
+above_zero (Some n) = if n == 0 then None else Some n
+above_zero None = None
+
+-- the number from 1 to the most that a word stands for
+abbrev pub count_at : ℕ → Text → Option ℕ
+count_at most word = above_zero (natural_of most word)
+
+-- a timeout in milliseconds
+abbrev pub timeout_at : Text → Option ℤ
+timeout_at word = option_map pos (count_at 2147483647 word)
+
+-- how long to watch, in milliseconds: the words say it in seconds, or not at all
+abbrev pub duration_read : Option Text → Option (Option ℕ)
+duration_read None = Some None
+duration_read (Some word) = option_map (λ seconds. Some (1000 * seconds)) (count_at 4294967 word)
+
+-- the timeout that was given, in milliseconds
+abbrev pub IsTimeout : ℤ → List Row → Type 0
+IsTimeout ms rows = option_and_then timeout_at (first_of (codes "timeout") rows) ≡ Some ms
+
+-- how long to watch by what was given, in milliseconds
+abbrev pub IsDuration : Option ℕ → List Row → Type 0
+IsDuration ms rows = duration_read (first_of (codes "for") rows) ≡ Some ms
+
+-- what `watch` was given: addresses, what to watch, a timeout, and how long
+abbrev pub IsWatch : List Text → List (Side × Text) → ℤ → Option ℕ → List Row → Type 0
+IsWatch addresses aims timeout_ms for_ms rows =
+    AreAddresses addresses rows × AreAims aims rows × IsTimeout timeout_ms rows × IsDuration for_ms rows
+
 -- the subcommand that was found, with its values, is this command
 abbrev pub IsFound : Command → Option (Text × List Row) → Type 0
 IsFound (Show kind hex) found = (rows : List Row) × (found ≡ Some (codes "show", rows))
@@ -73,6 +143,8 @@ IsFound History found = (rows : List Row) × (found ≡ Some (codes "history", r
 IsFound Replay found = (rows : List Row) × (found ≡ Some (codes "replay", rows))
 IsFound Rehearse found = (rows : List Row) × (found ≡ Some (codes "rehearse", rows))
 IsFound (Live addresses) found = (rows : List Row) × (found ≡ Some (codes "live", rows)) × AreAddresses (map (λ a. a.now) addresses.items) rows
+IsFound (Watch addresses subjects timeout_ms for_ms) found = (rows : List Row) × (found ≡ Some (codes "watch", rows))
+    × IsWatch (map (λ a. a.now) addresses.items) (aims_of subjects.items) timeout_ms for_ms rows
 
 -- the words ask for this command
 abbrev pub AsksFor : List Text → Command → Type 0

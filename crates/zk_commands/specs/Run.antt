@@ -1,23 +1,25 @@
 -- What a command line writes, by how it ends.
-use Rattle.std.specs.Prelude.{◌≡◌, ℕ, List, [], ◌∷◌, ◌++◌, Option, string_bytes}
+use Rattle.std.specs.Prelude.{◌≡◌, ℕ, ℤ, List, [], ◌∷◌, ◌++◌, Option, string_bytes}
 use Rattle.std.specs.Borrow.{Bor}
-use Rattle.std.specs.Global.{Vec}
+use Rattle.std.specs.Global.{Global, Vec}
 use Rattle.clap.specs.Words.{Text}
 use Rattle.zk_script.specs.Scripts.{Answers, AnswersFirst, StopsAt, lines_of, refusal_text}
 use Rattle.zk_script.specs.declared.script_fault.ScriptFault.{ScriptFault}
-use Rattle.zk_commands.specs.declared.command.Command.TheVariants.{Show, History, Replay, Rehearse, Live}
-use Rattle.zk_commands.specs.declared.command.LineFault.{LineFault}
-use Rattle.zk_commands.specs.declared.command.LineFault.TheVariants.{Help, Refused}
+use Rattle.zk_commands.specs.declared.command.Command.TheVariants.{Show, History, Replay, Rehearse, Live, Watch}
+use Rattle.zk_commands.specs.declared.line_fault.LineFault.{LineFault}
+use Rattle.zk_commands.specs.declared.line_fault.LineFault.TheVariants.{Help, Refused}
 use Rattle.zk_commands.specs.declared.fault.ShowFault.{ShowFault}
 use Rattle.zk_commands.specs.declared.kind.Kind.{Kind}
 use Rattle.zk_commands.specs.CommandLine.{AsksFor, IsDue}
 use Rattle.zk_live.specs.Lives as sessions
+use Rattle.zk_watch.specs.Watching.{aims_of, IsPrinted}
+use Rattle.zk_watch.specs.declared.plan.Subject.{Subject}
 use Rattle.zk_rehearse.specs.Scripts as rehearsals
 use Rattle.zk_replay.specs.Replays as replays
 use Rattle.zk_replay.specs.declared.replay.End.{End}
 use Rattle.zk_replay.specs.declared.replay.End.TheVariants as ends
 use Rattle.zk_commands.specs.History.{IsInput}
-use Rattle.zk_commands.specs.Written.{RunsOut}
+use Rattle.zk_commands.specs.Written.{IsHalt, RunsOut}
 use Rattle.zk_commands.specs.Show.{ShowsFrame, IsFault, fault_text}
 
 -- the text of help
@@ -31,7 +33,8 @@ IsRefusalText (Refused text) told = told ≡ string_bytes text
 IsRefusalText fault told = ⊥
 
 -- The words ask for a frame, and the text is what is shown of it; or for a history, and the text is the answers of all lines of
--- the input; or for a replay, a rehearsal or a session over connections, and it is what all its lines print; or for help.
+-- the input; or for a replay, a rehearsal or a session over connections, and it is what all its lines print; or for a watch, and it is
+-- what that prints; or for help.
 pub data IsDone (words : List Text) (input : Option (List ℕ)) (text : List ℕ) : Type 0 where
   shows : (kind : Kind) (hex : Bor Text) → AsksFor words (Show kind hex) → ShowsFrame kind hex.now text → IsDone words input text
   answers : (script : List ℕ) → AsksFor words History → IsInput input script → Answers (lines_of script) text → IsDone words input text
@@ -39,6 +42,8 @@ pub data IsDone (words : List Text) (input : Option (List ℕ)) (text : List ℕ
   rehearses : (script : List ℕ) → AsksFor words Rehearse → IsInput input script → rehearsals.Prints (lines_of script) text → IsDone words input text
   lives : (addresses : Vec (Bor Text)) (script : List ℕ) → AsksFor words (Live addresses) → IsInput input script
       → sessions.IsOutcome (lines_of script) text ends.Taken → IsDone words input text
+  watches : (addresses : Vec (Bor Text)) (subjects : Vec (Subject Global)) (timeout_ms : ℤ) (for_ms : Option ℕ)
+      → AsksFor words (Watch addresses subjects timeout_ms for_ms) → IsPrinted (aims_of subjects.items) text → IsDone words input text
   helps : (fault : LineFault) → IsDue words fault → IsHelpText fault text → IsDone words input text
 
 -- The words ask for a frame that is refused, and nothing is written; or for a history, a replay, a rehearsal or a session with a line that is
@@ -70,3 +75,6 @@ pub data IsWhole (words : List Text) (input : Option (List ℕ)) (text : List �
       → rehearsals.IsOutcome (lines_of script) printed end → RunsOut end told → text ≡ printed ++ told → IsWhole words input text
   halts : (addresses : Vec (Bor Text)) (script printed told : List ℕ) (end : End) → AsksFor words (Live addresses) → IsInput input script
       → sessions.IsOutcome (lines_of script) printed end → RunsOut end told → text ≡ printed ++ told → IsWhole words input text
+  ceases : (addresses : Vec (Bor Text)) (subjects : Vec (Subject Global)) (timeout_ms : ℤ) (for_ms : Option ℕ) (printed told : List ℕ)
+      → AsksFor words (Watch addresses subjects timeout_ms for_ms) → IsPrinted (aims_of subjects.items) printed → IsHalt told
+      → text ≡ printed ++ told → IsWhole words input text

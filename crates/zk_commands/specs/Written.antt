@@ -1,5 +1,5 @@
 -- What is written behind what the lines of a script print, by how they ended.
-use Rattle.std.specs.Prelude.{◌≡◌, ℕ, List, [], codes}
+use Rattle.std.specs.Prelude.{◌≡◌, ◌⊎◌, ℕ, List, [], codes}
 use Rattle.zk_replay.specs.declared.replay.End.{End}
 use Rattle.zk_replay.specs.declared.replay.End.TheVariants.{Halted, Memory}
 use Rattle.zk_script.specs.declared.input.InputFault.{InputFault}
@@ -12,6 +12,10 @@ abbrev pub RunsOut : End → List ℕ → Type 0
 RunsOut Halted told = told ≡ codes "halt\n"
 RunsOut Memory told = told ≡ []
 RunsOut _ told = ⊥
+
+-- Memory ran out in a watch: nothing is written, or that this was in a step of the client.
+abbrev pub IsHalt : List ℕ → Type 0
+IsHalt told = (told ≡ []) ⊎ (told ≡ codes "halt\n")
 
 -- how a command ends whose script was not read
 abbrev pub unread : InputFault → Status

@@ -1,22 +1,26 @@
 //! What a command line asks for.
 
-ghost use Rattle.std.specs.Prelude.{◌≡◌, true, List, IfOk, IfErr, IfSome, IfNone, find, map, codes, not};
+ghost use Rattle.std.specs.Prelude.{◌≡◌, ℕ, ℤ, true, List, Option, IfOk, IfErr, IfSome, IfNone, find, map, codes, not};
 ghost use Rattle.std.specs.Borrow.{Bor};
-ghost use Rattle.std.specs.Global.{Vec};
+ghost use Rattle.std.specs.Global.{Global, Vec};
 ghost use Rattle.clap.specs.Simple.{on_top};
 ghost use Rattle.clap.specs.Words.{Text, app_of, found_of, first_value, kind_of, new_app, rows_of, subcommand_rows_of, with_subcommand};
 ghost use Rattle.zk_live.specs.Addresses.{is_address};
 ghost use Rattle.zk_commands.specs.Kinds.{kind_word};
-ghost use Rattle.zk_commands.specs.CommandLine.{AreAddresses, AreKinds, AsksFor, AsksForNone, IsDue, IsFound, IsNoHelp, Tells, TellsIf, history_app, live_app, rehearse_app, replay_app, show_app, shell_app};
-ghost use Rattle.zk_commands.specs.declared.command.LineFault.TheVariants as faults;
+ghost use Rattle.zk_commands.specs.CommandLine.{AreAddresses, AreKinds, AsksFor, AsksForNone, IsDue, IsFound, IsWatch, Tells, TellsIf, history_app, live_app, rehearse_app, replay_app, show_app, shell_app, watch_app};
+ghost use Rattle.zk_history.specs.declared.side.Side.{Side};
+ghost use Rattle.zk_watch.specs.declared.plan.Subject.{Subject};
+ghost use Rattle.zk_watch.specs.Watching.{aims_of};
 
 use crate::help;
 use crate::kind::Kind;
+use crate::line_fault::{LineFault, no_address, no_command};
+use crate::watch_words::{addresses_arg, duration_of, subjects_of, timeout_of, watch_form};
 use clap::error::ErrorKind;
-use clap::{Arg, ArgAction, ArgMatches, Error};
+use clap::{Arg, ArgMatches, Error};
 use std::alloc::{AllocError, Global};
-use thiserror::Error;
 use zk_live::address::is_address;
+use zk_watch::Subject;
 
 static KINDS: [&str; 11] = [
     "connect",
@@ -33,10 +37,13 @@ static KINDS: [&str; 11] = [
 ];
 
 /// What a command line asks for.
-#[derive(Debug, Drop)]
+#[derive(Drop)]
 pub enum Command<'a> {
     /// Shows one whole frame in hex.
-    Show { kind: Kind, hex: &'a str },
+    Show {
+        kind: Kind,
+        hex: &'a str,
+    },
     /// Answers data and names of a history.
     History,
     /// Drives a client by a script.
@@ -44,28 +51,17 @@ pub enum Command<'a> {
     /// Drives a client against servers in memory by a script.
     Rehearse,
     /// Drives a client over connections to these addresses by a script.
-    Live { addresses: Vec<&'a str> },
-}
-
-/// Why a command line asks for nothing.
-#[derive(Debug, Drop, Error)]
-pub enum LineFault {
-    /// It asks for help, which this is.
-    #[error("{0}")]
-    Help(String),
-    /// It is refused, and this is why.
-    #[error("{0}")]
-    Refused(String),
-    #[error("out of memory")]
-    Memory,
-}
-
-impl From<AllocError> for LineFault {
-    ghost from_gives = { λ _ f. f ≡ faults.Memory };
-
-    fn from(_e: AllocError) -> LineFault {
-        LineFault::Memory
-    }
+    Live {
+        addresses: Vec<&'a str>,
+    },
+    /// Watches nodes over connections to these addresses, by a timeout that is above 0, for so many milliseconds; for ever where
+    /// there is no such number.
+    Watch {
+        addresses: Vec<&'a str>,
+        subjects: Vec<Subject<Global>>,
+        timeout_ms: i32,
+        for_ms: Option<u64>,
+    },
 }
 
 /// The form of `show`.
@@ -132,14 +128,23 @@ fn with_scripts<'a>(alloc: Global, form: clap::Command<'a>) -> Result<clap::Comm
 fn live_form<'a>(alloc: Global) -> Result<clap::Command<'a>, AllocError>
     ensures { IfOk result (λ r. app_of r ≡ live_app) }
 {
-    let address = Arg::new(alloc, "ADDRESS")
-        .required(true)
-        .action(ArgAction::Append)
-        .help("A server's address in numbers, as 127.0.0.1:2181. Several are tried in turn");
     clap::Command::new(alloc, "live")
         .about("Drives a client over TCP by a script, and prints what it says and keeps")
         .after_help(help::LIVE)
-        .arg(address)
+        .arg(addresses_arg(alloc))
+}
+
+/// A form with the two commands that connect.
+fn with_sessions<'a>(
+    alloc: Global,
+    form: clap::Command<'a>,
+) -> Result<clap::Command<'a>, AllocError>
+    ensures { IfOk result (λ r. app_of r ≡ with_subcommand (with_subcommand (app_of form.entry) live_app.top) watch_app.top) }
+{
+    let live = live_form(alloc)?;
+    let form = form.subcommand(live)?;
+    let watch = watch_form(alloc)?;
+    form.subcommand(watch)
 }
 
 /// The command line's form with one command, and all that its help says but for the others.
@@ -160,8 +165,7 @@ fn form<'a>(alloc: Global) -> Result<clap::Command<'a>, AllocError>
     let show = show_form(alloc)?;
     let shown = form_with(alloc, show)?;
     let driven = with_scripts(alloc, shown)?;
-    let live = live_form(alloc)?;
-    driven.subcommand(live)
+    with_sessions(alloc, driven)
 }
 
 /// What a refusal of `clap` says.
@@ -175,28 +179,6 @@ fn told_of(alloc: Global, error: &Error) -> LineFault
         ErrorKind::OutOfMemory => LineFault::Memory,
         ErrorKind::DisplayHelp => LineFault::Help(text),
         _ => LineFault::Refused(text),
-    }
-}
-
-/// What is told where the words ask for nothing.
-fn no_command(alloc: Global) -> LineFault
-    ensures { IsNoHelp result }
-{
-    match String::from_str(alloc, "error: no command\n") {
-        Ok(text) => LineFault::Refused(text),
-        Err(_) => LineFault::Memory,
-    }
-}
-
-/// What is told of a word that is no address.
-fn no_address(alloc: Global, word: &str) -> LineFault
-    ensures { IsNoHelp result }
-{
-    match format!(in alloc;
-        "error: {word:?} is no address: IP:PORT in numbers, as 127.0.0.1:2181\n"
-    ) {
-        Ok(text) => LineFault::Refused(text),
-        Err(_) => LineFault::Memory,
     }
 }
 
@@ -221,10 +203,9 @@ fn stranger<'a>(words: &[&'a str]) -> Option<&'a str>
     Some(*word)
 }
 
-/// The command that the matches of `live` give, where each word is an address.
-fn live_of<'a>(alloc: Global, matches: &ArgMatches<'a>) -> Result<Command<'a>, LineFault>
-    ensures ok { IfOk result (λ command. (addresses : Vec (Bor Text)) × (command ≡ Command.Live addresses)
-        × AreAddresses (map (λ a. a.now) addresses.items) (rows_of (found_of matches.now))) }
+/// The addresses that are given, where each word is one.
+fn addresses_of<'a>(alloc: Global, matches: &ArgMatches<'a>) -> Result<Vec<&'a str>, LineFault>
+    ensures ok { IfOk result (λ addresses. AreAddresses (map (λ a. a.now) addresses.items) (rows_of (found_of matches.now))) }
     ensures err { IfErr result (TellsIf ((words : List Text) → AreAddresses words (rows_of (found_of matches.now)) → ⊥)) }
 {
     let Some(words) = matches.get_strs("ADDRESS") else {
@@ -234,7 +215,37 @@ fn live_of<'a>(alloc: Global, matches: &ArgMatches<'a>) -> Result<Command<'a>, L
         return Err(no_address(alloc, word));
     }
     let addresses = Vec::from_slice(alloc, words)?;
+    Ok(addresses)
+}
+
+/// The command that the matches of `live` give.
+fn live_of<'a>(alloc: Global, matches: &ArgMatches<'a>) -> Result<Command<'a>, LineFault>
+    ensures ok { IfOk result (λ command. (addresses : Vec (Bor Text)) × (command ≡ Command.Live addresses)
+        × AreAddresses (map (λ a. a.now) addresses.items) (rows_of (found_of matches.now))) }
+    ensures err { IfErr result (TellsIf ((words : List Text) → AreAddresses words (rows_of (found_of matches.now)) → ⊥)) }
+{
+    let addresses = addresses_of(alloc, matches)?;
     Ok(Command::Live { addresses })
+}
+
+/// The command that the matches of `watch` give.
+fn watch_of<'a>(alloc: Global, matches: &ArgMatches<'a>) -> Result<Command<'a>, LineFault>
+    ensures ok { IfOk result (λ command. (addresses : Vec (Bor Text)) × (subjects : Vec (Subject Global)) × (timeout_ms : ℤ) × (for_ms : Option ℕ)
+        × (command ≡ Command.Watch addresses subjects timeout_ms for_ms)
+        × IsWatch (map (λ a. a.now) addresses.items) (aims_of subjects.items) timeout_ms for_ms (rows_of (found_of matches.now))) }
+    ensures err { IfErr result (TellsIf ((addresses : List Text) (aims : List (Side × Text)) (timeout_ms : ℤ) (for_ms : Option ℕ)
+        → IsWatch addresses aims timeout_ms for_ms (rows_of (found_of matches.now)) → ⊥)) }
+{
+    let timeout_ms = timeout_of(alloc, matches)?;
+    let for_ms = duration_of(alloc, matches)?;
+    let addresses = addresses_of(alloc, matches)?;
+    let subjects = subjects_of(alloc, matches)?;
+    Ok(Command::Watch {
+        addresses,
+        subjects,
+        timeout_ms,
+        for_ms,
+    })
 }
 
 /// The command that the matches of a command line give.
@@ -251,6 +262,7 @@ fn asked<'a>(alloc: Global, matches: &ArgMatches<'a>) -> Result<Command<'a>, Lin
         Some(("replay", _)) => Ok(Command::Replay),
         Some(("rehearse", _)) => Ok(Command::Rehearse),
         Some(("live", inner)) => live_of(alloc, inner),
+        Some(("watch", inner)) => watch_of(alloc, inner),
         _ => Err(no_command(alloc)),
     }
 }

@@ -3,7 +3,7 @@
 /// At the end of the program's help.
 pub const SHELL: &str = "\
 Scripts come on standard input, a line for each thing to do. The help of each command names its lines;
-`zk_shell live --help` names those that drive a client.
+`zk_shell live --help` names those that drive a client. `zk_shell watch` and `zk_shell show` take none.
 
 Exit status: 0 done, and for help; 1 a fault in the input, told on standard error; 2 a fault of the
 command line, told there too; 3 out of memory; 4 standard input or output failed.";
@@ -62,6 +62,46 @@ line; 3 out of memory; 4 standard input or output failed.
 Example:
   printf 'call 1 create /a 6869 0\ncall 2 getdata /a 1\npeek data /a\ncall 3 close\n' |
     zk_shell live 127.0.0.1:2181";
+
+/// At the end of the help of `watch`.
+pub const WATCH: &str =
+    r"Connects to the first address that answers, reads each node with a watch, and goes on to print a line
+whenever something else is kept of it than was printed last. Where the connection is lost, the next
+address is dialled, and where the session expires, a new one begins. --data and --children may be used
+several times, each with a PATH as it is, without escapes. With neither, states alone are printed.
+
+Printed, each line at once:
+  state NAME                    Connecting, Connected, Idle, Expired or Closed
+  session new                   Behind state Expired: nothing is kept any more
+  PATH data full DATA SEVEN MARK last ZXID
+  PATH data known SEVEN MARK last ZXID
+  PATH data absent MARK last ZXID
+  PATH data none last ZXID      What is kept of the node, and the last seen zxid
+  PATH names N NAME.. PZXID MARK last ZXID
+  PATH names none last ZXID     What is kept of the names below it
+  drop FAULT                    The connection is given up: what came is wrong, or nothing came
+  answer TICKET ZXID code N     A read was refused, and is tried again a second later. TICKET counts what is
+                                watched, from 1 on: first that of --data, and then that of --children
+  halt                          Memory ran out in the client
+
+DATA, SEVEN, NAME, PZXID, MARK and FAULT are as in `zk_shell live --help`; in a PATH a space is printed
+as \x20. Where MARK is good, this is what the servers' history says at ZXID, and no change is known;
+where it is stale, a change was told, and the node is being read again.
+
+The session is closed when the time of --for is over, and when standard output is closed.
+
+Exit status: 0 the time is over; 2 a fault of the command line; 3 out of memory; 4 standard output
+failed, or was closed.
+
+Example, where /config is hi, and is set to bye while it is watched:
+  zk_shell watch 127.0.0.1:2181 --data /config --for 60
+prints
+  state Connecting
+  state Connected
+  /config data full 6869 3 3 1700000000000 1700000000000 0 0 2 good last 3
+  /config data full 6869 3 3 1700000000000 1700000000000 0 0 2 stale last 3
+  /config data full 627965 3 5 1700000000000 1700000009000 1 0 3 good last 5
+  state Closed";
 
 /// At the end of the help of `history`.
 pub const HISTORY: &str =

@@ -12,7 +12,7 @@ use crate::status::Status;
 use crate::written::{unread, write_outcome};
 use std::alloc::Allocator;
 use std::io::{Read, Write};
-use zk_live::dial::Dial;
+use zk_link::Dial;
 use zk_live::live::live;
 use zk_replay::replay::End;
 use zk_script::input::read_whole;

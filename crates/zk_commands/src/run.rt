@@ -2,18 +2,23 @@
 
 ghost use Rattle.std.specs.Prelude.{◌≡◌, ◌≢◌, List, ℕ, map};
 ghost use Rattle.std.specs.Io.KnownBytes.{Appends};
-ghost use Rattle.zk_commands.specs.Run.{IsDone, IsFaulty, IsRefusal, IsWhole};
+ghost use Rattle.clap.specs.Words.{Text};
+ghost use Rattle.zk_commands.specs.CommandLine.{AsksFor};
+ghost use Rattle.zk_commands.specs.Run.{IsDone, IsFaulty, IsHelpText, IsRefusal, IsRefusalText, IsWhole};
 
-use crate::command::{Command, LineFault, command_of};
+use crate::command::{Command, command_of};
 use crate::history::history;
+use crate::line_fault::LineFault;
 use crate::live::live_over;
 use crate::rehearse::rehearse;
 use crate::replay::replay;
 use crate::show::show;
 use crate::status::Status;
+use crate::watch::watch_over;
 use std::alloc::Global;
 use std::io::{Read, Write};
-use zk_live::dial::Dial;
+use zk_link::{Clock, Dial};
+use zk_watch::Plan;
 
 /// Writes a text, and answers this status unless that fails.
 fn write_text<W: Write>(to: &mut W, text: &str, status: Status) -> Status
@@ -25,17 +30,75 @@ fn write_text<W: Write>(to: &mut W, text: &str, status: Status) -> Status
     }
 }
 
-/// Runs the command that the words ask for. The first word is the program's name. `dial` connects to addresses, for a session over
-/// connections.
-pub fn run<D: Dial, I: Read, O: Write, E: Write>(
+/// Runs a command.
+fn perform<D: Dial + Drop, C: Clock + Drop, I: Read, O: Write, E: Write>(
     alloc: Global,
-    dial: &mut D,
+    mut dial: D,
+    clock: C,
+    input: &mut I,
+    out: &mut O,
+    errors: &mut E,
+    command: Command<'_>,
+) -> Status
+    ensures done { result ≡ Status.Done → (words : List Text) → AsksFor words command.entry → (text : List ℕ) × IsDone words (I.remaining input.old) text
+        × Appends (O.contents out.old) (O.contents out.new) text × (errors.new ≡ errors.old) }
+    ensures fault { result ≡ Status.Fault → (words : List Text) → AsksFor words command.entry → (text told : List ℕ) × IsFaulty words (I.remaining input.old) text told
+        × Appends (O.contents out.old) (O.contents out.new) text × Appends (E.contents errors.old) (E.contents errors.new) told }
+    ensures usage { result ≢ Status.Usage }
+    ensures memory { result ≡ Status.Memory → (words : List Text) → AsksFor words command.entry → (text : List ℕ) × IsWhole words (I.remaining input.old) text
+        × Appends (O.contents out.old) (O.contents out.new) text × (errors.new ≡ errors.old) }
+{
+    match command {
+        Command::Show { kind, hex } => show(alloc, out, errors, kind, hex),
+        Command::History => history(alloc, input, out, errors),
+        Command::Replay => replay(alloc, input, out, errors),
+        Command::Rehearse => rehearse(alloc, input, out, errors),
+        Command::Live { addresses } => {
+            live_over(alloc, &mut dial, addresses.as_slice(), input, out, errors)
+        }
+        Command::Watch {
+            addresses,
+            subjects,
+            timeout_ms,
+            for_ms,
+        } => {
+            let plan = Plan {
+                addresses: addresses.as_slice(),
+                subjects,
+                timeout_ms,
+                for_ms,
+            };
+            watch_over(alloc, dial, clock, plan, out)
+        }
+    }
+}
+
+/// Tells why a command line asks for nothing.
+fn tell_line<O: Write, E: Write>(out: &mut O, errors: &mut E, fault: LineFault) -> Status
+    ensures done { result ≡ Status.Done → (text : List ℕ) × IsHelpText fault text × Appends (O.contents out.old) (O.contents out.new) text × (errors.new ≡ errors.old) }
+    ensures fault { result ≢ Status.Fault }
+    ensures usage { result ≡ Status.Usage → (told : List ℕ) × IsRefusalText fault told × Appends (E.contents errors.old) (E.contents errors.new) told × (out.new ≡ out.old) }
+    ensures memory { result ≡ Status.Memory → (out.new ≡ out.old) × (errors.new ≡ errors.old) }
+{
+    match fault {
+        LineFault::Help(text) => write_text(out, text.as_str(), Status::Done),
+        LineFault::Refused(text) => write_text(errors, text.as_str(), Status::Usage),
+        LineFault::Memory => Status::Memory,
+    }
+}
+
+/// Runs the command that the words ask for. The first word is the program's name. `dial` connects to addresses, for what runs over
+/// connections, and `clock` tells moments to a watch.
+pub fn run<D: Dial + Drop, C: Clock + Drop, I: Read, O: Write, E: Write>(
+    alloc: Global,
+    dial: D,
+    clock: C,
     input: &mut I,
     out: &mut O,
     errors: &mut E,
     words: &[&str],
 ) -> Status
-    // A frame is shown, a history is answered, a replay, a rehearsal or a session is printed, or help is told.
+    // A frame is shown, a history is answered, a replay, a rehearsal, a session or a watch is printed, or help is told.
     ensures done { result ≡ Status.Done → (text : List ℕ) × IsDone (map (λ w. w.now) words.entry.now) (I.remaining input.old) text
         × Appends (O.contents out.old) (O.contents out.new) text × (errors.new ≡ errors.old) }
     // The frame or a line of the script is refused, and this is told.
@@ -44,20 +107,13 @@ pub fn run<D: Dial, I: Read, O: Write, E: Write>(
     // The words are refused, and this is told.
     ensures usage { result ≡ Status.Usage → (told : List ℕ) × IsRefusal (map (λ w. w.now) words.entry.now) told
         × Appends (E.contents errors.old) (E.contents errors.new) told × (out.new ≡ out.old) }
-    // Nothing is written, or whole answers of a history, or what whole lines of a replay, a rehearsal or a session print.
+    // Nothing is written, or whole answers of a history, or what whole lines of a replay, a rehearsal or a session print, or what a
+    // watch prints.
     ensures memory { result ≡ Status.Memory → (text : List ℕ) × IsWhole (map (λ w. w.now) words.entry.now) (I.remaining input.old) text
         × Appends (O.contents out.old) (O.contents out.new) text × (errors.new ≡ errors.old) }
 {
     match command_of(alloc, words) {
-        Ok(Command::Show { kind, hex }) => show(alloc, out, errors, kind, hex),
-        Ok(Command::History) => history(alloc, input, out, errors),
-        Ok(Command::Replay) => replay(alloc, input, out, errors),
-        Ok(Command::Rehearse) => rehearse(alloc, input, out, errors),
-        Ok(Command::Live { addresses }) => {
-            live_over(alloc, dial, addresses.as_slice(), input, out, errors)
-        }
-        Err(LineFault::Help(text)) => write_text(out, text.as_str(), Status::Done),
-        Err(LineFault::Refused(text)) => write_text(errors, text.as_str(), Status::Usage),
-        Err(LineFault::Memory) => Status::Memory,
+        Ok(command) => perform(alloc, dial, clock, input, out, errors, command),
+        Err(fault) => tell_line(out, errors, fault),
     }
 }

@@ -25,7 +25,7 @@ pub(crate) fn unread(fault: InputFault) -> Status
 }
 
 /// Says that a step of the client ran out of memory.
-fn halt<O: Write>(out: &mut O) -> Status
+pub(crate) fn halt<O: Write>(out: &mut O) -> Status
     ensures written { result ≡ Status.Memory → Appends (O.contents out.old) (O.contents out.new) (codes "halt\n") }
     ensures only { (result ≡ Status.Memory) ⊎ (result ≡ Status.Stream) }
 {

@@ -1,11 +1,11 @@
-//! Shows frames of the protocol, answers histories of a data tree, and drives a client by a script.
+//! Shows frames of the protocol, answers histories of a data tree, drives a client by a script, and watches nodes.
 #![tactic(auto)]
 
 use std::io;
 use std::process::ExitCode;
 use zk_commands::run::run;
 use zk_commands::status::Status;
-use zk_live::tcp::Tcp;
+use zk_link::{SystemClock, Tcp};
 
 /// Runs the command that the process's arguments ask for.
 fn run_arguments(rt: &HostRuntime) -> io::Result<Status> {
@@ -18,10 +18,10 @@ fn run_arguments(rt: &HostRuntime) -> io::Result<Status> {
     let mut out = io::writer(rt);
     let mut errors = rt.stderr();
     let mut input = rt.stdin();
-    let mut dial = Tcp::new(rt);
     let status = run(
         alloc,
-        &mut dial,
+        Tcp::new(rt),
+        SystemClock::new(rt),
         &mut input,
         &mut out,
         &mut errors,

@@ -1,12 +1,15 @@
-use Rattle.std.proofs.Common.{rules, arith, ◌≡◌, ◌∙◌, ℕ, List, [], map, sym, subst, ap, codes, slice_index, Some, None, Option}
+use Rattle.std.proofs.Common.{rules, arith, ◌≡◌, ◌∙◌, ℕ, ℤ, List, [], map, sym, subst, ap, codes, slice_index, Some, None, Option}
+use Rattle.std.proofs.lemmas.Result.{IfErr-weaker}
 use Rattle.clap.specs.Words.{found_of, first_of, rows_of, subcommand_rows_of, Text, Row}
 use Rattle.clap.proofs.WalkLemmas.{first_value-rows}
 use Rattle.zk_commands.specs.declared.command.Command.{Command}
-use Rattle.zk_commands.specs.declared.command.Command.TheVariants.{Show, History, Replay, Rehearse, Live}
+use Rattle.zk_commands.specs.declared.command.Command.TheVariants.{Show, History, Replay, Rehearse, Live, Watch}
 use Rattle.zk_commands.specs.declared.kind.Kind.{Kind}
 use Rattle.zk_commands.specs.Kinds.{kind_word}
-use Rattle.zk_commands.specs.CommandLine.{AreAddresses, AsksForNone, IsFound}
-use Rattle.zk_commands.proofs.AddressLemmas.{tells}
+use Rattle.zk_commands.specs.CommandLine.{AreAddresses, AsksForNone, IsFound, IsWatch}
+use Rattle.zk_watch.specs.Watching.{aims_of}
+use Rattle.zk_history.specs.declared.side.Side.{Side}
+use Rattle.zk_commands.proofs.AddressLemmas.{tells, tells_more}
 use Rattle.zk_commands.proofs.command.asked.Goals as goal
 
 abbrev name_in : Option (Text × List Row) → Text
@@ -37,6 +40,8 @@ without_values found rows is absent Rehearse f =
     let bad : ◌≡◌ {A = ℕ} 115 114 = first_letter is f.1 in absurd (omega arith)
 without_values found rows is absent (Live addresses) f =
     let bad : ◌≡◌ {A = ℕ} 115 108 = first_letter is f.1 in absurd (omega arith)
+without_values found rows is absent (Watch addresses subjects timeout_ms for_ms) f =
+    let bad : ◌≡◌ {A = ℕ} 115 119 = first_letter is f.1 in absurd (omega arith)
 
 -- where `live` was found without words that are addresses, the words ask for no command
 without_addresses : (found : Option (Text × List Row)) (rows : List Row) → found ≡ Some (codes "live", rows)
@@ -52,6 +57,26 @@ without_addresses found rows is absent Rehearse f =
 without_addresses found rows is absent (Live addresses) f =
     let same : rows ≡ f.0 = ap rows_in (sym is ∙ f.1) in
     absent (map (λ a. a.now) addresses.items) (rw same f.2)
+without_addresses found rows is absent (Watch addresses subjects timeout_ms for_ms) f =
+    let bad : ◌≡◌ {A = ℕ} 108 119 = first_letter is f.1 in absurd (omega arith)
+
+-- where `watch` was found without what it is to be given, the words ask for no command
+without_watch : (found : Option (Text × List Row)) (rows : List Row) → found ≡ Some (codes "watch", rows)
+    → ((addresses : List Text) (aims : List (Side × Text)) (timeout_ms : ℤ) (for_ms : Option ℕ) → IsWatch addresses aims timeout_ms for_ms rows → ⊥)
+    → AsksForNone found
+without_watch found rows is absent (Show kind hex) f =
+    let bad : ◌≡◌ {A = ℕ} 119 115 = first_letter is f.1 in absurd (omega arith)
+without_watch found rows is absent History f =
+    let bad : ◌≡◌ {A = ℕ} 119 104 = first_letter is f.1 in absurd (omega arith)
+without_watch found rows is absent Replay f =
+    let bad : ◌≡◌ {A = ℕ} 119 114 = first_letter is f.1 in absurd (omega arith)
+without_watch found rows is absent Rehearse f =
+    let bad : ◌≡◌ {A = ℕ} 119 114 = first_letter is f.1 in absurd (omega arith)
+without_watch found rows is absent (Live addresses) f =
+    let bad : ◌≡◌ {A = ℕ} 119 108 = first_letter is f.1 in absurd (omega arith)
+without_watch found rows is absent (Watch addresses subjects timeout_ms for_ms) f =
+    let same : rows ≡ f.0 = ap rows_in (sym is ∙ f.1) in
+    absent (map (λ a. a.now) addresses.items) (aims_of subjects.items) timeout_ms for_ms (rw same f.2)
 
 pub returns-in-Some-clause-ok : goal.returns-in-Some-clause-ok
 returns-in-Some-clause-ok c =
@@ -69,3 +94,9 @@ returns-in-None-clause-err c =
     tells _ c.no_command.result c.no_command.ensures
     (without_values _ (rows_of found) is (λ k h first second.
     absent k h (first_value-rows found (codes "KIND") ∙ first) (first_value-rows found (codes "HEX") ∙ second)))
+
+pub returns-in-Some-watch-default-clause-err : goal.returns-in-Some-watch-default-clause-err
+returns-in-Some-watch-default-clause-err c =
+    let found = found_of c.in-Some-watch-default.inner.now in
+    let is : subcommand_rows_of c.args.matches.now ≡ Some (codes "watch", rows_of found) = search rules in
+    IfErr-weaker c.watch_of.result _ _ (λ fault told. tells_more _ _ fault (without_watch _ (rows_of found) is) told) c.watch_of.ensures.err

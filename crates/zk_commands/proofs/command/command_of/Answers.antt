@@ -4,8 +4,8 @@ use Rattle.std.proofs.lemmas.Result.{IfErr-weaker, IfOk-weaker}
 use Rattle.clap.specs.Words.{App, IsAmong, Text, fault_of, kind_of, is_simple_and_free, is_simple, subcommand_of}
 use Rattle.clap.specs.declared.error.kind.ErrorKind.{ErrorKind}
 use Rattle.clap.specs.declared.error.kind.ErrorKind.TheVariants as kinds
-use Rattle.zk_commands.specs.declared.command.LineFault.{LineFault}
-use Rattle.zk_commands.specs.declared.command.LineFault.TheVariants.{Help, Refused, Memory}
+use Rattle.zk_commands.specs.declared.line_fault.LineFault.{LineFault}
+use Rattle.zk_commands.specs.declared.line_fault.LineFault.TheVariants.{Help, Refused, Memory}
 use Rattle.zk_commands.specs.CommandLine.{AreKinds, AsksForNone, IsDue, IsFound, Tells, TellsIf, shell_app}
 use Rattle.zk_commands.proofs.command.command_of.Goals as goal
 

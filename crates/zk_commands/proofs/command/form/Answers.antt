@@ -1,9 +1,8 @@
-use Rattle.std.proofs.Common.{◌∙◌, ap, codes, refl, true}
+use Rattle.std.proofs.Common.{◌∙◌, ap, codes, true}
 use Rattle.std.proofs.lemmas.Result.{IfOk-weaker}
 use Rattle.clap.specs.Words.{App, new_app, with_subcommand}
 use Rattle.clap.specs.Simple.{on_top}
-use Rattle.zk_commands.specs.CommandLine.{history_app, live_app, rehearse_app, replay_app}
-use Rattle.zk_commands.proofs.FormLemmas.{added}
+use Rattle.zk_commands.specs.CommandLine.{history_app, live_app, rehearse_app, replay_app, watch_app}
 use Rattle.zk_commands.proofs.command.form.Goals as goal
 
 abbrev required : App
@@ -12,11 +11,12 @@ required = on_top (λ s. record s { subcommand_required = true }) (new_app (code
 abbrev with_scripts : App → App
 with_scripts a = with_subcommand (with_subcommand (with_subcommand a history_app.top) replay_app.top) rehearse_app.top
 
+abbrev with_sessions : App → App
+with_sessions a = with_subcommand (with_subcommand a live_app.top) watch_app.top
+
 pub returns : goal.returns
 returns c =
     let show = c.in_ok-show.ensures in
     let shown = c.in_ok-shown.ensures (ap (λ (a : App). a.top.is_plain) show.2) ∙ ap (λ (a : App). with_subcommand required a.top) show.2 in
     let driven = c.in_ok-driven.ensures ∙ ap with_scripts shown in
-    IfOk-weaker c.subcommand.result _ _
-    (λ shell adds. (show.0, show.1, added c.in_ok-driven.driven c.in_ok-live.live shell live_app c.in_ok-live.ensures refl adds ∙ ap (λ (a : App). with_subcommand a live_app.top) driven))
-    c.subcommand.ensures
+    IfOk-weaker c.with_sessions.result _ _ (λ shell is. (show.0, show.1, is ∙ ap with_sessions driven)) c.with_sessions.ensures

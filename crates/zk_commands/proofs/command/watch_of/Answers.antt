@@ -1,0 +1,14 @@
+use Rattle.std.proofs.Common.{rules, ◌≡◌, refl, to_z, of_z, w32}
+use Rattle.zk_commands.proofs.command.watch_of.Goals as goal
+
+pub returns-clause-ok : goal.returns-clause-ok
+returns-clause-ok c =
+    let ms = c.in_ok-timeout_ms.timeout_ms in
+    let same : to_z w32 (of_z w32 ms) ≡ ms = search rules in (
+      c.in_ok-addresses.addresses,
+      c.in_ok-subjects.subjects,
+      to_z w32 (of_z w32 ms),
+      c.in_ok-for_ms.for_ms,
+      refl,
+      (c.in_ok-addresses.ensures.ok, c.in_ok-subjects.ensures.ok, rw same c.in_ok-timeout_ms.ensures.ok, c.in_ok-for_ms.ensures.ok),
+    )

@@ -1,0 +1,116 @@
+use Rattle.std.proofs.Common.{[], ◌∷◌, ◌++◌, refl, inl, inr}
+use Rattle.zk_script.specs.Scripts.{refusal_text}
+use Rattle.zk_commands.specs.Run.{shows, answers, plays, rehearses, lives, watches, unshown, stopped, ended, interrupted, broken, first, begins, breaks_off, halts, ceases}
+use Rattle.zk_commands.specs.Show.{fault_text}
+use Rattle.zk_commands.proofs.ScriptLemmas.{appends_nothing}
+use Rattle.zk_commands.proofs.run.perform.Goals as goal
+
+pub returns-in-Show-clause-done : goal.returns-in-Show-clause-done
+returns-in-Show-clause-done g c = λ is words asks.
+    let told = c.show.ensures.done is in
+    (told.0, shows c.in-Show.kind c.in-Show.hex (rw c.in-Show.is at asks) told.1, told.2, c.show.ensures.silent is)
+
+pub returns-in-Show-clause-fault : goal.returns-in-Show-clause-fault
+returns-in-Show-clause-fault g c = λ is words asks.
+    let told = c.show.ensures.fault is in (
+      [],
+      fault_text told.0 ++ 10 ∷ [],
+      unshown c.in-Show.kind c.in-Show.hex told.0 (rw c.in-Show.is at asks) told.1 refl refl,
+      rw (c.show.ensures.quiet is) (appends_nothing (g.O.Write.contents c.args.out.now)),
+      told.2,
+    )
+
+pub returns-in-History-clause-done : goal.returns-in-History-clause-done
+returns-in-History-clause-done g c = λ is words asks.
+    let told = c.history.ensures.done is in
+    (told.1, answers told.0 (rw c.in-History.is at asks) told.2 told.3, told.4, c.history.ensures.silent (inl is))
+
+pub returns-in-History-clause-fault : goal.returns-in-History-clause-fault
+returns-in-History-clause-fault g c = λ is words asks.
+    let told = c.history.ensures.fault is in
+    (told.1, refusal_text told.2 told.3, stopped told.0 told.2 told.3 (rw c.in-History.is at asks) told.4 told.5 refl, told.6, told.7)
+
+pub returns-in-History-clause-memory : goal.returns-in-History-clause-memory
+returns-in-History-clause-memory g c = λ is words asks.
+    let told = c.history.ensures.memory is in
+    (told.1, first told.0 (rw c.in-History.is at asks) told.2 told.3, told.4, c.history.ensures.silent (inr is))
+
+pub returns-in-Replay-clause-done : goal.returns-in-Replay-clause-done
+returns-in-Replay-clause-done g c = λ is words asks.
+    let told = c.replay.ensures.done is in
+    (told.1, plays told.0 (rw c.in-Replay.is at asks) told.2 told.3, told.4, c.replay.ensures.silent (inl is))
+
+pub returns-in-Replay-clause-fault : goal.returns-in-Replay-clause-fault
+returns-in-Replay-clause-fault g c = λ is words asks.
+    let told = c.replay.ensures.fault is in
+    (told.1, refusal_text told.2 told.3, ended told.0 told.2 told.3 (rw c.in-Replay.is at asks) told.4 told.5 refl, told.6, told.7)
+
+pub returns-in-Replay-clause-memory : goal.returns-in-Replay-clause-memory
+returns-in-Replay-clause-memory g c = λ is words asks.
+    let told = c.replay.ensures.memory is in (
+      told.1 ++ told.2,
+      begins told.0 told.1 told.2 told.3 (rw c.in-Replay.is at asks) told.4 told.5 told.6 refl,
+      told.7,
+      c.replay.ensures.silent (inr is),
+    )
+
+pub returns-in-Rehearse-clause-done : goal.returns-in-Rehearse-clause-done
+returns-in-Rehearse-clause-done g c = λ is words asks.
+    let told = c.rehearse.ensures.done is in
+    (told.1, rehearses told.0 (rw c.in-Rehearse.is at asks) told.2 told.3, told.4, c.rehearse.ensures.silent (inl is))
+
+pub returns-in-Rehearse-clause-fault : goal.returns-in-Rehearse-clause-fault
+returns-in-Rehearse-clause-fault g c = λ is words asks.
+    let told = c.rehearse.ensures.fault is in
+    (told.1, refusal_text told.2 told.3, interrupted told.0 told.2 told.3 (rw c.in-Rehearse.is at asks) told.4 told.5 refl, told.6, told.7)
+
+pub returns-in-Rehearse-clause-memory : goal.returns-in-Rehearse-clause-memory
+returns-in-Rehearse-clause-memory g c = λ is words asks.
+    let told = c.rehearse.ensures.memory is in (
+      told.1 ++ told.2,
+      breaks_off told.0 told.1 told.2 told.3 (rw c.in-Rehearse.is at asks) told.4 told.5 told.6 refl,
+      told.7,
+      c.rehearse.ensures.silent (inr is),
+    )
+
+pub returns-in-Live-clause-done : goal.returns-in-Live-clause-done
+returns-in-Live-clause-done g c = λ is words asks.
+    let told = c.live_over.ensures.done is in
+    (told.1, lives c.in-Live.addresses told.0 (rw c.in-Live.is at asks) told.2 told.3, told.4, c.live_over.ensures.silent (inl is))
+
+pub returns-in-Live-clause-fault : goal.returns-in-Live-clause-fault
+returns-in-Live-clause-fault g c = λ is words asks.
+    let told = c.live_over.ensures.fault is in (
+      told.1,
+      refusal_text told.2 told.3,
+      broken c.in-Live.addresses told.0 told.2 told.3 (rw c.in-Live.is at asks) told.4 told.5 refl,
+      told.6,
+      told.7,
+    )
+
+pub returns-in-Live-clause-memory : goal.returns-in-Live-clause-memory
+returns-in-Live-clause-memory g c = λ is words asks.
+    let told = c.live_over.ensures.memory is in (
+      told.1 ++ told.2,
+      halts c.in-Live.addresses told.0 told.1 told.2 told.3 (rw c.in-Live.is at asks) told.4 told.5 told.6 refl,
+      told.7,
+      c.live_over.ensures.silent (inr is),
+    )
+
+pub returns-in-Watch-clause-done : goal.returns-in-Watch-clause-done
+returns-in-Watch-clause-done g c = λ is words asks.
+    let told = c.watch_over.ensures.done is in (
+      told.0,
+      watches c.in-Watch.addresses c.in-Watch.subjects c.in-Watch.timeout_ms c.in-Watch.for_ms (rw c.in-Watch.is at asks) told.1,
+      told.2,
+      refl,
+    )
+
+pub returns-in-Watch-clause-memory : goal.returns-in-Watch-clause-memory
+returns-in-Watch-clause-memory g c = λ is words asks.
+    let told = c.watch_over.ensures.memory is in (
+      told.0 ++ told.1,
+      ceases c.in-Watch.addresses c.in-Watch.subjects c.in-Watch.timeout_ms c.in-Watch.for_ms told.0 told.1 (rw c.in-Watch.is at asks) told.2 told.3 refl,
+      told.4,
+      refl,
+    )

@@ -1,0 +1,81 @@
+//! Why a command line asks for nothing.
+
+ghost use Rattle.std.specs.Prelude.{◌≡◌};
+ghost use Rattle.zk_commands.specs.CommandLine.{IsNoHelp};
+ghost use Rattle.zk_commands.specs.declared.line_fault.LineFault.TheVariants as faults;
+
+use std::alloc::{AllocError, Global};
+use thiserror::Error;
+use zk_history::PathFault;
+
+/// Why a command line asks for nothing.
+#[derive(Debug, Drop, Error)]
+pub enum LineFault {
+    /// It asks for help, which this is.
+    #[error("{0}")]
+    Help(String),
+    /// It is refused, and this is why.
+    #[error("{0}")]
+    Refused(String),
+    #[error("out of memory")]
+    Memory,
+}
+
+impl From<AllocError> for LineFault {
+    ghost from_gives = { λ _ f. f ≡ faults.Memory };
+
+    fn from(_e: AllocError) -> LineFault {
+        LineFault::Memory
+    }
+}
+
+/// A refusal with this text.
+fn refusal(text: Result<String, AllocError>) -> LineFault
+    ensures { IsNoHelp result }
+{
+    match text {
+        Ok(text) => LineFault::Refused(text),
+        Err(_) => LineFault::Memory,
+    }
+}
+
+/// What is told where the words ask for nothing.
+pub(crate) fn no_command(alloc: Global) -> LineFault
+    ensures { IsNoHelp result }
+{
+    refusal(String::from_str(alloc, "error: no command\n"))
+}
+
+/// What is told of a word that is no address.
+pub(crate) fn no_address(alloc: Global, word: &str) -> LineFault
+    ensures { IsNoHelp result }
+{
+    refusal(format!(in alloc;
+        "error: {word:?} is no address: IP:PORT in numbers, as 127.0.0.1:2181\n"
+    ))
+}
+
+/// What is told of a word that is no path.
+pub(crate) fn no_path(alloc: Global, word: &str, fault: PathFault) -> LineFault
+    ensures { IsNoHelp result }
+{
+    refusal(format!(in alloc; "error: {word:?}: {fault}\n"))
+}
+
+/// What is told of a word that is no timeout.
+pub(crate) fn no_timeout(alloc: Global, word: &str) -> LineFault
+    ensures { IsNoHelp result }
+{
+    refusal(format!(in alloc;
+        "error: {word:?} is no timeout: a number of milliseconds from 1 to 2147483647\n"
+    ))
+}
+
+/// What is told of a word that does not say how long to watch.
+pub(crate) fn no_duration(alloc: Global, word: &str) -> LineFault
+    ensures { IsNoHelp result }
+{
+    refusal(format!(in alloc;
+        "error: {word:?} is no time to watch: a number of seconds from 1 to 4294967\n"
+    ))
+}

@@ -1,0 +1,188 @@
+//! The words of `watch`.
+
+ghost use Rattle.std.specs.Prelude.{◌≡◌, ◌≤◌, ◌++◌, true, false, List, None, Option, Some, OnOk, IfOk, IfErr, IfSome, codes, map};
+ghost use Rattle.std.specs.Option.{option_and_then, option_map};
+ghost use Rattle.std.specs.List.{list_all};
+ghost use Rattle.clap.specs.Words.{Text, app_of, first_of, found_of, rows_of, rule_of};
+ghost use Rattle.zk_history.specs.declared.side.Side.{Side as Sides};
+ghost use Rattle.zk_watch.specs.Watching.{aims_of};
+ghost use Rattle.zk_commands.specs.CommandLine.{AreAims, IsDuration, IsTimeout, TellsIf, address_rule, aims_at, count_at, duration_rule, duration_read, given, is_path, path_rule, timeout_at, timeout_rule, watch_app};
+
+use crate::help;
+use crate::line_fault::{LineFault, no_command, no_duration, no_path, no_timeout};
+use clap::{Arg, ArgAction, ArgMatches};
+use std::alloc::{AllocError, Global};
+use zk_history::{Path, PathFault, Side};
+use zk_script::numbers::natural_of;
+use zk_watch::Subject;
+
+/// The most milliseconds of a timeout.
+const MOST_MS: u64 = 2_147_483_647;
+
+/// The most seconds of a watch.
+const MOST_SECONDS: u64 = 4_294_967;
+
+/// The addresses of a command that connects.
+pub(crate) fn addresses_arg<'a>(alloc: Global) -> Arg<'a>
+    ensures rule { rule_of result ≡ address_rule }
+    ensures local { result.global ≡ false }
+{
+    Arg::new(alloc, "ADDRESS")
+        .required(true)
+        .action(ArgAction::Append)
+        .help("A server's address in numbers, as 127.0.0.1:2181. Several are tried in turn")
+}
+
+/// An option that takes a path, and may be used several times.
+fn paths_arg<'a>(alloc: Global, name: &'a str, about: &'a str) -> Arg<'a>
+    ensures rule { rule_of result ≡ path_rule name.now }
+    ensures local { result.global ≡ false }
+{
+    Arg::new(alloc, name)
+        .long(name)
+        .value_name("PATH")
+        .action(ArgAction::Append)
+        .help(about)
+}
+
+/// The option of the session's timeout.
+fn timeout_arg<'a>(alloc: Global) -> Arg<'a>
+    ensures rule { rule_of result ≡ timeout_rule }
+    ensures local { result.global ≡ false }
+{
+    Arg::new(alloc, "timeout")
+        .long("timeout")
+        .value_name("MS")
+        .default_value("30000")
+        .help("The session timeout to ask for, in milliseconds, 1 to 2147483647")
+}
+
+/// The option of how long to watch.
+fn duration_arg<'a>(alloc: Global) -> Arg<'a>
+    ensures rule { rule_of result ≡ duration_rule }
+    ensures local { result.global ≡ false }
+{
+    Arg::new(alloc, "for")
+        .long("for")
+        .value_name("SECONDS")
+        .help("How long to watch, in seconds, 1 to 4294967; else until standard output is closed")
+}
+
+/// The form of `watch`.
+pub(crate) fn watch_form<'a>(alloc: Global) -> Result<clap::Command<'a>, AllocError>
+    ensures { IfOk result (λ r. app_of r ≡ watch_app) }
+{
+    let watch = clap::Command::new(alloc, "watch")
+        .about("Connects over TCP, and prints a line at each change of the nodes that it watches")
+        .after_help(help::WATCH)
+        .arg(addresses_arg(alloc))?;
+    let watch = watch.arg(paths_arg(alloc, "data", "A node whose data to watch"))?;
+    let watch = watch.arg(paths_arg(alloc, "children", "A node below which to watch the names"))?;
+    let watch = watch.arg(timeout_arg(alloc))?;
+    watch.arg(duration_arg(alloc))
+}
+
+/// The number from 1 to the most that a word stands for.
+fn count_of(word: &str, most: u64) -> Option<u64>
+    requires { 9 ≤ most }
+    ensures value { result ≡ count_at most word.now }
+    ensures below { IfSome result (λ n. n ≤ most) }
+{
+    match natural_of(word.as_bytes(), most) {
+        Some(0) => None,
+        number => number,
+    }
+}
+
+/// The timeout that is asked for, in milliseconds.
+pub(crate) fn timeout_of(alloc: Global, matches: &ArgMatches<'_>) -> Result<i32, LineFault>
+    ensures ok { IfOk result (λ ms. IsTimeout ms (rows_of (found_of matches.now))) }
+    ensures err { IfErr result (TellsIf (option_and_then timeout_at (first_of (codes "timeout") (rows_of (found_of matches.now))) ≡ None)) }
+{
+    let Some(word) = matches.get_str("timeout") else {
+        return Err(no_command(alloc));
+    };
+    match count_of(word, MOST_MS) {
+        Some(ms) => Ok(ms as i32),
+        None => Err(no_timeout(alloc, word)),
+    }
+}
+
+/// How long to watch, in milliseconds, where the words say so.
+pub(crate) fn duration_of(alloc: Global, matches: &ArgMatches<'_>) -> Result<Option<u64>, LineFault>
+    ensures ok { IfOk result (λ ms. IsDuration ms (rows_of (found_of matches.now))) }
+    ensures err { IfErr result (TellsIf (duration_read (first_of (codes "for") (rows_of (found_of matches.now))) ≡ None)) }
+{
+    let Some(word) = matches.get_str("for") else {
+        return Ok(None);
+    };
+    match count_of(word, MOST_SECONDS) {
+        Some(seconds) => Ok(Some(1000 * seconds)),
+        None => Err(no_duration(alloc, word)),
+    }
+}
+
+/// The path that a word is.
+fn path_of(alloc: Global, word: &str) -> Result<Path, LineFault>
+    ensures ok { IfOk result (λ path. path ≡ word.now) }
+    ensures accepted { OnOk result (is_path word.now ≡ true) }
+    ensures err { IfErr result (TellsIf (is_path word.now ≡ false)) }
+{
+    match Path::new(alloc, word) {
+        Ok(path) => Ok(path),
+        Err(PathFault::Memory) => Err(LineFault::Memory),
+        Err(fault) => Err(no_path(alloc, word, fault)),
+    }
+}
+
+/// Adds what is watched of the nodes at these paths.
+fn add_subjects(
+    alloc: Global,
+    subjects: &mut Vec<Subject<Global>>,
+    side: Side,
+    words: &[&str],
+) -> Result<(), LineFault>
+    ensures ok { OnOk result (aims_of subjects.new.items ≡ aims_of subjects.old.items ++ aims_at side (map (λ w. w.now) words.now)) }
+    ensures accepted { OnOk result (list_all is_path (map (λ w. w.now) words.now) ≡ true) }
+    ensures err { IfErr result (TellsIf (list_all is_path (map (λ w. w.now) words.now) ≡ false)) }
+{
+    for word in words {
+        let path = path_of(alloc, word)?;
+        if subjects.push(Subject { side, path }).is_err() {
+            return Err(LineFault::Memory);
+        }
+    }
+    Ok(())
+}
+
+/// Adds what is watched of the nodes at the paths that an option was given.
+fn add_given(
+    alloc: Global,
+    subjects: &mut Vec<Subject<Global>>,
+    side: Side,
+    matches: &ArgMatches<'_>,
+    id: &str,
+) -> Result<(), LineFault>
+    ensures ok { OnOk result (aims_of subjects.new.items ≡ aims_of subjects.old.items ++ aims_at side (given id.now (rows_of (found_of matches.now)))) }
+    ensures accepted { OnOk result (list_all is_path (given id.now (rows_of (found_of matches.now))) ≡ true) }
+    ensures err { IfErr result (TellsIf (list_all is_path (given id.now (rows_of (found_of matches.now))) ≡ false)) }
+{
+    match matches.get_strs(id) {
+        Some(words) => add_subjects(alloc, subjects, side, words),
+        None => Ok(()),
+    }
+}
+
+/// What is to be watched.
+pub(crate) fn subjects_of(
+    alloc: Global,
+    matches: &ArgMatches<'_>,
+) -> Result<Vec<Subject<Global>>, LineFault>
+    ensures ok { IfOk result (λ subjects. AreAims (aims_of subjects.items) (rows_of (found_of matches.now))) }
+    ensures err { IfErr result (TellsIf ((aims : List (Sides × Text)) → AreAims aims (rows_of (found_of matches.now)) → ⊥)) }
+{
+    let mut subjects = Vec::new(alloc);
+    add_given(alloc, &mut subjects, Side::Data, matches, "data")?;
+    add_given(alloc, &mut subjects, Side::Child, matches, "children")?;
+    Ok(subjects)
+}

@@ -1,0 +1,4 @@
+use Rattle.zk_watch.proofs.planned.watch.Goals as goal
+
+pub returns : goal.returns
+returns g c = ?
