@@ -21,7 +21,14 @@ fn call(alloc: Global) -> Option<Asked<Global>> {
 /// Adds what was printed, and whether the connection is held.
 fn add_held(text: &mut Vec<u8>, printed: &String, dial: &Partners<'_>) {
     add(text, printed.as_bytes());
-    add(text, if dial.is_held() { b"held\n" } else { b"let go\n" });
+    add(
+        text,
+        if dial.is_held() {
+            b"held\n"
+        } else {
+            b"let go\n"
+        },
+    );
 }
 
 /// Connects a link and hands it a call. Adds what each of these prints, and whether the connection is held behind it.

@@ -13,7 +13,7 @@ pub(crate) struct Note<A: Allocator> {
     told: String<A>,
     /// Whether a read has no answer yet.
     is_pending: bool,
-    /// Whether the last reply said that the node is not there.
+    /// Whether the last reply said that the node is not there, and that is not known to hold.
     is_missing: bool,
     /// Whether the last reply was another refusal.
     is_refused: bool,
@@ -81,6 +81,7 @@ impl<A: Allocator> Note<A> {
     /// How the subject is to be read at this moment, if it is: whether the node was not there. The read is pending from then on.
     fn begin(&mut self, is_known: bool, now: u64) -> Option<bool> {
         if is_known {
+            self.is_missing = false;
             self.ask_at = 0;
             return None;
         }
