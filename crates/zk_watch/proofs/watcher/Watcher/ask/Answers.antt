@@ -1,4 +1,4 @@
-use Rattle.std.proofs.Common.{◌≡◌, ◌++◌, [], ap, refl}
+use Rattle.std.proofs.Common.{◌≡◌, ◌++◌, ap, refl}
 use Rattle.std.specs.Prelude.{string_bytes}
 use Rattle.zk_conversation.specs.Views.{call_view}
 use Rattle.zk_turns.specs.Turns.{Call}
