@@ -1,11 +1,12 @@
 //! A link, and what was printed of subjects.
 
-ghost use Rattle.std.specs.Prelude.{◌≡◌, ◌≢◌, true, IfErr, List, [], ℕ, OnOk, string_bytes};
+ghost use Rattle.std.specs.Prelude.{◌≡◌, ◌≢◌, ◌++◌, true, IfErr, List, [], ℕ, OnOk, string_bytes};
 ghost use Rattle.std.specs.Io.KnownBytes.{Appends};
 ghost use Rattle.zk_client.specs.Clients.{view_of};
 ghost use Rattle.zk_turns.specs.Turns.{new_start};
 ghost use Rattle.zk_turns.specs.View.{View, view_at};
-ghost use Rattle.zk_watch.specs.Watching.{aims_of, Adds, Prints};
+ghost use Rattle.zk_client.specs.Views.{said};
+ghost use Rattle.zk_watch.specs.Watching.{aims_of, Adds, Prints, TellsEach};
 
 use crate::end::End;
 use crate::lines::{is_known, kept_line, none_line, push_subject};
@@ -14,7 +15,7 @@ use crate::plan::Subject;
 use crate::told::heard_text;
 use std::alloc::{AllocError, Allocator};
 use std::io::Write;
-use zk_client::{Call, Client, Path, Side, State};
+use zk_client::{Call, Client, Output, Path, Side, State};
 use zk_link::{Clock, Dial, Link};
 
 /// The ticket of the call that ends the session. Those of reads begin at 1.
@@ -77,15 +78,23 @@ impl<'a, A: Allocator + Copy, D: Dial + Drop, C: Clock + Drop> Watcher<'a, A, D,
         matches!(self.link.client().state(), State::Connected)
     }
 
+    /// Takes what a client said, and adds what is printed of it.
+    fn hear(&mut self, outputs: &[Output<A>], text: &mut String<A>) -> Result<(), AllocError>
+        ensures joint { self.new.link.joint ≡ self.old.link.joint }
+        ensures told { OnOk result ((told : List ℕ) × TellsEach (said outputs.now) told × (string_bytes text.new ≡ string_bytes text.old ++ told)) }
+    {
+        let now = self.link.now();
+        let told = heard_text(self.alloc, &mut self.notes, outputs, now)?;
+        text.push_str(told.as_str())
+    }
+
     /// Goes on until this moment, or until the client says something, and adds what is printed of that.
     fn come(&mut self, subjects: &[Subject<A>], until: u64, text: &mut String<A>) -> Result<(), End>
         ensures { OnOk result (Adds (aims_of subjects.now) (view_of self.old.link.joint.client) (string_bytes text.old) (view_of self.new.link.joint.client) (string_bytes text.new)) }
     {
         let mut outputs = Vec::new(self.alloc);
         self.link.go_on(until, &mut outputs)?;
-        let now = self.link.now();
-        let told = heard_text(self.alloc, &mut self.notes, outputs.as_slice(), now)?;
-        text.push_str(told.as_str())?;
+        self.hear(outputs.as_slice(), text)?;
         Ok(())
     }
 
@@ -101,9 +110,7 @@ impl<'a, A: Allocator + Copy, D: Dial + Drop, C: Clock + Drop> Watcher<'a, A, D,
     {
         let mut outputs = Vec::new(self.alloc);
         self.link.ask(ticket, call, &mut outputs)?;
-        let now = self.link.now();
-        let told = heard_text(self.alloc, &mut self.notes, outputs.as_slice(), now)?;
-        text.push_str(told.as_str())?;
+        self.hear(outputs.as_slice(), text)?;
         Ok(())
     }
 

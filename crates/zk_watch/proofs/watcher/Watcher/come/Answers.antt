@@ -1,4 +1,4 @@
-use Rattle.std.proofs.Common.{◌≡◌, ◌++◌, [], ap, refl}
+use Rattle.std.proofs.Common.{ap, refl}
 use Rattle.std.specs.Prelude.{string_bytes}
 use Rattle.zk_client.specs.Clients.{view_of}
 use Rattle.zk_client.specs.Views.{said}
@@ -9,9 +9,7 @@ use Rattle.zk_watch.proofs.watcher.Watcher.come.Goals as goal
 
 pub returns : goal.returns
 returns g c =
-    let before = string_bytes c.args.text.now in
-    let told = string_bytes c.in_ok-told.told in
-    let joined : string_bytes c.push_str.new.self ≡ before ++ told = cc (c.in_ok-push_str.ensures.bytes, c.as_str.ensures.value) in
+    let told = rw c.as_slice.ensures.value at c.in_ok-hear.ensures.told in
     come_add (aims_of c.args.subjects.now) (trail_of c.args.self.now.link.joint c.new-outputs.result.items) (trail_of c.go_on.new.self.joint c.go_on.new.outputs.items)
-    (view_of c.now-now.new.self.joint.client) before (string_bytes c.push_str.new.self) told c.in_ok-go_on.ensures.ok (ap said c.new-outputs.ensures.items)
-    (rw c.as_slice.ensures.value at c.in_ok-told.ensures) (rw c.now-now.ensures.joint refl) joined
+    (view_of c.hear.new.self.link.joint.client) (string_bytes c.args.text.now) (string_bytes c.hear.new.text) told.0 c.in_ok-go_on.ensures.ok (ap said c.new-outputs.ensures.items)
+    told.1 (rw c.hear.ensures.joint refl) told.2
