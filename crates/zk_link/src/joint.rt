@@ -16,6 +16,7 @@ use crate::dial::Stream;
 use crate::give::{give, has_end, is_sent};
 use crate::stop::Stop;
 use std::alloc::{AllocError, Allocator};
+use std::mem;
 use zk_client::{Call, Client, Input, Output, State};
 
 /// The longest wait, in milliseconds: an hour.
@@ -68,7 +69,7 @@ impl<A: Allocator + Copy, S: Stream> Joint<A, S> {
         ensures latest { self.new.latest ≡ self.old.latest }
     {
         self.stream = None;
-        self.client = client;
+        drop(mem::replace(&mut self.client, client));
     }
 
     /// Whether there is a connection.

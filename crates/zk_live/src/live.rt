@@ -194,7 +194,11 @@ fn live_from<A: Allocator + Copy, D: Dial>(
     ensures { IsOutcome (map (λ l. l.now) lines.now) (string_bytes result.text) result.end }
 {
     match made(alloc, addresses, begin) {
-        Ok(mut session) => connected(alloc, dial, &mut session, lines),
+        Ok(mut session) => {
+            let outcome = connected(alloc, dial, &mut session, lines);
+            drop(session);
+            outcome
+        }
         Err(_) => nothing(alloc, End::Memory),
     }
 }
