@@ -1,6 +1,6 @@
 use Rattle.std.proofs.Common.{[], ◌∷◌, ◌++◌, refl, inl, inr}
 use Rattle.zk_script.specs.Scripts.{refusal_text}
-use Rattle.zk_commands.specs.Run.{shows, answers, plays, rehearses, lives, watches, unshown, stopped, ended, interrupted, broken, first, begins, breaks_off, halts, ceases}
+use Rattle.zk_commands.specs.Run.{shows, answers, plays, rehearses, lives, watches, unshown, stopped, ended, interrupted, broken, nothing, first, begins, breaks_off, halts, ceases}
 use Rattle.zk_commands.specs.Show.{fault_text}
 use Rattle.zk_commands.proofs.ScriptLemmas.{appends_nothing}
 use Rattle.zk_commands.proofs.run.perform.Goals as goal
@@ -19,6 +19,11 @@ returns-in-Show-clause-fault g c = λ is words asks.
       rw (c.show.ensures.quiet is) (appends_nothing (g.O.Write.contents c.args.out.now)),
       told.2,
     )
+
+pub returns-in-Show-clause-memory : goal.returns-in-Show-clause-memory
+returns-in-Show-clause-memory g c = λ is words asks.
+    let same = c.show.ensures.memory is in
+    ([], nothing refl, rw same.0 (appends_nothing (g.O.Write.contents c.args.out.now)), same.1)
 
 pub returns-in-History-clause-done : goal.returns-in-History-clause-done
 returns-in-History-clause-done g c = λ is words asks.
