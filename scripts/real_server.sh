@@ -449,6 +449,7 @@ EOF
 # A watch of both sides of a node that is not there at first, that comes, changes, has a child, loses it, and goes.
 run_changes() {
     local at=127.0.0.1:$1
+    known=()
     begin changes "$program" watch "$at" --data /changes --children /changes --timeout 10000
     sees changes <<'EOF'
 state Connecting
