@@ -204,9 +204,10 @@ expect() {
 begin() {
     local name=$1
     shift
-    "$@" >"$folder/$name.out" 2>"$folder/$name.err" &
-    begun[$name]=$!
     seen[$name]=0
+    : >"$folder/$name.out"
+    "$@" >>"$folder/$name.out" 2>"$folder/$name.err" &
+    begun[$name]=$!
 }
 
 has_line() {
@@ -538,13 +539,14 @@ EOF
 
 # A watch whose standard output is closed: it ends at its next line, with the status of a write that failed.
 run_closed() {
-    local status
     outside "$1" create /closes one
     (
         status=0
         timeout 60 "$program" watch "127.0.0.1:$1" --data /closes --timeout 10000 2>"$folder/closes.err" || status=$?
         echo "$status" >"$folder/closes.status"
-    ) | sed 3q >"$folder/closes.out"
+    ) | sed 3q >"$folder/closes.out" &
+    gates+=($!)
+    within 20 test -s "$folder/closes.out" || fail "a watch does not print three lines"
     outside "$1" set /closes two
     within 20 test -s "$folder/closes.status" || fail "a watch goes on behind the end of its output"
     [[ $(cat "$folder/closes.status") == 4 ]] || fail "a watch whose output is closed ends with $(cat "$folder/closes.status")"
@@ -697,7 +699,7 @@ run_stopped() {
         fi
     done
     outside "${at[2]#*:}" create /stopped one
-    begin stopped "$program" watch "${at[@]}" --data /stopped --timeout 20000
+    begin stopped "$program" watch "${at[@]}" --data /stopped --timeout 30000
     sees stopped <<'EOF'
 state Connecting
 state Connected
@@ -705,10 +707,12 @@ state Connected
 EOF
     kill -STOP "${servers[stopped-${numbers[0]}]}"
     since=$SECONDS
+    (within 40 has_line stopped && echo $((SECONDS - since)) >"$folder/stopped.left") &
     outside "${at[2]#*:}" set /stopped two
     outside "${at[2]#*:}" set /stopped three
     sees stopped <<<'drop D1'
-    ((SECONDS - since <= 15)) || fail "a silent server is left after $((SECONDS - since)) seconds"
+    within 5 test -s "$folder/stopped.left"
+    (($(cat "$folder/stopped.left") <= 22)) || fail "a silent server is left after $(cat "$folder/stopped.left") seconds"
     sees stopped <<'EOF'
 state Idle
 state Connecting
