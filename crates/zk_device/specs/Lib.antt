@@ -1,0 +1,6 @@
+pub mod Codes
+pub mod Flats
+pub mod Outputs
+pub mod Refused
+pub mod Sessions
+pub mod Steps

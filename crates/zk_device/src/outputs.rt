@@ -1,0 +1,53 @@
+//! What was said, one output at a time.
+
+ghost use Rattle.std.specs.Prelude.{◌≡◌, ◌++◌, drop, is_some, length, take};
+ghost use Rattle.std.specs.Option.{option_map};
+ghost use Rattle.std.specs.List.{slice_get};
+ghost use Rattle.zk_device.specs.Flats.{flat_of};
+ghost use Rattle.zk_device.specs.Outputs.{read_after, told_text};
+
+use crate::copying::copy_into;
+use crate::device::Device;
+use crate::flat::{Flat, flat_of, text_of};
+
+impl Device {
+    /// The next output of the last step, as numbers. The one before is over.
+    pub fn next(&mut self) -> Option<Flat>
+        ensures next { result ≡ option_map flat_of (slice_get self.old.said.items self.old.read) }
+        ensures client { self.new.client ≡ self.old.client }
+        ensures said { self.new.said ≡ self.old.said }
+        ensures read { self.new.read ≡ read_after result self.old.read }
+    {
+        match self.said.as_slice().get(self.read) {
+            Some(output) => {
+                let flat = flat_of(output);
+                self.read += 1;
+                Some(flat)
+            }
+            None => None,
+        }
+    }
+
+    // The text of the output that was told last, and nothing where none was told.
+    fn told_text(&self) -> &[u8]
+        ensures { result.now ≡ told_text self.now.said.items self.now.read }
+    {
+        if self.read == 0 {
+            return b"";
+        }
+        match self.said.as_slice().get(self.read - 1) {
+            Some(output) => text_of(output),
+            None => b"",
+        }
+    }
+
+    /// Copies the text of the output that was told last, from this place on, as much of it as there is room for, and tells how
+    /// many bytes there are from there on.
+    pub fn copy_text(&self, from: usize, room: &mut [u8]) -> usize
+        ensures count { result ≡ length (drop from (told_text self.now.said.items self.now.read)) }
+        ensures copied { room.new ≡ take (length room.old) (drop from (told_text self.now.said.items self.now.read)) ++ drop (length (drop from (told_text self.now.said.items self.now.read))) room.old }
+    {
+        let text = self.told_text();
+        copy_into(&text[from.min(text.len())..], room)
+    }
+}
