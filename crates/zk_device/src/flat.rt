@@ -230,7 +230,8 @@ pub fn text_of(output: &Output<Global>) -> &[u8]
         Output::Answer { outcome, .. } => match outcome {
             Outcome::Replied { result, .. } => match result {
                 CallResult::Data {
-                    bytes: Some(bytes), ..
+                    bytes: Some(bytes),
+                    ..
                 } => bytes.as_slice(),
                 CallResult::Created(path) => path.as_bytes(),
                 _ => b"",
