@@ -1,5 +1,5 @@
 -- Outputs as numbers, and the text that stands apart.
-use Rattle.std.specs.Prelude.{ℕ, ℤ, pos, true, false, List, [], length, Option, Some, None, string_bytes}
+use Rattle.std.specs.Prelude.{ℕ, ℤ, pos, true, false, List, [], length, Some, None, string_bytes}
 use Rattle.zk_history.specs.declared.side.Side.{Side}
 use Rattle.zk_history.specs.declared.side.Side.TheVariants.{Data, Child}
 use Rattle.zk_history.specs.declared.stat.Stat.{Stat}
@@ -13,6 +13,8 @@ use Rattle.zk_client.specs.declared.output.Outcome.{Outcome}
 use Rattle.zk_client.specs.declared.output.Outcome.TheVariants as outcome
 use Rattle.zk_client.specs.declared.output.Output.{Output}
 use Rattle.zk_client.specs.declared.output.Output.TheVariants as output
+use Rattle.zk_client.specs.FaultText.{fault_code}
+use Rattle.zk_client.specs.Views.{fault_view}
 use Rattle.zk_device.specs.declared.flat.Flat.{Flat}
 use Rattle.zk_device.specs.declared.flat.FlatStat.{FlatStat}
 use Rattle.zk_device.specs.Sessions.{state_number}
@@ -69,7 +71,7 @@ flat_of (output.Send bytes) = record (plain (pos 1) (pos 0)) { length = length b
 flat_of (output.Answer ticket why) = record (outcome_flat why) { ticket = ticket }
 flat_of (output.Report path side event) = record (plain (pos 3) (event_number event)) { result = side_number side; length = length (string_bytes path) }
 flat_of (output.State state) = plain (pos 4) (pos (state_number state))
-flat_of (output.Drop why) = fault_flat why
+flat_of (output.Drop why) = record (fault_flat why) { length = length (fault_code (fault_view why)) }
 
 -- the text of what a reply brings
 abbrev pub result_text : {A : Type 0} → CallResult A → List ℕ
@@ -82,9 +84,10 @@ abbrev pub outcome_text : {A : Type 0} → Outcome A → List ℕ
 outcome_text (outcome.Replied zxid brought) = result_text brought
 outcome_text _ = []
 
--- the text of an output: a frame, data or a path, and else nothing
+-- the text of an output: a frame, data, a path or the code of a drop, and else nothing
 abbrev pub text_of : {A : Type 0} → Output A → List ℕ
 text_of (output.Send bytes) = bytes.items
 text_of (output.Answer ticket why) = outcome_text why
 text_of (output.Report path side event) = string_bytes path
+text_of (output.Drop why) = fault_code (fault_view why)
 text_of _ = []

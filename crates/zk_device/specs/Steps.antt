@@ -1,8 +1,8 @@
 -- What becomes of a device, by the number that is told.
-use Rattle.std.specs.Prelude.{◌≡◌, ℕ, zero, suc, ℤ, pos, negsuc, []}
+use Rattle.std.specs.Prelude.{◌≡◌, ℕ, zero, ℤ, pos, negsuc, []}
 use Rattle.zk_turns.specs.Turns.{Input, Now, Start}
-use Rattle.zk_turns.specs.View.{View, view_at}
-use Rattle.zk_turns.specs.Rule.{Rule, RuleAt, HaltsAs, HaltsAt}
+use Rattle.zk_turns.specs.View.{view_at}
+use Rattle.zk_turns.specs.Rule.{Rule, RuleAt, HaltsAt}
 use Rattle.zk_client.specs.Views.{said}
 use Rattle.zk_client.specs.Clients.{view_of}
 use Rattle.zk_device.specs.declared.device.Device.{Device}

@@ -24,7 +24,7 @@ pub struct FlatStat {
     pub num_children: i32,
 }
 
-/// An output, as numbers. Its text, which is a frame, data or a path, stands apart.
+/// An output, as numbers. Its text, which is a frame, data, a path or a code, stands apart.
 #[repr(C)]
 #[derive(Clone, Copy, Debug, PartialEq, Eq)]
 pub struct Flat {
@@ -217,11 +217,15 @@ pub fn flat_of(output: &Output<Global>) -> Flat
             flat
         }
         Output::State(state) => state_flat(*state),
-        Output::Drop(fault) => fault_flat(*fault),
+        Output::Drop(fault) => {
+            let mut flat = fault_flat(*fault);
+            flat.length = fault.code().as_bytes().len();
+            flat
+        }
     }
 }
 
-/// The text of an output: a frame, data or a path, and else nothing.
+/// The text of an output: a frame, data, a path or the code of a drop, and else nothing.
 pub fn text_of(output: &Output<Global>) -> &[u8]
     ensures { result.now ≡ text_of output.now }
 {
@@ -239,6 +243,7 @@ pub fn text_of(output: &Output<Global>) -> &[u8]
             _ => b"",
         },
         Output::Report { path, .. } => path.as_bytes(),
-        _ => b"",
+        Output::Drop(fault) => fault.code().as_bytes(),
+        Output::State(_) => b"",
     }
 }
