@@ -19,11 +19,16 @@ pub extern "C" fn dw_open(alloc: Global, handle: &mut DwClient, timeout_ms: i32)
         Ok(device) => device,
         Err(refusal) => return refusal.code(),
     };
-    let Ok(held) = Box::new(alloc, device) else {
-        return Refusal::Memory.code();
-    };
-    *handle = DwClient::of(held);
-    0
+    match Box::new(alloc, device) {
+        Ok(held) => {
+            *handle = DwClient::of(held);
+            0
+        }
+        Err(failed) => {
+            drop(failed);
+            Refusal::Memory.code()
+        }
+    }
 }
 
 /// Frees the client of a handle, if it has one.

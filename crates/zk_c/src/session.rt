@@ -31,11 +31,16 @@ pub extern "C" fn dw_resume(
         Ok(device) => device,
         Err(refusal) => return refusal.code(),
     };
-    let Ok(held) = Box::new(alloc, device) else {
-        return Refusal::Memory.code();
-    };
-    *handle = DwClient::of(held);
-    0
+    match Box::new(alloc, device) {
+        Ok(held) => {
+            *handle = DwClient::of(held);
+            0
+        }
+        Err(failed) => {
+            drop(failed);
+            Refusal::Memory.code()
+        }
+    }
 }
 
 /// Where the client stands: 0 idle, 1 connecting, 2 connected, 3 expired, 4 closed.
