@@ -1,5 +1,6 @@
 pub mod Codes
 pub mod Flats
+pub mod Kept
 pub mod Outputs
 pub mod Refused
 pub mod Sessions
