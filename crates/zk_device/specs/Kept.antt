@@ -1,9 +1,12 @@
 -- What is kept of a path, as numbers and texts.
-use Rattle.std.specs.Prelude.{ℕ, ℤ, pos, true, false, List, [], length, Option, Some, None}
+use Rattle.std.specs.Prelude.{◌≡◌, ◌++◌, ℕ, ℤ, pos, true, false, List, [], drop, length, take, Option, Some, None}
 use Rattle.std.specs.List.{slice_get}
+use Rattle.std.specs.List.Sorted.{IsStrictlySortedBy}
 use Rattle.std.specs.FinSet as set
 use Rattle.zk_history.specs.declared.data_stat.DataStat.{DataStat}
-use Rattle.zk_cache.specs.Kept.{Answer, Absent, Known, Full, Names}
+use Rattle.zk_history.specs.Replay.{Names, name_cmp}
+use Rattle.zk_cache.specs.Kept as cache
+use Rattle.zk_cache.specs.Kept.{Answer, Absent, Known, Full}
 use Rattle.zk_cache.specs.declared.held.Kept.{Kept}
 use Rattle.zk_cache.specs.declared.held.Mark.{Mark}
 use Rattle.zk_cache.specs.declared.held.Mark.TheVariants.{Good, Stale}
@@ -50,17 +53,45 @@ abbrev pub data_text : Option (Kept Answer) → List ℕ
 data_text None = []
 data_text (Some kept) = answer_text kept.answer
 
+-- nothing is kept of the names
+abbrev pub no_names : KeptNames
+no_names = record { mark = pos 0; count = 0; pzxid = pos 0 }
+
+-- The list has the names of the set in byte order, each once. There is one such list of each set.
+pub record IsListing (names : Names) (listed : List (List ℕ)) : Type 0 where
+  pub ordered : IsStrictlySortedBy name_cmp listed
+  pub all : set.from_list listed ≡ names
+
+-- names with their mark, as numbers
+pub record AreNames (kept : Kept cache.Names) (flat : KeptNames) : Type 0 where
+  pub listed : List (List ℕ)
+  pub listing : IsListing kept.answer.names listed
+  pub is : flat ≡ record { mark = mark_number kept.mark; count = length listed; pzxid = kept.answer.pzxid }
+
 -- what is kept of the names
-abbrev pub names_flat : Option (Kept Names) → KeptNames
-names_flat None = record { mark = pos 0; count = 0; pzxid = pos 0 }
-names_flat (Some kept) = record { mark = mark_number kept.mark; count = length (set.items kept.answer.names); pzxid = kept.answer.pzxid }
+abbrev pub TellsNames : Option (Kept cache.Names) → KeptNames → Type 0
+TellsNames None flat = flat ≡ no_names
+TellsNames (Some kept) flat = AreNames kept flat
 
 -- a text, if there is one
 abbrev pub text_or_none : Option (List ℕ) → List ℕ
 text_or_none None = []
 text_or_none (Some text) = text
 
--- the name of this index, in byte order, of those that are kept, if there is one
-abbrev pub kept_name : (index : ℕ) → Option (Kept Names) → List ℕ
-kept_name index None = []
-kept_name index (Some kept) = text_or_none (slice_get (set.items kept.answer.names) index)
+-- the name of this index in byte order, and nothing where there is none
+pub record IsNameAt (index : ℕ) (names : Names) (name : List ℕ) : Type 0 where
+  pub listed : List (List ℕ)
+  pub listing : IsListing names listed
+  pub is : name ≡ text_or_none (slice_get listed index)
+
+-- the same of what is kept
+abbrev pub IsKeptName : (index : ℕ) → Option (Kept cache.Names) → List ℕ → Type 0
+IsKeptName index None name = name ≡ []
+IsKeptName index (Some kept) name = IsNameAt index kept.answer.names name
+
+-- A name that is kept is written, as much of it as there is room for.
+pub record WritesName (index : ℕ) (kept : Option (Kept cache.Names)) (room written : List ℕ) (count : ℕ) : Type 0 where
+  pub name : List ℕ
+  pub kept_name : IsKeptName index kept name
+  pub count_is : count ≡ length name
+  pub copied : written ≡ take (length room) name ++ drop (length name) room

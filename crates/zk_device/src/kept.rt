@@ -1,10 +1,13 @@
 //! What a client keeps of a path, as numbers and texts.
 
-ghost use Rattle.std.specs.Prelude.{◌≡◌, ◌++◌, IfErr, IfOk, OnErr, OnOk, drop, length, option_map, take};
-ghost use Rattle.zk_cache.specs.Contents.{answer_of};
+ghost use Rattle.std.specs.Prelude.{◌≡◌, ◌++◌, IfErr, IfOk, OnErr, OnOk, drop, length, option_map, slice_get, take};
+ghost use Rattle.std.specs.BTreeSet.{IsOrdered, btree_set_len};
+ghost use Rattle.std.specs.String.{string_cmp};
+ghost use Rattle.zk_cache.specs.Contents.{answer_of, names_in};
 ghost use Rattle.zk_client.specs.Clients.{view_of};
 ghost use Rattle.zk_device.specs.Codes.{refusal_code};
-ghost use Rattle.zk_device.specs.Kept.{data_flat, data_stat_flat, data_text, mark_number};
+ghost use Rattle.zk_device.specs.Kept.{data_flat, data_stat_flat, data_text, mark_number, IsKeptName, TellsNames, WritesName};
+ghost use Rattle.zk_device.specs.Outputs.{name_if};
 ghost use Rattle.zk_device.specs.Refused.{RefusesPath};
 ghost use Rattle.zk_turns.specs.Rule.{forgotten};
 
@@ -129,6 +132,52 @@ fn data_text(kept: Option<(&DataAnswer<Global>, Mark)>) -> &[u8]
     }
 }
 
+// The numbers of names with their mark.
+fn flat_names(names: &Names<Global>, mark: Mark) -> KeptNames
+    ensures flat { result ≡ record { mark = mark_number mark; count = btree_set_len names.now.names; pzxid = names.now.pzxid } }
+    ensures ordered { IsOrdered string_cmp names.now.names }
+{
+    KeptNames {
+        mark: mark_number(mark),
+        count: names.names.len(),
+        pzxid: names.pzxid,
+    }
+}
+
+fn names_flat(kept: Option<(&Names<Global>, Mark)>) -> KeptNames
+    ensures { TellsNames (option_map (λ kept. record { answer = names_in kept.0.now; mark = kept.1 }) kept.entry) result }
+{
+    match kept {
+        Some((names, mark)) => flat_names(names, mark),
+        None => KeptNames {
+            mark: 0,
+            count: 0,
+            pzxid: 0,
+        },
+    }
+}
+
+// The name of this index in byte order, and nothing where there is none.
+fn nth_name(names: &Names<Global>, index: usize) -> &[u8]
+    ensures name { result.now ≡ name_if (slice_get names.now.names.keys index) }
+    ensures ordered { IsOrdered string_cmp names.now.names }
+{
+    match names.names.iter().nth(index) {
+        Some(name) => name.as_bytes(),
+        None => b"",
+    }
+}
+
+// The same of what is kept.
+fn name_at(kept: Option<(&Names<Global>, Mark)>, index: usize) -> &[u8]
+    ensures { IsKeptName index (option_map (λ kept. record { answer = names_in kept.0.now; mark = kept.1 }) kept.entry) result.now }
+{
+    match kept {
+        Some((names, _)) => nth_name(names, index),
+        None => b"",
+    }
+}
+
 impl Device {
     /// What is kept about the data of a path. The data are copied, as much of them as there is room for. A refusal is `NotText`,
     /// else `NotPath`, else `Memory`.
@@ -147,6 +196,33 @@ impl Device {
         let kept = self.client.peek_data(&path);
         copy_into(data_text(kept), room);
         Ok(data_flat(kept))
+    }
+
+    /// What is kept about the children of a path. A refusal is as of [`peek_data`](Device::peek_data).
+    pub fn peek_children(&self, alloc: Global, path: &[u8]) -> Result<KeptNames, Refusal>
+        ensures found { IfOk result (TellsNames ((view_of self.now.client).cache.children path.now)) }
+        ensures refused { IfErr result (λ refusal. RefusesPath path.now (refusal_code refusal)) }
+    {
+        let path = path_of(alloc, path)?;
+        Ok(names_flat(self.client.peek_children(&path)))
+    }
+
+    /// Copies the name of this index, in byte order, of those that are kept of a path, as much of it as there is room for, and
+    /// tells how many bytes it has. A refusal is as of [`peek_data`](Device::peek_data).
+    pub fn peek_name(
+        &self,
+        alloc: Global,
+        path: &[u8],
+        index: usize,
+        room: &mut [u8],
+    ) -> Result<usize, Refusal>
+        ensures written { IfOk result (WritesName index ((view_of self.now.client).cache.children path.now) room.old room.new) }
+        ensures refused { IfErr result (λ refusal. RefusesPath path.now (refusal_code refusal)) }
+        ensures same { OnErr result (room.new ≡ room.old) }
+    {
+        let path = path_of(alloc, path)?;
+        let kept = self.client.peek_children(&path);
+        Ok(copy_into(name_at(kept, index), room))
     }
 
     /// Takes the stale answers out.
