@@ -2,7 +2,9 @@
 use Rattle.std.specs.Prelude.{◌≡◌, ◌++◌, List, drop, length, take, ℕ, zero, suc, ℤ, pos, negsuc, Option, Some, None, IsSome, IfSome}
 use Rattle.std.specs.Option.{option_map}
 use Rattle.std.specs.List.{slice_get}
+use Rattle.zk_turns.specs.Rule.{forgotten}
 use Rattle.zk_turns.specs.Turns.{Start}
+use Rattle.zk_client.specs.Clients.{view_of}
 use Rattle.zk_device.specs.declared.device.Device.{Device}
 use Rattle.zk_device.specs.declared.flat.Flat.{Flat}
 use Rattle.zk_device.specs.Flats.{flat_of}
@@ -42,3 +44,10 @@ pub record Tells (before : Device) (room : Flat) (code : ℤ) (told : Flat) (aft
   pub client : after.client ≡ before.client
   pub said : after.said ≡ before.said
   pub read : after.read ≡ read_after (option_map flat_of (slice_get before.said.items before.read)) before.read
+
+-- The stale answers of a device are gone, and nothing else.
+pub record Forgets (before : Device) (code : ℤ) (after : Device) : Type 0 where
+  pub told : code ≡ pos 0
+  pub view : view_of after.client ≡ record (view_of before.client) { cache = forgotten (view_of before.client).cache }
+  pub said : after.said ≡ before.said
+  pub read : after.read ≡ before.read

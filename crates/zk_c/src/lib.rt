@@ -4,6 +4,7 @@
 
 mod calls;
 mod handle;
+mod kept;
 mod making;
 mod outputs;
 mod parts;
