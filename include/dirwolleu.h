@@ -74,13 +74,13 @@ enum { DW_NODE_CREATED = 1, DW_NODE_DELETED = 2, DW_DATA_CHANGED = 3, DW_CHILDRE
  *               text is the path.
  *   DW_STATE    detail: the state. With DW_EXPIRED and DW_SESSION_CLOSED the connection is over: close it.
  *   DW_DROP     the connection is given up: close it. detail 1 a frame, 2 a payload that does not read, 3 silence, 4 a reply that
- *               is behind (zxid), 5 setWatches was refused (code). */
+ *               is behind (zxid), 5 setWatches was refused (code). The text is the code of the fault, as D1; dw_words has words. */
 typedef struct dw_output {
   int32_t kind, detail, result, code;
   uint64_t ticket;
   int64_t zxid;
   size_t length; /* of the text, which dw_copy gives */
-  size_t names;
+  size_t names;  /* how many there are: dw_name gives each */
   bool is_null, has_stat;
   dw_stat stat;
 } dw_output;
@@ -135,7 +135,15 @@ int32_t dw_next(dw_client *handle, dw_output *out);
  * needed stays as it was. Answers how many bytes the text has from there on, 0 for a closed handle. */
 size_t dw_copy(dw_client *handle, size_t from, uint8_t *out, size_t room);
 
-/* Look-ups. They take no step, leave the outputs, and also serve after DW_HALTED. */
+/* Copies the name of this index, from 0 on in the order of the reply, of the DW_NAMES that was told last, as much as there is room
+ * for. Answers how many bytes the name has: 0 where there is no such name, and for a closed handle. */
+size_t dw_name(dw_client *handle, size_t index, uint8_t *out, size_t room);
+
+/* Writes why the connection is given up, in words, of the DW_DROP that was told last, as many bytes as there is room for, and how
+ * many there are: 0 where another output was told last. DW_OK, DW_NO_MEMORY, DW_CLOSED; but for DW_OK the count is 0. */
+int32_t dw_words(dw_client *handle, uint8_t *out, size_t room, size_t *count);
+
+/* Look-ups. They take no step and leave the outputs. All serve after DW_HALTED, when nothing is kept. */
 
 /* The state, or DW_CLOSED. */
 int32_t dw_state(dw_client *handle);
@@ -152,6 +160,53 @@ int32_t dw_deadline(dw_client *handle, uint64_t *first_ms);
 /* Writes the bytes from which dw_resume takes the session up, as many as there is room for, and how many there are: 20 and those
  * of the password, mostly 36. They are a secret. DW_OK, DW_NO_MEMORY, DW_CLOSED; but for DW_OK the count is 0. */
 int32_t dw_saved(dw_client *handle, uint8_t *out, size_t room, size_t *count);
+
+/* What is kept of a path that was read with a watch. It is good until a change is told, and then stale until it is read again. A
+ * look-up of a path takes memory for the path, within the call. */
+enum { DW_GOOD = 1, DW_STALE = 2 };
+enum { DW_NOTHING = 0, DW_ABSENT = 1, DW_KNOWN = 2, DW_FULL = 3 };
+
+/* The fields of a node that change only where its data watch fires. */
+typedef struct dw_data_stat {
+  int64_t czxid, mzxid, ctime, mtime, ephemeral_owner;
+  int32_t version, data_length;
+} dw_data_stat;
+
+/* What is kept about the data of a path. What a kind does not name is 0.
+ *   DW_NOTHING  nothing is kept, and the mark is 0.
+ *   DW_ABSENT   no node is there (mark).
+ *   DW_KNOWN    a node whose data were not read (mark, stat).
+ *   DW_FULL     a node with its data (mark, stat, length or is_null). */
+typedef struct dw_kept_data {
+  int32_t kind, mark;
+  size_t length;
+  bool is_null;
+  dw_data_stat stat;
+} dw_kept_data;
+
+/* What is kept about the children of a path: the mark, which is 0 where nothing is, how many names, and the zxid of the last change
+ * of this set. */
+typedef struct dw_kept_names {
+  int32_t mark;
+  size_t count;
+  int64_t pzxid;
+} dw_kept_names;
+
+/* Writes what is kept about the data of a path, and copies the data, as much as there is room for. DW_OK, DW_NO_MEMORY, DW_CLOSED,
+ * DW_NOT_TEXT, DW_NOT_PATH; but for DW_OK nothing is written. */
+int32_t dw_peek_data(dw_client *handle, const uint8_t *path, size_t path_length, dw_kept_data *kept, uint8_t *out, size_t room);
+
+/* Writes what is kept about the children of a path. It answers what dw_peek_data does. */
+int32_t dw_peek_children(dw_client *handle, const uint8_t *path, size_t path_length, dw_kept_names *kept);
+
+/* Copies the name of this index, from 0 on in byte order, of those that are kept of a path, as much as there is room for, and
+ * writes how many bytes it has: 0 where there is no such name. It goes over the names before it, so its time grows with the index.
+ * It answers what dw_peek_data does; but for DW_OK the count is 0. */
+int32_t dw_peek_name(dw_client *handle, const uint8_t *path, size_t path_length, size_t index, uint8_t *out, size_t room,
+                     size_t *count);
+
+/* Forgets all stale answers. It takes no memory, and leaves the outputs. DW_OK, DW_CLOSED. */
+int32_t dw_forget(dw_client *handle);
 
 #ifdef __cplusplus
 }

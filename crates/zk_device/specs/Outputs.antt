@@ -5,7 +5,6 @@ use Rattle.zk_client.specs.FaultText.{fault_words}
 use Rattle.zk_client.specs.Views.{fault_view}
 use Rattle.zk_client.specs.declared.call_result.CallResult.{CallResult}
 use Rattle.zk_client.specs.declared.call_result.CallResult.TheVariants as result
-use Rattle.zk_client.specs.declared.output.Outcome.{Outcome}
 use Rattle.zk_client.specs.declared.output.Outcome.TheVariants as outcome
 use Rattle.zk_client.specs.declared.output.Output.{Output}
 use Rattle.zk_client.specs.declared.output.Output.TheVariants as output
