@@ -9,6 +9,9 @@
  * Who owns what: a dw_client owns its memory until dw_close, dw_open or dw_resume of the same handle. What is passed in is copied
  * within the call, and what comes out is written into the caller's own structs and buffers: no pointer crosses for longer than a call.
  *
+ * What calls cost: a step copies what is passed in, and what of it is kept, once each; dw_next and the look-ups of numbers copy no
+ * bytes, and the functions that copy bytes copy as many as are asked for. Memory is taken by steps, by dw_saved, dw_words and dw_peek_*.
+ *
  * What the caller promises, and nothing checks:
  *   - a dw_client is all zeros before its first use, and is written by this library alone; it may be moved, but an open one is never
  *     copied to be used twice;
@@ -18,6 +21,15 @@
  *     overlap with what else it is given;
  *   - malloc, realloc and free are those of one allocator, whose blocks are aligned to 16 bytes;
  *   - a bool is 0 or 1, and this header is that of the library that is linked.
+ *
+ * What the library promises, and is proved of each function, whatever comes in:
+ *   - an answer that is marked good is what the servers' history has at the last seen zxid;
+ *   - each watch is reported once at most, and the answer that it was left with is stale from then on;
+ *   - a reply goes to the call that has waited longest, and each call is answered once, unless the client halts before;
+ *   - once the session has expired or is closed, nothing is kept or watched;
+ *   - each function returns, whatever bytes a server sends.
+ * The first of these rests on servers that hold beginnings of one history, fire watches before replies and admit no client that is
+ * ahead of them; all of them on what the caller promises above, on the Rattle toolchain and on the C compiler.
  *
  * Numbers that functions answer, unless they say otherwise. Nothing has happened where one below -1 is answered. */
 #ifndef DIRWOLLEU_H
