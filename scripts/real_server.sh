@@ -721,7 +721,9 @@ state Connected
 /stopped data full 7468726565 @stopped @three @ @ 2 0 5 good last @
 EOF
     kill -CONT "${servers[stopped-${numbers[0]}]}"
+    sleep 3
     within 60 serves "${at[0]#*:}" || fail "the server that was stopped does not serve again"
+    outside "${at[0]#*:}" sync /stopped
     stop_server "stopped-${numbers[1]}"
     sees stopped <<'EOF'
 state Idle

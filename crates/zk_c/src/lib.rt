@@ -1,0 +1,14 @@
+//! A client of ZooKeeper behind a C interface, `include/dirwolleu.h`: a handle that C holds, functions that are total and answer a
+//! number, and for each step the rule of the client. No function waits, and one at a time uses a handle.
+#![tactic(auto)]
+
+mod calls;
+mod handle;
+mod kept;
+mod making;
+mod outputs;
+mod parts;
+mod session;
+mod slot;
+mod steps;
+mod taking;

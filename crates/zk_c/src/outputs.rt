@@ -1,0 +1,102 @@
+//! What a client said at its last step.
+
+ghost use Rattle.std.specs.Prelude.{◌≡◌, ◌++◌, Some, None, drop, length, negsuc, take};
+ghost use Rattle.zk_device.specs.declared.device.Device.{Device};
+ghost use Rattle.zk_device.specs.Outputs.{told_name, told_text, told_words};
+ghost use Rattle.zk_c.specs.Held.{Holds, Tells, Writes};
+
+use crate::handle::DwClient;
+use crate::taking::{CLOSED, NONE, take};
+use std::alloc::Global;
+use zk_device::{Flat, Refusal, copy_into};
+
+/// Writes the next output of the last step, as numbers. The one before is over. 1 says that there is none.
+#[unsafe(no_mangle)]
+pub extern "C" fn dw_next(alloc: Global, handle: &mut DwClient, out: &mut Flat) -> i32
+    ensures closed { handle.old.slot.held ≡ None → result ≡ negsuc 2 }
+    ensures next { (d : Device) → handle.old.slot.held ≡ Some d → Holds handle.new.slot.held (Tells d out.old result out.new) }
+{
+    let Some(mut device) = take(alloc, handle) else {
+        return CLOSED;
+    };
+    let next = device.next();
+    *handle = DwClient::of(device);
+    match next {
+        Some(flat) => {
+            *out = flat;
+            0
+        }
+        None => NONE,
+    }
+}
+
+/// Copies the text of the output that was told last, from this place on, as much of it as there is room for, and tells how many
+/// bytes there are from there on.
+#[unsafe(no_mangle)]
+pub extern "C" fn dw_copy(
+    alloc: Global,
+    handle: &mut DwClient,
+    from: usize,
+    out: &mut [u8],
+) -> usize
+    ensures closed { handle.old.slot.held ≡ None → result ≡ 0 }
+    ensures count { (d : Device) → handle.old.slot.held ≡ Some d → result ≡ length (drop from (told_text d.said.items d.read)) }
+    ensures copied { (d : Device) → handle.old.slot.held ≡ Some d → out.new ≡ take (length out.old) (drop from (told_text d.said.items d.read)) ++ drop (length (drop from (told_text d.said.items d.read))) out.old }
+    ensures same { handle.new.slot.held ≡ handle.old.slot.held }
+{
+    let Some(device) = take(alloc, handle) else {
+        return 0;
+    };
+    let count = device.copy_text(from, out);
+    *handle = DwClient::of(device);
+    count
+}
+
+/// Copies the name of this index in the listing that was told last, as much of it as there is room for, and tells how many bytes
+/// it has.
+#[unsafe(no_mangle)]
+pub extern "C" fn dw_name(
+    alloc: Global,
+    handle: &mut DwClient,
+    index: usize,
+    out: &mut [u8],
+) -> usize
+    ensures closed { handle.old.slot.held ≡ None → result ≡ 0 }
+    ensures count { (d : Device) → handle.old.slot.held ≡ Some d → result ≡ length (told_name index d.said.items d.read) }
+    ensures copied { (d : Device) → handle.old.slot.held ≡ Some d → out.new ≡ take (length out.old) (told_name index d.said.items d.read) ++ drop (length (told_name index d.said.items d.read)) out.old }
+    ensures same { handle.new.slot.held ≡ handle.old.slot.held }
+{
+    let Some(device) = take(alloc, handle) else {
+        return 0;
+    };
+    let count = device.copy_name(index, out);
+    *handle = DwClient::of(device);
+    count
+}
+
+/// Writes the words of a drop that was told last, as many bytes as there is room for, and how many there are.
+#[unsafe(no_mangle)]
+pub extern "C" fn dw_words(
+    alloc: Global,
+    handle: &mut DwClient,
+    out: &mut [u8],
+    count: &mut usize,
+) -> i32
+    ensures closed { handle.old.slot.held ≡ None → result ≡ negsuc 2 }
+    ensures words { (d : Device) → handle.old.slot.held ≡ Some d → Writes (told_words d.said.items d.read) result out.old out.new count.new }
+    ensures same { handle.new.slot.held ≡ handle.old.slot.held }
+{
+    *count = 0;
+    let Some(device) = take(alloc, handle) else {
+        return CLOSED;
+    };
+    let words = device.words(alloc);
+    *handle = DwClient::of(device);
+    match words {
+        Ok(words) => {
+            *count = copy_into(words.as_bytes(), out);
+            0
+        }
+        Err(_) => Refusal::Memory.code(),
+    }
+}

@@ -1,0 +1,64 @@
+//! What happens to a client.
+
+ghost use Rattle.std.specs.Prelude.{◌≡◌, Some, None};
+ghost use Rattle.zk_turns.specs.Turns.{Bytes, Opened, Cut};
+ghost use Rattle.zk_device.specs.declared.device.Device.{Device};
+ghost use Rattle.zk_device.specs.Refused.{RefusesMemory, RefusesNothing};
+ghost use Rattle.zk_device.specs.Steps.{Steps, Ticks};
+ghost use Rattle.zk_c.specs.Held.{Holds, IsClosed};
+
+use crate::handle::DwClient;
+use crate::taking::{CLOSED, put_back, take};
+use std::alloc::Global;
+
+/// A connection begins at this moment.
+#[unsafe(no_mangle)]
+pub extern "C" fn dw_opened(alloc: Global, handle: &mut DwClient, now_ms: u64) -> i32
+    ensures closed { handle.old.slot.held ≡ None → IsClosed result handle.new.slot.held }
+    ensures steps { (d : Device) → handle.old.slot.held ≡ Some d → Holds handle.new.slot.held (Steps RefusesNothing now_ms Opened d result) }
+{
+    let Some(mut device) = take(alloc, handle) else {
+        return CLOSED;
+    };
+    let done = device.opened_at(now_ms);
+    put_back(handle, device, done)
+}
+
+/// The connection is over at this moment.
+#[unsafe(no_mangle)]
+pub extern "C" fn dw_cut(alloc: Global, handle: &mut DwClient, now_ms: u64) -> i32
+    ensures closed { handle.old.slot.held ≡ None → IsClosed result handle.new.slot.held }
+    ensures steps { (d : Device) → handle.old.slot.held ≡ Some d → Holds handle.new.slot.held (Steps RefusesNothing now_ms Cut d result) }
+{
+    let Some(mut device) = take(alloc, handle) else {
+        return CLOSED;
+    };
+    let done = device.cut_at(now_ms);
+    put_back(handle, device, done)
+}
+
+/// The moment, in milliseconds of a clock that does not go back.
+#[unsafe(no_mangle)]
+pub extern "C" fn dw_tick(alloc: Global, handle: &mut DwClient, now_ms: u64) -> i32
+    ensures closed { handle.old.slot.held ≡ None → IsClosed result handle.new.slot.held }
+    ensures ticks { (d : Device) → handle.old.slot.held ≡ Some d → Holds handle.new.slot.held (Ticks now_ms d result) }
+{
+    let Some(mut device) = take(alloc, handle) else {
+        return CLOSED;
+    };
+    let done = device.tick(now_ms);
+    put_back(handle, device, done)
+}
+
+/// Bytes came from the server at this moment, cut anyhow.
+#[unsafe(no_mangle)]
+pub extern "C" fn dw_bytes(alloc: Global, handle: &mut DwClient, now_ms: u64, bytes: &[u8]) -> i32
+    ensures closed { handle.old.slot.held ≡ None → IsClosed result handle.new.slot.held }
+    ensures steps { (d : Device) → handle.old.slot.held ≡ Some d → Holds handle.new.slot.held (Steps RefusesMemory now_ms (Bytes bytes.now) d result) }
+{
+    let Some(mut device) = take(alloc, handle) else {
+        return CLOSED;
+    };
+    let done = device.bytes_at(alloc, now_ms, bytes);
+    put_back(handle, device, done)
+}

@@ -1,0 +1,31 @@
+-- When a number is told that is neither 0 nor that of a halt.
+use Rattle.std.specs.Prelude.{⊤, ◌≤ℤ◌, ◌<ℤ◌, ◌<◌, List, ℕ, zero, suc, ℤ, pos, negsuc, IsSome}
+use Rattle.std.specs.Str.{IsUtf8}
+use Rattle.zk_history.specs.PathFault.{IsPath, fault_of}
+
+-- nothing is refused
+abbrev pub RefusesNothing : ℤ → Type 0
+RefusesNothing code = ⊥
+
+-- want of memory alone, -2
+abbrev pub RefusesMemory : ℤ → Type 0
+RefusesMemory (negsuc (suc zero)) = ⊤
+RefusesMemory code = ⊥
+
+-- bytes for a path: -2 where they are one, -4 where they are no UTF-8, and -5 where their text is no path
+abbrev pub RefusesPath : (path : List ℕ) → ℤ → Type 0
+RefusesPath path (negsuc (suc zero)) = IsPath path
+RefusesPath path (negsuc (suc (suc (suc zero)))) = ¬ (IsUtf8 path)
+RefusesPath path (negsuc (suc (suc (suc (suc zero))))) = IsSome (fault_of path)
+RefusesPath path code = ⊥
+
+-- a timeout: -2 where it is one, and -6 where it is not above 0
+abbrev pub RefusesTimeout : (timeout : ℤ) → ℤ → Type 0
+RefusesTimeout timeout (negsuc (suc zero)) = pos 0 <ℤ timeout
+RefusesTimeout timeout (negsuc (suc (suc (suc (suc (suc zero)))))) = timeout ≤ℤ pos 0
+RefusesTimeout timeout code = ⊥
+
+-- bytes for a path and the number of a mode: those of the path where the number is that of a mode, and else -7
+abbrev pub RefusesCreate : (path : List ℕ) (mode : ℕ) → ℤ → Type 0
+RefusesCreate path mode (negsuc (suc (suc (suc (suc (suc (suc zero))))))) = 3 < mode
+RefusesCreate path mode code = RefusesPath path code

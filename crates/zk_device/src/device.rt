@@ -1,0 +1,101 @@
+//! A client with the outputs of its last step.
+
+ghost use Rattle.std.specs.Prelude.{◌≡◌, ◌<ℤ◌, pos, [], OnOk, OnErr, unsigned_abs};
+ghost use Rattle.zk_turns.specs.Turns.{Bytes, Opened, Cut, new_start};
+ghost use Rattle.zk_client.specs.Views.{input_view};
+ghost use Rattle.zk_client.specs.Clients.{view_of};
+ghost use Rattle.zk_device.specs.Codes.{code_of};
+ghost use Rattle.zk_device.specs.Refused.{RefusesMemory, RefusesNothing, RefusesTimeout};
+ghost use Rattle.zk_device.specs.Sessions.{Begins};
+ghost use Rattle.zk_device.specs.Steps.{Halted, Heard, Steps, Ticks};
+
+use crate::refusal::Refusal;
+use std::alloc::Global;
+use zk_client::{Client, Halt, Input, Output};
+
+/// A client, what it said at its last step, and how much of that was read.
+#[derive(Drop)]
+pub struct Device {
+    pub client: Client<Global>,
+    pub said: Vec<Output<Global>, Global>,
+    pub read: usize,
+}
+
+impl Device {
+    /// A client of no session yet, which asks for this timeout in milliseconds.
+    pub fn new(alloc: Global, timeout_ms: i32) -> Result<Device, Refusal>
+        ensures begins { Begins (RefusesTimeout timeout_ms) (new_start (unsigned_abs timeout_ms)) result }
+        ensures accepted { OnOk result (pos 0 <ℤ timeout_ms) }
+    {
+        if timeout_ms <= 0 {
+            return Err(Refusal::BadTimeout);
+        }
+        Ok(Device::of(alloc, Client::new(alloc, timeout_ms)))
+    }
+
+    // A client that has said nothing yet.
+    pub(crate) fn of(alloc: Global, client: Client<Global>) -> Device
+        ensures client { view_of result.client ≡ view_of client }
+        ensures silent { result.said.items ≡ [] }
+    {
+        Device {
+            client,
+            said: Vec::new(alloc),
+            read: 0,
+        }
+    }
+
+    // What was said before is forgotten.
+    fn forget_said(&mut self)
+        ensures client { self.new.client ≡ self.old.client }
+        ensures silent { self.new.said.items ≡ [] }
+        ensures unread { self.new.read ≡ 0 }
+    {
+        self.said.clear();
+        self.read = 0;
+    }
+
+    /// Takes an input that is noticed at this moment. What was said before is forgotten.
+    pub(crate) fn step_at(&mut self, now: u64, input: Input<Global>) -> Result<(), Halt>
+        ensures heard { OnOk result (Heard now (input_view input) self.old self.new) }
+        ensures halted { OnErr result (Halted now self.old self.new) }
+    {
+        self.forget_said();
+        self.said = self.client.step_at(now, input)?;
+        Ok(())
+    }
+
+    /// A connection begins.
+    pub fn opened_at(&mut self, now: u64) -> Result<(), Refusal>
+        ensures { Steps RefusesNothing now Opened self.old (code_of result) self.new }
+    {
+        self.step_at(now, Input::Opened)?;
+        Ok(())
+    }
+
+    /// The connection is over.
+    pub fn cut_at(&mut self, now: u64) -> Result<(), Refusal>
+        ensures { Steps RefusesNothing now Cut self.old (code_of result) self.new }
+    {
+        self.step_at(now, Input::Cut)?;
+        Ok(())
+    }
+
+    /// The moment, and nothing else.
+    pub fn tick(&mut self, now: u64) -> Result<(), Refusal>
+        ensures { Ticks now self.old (code_of result) self.new }
+    {
+        self.forget_said();
+        self.said = self.client.step(Input::Now(now))?;
+        Ok(())
+    }
+
+    /// Bytes came from the server.
+    pub fn bytes_at(&mut self, alloc: Global, now: u64, bytes: &[u8]) -> Result<(), Refusal>
+        ensures { Steps RefusesMemory now (Bytes bytes.now) self.old (code_of result) self.new }
+    {
+        let owned = Vec::from_slice(alloc, bytes)?;
+        self.step_at(now, Input::Bytes(owned))?;
+        Ok(())
+    }
+}
