@@ -11,40 +11,54 @@ use anyhow::Result;
 use played::{Row, play};
 use std::io;
 use swept::{close_at_each_byte, refuse_each_request};
-use world::Plan;
+use world::{Flaw, Plan, STEADY};
 
 /// The rows: what a partner does, and until which moment a link goes on.
-static ROWS: [Row; 7] = [
+static ROWS: [Row; 11] = [
     Row {
         name: "answers",
-        plan: Plan {
-            refusals: 0,
-            is_late: false,
-            silences: 0,
-            passes: usize::MAX,
-            piece: usize::MAX,
-        },
+        plan: STEADY,
         until: 7_000,
     },
     Row {
         name: "byte by byte",
+        plan: Plan { piece: 1, ..STEADY },
+        until: 1_000,
+    },
+    Row {
+        name: "takes byte by byte",
+        plan: Plan { takes: 1, ..STEADY },
+        until: 1_000,
+    },
+    Row {
+        name: "takes nothing",
         plan: Plan {
-            refusals: 0,
-            is_late: false,
-            silences: 0,
-            passes: usize::MAX,
-            piece: 1,
+            flaw: Flaw::Full,
+            ..STEADY
+        },
+        until: 7_000,
+    },
+    Row {
+        name: "is interrupted",
+        plan: Plan {
+            flaw: Flaw::Interrupted,
+            ..STEADY
+        },
+        until: 7_000,
+    },
+    Row {
+        name: "can't be told to wait",
+        plan: Plan {
+            flaw: Flaw::Restless,
+            ..STEADY
         },
         until: 1_000,
     },
     Row {
         name: "stays silent",
         plan: Plan {
-            refusals: 0,
-            is_late: false,
             silences: 2,
-            passes: usize::MAX,
-            piece: usize::MAX,
+            ..STEADY
         },
         until: 13_000,
     },
@@ -52,10 +66,7 @@ static ROWS: [Row; 7] = [
         name: "refuses",
         plan: Plan {
             refusals: 9,
-            is_late: false,
-            silences: 0,
-            passes: usize::MAX,
-            piece: usize::MAX,
+            ..STEADY
         },
         until: 40_000,
     },
@@ -64,31 +75,23 @@ static ROWS: [Row; 7] = [
         plan: Plan {
             refusals: 2,
             is_late: true,
-            silences: 0,
-            passes: usize::MAX,
-            piece: usize::MAX,
+            ..STEADY
         },
         until: 4_000,
     },
     Row {
         name: "closes at once",
         plan: Plan {
-            refusals: 0,
-            is_late: false,
-            silences: 0,
             passes: 0,
-            piece: usize::MAX,
+            ..STEADY
         },
         until: 1_000,
     },
     Row {
         name: "closes within the call",
         plan: Plan {
-            refusals: 0,
-            is_late: false,
-            silences: 0,
             passes: 104,
-            piece: usize::MAX,
+            ..STEADY
         },
         until: 1_000,
     },

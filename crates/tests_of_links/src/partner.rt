@@ -1,6 +1,6 @@
 //! What a link dials, reads, writes and waits by, over a world in memory.
 
-use crate::world::World;
+use crate::world::{Flaw, World};
 use std::alloc::Global;
 use std::cell::RefCell;
 use std::io::{self, ErrorKind, Read, Write};
@@ -23,6 +23,10 @@ impl<'a> Read for Partner<'a> {
         if world.is_closed() {
             return Ok(0);
         }
+        if world.has(Flaw::Interrupted) {
+            world.wait(1);
+            return Err(ErrorKind::Interrupted.into());
+        }
         let Ok(bytes) = world.read(buf.len()) else {
             return Err(ErrorKind::OutOfMemory.into());
         };
@@ -43,6 +47,10 @@ impl<'a> Write for Partner<'a> {
         if world.is_closed() {
             return Err(ErrorKind::BrokenPipe.into());
         }
+        if world.has(Flaw::Full) {
+            world.wait(1);
+            return Err(ErrorKind::WouldBlock.into());
+        }
         match world.write(buf) {
             Ok(count) if count <= buf.len() => Ok(count),
             _ => Err(ErrorKind::OutOfMemory.into()),
@@ -56,6 +64,12 @@ impl<'a> Write for Partner<'a> {
 
 impl<'a> Stream for Partner<'a> {
     fn wait_at_most(&mut self, ms: u64) -> io::Result<()> {
+        let Ok(world) = self.world.try_borrow() else {
+            return Err(ErrorKind::Other.into());
+        };
+        if world.has(Flaw::Restless) {
+            return Err(ErrorKind::Other.into());
+        }
         self.ms = ms;
         Ok(())
     }

@@ -2,7 +2,7 @@
 
 use crate::partner::Shared;
 use crate::played::{Played, is_connected};
-use crate::world::{Plan, World};
+use crate::world::{Plan, STEADY, World};
 use anyhow::Result;
 use refusing::Refusing;
 use std::alloc::{Allocator, Global};
@@ -95,11 +95,9 @@ fn play<A: Allocator + Copy>(heap: Global, alloc: A, plan: Plan) -> Result<Resul
 /// A plan of which the first connection passes so many bytes, and reads bring one at a time.
 fn plan(passes: usize) -> Plan {
     Plan {
-        refusals: 0,
-        is_late: false,
-        silences: 0,
         passes,
         piece: 1,
+        ..STEADY
     }
 }
 

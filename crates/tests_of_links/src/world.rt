@@ -9,8 +9,21 @@ use zk_client::Path;
 /// The most requests that are processed behind one write.
 const REQUESTS: usize = 16;
 
+/// What the first connection does wrong.
+#[derive(Clone, Copy, PartialEq, Eq)]
+pub enum Flaw {
+    Nothing,
+    /// It can't be told how long to wait.
+    Restless,
+    /// Each read is interrupted, of which something would have come.
+    Interrupted,
+    /// It takes no byte for now.
+    Full,
+}
+
 /// What happens to connections: how many are refused at first, whether only once the attempt has lasted as long as it may, how many then
-/// are silent, how many bytes pass on the next one, and how many bytes a read brings at most.
+/// are silent, how many bytes pass on the next one, how many bytes a read brings and a write takes at most, and what the first one does
+/// wrong.
 #[derive(Clone, Copy)]
 pub struct Plan {
     pub refusals: u32,
@@ -18,7 +31,20 @@ pub struct Plan {
     pub silences: u32,
     pub passes: usize,
     pub piece: usize,
+    pub takes: usize,
+    pub flaw: Flaw,
 }
+
+/// Connections that do as they should.
+pub const STEADY: Plan = Plan {
+    refusals: 0,
+    is_late: false,
+    silences: 0,
+    passes: usize::MAX,
+    piece: usize::MAX,
+    takes: usize::MAX,
+    flaw: Flaw::Nothing,
+};
 
 /// A server that answers each request as it comes, the connection to it, and the moment.
 #[derive(Drop)]
@@ -97,6 +123,11 @@ impl World {
         self.dials <= self.plan.refusals.saturating_add(self.plan.silences)
     }
 
+    /// Whether the connection has this flaw.
+    pub fn has(&self, flaw: Flaw) -> bool {
+        self.dials == 1 && self.plan.flaw == flaw
+    }
+
     /// Whether no byte passes any more.
     pub fn is_closed(&self) -> bool {
         self.left == 0
@@ -111,7 +142,7 @@ impl World {
 
     /// The first of these bytes go, as many as pass.
     pub fn write(&mut self, bytes: &[u8]) -> Result<usize, AllocError> {
-        let count = bytes.len().min(self.left);
+        let count = bytes.len().min(self.left).min(self.plan.takes);
         self.left -= count;
         if self.is_silent() {
             return Ok(count);

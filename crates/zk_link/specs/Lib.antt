@@ -1,3 +1,4 @@
+pub mod Frames
 pub mod StopText
 pub mod Trails
 pub mod Waits

@@ -26,8 +26,8 @@ pub(crate) fn make_room<A: Allocator>(room: &mut Vec<u8, A>) -> Result<(), Alloc
     Ok(())
 }
 
-/// Whether a read that failed so may succeed later: nothing came in time, or it was interrupted.
-fn is_late(kind: ErrorKind) -> bool {
+/// Whether a read or a write that failed so may succeed later: it took too long, or it was interrupted.
+pub(crate) fn is_late(kind: ErrorKind) -> bool {
     matches!(
         kind,
         ErrorKind::WouldBlock | ErrorKind::TimedOut | ErrorKind::Interrupted

@@ -3,6 +3,9 @@
 use std::io::{self, Read, Write};
 
 /// A connection, which ends where it is dropped.
+///
+/// A write takes what it can at once, or within a millisecond: one that can take nothing is an error of the kind `WouldBlock` or
+/// `TimedOut`, and is made again later. What was taken goes by itself: nothing is flushed.
 pub trait Stream: Read + Write + Drop {
     /// No read from now on waits longer than so many milliseconds, at least 1: one that would is an error of the kind `WouldBlock` or
     /// `TimedOut`.

@@ -7,7 +7,6 @@ ghost use Rattle.zk_client.specs.Views.{output_view, said};
 ghost use Rattle.zk_link.specs.Trails.{is_given};
 
 use std::alloc::{AllocError, Allocator};
-use std::io::Write;
 use zk_client::Output;
 
 /// Whether an output is for the caller: all but what goes to the server.
@@ -45,16 +44,4 @@ pub(crate) fn give<A: Allocator>(
         { is_given(output) },
     );
     outputs.append(&mut made)
-}
-
-/// Writes what goes to the server. Whether all of it was written.
-pub(crate) fn is_sent<A: Allocator, S: Write>(stream: &mut S, outputs: &[Output<A>]) -> bool {
-    for output in outputs {
-        if let Output::Send(bytes) = output {
-            if stream.write_all(bytes.as_slice()).is_err() || stream.flush().is_err() {
-                return false;
-            }
-        }
-    }
-    true
 }

@@ -1,6 +1,6 @@
 //! A client and the connection that it has: one input at a time.
 
-ghost use Rattle.std.specs.Prelude.{◌≡◌, ◌≤◌, ◌<◌, ◌+◌, ◌++◌, ℕ, false, true, is_some, IfErr, OnOk};
+ghost use Rattle.std.specs.Prelude.{◌≡◌, ◌≤◌, ◌<◌, ◌+◌, ◌++◌, [], ℕ, false, true, is_some, IfErr, OnOk};
 ghost use Rattle.std.specs.List.{filter};
 ghost use Rattle.zk_conversation.specs.Views.{call_view};
 ghost use Rattle.zk_turns.specs.Turns.{Call as Calls, Cut};
@@ -9,11 +9,13 @@ ghost use Rattle.zk_turns.specs.Taken.{NothingIsDue};
 ghost use Rattle.zk_client.specs.Clients.{view_of};
 ghost use Rattle.zk_client.specs.Views.{input_view, said};
 ghost use Rattle.zk_link.specs.declared.stop.Stop.TheVariants.{Memory};
+ghost use Rattle.zk_link.specs.Frames.{frames, IsLeftOf};
 ghost use Rattle.zk_link.specs.Trails.{bare_of, is_given, kept, trail_of, Asks, Comes, Fails, FailsThen, Hears, HearsThen, IsLoud, Stops};
 
 use crate::bring::{Brought, bring, make_room};
 use crate::dial::Stream;
-use crate::give::{give, has_end, is_sent};
+use crate::give::{give, has_end};
+use crate::send::{queue, send};
 use crate::stop::Stop;
 use std::alloc::{AllocError, Allocator};
 use std::mem;
@@ -21,6 +23,9 @@ use zk_client::{Call, Client, Input, Output, State};
 
 /// The longest wait, in milliseconds: an hour.
 const LONGEST_WAIT: u64 = 3_600_000;
+
+/// How long a read may wait, in milliseconds, while bytes are left to be written.
+const PRESSED_WAIT: u64 = 10;
 
 /// A client, its connection, if it has one, and the latest moment that it was told.
 #[derive(Drop)]
@@ -31,6 +36,7 @@ pub struct Joint<A: Allocator + Copy, S: Drop> {
     pub(crate) latest: u64,
     alloc: A,
     room: Vec<u8, A>,
+    unsent: Vec<u8, A>,
 }
 
 /// How many milliseconds a read may wait from one moment to another, at least 1 and at most an hour.
@@ -59,6 +65,7 @@ impl<A: Allocator + Copy, S: Stream> Joint<A, S> {
             latest: 0,
             alloc,
             room: Vec::new(alloc),
+            unsent: Vec::new(alloc),
         }
     }
 
@@ -79,33 +86,73 @@ impl<A: Allocator + Copy, S: Stream> Joint<A, S> {
         self.stream.is_some()
     }
 
-    /// Takes a connection that begins; one that is there is let go. It is on the caller to tell the client, by [`Input::Opened`].
+    /// Takes a connection that begins; one that is there is let go, and what is left to be written to it is forgotten. It is on the caller
+    /// to tell the client, by [`Input::Opened`].
     pub fn hold(&mut self, stream: S)
-        ensures { bare_of self.new ≡ record (bare_of self.old) { is_open = true } }
+        ensures trail { bare_of self.new ≡ record (bare_of self.old) { is_open = true } }
+        ensures unsent { self.new.unsent.items ≡ [] }
     {
+        self.unsent.clear();
         self.stream = Some(stream);
     }
 
-    /// What the connection brings within so many milliseconds, at least 1. Where there is none, it is over.
-    pub fn read(&mut self, ms: u64) -> Result<Brought<A>, AllocError>
+    /// Whether bytes are left to be written: the connection took less than there was for it.
+    pub fn is_pressed(&self) -> bool {
+        !self.unsent.is_empty()
+    }
+
+    /// Writes what is left to be written, as much as the connection takes for now, and reads once: for so many milliseconds, but for 10
+    /// at most while bytes are left.
+    pub(crate) fn exchange(&mut self, ms: u64) -> Result<Brought<A>, AllocError>
         ensures { bare_of self.new ≡ bare_of self.old }
     {
         make_room(&mut self.room)?;
-        match &mut self.stream {
-            Some(stream) => bring(self.alloc, stream, &mut self.room, ms),
-            None => Ok(Brought::End),
+        let Some(stream) = &mut self.stream else {
+            return Ok(Brought::End);
+        };
+        if !send(stream, &mut self.unsent) {
+            return Ok(Brought::End);
         }
+        let wait = if self.unsent.is_empty() {
+            ms
+        } else {
+            ms.min(PRESSED_WAIT)
+        };
+        bring(self.alloc, stream, &mut self.room, wait)
     }
 
-    /// Writes what goes to the server, where there is a connection. Whether all of it was written.
-    fn send(&mut self, outputs: &[Output<A>]) -> bool
+    /// What the connection brings within so many milliseconds, at least 1, and a tenth longer where it takes nothing of what is left to be
+    /// written. Where there is none, it is over.
+    pub fn read(&mut self, ms: u64) -> Result<Brought<A>, AllocError>
+        ensures { bare_of self.new ≡ bare_of self.old }
+    {
+        let mut left = ms;
+        for _ in 0..ms / PRESSED_WAIT {
+            if !self.is_pressed() {
+                break;
+            }
+            match self.exchange(PRESSED_WAIT)? {
+                Brought::Nothing => left = left.saturating_sub(PRESSED_WAIT),
+                brought => return Ok(brought),
+            }
+        }
+        self.exchange(left.max(1))
+    }
+
+    /// Puts what goes to the server behind what is left to be written, where there is a connection, and writes as much as it takes for now.
+    /// Whether the connection has not failed.
+    fn write(&mut self, outputs: &[Output<A>]) -> Result<bool, AllocError>
         ensures client { self.new.client ≡ self.old.client }
         ensures latest { self.new.latest ≡ self.old.latest }
         ensures stream { is_some self.new.stream ≡ is_some self.old.stream }
+        ensures kept { is_some self.old.stream ≡ true → OnOk result (IsLeftOf (self.old.unsent.items ++ frames (said outputs.now)) self.new.unsent.items) }
     {
         match &mut self.stream {
-            Some(stream) => is_sent(stream, outputs),
-            None => true,
+            Some(stream) => {
+                queue(outputs, &mut self.unsent)?;
+                Ok(send(stream, &mut self.unsent))
+            }
+            None => Ok(true),
         }
     }
 
@@ -121,7 +168,7 @@ impl<A: Allocator + Copy, S: Stream> Joint<A, S> {
     }
 
     /// Does what a client says: what goes to the server is written, the connection that is over with an output is let go, and the rest is
-    /// given. Whether all was written.
+    /// given. Whether the connection has not failed.
     fn deliver(
         &mut self,
         made: Vec<Output<A>, A>,
@@ -133,19 +180,23 @@ impl<A: Allocator + Copy, S: Stream> Joint<A, S> {
         ensures given { OnOk result (said outputs.new.items ≡ said outputs.old.items ++ filter is_given (said made.items)) }
         ensures err { IfErr result (λ stop. (stop ≡ Memory) × (outputs.new.items ≡ outputs.old.items)) }
     {
-        let is_sent = self.send(made.as_slice());
+        let written = self.write(made.as_slice());
         self.let_go(made.as_slice());
+        let Ok(is_well) = written else {
+            return Err(Stop::Memory);
+        };
         match give(made, outputs) {
-            Ok(()) => Ok(is_sent),
+            Ok(()) => Ok(is_well),
             Err(_) => Err(Stop::Memory),
         }
     }
 
     /// Hands the client one input, and does what it says: what goes to the server is written, the connection that is over with an output
-    /// is let go, and the rest is given, behind what `outputs` has. Whether all was written that goes to the server: where it was not, the
-    /// connection is over, and [`cut`](Joint::cut) is due. What a moment makes due is heard by [`Input::Now`].
+    /// is let go, and the rest is given, behind what `outputs` has. Whether the connection has not failed: where it has, it is over, and
+    /// [`cut`](Joint::cut) is due. What it does not take for now is written before the next reads. What a moment makes due is heard by
+    /// [`Input::Now`].
     ///
-    /// An error is want of memory, of the client or for what is given. An input of which nothing comes halts no client.
+    /// An error is want of memory, of the client, or for what is written or given. An input of which nothing comes halts no client.
     pub fn hear(&mut self, input: Input<A>, outputs: &mut Vec<Output<A>, A>) -> Result<bool, Stop>
         ensures ok { OnOk result (Hears (trail_of self.old outputs.old.items) (input_view input) (trail_of self.new outputs.new.items)) }
         ensures latest { self.new.latest ≡ self.old.latest }
@@ -170,14 +221,14 @@ impl<A: Allocator + Copy, S: Stream> Joint<A, S> {
         Ok(())
     }
 
-    /// Hands the client one input. Where not all was written that goes to the server, the connection is over behind it.
+    /// Hands the client one input. Where the connection has failed, it is over behind it.
     fn take(&mut self, input: Input<A>, outputs: &mut Vec<Output<A>, A>) -> Result<(), Stop>
         ensures ok { OnOk result (HearsThen (trail_of self.old outputs.old.items) (input_view input) (trail_of self.new outputs.new.items)) }
         ensures latest { self.new.latest ≡ self.old.latest }
         ensures err { IfErr result (λ stop. FailsThen stop (trail_of self.old outputs.old.items) (input_view input) (trail_of self.new outputs.new.items)) }
     {
-        let is_sent = self.hear(input, outputs)?;
-        if is_sent {
+        let is_well = self.hear(input, outputs)?;
+        if is_well {
             return Ok(());
         }
         self.cut(outputs)

@@ -17,6 +17,7 @@ mod give;
 mod joint;
 mod link;
 mod pause;
+mod send;
 mod stop;
 mod tcp;
 

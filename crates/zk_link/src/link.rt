@@ -98,8 +98,9 @@ impl<'a, A: Allocator + Copy, D: Dial + Drop, C: Clock + Drop> Link<'a, A, D, C>
 
     /// Goes on until this moment of the clock, or until there is something for the caller, or the session is over.
     ///
-    /// No read and no attempt to connect waits past this moment, but for 1 millisecond: one that is to succeed needs a moment that is far
-    /// enough. Behind a session that is over it returns at once.
+    /// No read and no attempt to connect waits past this moment, but for 1 millisecond: an attempt that is to succeed needs a moment that is
+    /// far enough. A write waits for room for 16 milliseconds at most, and what the connection does not take is written later; a server that
+    /// takes nothing answers nothing, and is left as a silent one. Behind a session that is over it returns at once.
     #[tactic(auto, using(crate::proofs::TrailLemmas::more_given))]
     pub fn go_on(&mut self, until: u64, outputs: &mut Vec<Output<A>, A>) -> Result<(), Stop>
         ensures ok { OnOk result (Comes (trail_of self.old.joint outputs.old.items) (trail_of self.new.joint outputs.new.items)) }
@@ -146,7 +147,7 @@ impl<'a, A: Allocator + Copy, D: Dial + Drop, C: Clock + Drop> Link<'a, A, D, C>
         ensures { bare_of self.new.joint ≡ bare_of self.old.joint }
     {
         let wait = self.joint.longest_wait(until);
-        self.joint.read(wait)
+        self.joint.exchange(wait)
     }
 
     /// A client that is connected has reached its server: no attempt has failed since.

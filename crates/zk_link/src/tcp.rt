@@ -5,8 +5,8 @@ use std::io::{self, ErrorKind, Read, Write};
 use std::net::{Net, OpenStream, SocketAddr, SocketAddrV4, TcpStream};
 use std::time::Duration;
 
-/// How long a write may make no headway, in milliseconds, before it has failed.
-const LONGEST_WRITE_MS: u64 = 10_000;
+/// How long a write may wait for room, in milliseconds.
+const LONGEST_WRITE_MS: u64 = 1;
 
 /// What connects by TCP, over the network that it is handed.
 #[derive(Drop)]
@@ -53,7 +53,7 @@ impl<S: Read + Write + OpenStream + Drop> Stream for Socket<S> {
 impl<'a, R: Net> Dial for Tcp<'a, R> {
     type Stream = Socket<R::Stream>;
 
-    /// The address is four numbers joined by dots, a colon and a port. A write that makes no headway for 10 seconds has failed.
+    /// The address is four numbers joined by dots, a colon and a port.
     fn dial(&mut self, address: &str, within_ms: u64) -> io::Result<Socket<R::Stream>> {
         let Ok(address) = SocketAddrV4::parse_ascii(address.as_bytes()) else {
             return Err(io::Error::from(ErrorKind::InvalidInput));

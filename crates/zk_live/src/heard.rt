@@ -61,11 +61,11 @@ fn want_of(stop: zk_link::Stop) -> Stop
     }
 }
 
-/// What a client says to an input but for what goes to the server, and whether all of that was written.
+/// What a client says to an input but for what goes to the server, and whether the connection has not failed.
 #[derive(Drop)]
 pub struct Heard<A: Allocator> {
     pub outputs: Vec<Output<A>, A>,
-    pub is_sent: bool,
+    pub is_well: bool,
 }
 
 /// Hands a client an input, and adds what is printed of what it says. Where that is answered by a halt, the client has halted.
@@ -80,12 +80,12 @@ pub fn hear<A: Allocator + Copy, S: Stream>(
     ensures halt { IfErr result (IfHalted (Halts (tape (view_of joint.old.client) (string_bytes text.old)) (input_view input) (tape (view_of joint.new.client) (string_bytes text.new)))) }
 {
     let mut outputs = Vec::new(alloc);
-    let is_sent = match joint.hear(input, &mut outputs) {
-        Ok(is_sent) => is_sent,
+    let is_well = match joint.hear(input, &mut outputs) {
+        Ok(is_well) => is_well,
         Err(stop) => return Err(want_of(stop)),
     };
     push_told(alloc, outputs.as_slice(), text)?;
-    Ok(Heard { outputs, is_sent })
+    Ok(Heard { outputs, is_well })
 }
 
 /// Ends the connection, and adds what is printed of what the client says to that. Where that is answered by a halt, it has halted.

@@ -92,7 +92,7 @@ impl<A: Allocator + Copy, S: Stream> Link<A, S> {
         ensures halt { IfErr result (IfHalted (HaltsAmong (tape (view_of self.old.joint.client) (string_bytes text.old)) (input_view input ∷ Cut ∷ []) (tape (view_of self.new.joint.client) (string_bytes text.new)))) }
     {
         let heard = hear(alloc, &mut self.joint, input, text)?;
-        self.end_if(!heard.is_sent, alloc, text)?;
+        self.end_if(!heard.is_well, alloc, text)?;
         Ok(heard.outputs)
     }
 

@@ -12,7 +12,7 @@ returns-clause-ok g c =
     let held = (trail_of c.hold.new.self c.args.outputs.now.items) in
     let new = (trail_of c.take.new.self c.take.new.outputs.items) in
     let may : is_some c.args.self.now.stream ≡ false = search rules in
-    let same : held ≡ record old { is_open = true } = ap (λ (t : Trail). record t { given = said c.args.outputs.now.items }) c.hold.ensures in
+    let same : held ≡ record old { is_open = true } = ap (λ (t : Trail). record t { given = said c.args.outputs.now.items }) c.hold.ensures.trail in
     on_ok (HearsThen held Opened new) (Comes old new) c.take.result
     (λ (hears : HearsThen held Opened new). opens old new may (subst (λ (t : Trail). HearsThen t Opened new) same hears)) c.take.ensures.ok
 
@@ -22,6 +22,6 @@ returns-clause-err g c =
     let held = (trail_of c.hold.new.self c.args.outputs.now.items) in
     let new = (trail_of c.take.new.self c.take.new.outputs.items) in
     let may : is_some c.args.self.now.stream ≡ false = search rules in
-    let same : held ≡ record old { is_open = true } = ap (λ (t : Trail). record t { given = said c.args.outputs.now.items }) c.hold.ensures in
+    let same : held ≡ record old { is_open = true } = ap (λ (t : Trail). record t { given = said c.args.outputs.now.items }) c.hold.ensures.trail in
     if_err (λ stop. FailsThen stop held Opened new) (λ stop. Stops stop old new) c.take.result
     (λ stop fails. opens_stops old new may stop (subst (λ (t : Trail). FailsThen stop t Opened new) same fails)) c.take.ensures.err

@@ -1,0 +1,65 @@
+//! What happens in the session, in order.
+
+/// What happens. Reads leave a watch.
+#[derive(Clone, Copy)]
+pub enum Event {
+    Opens,
+    Cuts,
+    /// The server lets the session expire.
+    Expires,
+    /// The session is put away, and taken up by another device.
+    Resumes,
+    Forgets,
+    Closes,
+    Exists(&'static str),
+    Reads(&'static str),
+    Lists(&'static str),
+    /// With data, or null, and the number of a kind.
+    Creates(&'static str, Option<&'static str>, u32),
+    /// With a version.
+    Sets(&'static str, Option<&'static str>, i32),
+    Deletes(&'static str, i32),
+    Peeks(&'static str),
+}
+
+/// A session that expires.
+pub static EXPIRES: [Event; 27] = [
+    Event::Reads("/a"),
+    Event::Opens,
+    Event::Exists("/a"),
+    Event::Peeks("/a"),
+    Event::Creates("/a", Some("one"), 0),
+    Event::Reads("/a"),
+    Event::Lists("/a"),
+    Event::Creates("/a/b-", None, 3),
+    Event::Lists("/a"),
+    Event::Peeks("/a"),
+    Event::Sets("/a", None, 0),
+    Event::Peeks("/a"),
+    Event::Forgets,
+    Event::Peeks("/a"),
+    Event::Reads("/a"),
+    Event::Sets("/a", Some("two"), 7),
+    Event::Deletes("/a", -1),
+    Event::Reads("/a//b"),
+    Event::Creates("/c", None, 4),
+    Event::Cuts,
+    Event::Opens,
+    Event::Cuts,
+    Event::Expires,
+    Event::Opens,
+    Event::Peeks("/a"),
+    Event::Reads("/a"),
+    Event::Opens,
+];
+
+/// A session that is put away, taken up again, and closed.
+pub static CLOSES: [Event; 7] = [
+    Event::Opens,
+    Event::Creates("/a", Some("one"), 0),
+    Event::Resumes,
+    Event::Opens,
+    Event::Reads("/a"),
+    Event::Closes,
+    Event::Reads("/a"),
+];

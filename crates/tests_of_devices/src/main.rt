@@ -1,0 +1,34 @@
+//! Drives a device against a server in memory, and prints what it tells, as the numbers that a caller in C has. What is to be printed
+//! stands in the file `stdout`.
+#![tactic(auto)]
+
+mod events;
+mod session;
+mod told;
+
+use anyhow::Result;
+use events::{CLOSES, EXPIRES, Event};
+use session::play;
+use std::alloc::Global;
+use std::io::{self, Write};
+
+/// The length of the longest pieces that bytes are cut into.
+const LONGEST: usize = 64;
+
+/// A session whole, and then with its bytes in pieces of each length: the same is told.
+fn play_cut<W: Write>(alloc: Global, events: &[Event], out: &mut W) -> Result<()> {
+    let whole = play(alloc, events, usize::MAX)?;
+    out.write_all(whole.as_bytes())?;
+    for piece in 1..=LONGEST {
+        if play(alloc, events, piece)?.as_str() != whole.as_str() {
+            writeln!(out, "pieces of {piece}: something else is told")?;
+        }
+    }
+    Ok(writeln!(out, "the same in pieces")?)
+}
+
+fn main(rt: HostRuntime) -> Result<()> {
+    let mut out = io::writer(&rt);
+    play_cut(rt.alloc(), &EXPIRES, &mut out)?;
+    play_cut(rt.alloc(), &CLOSES, &mut out)
+}
