@@ -32,3 +32,8 @@ pub use output::{Brought, Bytes, Cause, GivenUp, Names, Output, Outputs, Reply, 
 pub use saved::SavedSession;
 pub use session::Session;
 pub use told::Event;
+
+/// The lines of the page, as a test that they compile.
+#[cfg(doctest)]
+#[doc = include_str!("../README.md")]
+struct Readme;
