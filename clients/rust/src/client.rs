@@ -1,7 +1,7 @@
 //! The client.
 
 use crate::fault::Fault;
-use crate::ffi::Handle;
+use crate::ffi::{Handle, KeptData};
 use crate::kept::{Children, DataAnswer, Kept, Mark};
 use crate::moment::Moment;
 use crate::node::{Mode, Watch};
@@ -14,13 +14,14 @@ use std::time::Duration;
 const FIRST_ROOM: usize = 256;
 
 /// The whole of what a function copies, as much as there is room for, that tells how many bytes there are.
-pub(crate) fn whole<E>(copy: impl Fn(&mut [u8]) -> Result<usize, E>) -> Result<Vec<u8>, E> {
-    let mut bytes = vec![0; FIRST_ROOM];
-    let length = copy(&mut bytes)?;
-    bytes.resize(length, 0);
-    if length > FIRST_ROOM {
-        copy(&mut bytes)?;
+pub(crate) fn whole<E>(mut copy: impl FnMut(&mut [u8]) -> Result<usize, E>) -> Result<Vec<u8>, E> {
+    let mut room = [0; FIRST_ROOM];
+    let length = copy(&mut room)?;
+    if let Some(bytes) = room.get(..length) {
+        return Ok(bytes.to_vec());
     }
+    let mut bytes = vec![0; length];
+    copy(&mut bytes)?;
     Ok(bytes)
 }
 
@@ -262,12 +263,11 @@ impl Client {
     /// What is kept about the data of a path that was read with a watch, and none where nothing is. The data are copied. It fails with
     /// [`Fault::NotPath`] and [`Fault::NoMemory`].
     pub fn peek_data(&self, path: &str) -> Result<Option<Kept<DataAnswer>>, Fault> {
-        let mut data = vec![0; FIRST_ROOM];
-        let kept = self.handle.peek_data(path, &mut data)?;
-        data.resize(kept.length, 0);
-        if kept.length > FIRST_ROOM {
-            self.handle.peek_data(path, &mut data)?;
-        }
+        let mut kept = KeptData::default();
+        let data = whole(|room| {
+            kept = self.handle.peek_data(path, room)?;
+            Ok(kept.length)
+        })?;
         Ok(Kept::of_data(&kept, data))
     }
 

@@ -50,13 +50,14 @@ impl Clock {
         }
     }
 
-    /// The moment that it is.
+    /// The moment that it is. A part of a millisecond is not counted.
     pub fn now(&self) -> Moment {
-        self.moment_of(Instant::now())
+        Moment(millis(self.beginning.elapsed()))
     }
 
-    /// The moment of an instant: 0 for one before the clock's beginning. A part of a millisecond is not counted.
+    /// The first moment that is not before an instant.
     pub fn moment_of(&self, instant: Instant) -> Moment {
-        Moment(millis(instant.saturating_duration_since(self.beginning)))
+        let passed = instant.saturating_duration_since(self.beginning);
+        Moment(millis(passed.saturating_add(Duration::from_nanos(999_999))))
     }
 }

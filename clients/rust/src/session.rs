@@ -1,14 +1,14 @@
 //! A session over TCP.
 
 use crate::client::{Client, State};
-use crate::fault::{Error, Fault};
+use crate::fault::{Code, Error, Fault, NoReply};
 use crate::kept::{Children, DataAnswer, Kept};
 use crate::moment::{Clock, Moment};
 use crate::node::{Mode, Node, Stat, Watch};
 use crate::output::Outputs;
 use crate::saved::SavedSession;
 use crate::told::{Event, Found, Told};
-use crate::Code;
+use std::fmt;
 use std::io::{self, ErrorKind, Read, Write};
 use std::net::{SocketAddr, TcpStream};
 use std::thread;
@@ -60,7 +60,6 @@ const NEVER: Moment = Moment::from_millis(u64::MAX);
 /// # Ok(())
 /// # }
 /// ```
-#[derive(Debug)]
 pub struct Session {
     client: Client,
     asked_timeout: Duration,
@@ -147,11 +146,10 @@ impl Session {
 
     /// Ends the session, with its ephemeral nodes. A session that is over already is no error.
     pub fn close(mut self) -> Result<(), Error> {
-        if self.client.state().is_final() {
-            return Ok(());
+        match self.call(|client, now, ticket| client.close_session(now, ticket)) {
+            Ok(_) | Err(Error::NoReply(NoReply::SessionExpired | NoReply::SessionClosed)) => Ok(()),
+            Err(fault) => Err(fault),
         }
-        self.call(|client, now, ticket| client.close_session(now, ticket))?;
-        Ok(())
     }
 }
 
@@ -400,5 +398,16 @@ impl Session {
         self.turn = (self.turn + 1) % self.addresses.len();
         let within = (self.client.timeout() / 3).max(SHORTEST_WAIT);
         connect(address, within).ok()
+    }
+}
+
+/// It tells the server and the client, and no frames: one may have a password.
+impl fmt::Debug for Session {
+    fn fmt(&self, f: &mut fmt::Formatter<'_>) -> fmt::Result {
+        let server = self.stream.as_ref().map(TcpStream::peer_addr);
+        f.debug_struct("Session")
+            .field("client", &self.client)
+            .field("server", &server)
+            .finish_non_exhaustive()
     }
 }

@@ -30,7 +30,7 @@ pub enum Event {
 }
 
 /// What a reply brings. What its call does not ask for is empty.
-#[derive(Debug, Default)]
+#[derive(Default)]
 pub(crate) struct Found {
     pub(crate) data: Option<Vec<u8>>,
     pub(crate) path: String,
@@ -39,7 +39,7 @@ pub(crate) struct Found {
 }
 
 /// What a client has said.
-#[derive(Debug, Default)]
+#[derive(Default)]
 pub(crate) struct Told {
     /// What goes to the server.
     pub(crate) frames: Vec<u8>,

@@ -151,6 +151,45 @@ fn a_reply_is_read() {
 }
 
 #[test]
+fn each_field_of_a_stat_has_its_place() {
+    let mut client = connected();
+    let _ = client.get_data(START, 1, "/a", Watch::Yes).unwrap();
+    let longs = Record::reply(1, 90, 0).buffer(b"x");
+    let longs = longs.long(11).long(12).long(13).long(14);
+    let ints = longs.int(15).int(16).int(17).long(18).int(19).int(20);
+    let _ = client.bytes(START, &ints.long(21).framed()).unwrap();
+    let Some(Kept {
+        answer: DataAnswer::Full { stat, .. },
+        ..
+    }) = client.peek_data("/a").unwrap()
+    else {
+        panic!("nothing is kept");
+    };
+    let zxids = (stat.czxid, stat.mzxid, stat.ephemeral_owner);
+    assert_eq!((zxids, stat.ctime, stat.mtime), ((11, 12, 18), 13, 14));
+    assert_eq!((stat.version, stat.data_length), (15, 19));
+    let _ = client.exists(START, 2, "/a", Watch::No).unwrap();
+    let longs = Record::reply(2, 90, 0).long(11).long(12).long(13).long(14);
+    let ints = longs.int(15).int(16).int(17).long(18).int(19).int(20);
+    let bytes = ints.long(21).framed();
+    let mut outputs = client.bytes(START, &bytes).unwrap();
+    let Some(Output::Answer {
+        outcome: Ok(Reply {
+            result: Ok(Brought::Stat(stat)),
+            ..
+        }),
+        ..
+    }) = outputs.next()
+    else {
+        panic!("no stat");
+    };
+    let zxids = (stat.czxid, stat.mzxid, stat.ephemeral_owner, stat.pzxid);
+    assert_eq!((zxids, stat.ctime, stat.mtime), ((11, 12, 18, 21), 13, 14));
+    assert_eq!((stat.version, stat.cversion, stat.aversion), (15, 16, 17));
+    assert_eq!((stat.data_length, stat.num_children), (19, 20));
+}
+
+#[test]
 fn null_data_are_no_empty_data() {
     let mut client = connected();
     let _ = client.get_data(START, 1, "/a", Watch::Yes).unwrap();
