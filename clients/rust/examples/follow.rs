@@ -11,6 +11,10 @@ fn main() -> Result<(), Box<dyn std::error::Error>> {
     let found: Result<Vec<_>, _> = hosts.split(',').map(str::to_socket_addrs).collect();
     let mut session = Session::open(found?.into_iter().flatten(), Duration::from_secs(10))?;
     loop {
+        if session.client().data_mark(path)? == Some(Mark::Good) {
+            session.next_event(None)?;
+            continue;
+        }
         match session.watch(path) {
             Ok(Some(node)) => {
                 let text = String::from_utf8_lossy(node.data.as_deref().unwrap_or_default());
@@ -20,9 +24,6 @@ fn main() -> Result<(), Box<dyn std::error::Error>> {
             Err(Error::NoReply(NoReply::SessionExpired)) => session.renew()?,
             Err(Error::NoReply(NoReply::NotConnected | NoReply::ConnectionLoss)) => {}
             Err(fault) => return Err(fault.into()),
-        }
-        while session.client().data_mark(path)? == Some(Mark::Good) {
-            session.next_event(None)?;
         }
     }
 }

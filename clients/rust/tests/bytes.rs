@@ -441,16 +441,18 @@ fn a_new_session_is_asked_for_from_a_zxid_on() {
 }
 
 #[test]
-fn what_is_out_of_range_is_refused() {
+fn what_is_no_timeout_or_session_is_refused() {
     let too_long = Duration::from_millis(1 << 31);
     for timeout in [Duration::ZERO, Duration::from_micros(999), too_long] {
         assert_eq!(Client::open(timeout).unwrap_err(), Fault::BadTimeout);
     }
     let short = SavedSession::from_bytes(vec![0; 19]);
-    assert_eq!(
-        Client::resume(TIMEOUT, &short).unwrap_err(),
-        Fault::NotSaved
-    );
+    let resumed = Client::resume(TIMEOUT, &short);
+    assert_eq!(resumed.unwrap_err(), Fault::NotSaved);
+}
+
+#[test]
+fn what_is_no_path_is_refused() {
     let mut client = connected();
     for path in ["", "a", "/a/", "//", "/a/../b", "/a\0"] {
         let asked = client.get_data(START, 1, path, Watch::No).map(said);

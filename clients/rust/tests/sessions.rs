@@ -300,19 +300,24 @@ fn nobody_answers_where_there_is_no_server() {
     assert_eq!(nobody, Err(Error::NoReply(NoReply::NotConnected)));
 }
 
+/// Asks a server that answers with random bytes.
+fn try_hostile(seed: &str) {
+    let Some(server) = Server::start(&["--hostile", seed]) else {
+        return;
+    };
+    let mut session = session_at(&server, 150);
+    for _ in 0..6 {
+        let begun = Instant::now();
+        let _ = session.get("/a", Watch::Yes);
+        let _ = session.children("/a", Watch::Yes);
+        assert!(begun.elapsed() < PATIENCE, "seed {seed}");
+    }
+}
+
 #[test]
 fn each_call_returns_whatever_a_server_sends() {
     for seed in ["1", "2", "3", "4", "5", "6"] {
-        let Some(server) = Server::start(&["--hostile", seed]) else {
-            return;
-        };
-        let mut session = session_at(&server, 150);
-        for _ in 0..6 {
-            let begun = Instant::now();
-            let _ = session.get("/a", Watch::Yes);
-            let _ = session.children("/a", Watch::Yes);
-            assert!(begun.elapsed() < PATIENCE, "seed {seed}");
-        }
+        try_hostile(seed);
     }
 }
 
