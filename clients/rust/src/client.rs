@@ -85,13 +85,18 @@ impl State {
 /// use std::time::Duration;
 ///
 /// # fn main() -> Result<(), dirwolleu::Fault> {
-/// let mut client = Client::open(Duration::from_secs(10))?;
-/// let mut outputs = client.opened(Moment::from_millis(0))?;
-/// let Some(Output::State(State::Connecting)) = outputs.next() else { unreachable!() };
-/// let Some(Output::Send(frame)) = outputs.next() else { unreachable!() };
-/// assert_eq!(frame.len(), 4 + 45); // a ConnectRequest with a password of 16 bytes: write it to the server
-/// assert!(outputs.next().is_none());
-/// assert_eq!(client.deadline(), Some(Moment::from_millis(6_667)));
+/// let mut client = Client::open(Duration::from_secs(9))?;
+/// let mut to_server = Vec::new();
+/// let mut outputs = client.opened(Moment::from_millis(1_000))?;
+/// while let Some(output) = outputs.next() {
+///     match output {
+///         Output::Send(frame) => frame.append_to(&mut to_server),
+///         other => println!("{other:?}"),
+///     }
+/// }
+/// assert_eq!(client.state(), State::Connecting);
+/// assert_eq!(to_server.len(), 4 + 45); // a ConnectRequest behind its length
+/// assert_eq!(client.deadline(), Some(Moment::from_millis(7_000))); // two thirds of the timeout
 /// # Ok(())
 /// # }
 /// ```

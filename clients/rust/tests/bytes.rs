@@ -10,7 +10,7 @@ use jute::Record;
 use std::time::Duration;
 
 const TIMEOUT: Duration = Duration::from_secs(9);
-const START: Moment = Moment::from_millis(1_000);
+const START: Moment = Moment::from_millis(1_000_000_000);
 const SESSION: i64 = 0x1234_5678;
 
 /// What was said, with all bytes, as text.
@@ -75,6 +75,8 @@ fn a_connection_begins_with_a_connect_request() {
     let request = request.buffer(&[0; 16]).boolean(false).framed();
     assert_eq!(frames(client.opened(START).unwrap()), [request]);
     assert_eq!(client.state(), State::Connecting);
+    let silent_at = START.saturating_add(TIMEOUT / 3 * 2);
+    assert_eq!(client.deadline(), Some(silent_at));
     let mut outputs = client
         .bytes(START, &Record::accepted(6_000, SESSION))
         .unwrap();

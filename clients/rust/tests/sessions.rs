@@ -305,8 +305,8 @@ fn try_hostile(seed: &str) {
     let Some(server) = Server::start(&["--hostile", seed]) else {
         return;
     };
-    let mut session = session_at(&server, 150);
-    for _ in 0..6 {
+    let mut session = session_at(&server, 100);
+    for _ in 0..4 {
         let begun = Instant::now();
         let _ = session.get("/a", Watch::Yes);
         let _ = session.children("/a", Watch::Yes);
@@ -316,7 +316,7 @@ fn try_hostile(seed: &str) {
 
 #[test]
 fn each_call_returns_whatever_a_server_sends() {
-    for seed in ["1", "2", "3", "4", "5", "6"] {
+    for seed in ["1", "2", "3", "4"] {
         try_hostile(seed);
     }
 }
