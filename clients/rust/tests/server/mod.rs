@@ -1,6 +1,6 @@
 //! The server in memory, `clients/partner/partner.py`, as a child process.
 
-use std::io::{BufRead, BufReader, Write};
+use std::io::{BufRead, BufReader, ErrorKind, Write};
 use std::net::SocketAddr;
 use std::process::{Child, ChildStdin, Command, Stdio};
 use std::sync::mpsc::{channel, Receiver};
@@ -21,24 +21,19 @@ pub struct Server {
     pub address: SocketAddr,
 }
 
-/// Whether there is a Python to run the server.
-fn has_python() -> bool {
-    let mut command = Command::new("python3");
-    command.arg("--version").stdout(Stdio::null());
-    command.status().is_ok_and(|status| status.success())
-}
-
 impl Server {
     /// A server with these words, and none where there is no python3, which is said.
     pub fn start(words: &[&str]) -> Option<Server> {
-        if !has_python() {
-            println!("skipped: there is no python3");
-            return None;
-        }
         let mut command = Command::new("python3");
         command.arg(PARTNER).args(words);
         command.stdin(Stdio::piped()).stdout(Stdio::piped());
-        let mut child = command.spawn().expect("python3 starts");
+        let mut child = match command.spawn() {
+            Err(fault) if fault.kind() == ErrorKind::NotFound => {
+                println!("skipped: there is no python3");
+                return None;
+            }
+            child => child.expect("python3 starts"),
+        };
         let input = child.stdin.take().expect("it is piped");
         let output = BufReader::new(child.stdout.take().expect("it is piped"));
         let (sender, lines) = channel();
