@@ -404,7 +404,8 @@ impl Session {
 /// It tells the server and the client, and no frames: one may have a password.
 impl fmt::Debug for Session {
     fn fmt(&self, f: &mut fmt::Formatter<'_>) -> fmt::Result {
-        let server = self.stream.as_ref().map(TcpStream::peer_addr);
+        let stream = self.stream.as_ref();
+        let server = stream.and_then(|stream| stream.peer_addr().ok());
         f.debug_struct("Session")
             .field("client", &self.client)
             .field("server", &server)
