@@ -1,0 +1,53 @@
+//! Finds the static library `libdirwolleu.a`: in the folder that `DIRWOLLEU_LIB_DIR` names, else in `clients/out` beside this crate,
+//! else by pkg-config.
+
+use std::env;
+use std::path::{Path, PathBuf};
+use std::process::{exit, Command};
+
+const LIBRARY: &str = "libdirwolleu.a";
+
+/// The folder that the environment names. It is taken at its word: no other one is looked at.
+fn named() -> Option<PathBuf> {
+    env::var_os("DIRWOLLEU_LIB_DIR").map(PathBuf::from)
+}
+
+/// The folder in which `scripts/client_libraries` makes the libraries of a checkout.
+fn made() -> Option<PathBuf> {
+    let folder = Path::new(&env::var_os("CARGO_MANIFEST_DIR")?).join("../out");
+    folder.join(LIBRARY).is_file().then_some(folder)
+}
+
+/// The folder into which the libraries were installed.
+fn installed() -> Option<PathBuf> {
+    let program = env::var_os("PKG_CONFIG").unwrap_or_else(|| "pkg-config".into());
+    let mut command = Command::new(program);
+    let said = command
+        .args(["--variable=libdir", "dirwolleu"])
+        .output()
+        .ok()?;
+    let folder = PathBuf::from(String::from_utf8(said.stdout).ok()?.trim_end());
+    folder.join(LIBRARY).is_file().then_some(folder)
+}
+
+fn main() {
+    println!("cargo:rerun-if-env-changed=DIRWOLLEU_LIB_DIR");
+    println!("cargo:rerun-if-env-changed=PKG_CONFIG");
+    println!("cargo:rerun-if-env-changed=PKG_CONFIG_PATH");
+    println!("cargo:rerun-if-changed=../out/{LIBRARY}");
+    let Some(folder) = named().or_else(made).or_else(installed) else {
+        eprintln!("{LIBRARY} was not found: run `scripts/client_libraries`, or name its folder in DIRWOLLEU_LIB_DIR");
+        exit(1);
+    };
+    let library = folder.join(LIBRARY);
+    if !library.is_file() {
+        eprintln!(
+            "{} is not there, which DIRWOLLEU_LIB_DIR names",
+            library.display()
+        );
+        exit(1);
+    }
+    println!("cargo:rerun-if-changed={}", library.display());
+    println!("cargo:rustc-link-search=native={}", folder.display());
+    println!("cargo:rustc-link-lib=static=dirwolleu");
+}

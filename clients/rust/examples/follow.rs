@@ -1,0 +1,29 @@
+//! Follows a node: `follow HOST:PORT[,HOST:PORT..] PATH` prints what it holds at first, and at each change, whatever the servers do.
+
+use dirwolleu::{Error, Mark, NoReply, Session};
+use std::{env, net::ToSocketAddrs, time::Duration};
+
+fn main() -> Result<(), Box<dyn std::error::Error>> {
+    let words: Vec<String> = env::args().skip(1).collect();
+    let [hosts, path] = words.as_slice() else {
+        return Err("usage: follow HOST:PORT[,HOST:PORT..] PATH".into());
+    };
+    let found: Result<Vec<_>, _> = hosts.split(',').map(str::to_socket_addrs).collect();
+    let mut session = Session::open(found?.into_iter().flatten(), Duration::from_secs(10))?;
+    loop {
+        if session.client().data_mark(path)? == Some(Mark::Good) {
+            session.next_event(None)?;
+            continue;
+        }
+        match session.watch(path) {
+            Ok(Some(node)) => {
+                let text = String::from_utf8_lossy(node.data.as_deref().unwrap_or_default());
+                println!("{path} version {}: {text}", node.stat.version);
+            }
+            Ok(None) => println!("{path} is not there"),
+            Err(Error::NoReply(NoReply::SessionExpired)) => session.renew()?,
+            Err(Error::NoReply(NoReply::NotConnected | NoReply::ConnectionLoss)) => {}
+            Err(fault) => return Err(fault.into()),
+        }
+    }
+}

@@ -1,0 +1,323 @@
+//! The client.
+
+use crate::fault::Fault;
+use crate::ffi::{Handle, KeptData};
+use crate::kept::{Children, DataAnswer, Kept, Mark};
+use crate::moment::Moment;
+use crate::node::{Mode, Watch};
+use crate::output::Outputs;
+use crate::saved::SavedSession;
+use std::fmt;
+use std::time::Duration;
+
+/// The room that a text of unknown length is given at first.
+const FIRST_ROOM: usize = 256;
+
+/// The whole of what a function copies, as much as there is room for, that tells how many bytes there are.
+pub(crate) fn whole<E>(mut copy: impl FnMut(&mut [u8]) -> Result<usize, E>) -> Result<Vec<u8>, E> {
+    let mut room = [0; FIRST_ROOM];
+    let length = copy(&mut room)?;
+    if let Some(bytes) = room.get(..length) {
+        return Ok(bytes.to_vec());
+    }
+    let mut bytes = vec![0; length];
+    copy(&mut bytes)?;
+    Ok(bytes)
+}
+
+/// The text of bytes that the library takes for one.
+pub(crate) fn whole_text(bytes: Vec<u8>) -> String {
+    String::from_utf8(bytes).expect("the library gives UTF-8")
+}
+
+/// The state of a session, as its client knows it.
+#[derive(Clone, Copy, Debug, PartialEq, Eq, Hash)]
+pub enum State {
+    /// There is no connection. What is kept stays kept, with its marks.
+    Idle,
+    /// The connection stands, and the server has not answered for the session yet.
+    Connecting,
+    /// A server has accepted the session.
+    Connected,
+    /// The servers have given the session up. Nothing is kept or watched, and that is final.
+    Expired,
+    /// The session was closed, as it was asked. Nothing is kept or watched, and that is final.
+    Closed,
+}
+
+impl State {
+    pub(crate) fn of(number: i32) -> State {
+        match number {
+            0 => State::Idle,
+            1 => State::Connecting,
+            2 => State::Connected,
+            3 => State::Expired,
+            _ => State::Closed,
+        }
+    }
+
+    /// Whether there is no other state behind it.
+    pub fn is_final(self) -> bool {
+        matches!(self, State::Expired | State::Closed)
+    }
+}
+
+/// A client of one session, as a machine: bytes, moments and calls go in, and [`Outputs`] come out.
+///
+/// It opens no socket, reads no clock and starts no thread, and no function of it waits. A program hands in what happened, with the
+/// moment at which it noticed it, does what the outputs say, and wakes at the latest at the [`deadline`](Client::deadline).
+/// [`Session`](crate::Session) is such a program over TCP.
+///
+/// Each step forgets the outputs of the step before. It fails with [`Fault::Halted`] where memory ran out within it, and with the
+/// faults that it names besides; these leave the client as it was.
+///
+/// A client may be moved, and handed to another thread. It is used by one thread at a time:
+///
+/// ```compile_fail,E0277
+/// fn is_sync<T: Sync>() {}
+/// is_sync::<dirwolleu::Client>();
+/// ```
+///
+/// To let it go ends no session: [`close_session`](Client::close_session) does.
+///
+/// ```
+/// use dirwolleu::{Client, Moment, Output, State};
+/// use std::time::Duration;
+///
+/// # fn main() -> Result<(), dirwolleu::Fault> {
+/// let mut client = Client::open(Duration::from_secs(9))?;
+/// let mut to_server = Vec::new();
+/// let mut outputs = client.opened(Moment::from_millis(1_000))?;
+/// while let Some(output) = outputs.next() {
+///     match output {
+///         Output::Send(frame) => frame.append_to(&mut to_server),
+///         other => println!("{other:?}"),
+///     }
+/// }
+/// assert_eq!(client.state(), State::Connecting);
+/// assert_eq!(to_server.len(), 4 + 45); // a ConnectRequest behind its length
+/// assert_eq!(client.deadline(), Some(Moment::from_millis(7_000))); // two thirds of the timeout
+/// # Ok(())
+/// # }
+/// ```
+pub struct Client {
+    pub(crate) handle: Handle,
+}
+
+/// The number of milliseconds of a timeout, in whole ones.
+fn timeout_ms(timeout: Duration) -> Result<i32, Fault> {
+    i32::try_from(timeout.as_millis()).map_err(|_| Fault::BadTimeout)
+}
+
+/// How a client begins.
+impl Client {
+    /// A client of no session yet, which asks for this timeout, in whole milliseconds: 1 to 2,147,483,647, else [`Fault::BadTimeout`].
+    /// Else it fails with [`Fault::NoMemory`] alone.
+    pub fn open(timeout: Duration) -> Result<Client, Fault> {
+        let handle = Handle::open(timeout_ms(timeout)?)?;
+        Ok(Client { handle })
+    }
+
+    /// The same, of a session that was put away. Also [`Fault::NotSaved`].
+    pub fn resume(timeout: Duration, saved: &SavedSession) -> Result<Client, Fault> {
+        let handle = Handle::resume(timeout_ms(timeout)?, saved.as_bytes())?;
+        Ok(Client { handle })
+    }
+}
+
+/// Steps: what happened.
+impl Client {
+    /// A connection to a server begins. Hand in [`cut`](Client::cut) before, where one is open still.
+    pub fn opened(&mut self, now: Moment) -> Result<Outputs<'_>, Fault> {
+        self.handle.opened(now)?;
+        Ok(Outputs::of(self))
+    }
+
+    /// The connection is over.
+    pub fn cut(&mut self, now: Moment) -> Result<Outputs<'_>, Fault> {
+        self.handle.cut(now)?;
+        Ok(Outputs::of(self))
+    }
+
+    /// A moment, and nothing else: at the latest at the [`deadline`](Client::deadline).
+    pub fn tick(&mut self, now: Moment) -> Result<Outputs<'_>, Fault> {
+        self.handle.tick(now)?;
+        Ok(Outputs::of(self))
+    }
+
+    /// Bytes came from the server, cut anyhow. Also [`Fault::NoMemory`]: the same bytes can be handed in again.
+    pub fn bytes(&mut self, now: Moment, bytes: &[u8]) -> Result<Outputs<'_>, Fault> {
+        self.handle.bytes(now, bytes)?;
+        Ok(Outputs::of(self))
+    }
+}
+
+/// Steps: calls. The ticket is the caller's own number, and comes back with the answer, which is an output of this step or of a later
+/// one. Each also fails with [`Fault::NoMemory`], and [`Fault::NotPath`] where it has a path.
+impl Client {
+    /// Asks whether there is a node, and what is known of it.
+    pub fn exists(
+        &mut self,
+        now: Moment,
+        ticket: u64,
+        path: &str,
+        watch: Watch,
+    ) -> Result<Outputs<'_>, Fault> {
+        self.handle.exists(now, ticket, path, watch)?;
+        Ok(Outputs::of(self))
+    }
+
+    /// Asks for the data of a node. Where there is no node it leaves no watch: [`exists`](Client::exists) does.
+    pub fn get_data(
+        &mut self,
+        now: Moment,
+        ticket: u64,
+        path: &str,
+        watch: Watch,
+    ) -> Result<Outputs<'_>, Fault> {
+        self.handle.get_data(now, ticket, path, watch)?;
+        Ok(Outputs::of(self))
+    }
+
+    /// Asks for the names of the children of a node. Where there is no node it leaves no watch.
+    pub fn get_children(
+        &mut self,
+        now: Moment,
+        ticket: u64,
+        path: &str,
+        watch: Watch,
+    ) -> Result<Outputs<'_>, Fault> {
+        self.handle.get_children(now, ticket, path, watch)?;
+        Ok(Outputs::of(self))
+    }
+
+    /// Asks to set the data of a node: none are null data. The version is the one that the node has to have, or
+    /// [`ANY_VERSION`](crate::ANY_VERSION).
+    pub fn set_data(
+        &mut self,
+        now: Moment,
+        ticket: u64,
+        path: &str,
+        data: Option<&[u8]>,
+        version: i32,
+    ) -> Result<Outputs<'_>, Fault> {
+        self.handle.set_data(now, ticket, path, data, version)?;
+        Ok(Outputs::of(self))
+    }
+
+    /// Asks to make a node, with these data: none are null data.
+    pub fn create(
+        &mut self,
+        now: Moment,
+        ticket: u64,
+        path: &str,
+        data: Option<&[u8]>,
+        mode: Mode,
+    ) -> Result<Outputs<'_>, Fault> {
+        self.handle.create(now, ticket, path, data, mode)?;
+        Ok(Outputs::of(self))
+    }
+
+    /// Asks to delete a node. The version is as of [`set_data`](Client::set_data).
+    pub fn delete(
+        &mut self,
+        now: Moment,
+        ticket: u64,
+        path: &str,
+        version: i32,
+    ) -> Result<Outputs<'_>, Fault> {
+        self.handle.delete(now, ticket, path, version)?;
+        Ok(Outputs::of(self))
+    }
+
+    /// Asks to end the session.
+    pub fn close_session(&mut self, now: Moment, ticket: u64) -> Result<Outputs<'_>, Fault> {
+        self.handle.close_session(now, ticket)?;
+        Ok(Outputs::of(self))
+    }
+}
+
+/// Look-ups. They ask nobody, and serve after [`Fault::Halted`] too, when nothing is kept.
+impl Client {
+    /// The state.
+    pub fn state(&self) -> State {
+        State::of(self.handle.state())
+    }
+
+    /// The greatest zxid seen, not below 0. A good answer is what the servers' history has at it.
+    pub fn last_zxid(&self) -> i64 {
+        self.handle.last_zxid()
+    }
+
+    /// The timeout of the session: the one that a server granted last, or the one to ask for.
+    pub fn timeout(&self) -> Duration {
+        Duration::from_millis(self.handle.timeout_ms().unsigned_abs())
+    }
+
+    /// The first moment at which something is due: a ping, or that the server is silent for too long. None where nothing ever is, as
+    /// without a connection. It changes with each step.
+    pub fn deadline(&self) -> Option<Moment> {
+        self.handle.deadline()
+    }
+
+    /// The session, to be taken up by [`resume`](Client::resume). It fails with [`Fault::NoMemory`] alone.
+    pub fn saved(&self) -> Result<SavedSession, Fault> {
+        whole(|room| self.handle.saved(room)).map(SavedSession::from_bytes)
+    }
+
+    /// What is kept about the data of a path that was read with a watch, and none where nothing is. The data are copied. It fails with
+    /// [`Fault::NotPath`] and [`Fault::NoMemory`].
+    pub fn peek_data(&self, path: &str) -> Result<Option<Kept<DataAnswer>>, Fault> {
+        let mut kept = KeptData::default();
+        let data = whole(|room| {
+            kept = self.handle.peek_data(path, room)?;
+            Ok(kept.length)
+        })?;
+        Ok(Kept::of_data(&kept, data))
+    }
+
+    /// The mark of what is kept about the data of a path, and none where nothing is. It copies no data, and fails as
+    /// [`peek_data`](Client::peek_data).
+    pub fn data_mark(&self, path: &str) -> Result<Option<Mark>, Fault> {
+        Ok(Mark::of(self.handle.peek_data(path, &mut [])?.mark))
+    }
+
+    /// What is kept about the children of a path that were read with a watch, and none where nothing is. The names are copied: each
+    /// costs a walk over those before it, so the time grows with the square of their number. It fails as
+    /// [`peek_data`](Client::peek_data).
+    pub fn peek_children(&self, path: &str) -> Result<Option<Kept<Children>>, Fault> {
+        let kept = self.handle.peek_children(path)?;
+        let Some(mark) = Mark::of(kept.mark) else {
+            return Ok(None);
+        };
+        let name_at = |index| whole(|room| self.handle.peek_name(path, index, room));
+        let names: Result<Vec<String>, Fault> = (0..kept.count)
+            .map(|index| name_at(index).map(whole_text))
+            .collect();
+        let (names, pzxid) = (names?, kept.pzxid);
+        Ok(Some(Kept {
+            answer: Children { names, pzxid },
+            mark,
+        }))
+    }
+
+    /// The mark of what is kept about the children of a path, and none where nothing is. It copies no names, and fails as
+    /// [`peek_data`](Client::peek_data).
+    pub fn children_mark(&self, path: &str) -> Result<Option<Mark>, Fault> {
+        Ok(Mark::of(self.handle.peek_children(path)?.mark))
+    }
+
+    /// Forgets all stale answers. What is kept is bounded by nothing but memory: who goes from path to path calls this now and then.
+    pub fn forget_stale(&mut self) {
+        self.handle.forget();
+    }
+}
+
+impl fmt::Debug for Client {
+    fn fmt(&self, f: &mut fmt::Formatter<'_>) -> fmt::Result {
+        f.debug_struct("Client")
+            .field("state", &self.state())
+            .field("last_zxid", &self.last_zxid())
+            .finish_non_exhaustive()
+    }
+}

@@ -1,0 +1,181 @@
+//! Why something was not done: by the library, on the way to the server, or by the server.
+
+use std::error;
+use std::fmt;
+
+/// Why a step or a look-up was not made. But for [`Fault::Halted`], nothing has happened.
+#[derive(Clone, Copy, Debug, PartialEq, Eq, Hash)]
+#[non_exhaustive]
+pub enum Fault {
+    /// Memory ran out within a step. The client has no use any more: each later step answers the same, and nothing is kept or watched.
+    /// Its state, zxid and session can still be asked for: take [`saved`](crate::Client::saved), and resume it.
+    Halted,
+    /// There was no memory for what was given. The same can be handed in again.
+    NoMemory,
+    /// The text is no path of a node.
+    NotPath,
+    /// The timeout is not 1 to 2,147,483,647 milliseconds.
+    BadTimeout,
+    /// The bytes are no saved session.
+    NotSaved,
+}
+
+impl fmt::Display for Fault {
+    fn fmt(&self, f: &mut fmt::Formatter<'_>) -> fmt::Result {
+        f.write_str(match self {
+            Fault::Halted => "out of memory: the client has no use from now on",
+            Fault::NoMemory => "no memory for what was given",
+            Fault::NotPath => "the text is no path of a node",
+            Fault::BadTimeout => "the timeout is not 1 to 2147483647 milliseconds",
+            Fault::NotSaved => "the bytes are no saved session",
+        })
+    }
+}
+
+impl error::Error for Fault {}
+
+/// What a code of the library says. The other codes of the header have no cause here: a handle is open, texts are UTF-8, and a
+/// [`Mode`](crate::Mode) has its number.
+pub(crate) fn done(code: i32) -> Result<(), Fault> {
+    match code {
+        0 => Ok(()),
+        -1 => Err(Fault::Halted),
+        -2 => Err(Fault::NoMemory),
+        -5 => Err(Fault::NotPath),
+        -6 => Err(Fault::BadTimeout),
+        -8 => Err(Fault::NotSaved),
+        _ => unreachable!("the library of this header does not answer {code} here"),
+    }
+}
+
+/// Why a call has no reply. But for [`NoReply::ConnectionLoss`], nothing was sent and nothing has changed.
+#[derive(Clone, Copy, Debug, PartialEq, Eq, Hash)]
+pub enum NoReply {
+    /// The connection ended before the reply: the call may or may not have happened.
+    ConnectionLoss,
+    /// The session has expired.
+    SessionExpired,
+    /// The session is closed, or about to be.
+    SessionClosed,
+    /// There is no connection on which a server has accepted the session.
+    NotConnected,
+    /// 65,536 paths of this side are watched.
+    TooManyWatches,
+    /// The payload would have more than 1,048,575 bytes.
+    TooLarge,
+    /// 1,024 calls wait for their reply.
+    TooManyPending,
+}
+
+impl NoReply {
+    pub(crate) fn of(number: i32) -> NoReply {
+        match number {
+            1 => NoReply::ConnectionLoss,
+            2 => NoReply::SessionExpired,
+            3 => NoReply::SessionClosed,
+            4 => NoReply::NotConnected,
+            5 => NoReply::TooManyWatches,
+            6 => NoReply::TooLarge,
+            _ => NoReply::TooManyPending,
+        }
+    }
+}
+
+impl fmt::Display for NoReply {
+    fn fmt(&self, f: &mut fmt::Formatter<'_>) -> fmt::Result {
+        f.write_str(match self {
+            NoReply::ConnectionLoss => "the connection ended before the reply",
+            NoReply::SessionExpired => "the session has expired",
+            NoReply::SessionClosed => "the session is closed",
+            NoReply::NotConnected => "no server is connected",
+            NoReply::TooManyWatches => "65536 paths are watched",
+            NoReply::TooLarge => "the request has more than 1048575 bytes",
+            NoReply::TooManyPending => "1024 calls wait for their reply",
+        })
+    }
+}
+
+impl error::Error for NoReply {}
+
+/// The error of a server about one call: the number of a reply's header. It changes no state.
+#[derive(Clone, Copy, Debug, PartialEq, Eq, Hash)]
+pub struct Code(pub i32);
+
+impl Code {
+    /// There is no node; for a create, no parent.
+    pub const NO_NODE: Code = Code(-101);
+    /// The node's ACL does not admit this client, which has no credentials.
+    pub const NO_AUTH: Code = Code(-102);
+    /// The node's version is another one than the call says.
+    pub const BAD_VERSION: Code = Code(-103);
+    /// The parent is an ephemeral node.
+    pub const NO_CHILDREN_FOR_EPHEMERALS: Code = Code(-108);
+    /// There is a node already.
+    pub const NODE_EXISTS: Code = Code(-110);
+    /// The node has children.
+    pub const NOT_EMPTY: Code = Code(-111);
+    /// The session was taken up over another connection.
+    pub const SESSION_MOVED: Code = Code(-118);
+
+    fn words(self) -> &'static str {
+        match self {
+            Code::NO_NODE => "there is no node",
+            Code::NO_AUTH => "the node does not admit this client",
+            Code::BAD_VERSION => "the node has another version",
+            Code::NO_CHILDREN_FOR_EPHEMERALS => "the parent is an ephemeral node",
+            Code::NODE_EXISTS => "there is a node already",
+            Code::NOT_EMPTY => "the node has children",
+            Code::SESSION_MOVED => "the session was taken up over another connection",
+            Code(_) => "the server refuses the call",
+        }
+    }
+}
+
+impl fmt::Display for Code {
+    fn fmt(&self, f: &mut fmt::Formatter<'_>) -> fmt::Result {
+        write!(f, "{} ({})", self.words(), self.0)
+    }
+}
+
+impl error::Error for Code {}
+
+/// Why a call of a [`Session`](crate::Session) does not give what was asked.
+#[derive(Clone, Copy, Debug, PartialEq, Eq, Hash)]
+pub enum Error {
+    /// The server refuses the call.
+    Server(Code),
+    /// There is no reply.
+    NoReply(NoReply),
+    /// The library has not made the step.
+    Fault(Fault),
+}
+
+impl fmt::Display for Error {
+    fn fmt(&self, f: &mut fmt::Formatter<'_>) -> fmt::Result {
+        match self {
+            Error::Server(code) => code.fmt(f),
+            Error::NoReply(reason) => reason.fmt(f),
+            Error::Fault(fault) => fault.fmt(f),
+        }
+    }
+}
+
+impl error::Error for Error {}
+
+impl From<Code> for Error {
+    fn from(code: Code) -> Error {
+        Error::Server(code)
+    }
+}
+
+impl From<NoReply> for Error {
+    fn from(reason: NoReply) -> Error {
+        Error::NoReply(reason)
+    }
+}
+
+impl From<Fault> for Error {
+    fn from(fault: Fault) -> Error {
+        Error::Fault(fault)
+    }
+}

@@ -1,0 +1,383 @@
+//! The C interface, `include/dirwolleu.h`, and a [`Handle`] that keeps what the header asks of its callers. All `unsafe` code of this
+//! crate stands here.
+#![deny(clippy::undocumented_unsafe_blocks)]
+
+use crate::fault::{done, Fault};
+use crate::moment::Moment;
+use crate::node::{DataStat, Mode, Stat, Watch};
+use std::cell::UnsafeCell;
+use std::ptr;
+
+/// `dw_client`.
+#[repr(C)]
+struct Raw {
+    is_open: bool,
+    slot: Slot,
+}
+
+#[repr(C)]
+struct Slot {
+    at: *mut u8,
+}
+
+/// `dw_output`.
+#[repr(C)]
+#[derive(Default)]
+pub(crate) struct Output {
+    pub(crate) kind: i32,
+    pub(crate) detail: i32,
+    pub(crate) result: i32,
+    pub(crate) code: i32,
+    pub(crate) ticket: u64,
+    pub(crate) zxid: i64,
+    pub(crate) length: usize,
+    pub(crate) names: usize,
+    pub(crate) is_null: bool,
+    _has_stat: bool,
+    pub(crate) stat: Stat,
+}
+
+/// `dw_kept_data`.
+#[repr(C)]
+#[derive(Default)]
+pub(crate) struct KeptData {
+    pub(crate) kind: i32,
+    pub(crate) mark: i32,
+    pub(crate) length: usize,
+    pub(crate) is_null: bool,
+    pub(crate) stat: DataStat,
+}
+
+/// `dw_kept_names`.
+#[repr(C)]
+#[derive(Default)]
+pub(crate) struct KeptNames {
+    pub(crate) mark: i32,
+    pub(crate) count: usize,
+    pub(crate) pzxid: i64,
+}
+
+/// The code of a function that did what it was asked, or has something to tell.
+pub(crate) const OK: i32 = 0;
+
+#[rustfmt::skip]
+extern "C" {
+    fn dw_open(handle: *mut Raw, timeout_ms: i32) -> i32;
+    fn dw_resume(handle: *mut Raw, timeout_ms: i32, saved: *const u8, saved_length: usize) -> i32;
+    fn dw_close(handle: *mut Raw);
+    fn dw_opened(handle: *mut Raw, now_ms: u64) -> i32;
+    fn dw_cut(handle: *mut Raw, now_ms: u64) -> i32;
+    fn dw_tick(handle: *mut Raw, now_ms: u64) -> i32;
+    fn dw_bytes(handle: *mut Raw, now_ms: u64, bytes: *const u8, length: usize) -> i32;
+    fn dw_exists(handle: *mut Raw, now_ms: u64, ticket: u64, path: *const u8, path_length: usize, watch: bool) -> i32;
+    fn dw_get_data(handle: *mut Raw, now_ms: u64, ticket: u64, path: *const u8, path_length: usize, watch: bool) -> i32;
+    fn dw_get_children(handle: *mut Raw, now_ms: u64, ticket: u64, path: *const u8, path_length: usize, watch: bool) -> i32;
+    fn dw_set_data(handle: *mut Raw, now_ms: u64, ticket: u64, path: *const u8, path_length: usize, bytes: *const u8, length: usize, is_null: bool, version: i32) -> i32;
+    fn dw_create(handle: *mut Raw, now_ms: u64, ticket: u64, path: *const u8, path_length: usize, bytes: *const u8, length: usize, is_null: bool, mode: u32) -> i32;
+    fn dw_delete(handle: *mut Raw, now_ms: u64, ticket: u64, path: *const u8, path_length: usize, version: i32) -> i32;
+    fn dw_close_session(handle: *mut Raw, now_ms: u64, ticket: u64) -> i32;
+    fn dw_next(handle: *mut Raw, out: *mut Output) -> i32;
+    fn dw_copy(handle: *mut Raw, from: usize, out: *mut u8, room: usize) -> usize;
+    fn dw_name(handle: *mut Raw, index: usize, out: *mut u8, room: usize) -> usize;
+    fn dw_words(handle: *mut Raw, out: *mut u8, room: usize, count: *mut usize) -> i32;
+    fn dw_state(handle: *mut Raw) -> i32;
+    fn dw_last_zxid(handle: *mut Raw) -> i64;
+    fn dw_timeout_ms(handle: *mut Raw) -> i64;
+    fn dw_deadline(handle: *mut Raw, first_ms: *mut u64) -> i32;
+    fn dw_saved(handle: *mut Raw, out: *mut u8, room: usize, count: *mut usize) -> i32;
+    fn dw_peek_data(handle: *mut Raw, path: *const u8, path_length: usize, kept: *mut KeptData, out: *mut u8, room: usize) -> i32;
+    fn dw_peek_children(handle: *mut Raw, path: *const u8, path_length: usize, kept: *mut KeptNames) -> i32;
+    fn dw_peek_name(handle: *mut Raw, path: *const u8, path_length: usize, index: usize, out: *mut u8, room: usize, count: *mut usize) -> i32;
+    fn dw_forget(handle: *mut Raw) -> i32;
+}
+
+/// An open client. It keeps what the header asks of a caller and nothing checks:
+///
+/// - the raw handle begins as zeros, is written by the library alone, and is moved but never copied;
+/// - one call at a time uses it: a step has it by `&mut`, and look-ups, which write to the handle too, have it by `&` of a type that is
+///   not `Sync`; no function of the library calls back;
+/// - pointers come from references and slices, so none is null, lengths are those of the slices, and what a call writes is borrowed
+///   mutably, so it overlaps with nothing.
+///
+/// The layouts above are those of the header that stands beside the library.
+pub(crate) struct Handle {
+    raw: UnsafeCell<Raw>,
+}
+
+// SAFETY: the library binds a handle to no thread, and says that it may go to another one between two calls. Rust orders the two.
+unsafe impl Send for Handle {}
+
+impl Drop for Handle {
+    fn drop(&mut self) {
+        // SAFETY: as `Handle` says. Behind it nothing uses the handle any more.
+        unsafe { dw_close(self.raw.get_mut()) }
+    }
+}
+
+/// The bytes of data, and whether they are null. The bytes of null data are not looked at.
+fn bytes_of(data: Option<&[u8]>) -> (&[u8], bool) {
+    (data.unwrap_or_default(), data.is_none())
+}
+
+impl Handle {
+    /// A handle that holds nothing.
+    fn closed() -> Handle {
+        Handle {
+            raw: UnsafeCell::new(Raw {
+                is_open: false,
+                slot: Slot {
+                    at: ptr::null_mut(),
+                },
+            }),
+        }
+    }
+
+    pub(crate) fn open(timeout_ms: i32) -> Result<Handle, Fault> {
+        let mut handle = Handle::closed();
+        // SAFETY: as `Handle` says.
+        done(unsafe { dw_open(handle.raw.get_mut(), timeout_ms) })?;
+        Ok(handle)
+    }
+
+    pub(crate) fn resume(timeout_ms: i32, saved: &[u8]) -> Result<Handle, Fault> {
+        let mut handle = Handle::closed();
+        let raw = handle.raw.get_mut();
+        // SAFETY: as `Handle` says.
+        done(unsafe { dw_resume(raw, timeout_ms, saved.as_ptr(), saved.len()) })?;
+        Ok(handle)
+    }
+
+    pub(crate) fn opened(&mut self, now: Moment) -> Result<(), Fault> {
+        // SAFETY: as `Handle` says.
+        done(unsafe { dw_opened(self.raw.get_mut(), now.as_millis()) })
+    }
+
+    pub(crate) fn cut(&mut self, now: Moment) -> Result<(), Fault> {
+        // SAFETY: as `Handle` says.
+        done(unsafe { dw_cut(self.raw.get_mut(), now.as_millis()) })
+    }
+
+    pub(crate) fn tick(&mut self, now: Moment) -> Result<(), Fault> {
+        // SAFETY: as `Handle` says.
+        done(unsafe { dw_tick(self.raw.get_mut(), now.as_millis()) })
+    }
+
+    pub(crate) fn bytes(&mut self, now: Moment, bytes: &[u8]) -> Result<(), Fault> {
+        let (raw, now) = (self.raw.get_mut(), now.as_millis());
+        // SAFETY: as `Handle` says.
+        done(unsafe { dw_bytes(raw, now, bytes.as_ptr(), bytes.len()) })
+    }
+
+    pub(crate) fn exists(
+        &mut self,
+        now: Moment,
+        ticket: u64,
+        path: &str,
+        watch: Watch,
+    ) -> Result<(), Fault> {
+        let (raw, now, is_left) = (self.raw.get_mut(), now.as_millis(), watch.is_left());
+        // SAFETY: as `Handle` says.
+        done(unsafe { dw_exists(raw, now, ticket, path.as_ptr(), path.len(), is_left) })
+    }
+
+    pub(crate) fn get_data(
+        &mut self,
+        now: Moment,
+        ticket: u64,
+        path: &str,
+        watch: Watch,
+    ) -> Result<(), Fault> {
+        let (raw, now, is_left) = (self.raw.get_mut(), now.as_millis(), watch.is_left());
+        // SAFETY: as `Handle` says.
+        done(unsafe { dw_get_data(raw, now, ticket, path.as_ptr(), path.len(), is_left) })
+    }
+
+    pub(crate) fn get_children(
+        &mut self,
+        now: Moment,
+        ticket: u64,
+        path: &str,
+        watch: Watch,
+    ) -> Result<(), Fault> {
+        let (raw, now, is_left) = (self.raw.get_mut(), now.as_millis(), watch.is_left());
+        // SAFETY: as `Handle` says.
+        done(unsafe { dw_get_children(raw, now, ticket, path.as_ptr(), path.len(), is_left) })
+    }
+
+    pub(crate) fn set_data(
+        &mut self,
+        now: Moment,
+        ticket: u64,
+        path: &str,
+        data: Option<&[u8]>,
+        version: i32,
+    ) -> Result<(), Fault> {
+        let (raw, now, (bytes, is_null)) = (self.raw.get_mut(), now.as_millis(), bytes_of(data));
+        let (path, path_length) = (path.as_ptr(), path.len());
+        let (bytes, length) = (bytes.as_ptr(), bytes.len());
+        // SAFETY: as `Handle` says.
+        done(unsafe {
+            dw_set_data(
+                raw,
+                now,
+                ticket,
+                path,
+                path_length,
+                bytes,
+                length,
+                is_null,
+                version,
+            )
+        })
+    }
+
+    pub(crate) fn create(
+        &mut self,
+        now: Moment,
+        ticket: u64,
+        path: &str,
+        data: Option<&[u8]>,
+        mode: Mode,
+    ) -> Result<(), Fault> {
+        let (raw, now, (bytes, is_null)) = (self.raw.get_mut(), now.as_millis(), bytes_of(data));
+        let (path, path_length) = (path.as_ptr(), path.len());
+        let (bytes, length) = (bytes.as_ptr(), bytes.len());
+        // SAFETY: as `Handle` says.
+        done(unsafe {
+            dw_create(
+                raw,
+                now,
+                ticket,
+                path,
+                path_length,
+                bytes,
+                length,
+                is_null,
+                mode.number(),
+            )
+        })
+    }
+
+    pub(crate) fn delete(
+        &mut self,
+        now: Moment,
+        ticket: u64,
+        path: &str,
+        version: i32,
+    ) -> Result<(), Fault> {
+        let (raw, now) = (self.raw.get_mut(), now.as_millis());
+        // SAFETY: as `Handle` says.
+        done(unsafe { dw_delete(raw, now, ticket, path.as_ptr(), path.len(), version) })
+    }
+
+    pub(crate) fn close_session(&mut self, now: Moment, ticket: u64) -> Result<(), Fault> {
+        // SAFETY: as `Handle` says.
+        done(unsafe { dw_close_session(self.raw.get_mut(), now.as_millis(), ticket) })
+    }
+
+    /// The next output of the last step, and none where all were told.
+    pub(crate) fn next(&mut self) -> Option<Output> {
+        let mut output = Output::default();
+        // SAFETY: as `Handle` says.
+        let code = unsafe { dw_next(self.raw.get_mut(), &mut output) };
+        (code == OK).then_some(output)
+    }
+
+    /// Copies the text of the output that was told last, and tells how many bytes there are from that place on.
+    pub(crate) fn copy(&self, from: usize, room: &mut [u8]) -> usize {
+        // SAFETY: as `Handle` says.
+        unsafe { dw_copy(self.raw.get(), from, room.as_mut_ptr(), room.len()) }
+    }
+
+    /// Copies a name of the listing that was told last, and tells how many bytes it has.
+    pub(crate) fn name(&self, index: usize, room: &mut [u8]) -> usize {
+        // SAFETY: as `Handle` says.
+        unsafe { dw_name(self.raw.get(), index, room.as_mut_ptr(), room.len()) }
+    }
+
+    /// Copies the words of the drop that was told last, and tells how many bytes they have.
+    pub(crate) fn words(&self, room: &mut [u8]) -> Result<usize, Fault> {
+        let mut count = 0;
+        // SAFETY: as `Handle` says.
+        done(unsafe { dw_words(self.raw.get(), room.as_mut_ptr(), room.len(), &mut count) })?;
+        Ok(count)
+    }
+
+    pub(crate) fn state(&self) -> i32 {
+        // SAFETY: as `Handle` says.
+        unsafe { dw_state(self.raw.get()) }
+    }
+
+    pub(crate) fn last_zxid(&self) -> i64 {
+        // SAFETY: as `Handle` says.
+        unsafe { dw_last_zxid(self.raw.get()) }
+    }
+
+    pub(crate) fn timeout_ms(&self) -> i64 {
+        // SAFETY: as `Handle` says.
+        unsafe { dw_timeout_ms(self.raw.get()) }
+    }
+
+    pub(crate) fn deadline(&self) -> Option<Moment> {
+        let mut first_ms = 0;
+        // SAFETY: as `Handle` says.
+        let code = unsafe { dw_deadline(self.raw.get(), &mut first_ms) };
+        (code == OK).then(|| Moment::from_millis(first_ms))
+    }
+
+    /// Copies the saved session, and tells how many bytes it has.
+    pub(crate) fn saved(&self, room: &mut [u8]) -> Result<usize, Fault> {
+        let mut count = 0;
+        // SAFETY: as `Handle` says.
+        done(unsafe { dw_saved(self.raw.get(), room.as_mut_ptr(), room.len(), &mut count) })?;
+        Ok(count)
+    }
+
+    /// What is kept about the data of a path, of which it copies as many as there is room for.
+    pub(crate) fn peek_data(&self, path: &str, room: &mut [u8]) -> Result<KeptData, Fault> {
+        let mut kept = KeptData::default();
+        let (path, path_length) = (path.as_ptr(), path.len());
+        let (out, room) = (room.as_mut_ptr(), room.len());
+        // SAFETY: as `Handle` says.
+        done(unsafe { dw_peek_data(self.raw.get(), path, path_length, &mut kept, out, room) })?;
+        Ok(kept)
+    }
+
+    pub(crate) fn peek_children(&self, path: &str) -> Result<KeptNames, Fault> {
+        let mut kept = KeptNames::default();
+        // SAFETY: as `Handle` says.
+        done(unsafe { dw_peek_children(self.raw.get(), path.as_ptr(), path.len(), &mut kept) })?;
+        Ok(kept)
+    }
+
+    /// Copies a name of those that are kept of a path, and tells how many bytes it has.
+    pub(crate) fn peek_name(
+        &self,
+        path: &str,
+        index: usize,
+        room: &mut [u8],
+    ) -> Result<usize, Fault> {
+        let mut count = 0;
+        let (path, path_length) = (path.as_ptr(), path.len());
+        let (out, room) = (room.as_mut_ptr(), room.len());
+        // SAFETY: as `Handle` says.
+        done(unsafe {
+            dw_peek_name(
+                self.raw.get(),
+                path,
+                path_length,
+                index,
+                out,
+                room,
+                &mut count,
+            )
+        })?;
+        Ok(count)
+    }
+
+    /// Forgets stale answers, which an open client always does.
+    pub(crate) fn forget(&mut self) {
+        // SAFETY: as `Handle` says.
+        unsafe { dw_forget(self.raw.get_mut()) };
+    }
+}

@@ -1,0 +1,73 @@
+//! What a client keeps of the paths that were read with a watch.
+
+use crate::ffi;
+use crate::node::DataStat;
+
+/// Whether what is kept still holds.
+#[derive(Clone, Copy, Debug, PartialEq, Eq, Hash)]
+pub enum Mark {
+    /// It is what the servers' history has at the greatest zxid seen.
+    Good,
+    /// A change was told since, and the path was not read again.
+    Stale,
+}
+
+impl Mark {
+    /// The mark of a number, and none where nothing is kept.
+    pub(crate) fn of(number: i32) -> Option<Mark> {
+        match number {
+            1 => Some(Mark::Good),
+            2 => Some(Mark::Stale),
+            _ => None,
+        }
+    }
+}
+
+/// An answer that is kept, and its mark.
+#[derive(Clone, Debug, PartialEq, Eq)]
+pub struct Kept<T> {
+    /// What was answered.
+    pub answer: T,
+    /// Whether it still holds.
+    pub mark: Mark,
+}
+
+/// What is kept about the data of a path.
+#[derive(Clone, Debug, PartialEq, Eq)]
+pub enum DataAnswer {
+    /// There is no node.
+    Absent,
+    /// There is a node, whose data were not read.
+    Known(DataStat),
+    /// There is a node with these data.
+    Full {
+        /// The data: none where they are null, which is another thing than no bytes.
+        data: Option<Vec<u8>>,
+        /// The rest of what is known of the node.
+        stat: DataStat,
+    },
+}
+
+/// What is kept about the children of a path.
+#[derive(Clone, Debug, PartialEq, Eq)]
+pub struct Children {
+    /// Their names, in byte order.
+    pub names: Vec<String>,
+    /// The zxid of the last change of this set.
+    pub pzxid: i64,
+}
+
+impl Kept<DataAnswer> {
+    pub(crate) fn of_data(kept: &ffi::KeptData, data: Vec<u8>) -> Option<Kept<DataAnswer>> {
+        let mark = Mark::of(kept.mark)?;
+        let answer = match kept.kind {
+            1 => DataAnswer::Absent,
+            2 => DataAnswer::Known(kept.stat),
+            _ => DataAnswer::Full {
+                data: (!kept.is_null).then_some(data),
+                stat: kept.stat,
+            },
+        };
+        Some(Kept { answer, mark })
+    }
+}

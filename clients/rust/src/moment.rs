@@ -1,0 +1,63 @@
+//! Moments, and a clock that tells them.
+
+use std::time::{Duration, Instant};
+
+/// A moment: milliseconds of a clock that does not go back, from any beginning.
+///
+/// A client compares the moments that it is handed with one another alone, and takes one below an earlier one for the earlier one.
+#[derive(Clone, Copy, Debug, Default, PartialEq, Eq, PartialOrd, Ord, Hash)]
+pub struct Moment(u64);
+
+/// Whole milliseconds, and the most that there are for what is longer.
+fn millis(duration: Duration) -> u64 {
+    u64::try_from(duration.as_millis()).unwrap_or(u64::MAX)
+}
+
+impl Moment {
+    /// So many milliseconds behind the clock's beginning.
+    pub const fn from_millis(millis: u64) -> Moment {
+        Moment(millis)
+    }
+
+    /// How many milliseconds it is behind the clock's beginning.
+    pub const fn as_millis(self) -> u64 {
+        self.0
+    }
+
+    /// The moment that is so much later, in whole milliseconds, and the last one there is where it would be behind that.
+    #[must_use]
+    pub fn saturating_add(self, duration: Duration) -> Moment {
+        Moment(self.0.saturating_add(millis(duration)))
+    }
+
+    /// How long it is behind another moment: nothing where it is not behind it.
+    pub const fn saturating_duration_since(self, earlier: Moment) -> Duration {
+        Duration::from_millis(self.0.saturating_sub(earlier.0))
+    }
+}
+
+/// A clock of moments over [`Instant`], which begins at 0.
+#[derive(Clone, Copy, Debug)]
+pub struct Clock {
+    beginning: Instant,
+}
+
+impl Clock {
+    /// A clock that begins now.
+    pub fn start() -> Clock {
+        Clock {
+            beginning: Instant::now(),
+        }
+    }
+
+    /// The moment that it is. A part of a millisecond is not counted.
+    pub fn now(&self) -> Moment {
+        Moment(millis(self.beginning.elapsed()))
+    }
+
+    /// The first moment that is not before an instant.
+    pub fn moment_of(&self, instant: Instant) -> Moment {
+        let passed = instant.saturating_duration_since(self.beginning);
+        Moment(millis(passed.saturating_add(Duration::from_nanos(999_999))))
+    }
+}

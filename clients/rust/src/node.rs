@@ -1,0 +1,143 @@
+//! What is said of nodes, and asked of them.
+
+/// What is known of a node, as the protocol has it.
+#[repr(C)]
+#[derive(Clone, Copy, Debug, Default, PartialEq, Eq)]
+pub struct Stat {
+    /// The zxid of the transaction that made the node.
+    pub czxid: i64,
+    /// The zxid of the transaction that changed its data last.
+    pub mzxid: i64,
+    /// When it was made, in milliseconds since 1970, by the server's clock.
+    pub ctime: i64,
+    /// When its data were changed last, in milliseconds since 1970, by the server's clock.
+    pub mtime: i64,
+    /// The session with which the node goes, and 0 where it is not ephemeral.
+    pub ephemeral_owner: i64,
+    /// The zxid of the transaction that changed the set of its children last.
+    pub pzxid: i64,
+    /// How often its data were changed.
+    pub version: i32,
+    /// How often the set of its children was changed.
+    pub cversion: i32,
+    /// How often its ACL was changed.
+    pub aversion: i32,
+    /// How many bytes its data have.
+    pub data_length: i32,
+    /// How many children it has.
+    pub num_children: i32,
+}
+
+/// The fields of a [`Stat`] that change only where a watch on the data fires: those that are kept.
+#[repr(C)]
+#[derive(Clone, Copy, Debug, Default, PartialEq, Eq)]
+pub struct DataStat {
+    /// The zxid of the transaction that made the node.
+    pub czxid: i64,
+    /// The zxid of the transaction that changed its data last.
+    pub mzxid: i64,
+    /// When it was made, in milliseconds since 1970, by the server's clock.
+    pub ctime: i64,
+    /// When its data were changed last, in milliseconds since 1970, by the server's clock.
+    pub mtime: i64,
+    /// The session with which the node goes, and 0 where it is not ephemeral.
+    pub ephemeral_owner: i64,
+    /// How often its data were changed.
+    pub version: i32,
+    /// How many bytes its data have.
+    pub data_length: i32,
+}
+
+/// A node that was read.
+#[derive(Clone, Debug, PartialEq, Eq)]
+pub struct Node {
+    /// The data: none where they are null, which is another thing than no bytes.
+    pub data: Option<Vec<u8>>,
+    /// The rest of what is known of it.
+    pub stat: Stat,
+}
+
+/// The version of a set or a delete that is right for each version of the node.
+pub const ANY_VERSION: i32 = -1;
+
+/// Whether a read leaves a watch on its path. What such a read brings is kept.
+#[derive(Clone, Copy, Debug, PartialEq, Eq, Hash)]
+pub enum Watch {
+    /// It leaves one.
+    Yes,
+    /// It leaves none, and nothing is kept.
+    No,
+}
+
+impl Watch {
+    pub(crate) fn is_left(self) -> bool {
+        self == Watch::Yes
+    }
+}
+
+/// What kind of a node is made.
+#[derive(Clone, Copy, Debug, PartialEq, Eq, Hash)]
+pub enum Mode {
+    /// It stays until it is deleted.
+    Persistent,
+    /// It goes with the session that makes it.
+    Ephemeral,
+    /// It stays, and the server adds a number of ten digits to its name.
+    PersistentSequential,
+    /// It goes with the session, and the server adds a number of ten digits to its name.
+    EphemeralSequential,
+}
+
+impl Mode {
+    /// The number of the protocol: 1 where it goes with the session, and 2 more where its name gets a number.
+    pub(crate) fn number(self) -> u32 {
+        match self {
+            Mode::Persistent => 0,
+            Mode::Ephemeral => 1,
+            Mode::PersistentSequential => 2,
+            Mode::EphemeralSequential => 3,
+        }
+    }
+}
+
+/// What may be watched of a path.
+#[derive(Clone, Copy, Debug, PartialEq, Eq, Hash)]
+pub enum Side {
+    /// Whether there is a node, and its data.
+    Data,
+    /// The names of its children.
+    Children,
+}
+
+impl Side {
+    pub(crate) fn of(number: i32) -> Side {
+        match number {
+            1 => Side::Data,
+            _ => Side::Children,
+        }
+    }
+}
+
+/// What has happened to a node whose watch has fired.
+#[derive(Clone, Copy, Debug, PartialEq, Eq, Hash)]
+pub enum NodeEvent {
+    /// It was made.
+    Created,
+    /// It was deleted.
+    Deleted,
+    /// Its data were changed.
+    DataChanged,
+    /// The set of its children was changed.
+    ChildrenChanged,
+}
+
+impl NodeEvent {
+    pub(crate) fn of(number: i32) -> NodeEvent {
+        match number {
+            1 => NodeEvent::Created,
+            2 => NodeEvent::Deleted,
+            3 => NodeEvent::DataChanged,
+            _ => NodeEvent::ChildrenChanged,
+        }
+    }
+}

@@ -1,0 +1,343 @@
+//! What a client says at a step.
+
+use crate::client::{whole, whole_text, Client, State};
+use crate::fault::{Code, Fault, NoReply};
+use crate::ffi::{self, Handle};
+use crate::node::{NodeEvent, Side, Stat};
+use std::convert::Infallible;
+use std::fmt;
+
+/// What a client said at its last step. Do all outputs of a step, in their order, before the next step: those that were not taken are
+/// forgotten there.
+///
+/// It lends: an output, whose bytes stay in the library until they are copied, is over when the next one is taken. And it borrows the
+/// client, so that no step happens while it is read:
+///
+/// ```compile_fail,E0499
+/// # use dirwolleu::{Client, Moment};
+/// # use std::time::Duration;
+/// let mut client = Client::open(Duration::from_secs(10)).unwrap();
+/// let mut outputs = client.opened(Moment::from_millis(1)).unwrap();
+/// client.cut(Moment::from_millis(2)).unwrap(); // `client` is borrowed still
+/// outputs.next();
+/// ```
+#[derive(Debug)]
+#[must_use = "frames that are not written never reach the server"]
+pub struct Outputs<'a> {
+    client: &'a mut Client,
+}
+
+impl<'a> Outputs<'a> {
+    pub(crate) fn of(client: &'a mut Client) -> Outputs<'a> {
+        Outputs { client }
+    }
+
+    /// The next output, and none where all were told.
+    #[allow(clippy::should_implement_trait)] // an iterator can't lend
+    pub fn next(&mut self) -> Option<Output<'_>> {
+        let flat = self.client.handle.next()?;
+        Some(Output::of(&self.client.handle, &flat))
+    }
+
+    /// The client, for look-ups between two outputs.
+    pub fn client(&self) -> &Client {
+        self.client
+    }
+}
+
+/// What a client says.
+#[derive(Debug)]
+pub enum Output<'a> {
+    /// One frame: write all of it to the server.
+    Send(Bytes<'a>),
+    /// The call with this ticket is over.
+    Answer {
+        /// The number that the call was given.
+        ticket: u64,
+        /// The reply of the server, or why there is none.
+        outcome: Result<Reply<'a>, NoReply>,
+    },
+    /// A watch has fired: what is kept of this side of the path is stale.
+    Report {
+        /// The path that was watched.
+        path: Text<'a>,
+        /// The side that was watched.
+        side: Side,
+        /// What has happened.
+        event: NodeEvent,
+    },
+    /// The state is another one. With [`State::Expired`] and [`State::Closed`] the connection is over: close it.
+    State(State),
+    /// The connection is given up: close it. The client knows; no cut is to be handed in.
+    Drop(GivenUp<'a>),
+}
+
+impl<'a> Output<'a> {
+    fn of(handle: &'a Handle, flat: &ffi::Output) -> Output<'a> {
+        let bytes = Bytes {
+            handle,
+            length: flat.length,
+        };
+        match flat.kind {
+            1 => Output::Send(bytes),
+            2 => Output::Answer {
+                ticket: flat.ticket,
+                outcome: Reply::of(handle, flat, bytes),
+            },
+            3 => Output::Report {
+                path: Text { bytes },
+                side: Side::of(flat.result),
+                event: NodeEvent::of(flat.detail),
+            },
+            4 => Output::State(State::of(flat.detail)),
+            _ => Output::Drop(GivenUp {
+                cause: Cause::of(flat),
+                code: Text { bytes },
+            }),
+        }
+    }
+
+    /// Whether the connection is over with this output, so that the program is to close it.
+    pub fn ends_connection(&self) -> bool {
+        matches!(
+            self,
+            Output::Drop(_) | Output::State(State::Expired | State::Closed)
+        )
+    }
+}
+
+/// The reply of a server.
+#[derive(Debug)]
+pub struct Reply<'a> {
+    /// The zxid at which it holds. With an error of the server it says nothing.
+    pub zxid: i64,
+    /// What it brings, or the error of the server.
+    pub result: Result<Brought<'a>, Code>,
+}
+
+impl<'a> Reply<'a> {
+    fn of(handle: &'a Handle, flat: &ffi::Output, bytes: Bytes<'a>) -> Result<Reply<'a>, NoReply> {
+        if flat.detail != 0 {
+            return Err(NoReply::of(flat.detail));
+        }
+        Ok(Reply {
+            zxid: flat.zxid,
+            result: Brought::of(handle, flat, bytes),
+        })
+    }
+}
+
+/// What a reply brings.
+#[derive(Debug)]
+pub enum Brought<'a> {
+    /// To [`exists`](Client::exists) and [`set_data`](Client::set_data): what is known of the node.
+    Stat(Stat),
+    /// To [`get_data`](Client::get_data).
+    Data {
+        /// The data: none where they are null, which is another thing than no bytes.
+        data: Option<Bytes<'a>>,
+        /// What is known of the node.
+        stat: Stat,
+    },
+    /// To [`get_children`](Client::get_children).
+    Names {
+        /// The names, in the server's order, which means nothing.
+        names: Names<'a>,
+        /// What is known of the node.
+        stat: Stat,
+    },
+    /// To [`create`](Client::create): the path of the node, which ends in ten digits more where it is sequential.
+    Created(Text<'a>),
+    /// To [`delete`](Client::delete) and [`close_session`](Client::close_session): it is done.
+    Done,
+}
+
+impl<'a> Brought<'a> {
+    fn of(handle: &'a Handle, flat: &ffi::Output, bytes: Bytes<'a>) -> Result<Brought<'a>, Code> {
+        let stat = flat.stat;
+        match flat.result {
+            1 => Err(Code(flat.code)),
+            2 => Ok(Brought::Stat(stat)),
+            3 => Ok(Brought::Data {
+                data: (!flat.is_null).then_some(bytes),
+                stat,
+            }),
+            4 => Ok(Brought::Names {
+                names: Names {
+                    handle,
+                    count: flat.names,
+                },
+                stat,
+            }),
+            5 => Ok(Brought::Created(Text { bytes })),
+            _ => Ok(Brought::Done),
+        }
+    }
+}
+
+/// The bytes of a frame or of data, which stay in the library until they are copied.
+#[derive(Clone, Copy)]
+pub struct Bytes<'a> {
+    handle: &'a Handle,
+    length: usize,
+}
+
+impl Bytes<'_> {
+    /// How many there are.
+    pub fn len(&self) -> usize {
+        self.length
+    }
+
+    /// Whether there are none.
+    pub fn is_empty(&self) -> bool {
+        self.length == 0
+    }
+
+    /// Copies the bytes from this place on, as many as there is room for, and tells how many it has copied.
+    pub fn copy_to(&self, from: usize, room: &mut [u8]) -> usize {
+        self.handle.copy(from, room).min(room.len())
+    }
+
+    /// Copies them behind what a vector has.
+    pub fn append_to(&self, bytes: &mut Vec<u8>) {
+        let from = bytes.len();
+        bytes.resize(from + self.length, 0);
+        self.copy_to(0, &mut bytes[from..]);
+    }
+
+    /// A copy of them.
+    pub fn to_vec(&self) -> Vec<u8> {
+        let mut bytes = vec![0; self.length];
+        self.copy_to(0, &mut bytes);
+        bytes
+    }
+}
+
+/// It tells how many there are, and not which: a frame may have a password.
+impl fmt::Debug for Bytes<'_> {
+    fn fmt(&self, f: &mut fmt::Formatter<'_>) -> fmt::Result {
+        write!(f, "Bytes({})", self.length)
+    }
+}
+
+/// A path or a code, which stays in the library until it is copied.
+#[derive(Clone, Copy)]
+pub struct Text<'a> {
+    bytes: Bytes<'a>,
+}
+
+impl Text<'_> {
+    /// How many bytes it has.
+    pub fn len(&self) -> usize {
+        self.bytes.len()
+    }
+
+    /// Whether it has none.
+    pub fn is_empty(&self) -> bool {
+        self.bytes.is_empty()
+    }
+}
+
+impl From<Text<'_>> for String {
+    fn from(text: Text<'_>) -> String {
+        whole_text(text.bytes.to_vec())
+    }
+}
+
+impl fmt::Display for Text<'_> {
+    fn fmt(&self, f: &mut fmt::Formatter<'_>) -> fmt::Result {
+        f.pad(&String::from(*self))
+    }
+}
+
+impl fmt::Debug for Text<'_> {
+    fn fmt(&self, f: &mut fmt::Formatter<'_>) -> fmt::Result {
+        fmt::Debug::fmt(&String::from(*self), f)
+    }
+}
+
+/// Names of children, which stay in the library until they are copied.
+#[derive(Clone, Copy)]
+pub struct Names<'a> {
+    handle: &'a Handle,
+    count: usize,
+}
+
+impl<'a> Names<'a> {
+    /// How many there are.
+    pub fn len(&self) -> usize {
+        self.count
+    }
+
+    /// Whether there are none.
+    pub fn is_empty(&self) -> bool {
+        self.count == 0
+    }
+
+    /// Copies of them, in the order of the reply.
+    pub fn iter(&self) -> impl Iterator<Item = String> + 'a {
+        let handle = self.handle;
+        (0..self.count).map(move |index| {
+            let name = whole(|room| Ok::<usize, Infallible>(handle.name(index, room)));
+            whole_text(name.unwrap_or_else(|never| match never {}))
+        })
+    }
+}
+
+impl fmt::Debug for Names<'_> {
+    fn fmt(&self, f: &mut fmt::Formatter<'_>) -> fmt::Result {
+        f.debug_list().entries(self.iter()).finish()
+    }
+}
+
+/// Why a client gives its connection up.
+#[derive(Clone, Copy, Debug, PartialEq, Eq, Hash)]
+pub enum Cause {
+    /// The length of a frame is out of its range.
+    Frame,
+    /// The payload of a frame does not read, or nobody has asked for it.
+    Payload,
+    /// Nothing was heard for two thirds of the timeout.
+    Silence,
+    /// A reply that leaves a watch is behind the greatest zxid seen.
+    Behind {
+        /// The zxid of the reply.
+        zxid: i64,
+    },
+    /// The server has refused to set the watches again.
+    WatchesRefused {
+        /// The error of the server.
+        code: Code,
+    },
+}
+
+impl Cause {
+    fn of(flat: &ffi::Output) -> Cause {
+        match flat.detail {
+            1 => Cause::Frame,
+            2 => Cause::Payload,
+            3 => Cause::Silence,
+            4 => Cause::Behind { zxid: flat.zxid },
+            _ => Cause::WatchesRefused {
+                code: Code(flat.code),
+            },
+        }
+    }
+}
+
+/// That a connection is given up.
+#[derive(Clone, Copy, Debug)]
+pub struct GivenUp<'a> {
+    /// Why.
+    pub cause: Cause,
+    /// The code of the fault, as `D1`.
+    pub code: Text<'a>,
+}
+
+impl GivenUp<'_> {
+    /// Why, in words. [`Fault::NoMemory`] where there is no memory for them.
+    pub fn words(&self) -> Result<String, Fault> {
+        let handle = self.code.bytes.handle;
+        whole(|room| handle.words(room)).map(whole_text)
+    }
+}

@@ -1,0 +1,492 @@
+//! A client that is driven by bytes, as `zookeeper.jute` spells them, and by moments.
+
+mod jute;
+
+use dirwolleu::{
+    Brought, Cause, Client, Code, DataAnswer, Fault, Kept, Mark, Mode, Moment, NoReply, NodeEvent,
+    Output, Outputs, Reply, SavedSession, Side, State, Watch, ANY_VERSION,
+};
+use jute::Record;
+use std::time::Duration;
+
+const TIMEOUT: Duration = Duration::from_secs(9);
+const START: Moment = Moment::from_millis(1_000_000_000);
+const SESSION: i64 = 0x1234_5678;
+
+/// What was said, with all bytes, as text.
+fn said(mut outputs: Outputs<'_>) -> Vec<String> {
+    let mut lines = Vec::new();
+    while let Some(output) = outputs.next() {
+        lines.push(match &output {
+            Output::Send(frame) => format!("Send({:?})", frame.to_vec()),
+            Output::Answer {
+                outcome:
+                    Ok(Reply {
+                        result:
+                            Ok(Brought::Data {
+                                data: Some(data), ..
+                            }),
+                        ..
+                    }),
+                ..
+            } => format!("{output:?} {:?}", data.to_vec()),
+            Output::Drop(given_up) => format!("{output:?} {}", given_up.words().unwrap()),
+            _ => format!("{output:?}"),
+        });
+    }
+    lines
+}
+
+/// The frames that were said.
+fn frames(mut outputs: Outputs<'_>) -> Vec<Vec<u8>> {
+    let mut frames = Vec::new();
+    while let Some(output) = outputs.next() {
+        if let Output::Send(frame) = output {
+            frames.push(frame.to_vec());
+        }
+    }
+    frames
+}
+
+fn connected() -> Client {
+    let mut client = Client::open(TIMEOUT).unwrap();
+    let _ = client.opened(START).unwrap();
+    let _ = client
+        .bytes(START, &Record::accepted(9_000, SESSION))
+        .unwrap();
+    assert_eq!(client.state(), State::Connected);
+    client
+}
+
+/// A client that has read `/a` with a watch: the bytes `one`, at zxid 5.
+fn watching() -> Client {
+    let mut client = connected();
+    let _ = client.get_data(START, 7, "/a", Watch::Yes).unwrap();
+    let reply = Record::reply(1, 5, 0).buffer(b"one").stat(5, 0, 3, 0);
+    let _ = client.bytes(START, &reply.framed()).unwrap();
+    client
+}
+
+#[test]
+fn a_connection_begins_with_a_connect_request() {
+    let mut client = Client::open(TIMEOUT).unwrap();
+    assert_eq!(client.state(), State::Idle);
+    let request = Record::new().int(0).long(0).int(9_000).long(0);
+    let request = request.buffer(&[0; 16]).boolean(false).framed();
+    assert_eq!(frames(client.opened(START).unwrap()), [request]);
+    assert_eq!(client.state(), State::Connecting);
+    let silent_at = START.saturating_add(TIMEOUT / 3 * 2);
+    assert_eq!(client.deadline(), Some(silent_at));
+    let mut outputs = client
+        .bytes(START, &Record::accepted(6_000, SESSION))
+        .unwrap();
+    assert!(matches!(
+        outputs.next(),
+        Some(Output::State(State::Connected))
+    ));
+    assert!(outputs.next().is_none());
+    assert_eq!(outputs.client().timeout(), Duration::from_secs(6));
+}
+
+/// The frame of a request: its header, the path, and what is behind.
+fn request(xid: i32, kind: i32, path: &str) -> Record {
+    Record::new().int(xid).int(kind).text(path)
+}
+
+#[test]
+fn each_call_is_spelled() {
+    let mut client = connected();
+    let exists = request(1, jute::EXISTS, "/a").boolean(false);
+    let outputs = client.exists(START, 1, "/a", Watch::No).unwrap();
+    assert_eq!(frames(outputs), [exists.framed()]);
+    let get = request(2, jute::GET_DATA, "/a").boolean(true);
+    let outputs = client.get_data(START, 1, "/a", Watch::Yes).unwrap();
+    assert_eq!(frames(outputs), [get.framed()]);
+    let children = request(3, jute::GET_CHILDREN_2, "/a").boolean(true);
+    let outputs = client.get_children(START, 1, "/a", Watch::Yes).unwrap();
+    assert_eq!(frames(outputs), [children.framed()]);
+    let set = request(4, jute::SET_DATA, "/a").int(-1).int(3);
+    let outputs = client.set_data(START, 1, "/a", None, 3).unwrap();
+    assert_eq!(frames(outputs), [set.framed()]);
+    let create = request(5, jute::CREATE, "/a/b").buffer(b"x").int(1);
+    let create = create.int(31).text("world").text("anyone").int(3);
+    let mode = Mode::EphemeralSequential;
+    let outputs = client.create(START, 1, "/a/b", Some(b"x"), mode).unwrap();
+    assert_eq!(frames(outputs), [create.framed()]);
+    let delete = request(6, jute::DELETE, "/a").int(ANY_VERSION);
+    let outputs = client.delete(START, 1, "/a", ANY_VERSION).unwrap();
+    assert_eq!(frames(outputs), [delete.framed()]);
+    let close = Record::new().int(7).int(jute::CLOSE_SESSION);
+    let outputs = client.close_session(START, 1).unwrap();
+    assert_eq!(frames(outputs), [close.framed()]);
+}
+
+#[test]
+fn a_reply_is_read() {
+    let mut client = connected();
+    let _ = client.get_data(START, 7, "/a", Watch::Yes).unwrap();
+    let reply = Record::reply(1, 5, 0).buffer(b"one").stat(5, 2, 3, 0);
+    let mut outputs = client.bytes(START, &reply.framed()).unwrap();
+    let Some(Output::Answer {
+        ticket: 7,
+        outcome: Ok(reply),
+    }) = outputs.next()
+    else {
+        panic!("no reply");
+    };
+    assert_eq!(reply.zxid, 5);
+    let Ok(Brought::Data {
+        data: Some(data),
+        stat,
+    }) = reply.result
+    else {
+        panic!("no data");
+    };
+    assert_eq!(data.to_vec(), b"one");
+    let mut room = [0; 5];
+    assert_eq!((data.copy_to(1, &mut room), &room), (2, b"ne\0\0\0"));
+    assert_eq!((stat.czxid, stat.ctime, stat.mtime), (5, 1_000, 2_000));
+    assert_eq!(
+        (stat.version, stat.data_length, stat.num_children),
+        (2, 3, 0)
+    );
+}
+
+#[test]
+fn each_field_of_a_stat_has_its_place() {
+    let mut client = connected();
+    let _ = client.get_data(START, 1, "/a", Watch::Yes).unwrap();
+    let longs = Record::reply(1, 90, 0).buffer(b"x");
+    let longs = longs.long(11).long(12).long(13).long(14);
+    let ints = longs.int(15).int(16).int(17).long(18).int(19).int(20);
+    let _ = client.bytes(START, &ints.long(21).framed()).unwrap();
+    let Some(Kept {
+        answer: DataAnswer::Full { stat, .. },
+        ..
+    }) = client.peek_data("/a").unwrap()
+    else {
+        panic!("nothing is kept");
+    };
+    let zxids = (stat.czxid, stat.mzxid, stat.ephemeral_owner);
+    assert_eq!((zxids, stat.ctime, stat.mtime), ((11, 12, 18), 13, 14));
+    assert_eq!((stat.version, stat.data_length), (15, 19));
+    let _ = client.exists(START, 2, "/a", Watch::No).unwrap();
+    let longs = Record::reply(2, 90, 0).long(11).long(12).long(13).long(14);
+    let ints = longs.int(15).int(16).int(17).long(18).int(19).int(20);
+    let bytes = ints.long(21).framed();
+    let mut outputs = client.bytes(START, &bytes).unwrap();
+    let Some(Output::Answer {
+        outcome: Ok(Reply {
+            result: Ok(Brought::Stat(stat)),
+            ..
+        }),
+        ..
+    }) = outputs.next()
+    else {
+        panic!("no stat");
+    };
+    let zxids = (stat.czxid, stat.mzxid, stat.ephemeral_owner, stat.pzxid);
+    assert_eq!((zxids, stat.ctime, stat.mtime), ((11, 12, 18, 21), 13, 14));
+    assert_eq!((stat.version, stat.cversion, stat.aversion), (15, 16, 17));
+    assert_eq!((stat.data_length, stat.num_children), (19, 20));
+}
+
+#[test]
+fn null_data_are_no_empty_data() {
+    let mut client = connected();
+    let _ = client.get_data(START, 1, "/a", Watch::Yes).unwrap();
+    let reply = Record::reply(1, 5, 0).int(-1).stat(5, 0, 0, 0);
+    let mut outputs = client.bytes(START, &reply.framed()).unwrap();
+    let Some(Output::Answer {
+        outcome: Ok(reply), ..
+    }) = outputs.next()
+    else {
+        panic!("no reply");
+    };
+    assert!(matches!(reply.result, Ok(Brought::Data { data: None, .. })));
+    let Some(Kept {
+        answer: DataAnswer::Full { data, .. },
+        ..
+    }) = client.peek_data("/a").unwrap()
+    else {
+        panic!("nothing is kept");
+    };
+    assert_eq!(data, None);
+}
+
+/// Five answers and two notices: what a server sends to the calls of `pieces`.
+fn stream() -> Vec<u8> {
+    let data = Record::reply(1, 5, 0).buffer(&[9; 700]).stat(5, 0, 700, 2);
+    let names = Record::reply(2, 5, 0).texts(&["b", "c"]).stat(5, 0, 0, 2);
+    let created = Record::reply(4, 6, 0).text("/s0000000003");
+    [
+        data.framed(),
+        names.framed(),
+        Record::reply(3, 5, -101).framed(),
+        Record::notice(4, "/a"),
+        created.framed(),
+        Record::notice(3, "/a"),
+        Record::reply(5, 7, 0).framed(),
+    ]
+    .concat()
+}
+
+/// All that is said where the stream comes in pieces of so many bytes.
+fn pieces(length: usize) -> Vec<String> {
+    let mut client = connected();
+    let _ = client.get_data(START, 1, "/a", Watch::Yes).unwrap();
+    let _ = client.get_children(START, 2, "/a", Watch::Yes).unwrap();
+    let _ = client.exists(START, 3, "/none", Watch::Yes).unwrap();
+    let mode = Mode::PersistentSequential;
+    let _ = client.create(START, 4, "/s", Some(b"x"), mode).unwrap();
+    let _ = client.delete(START, 5, "/d", ANY_VERSION).unwrap();
+    let mut lines = Vec::new();
+    for piece in stream().chunks(length) {
+        lines.extend(said(client.bytes(START, piece).unwrap()));
+    }
+    assert_eq!(client.last_zxid(), 7);
+    lines
+}
+
+#[test]
+fn how_a_stream_is_cut_does_not_matter() {
+    let whole = pieces(usize::MAX);
+    assert_eq!(whole.len(), 7);
+    assert!(whole[1].contains(r#"names: ["b", "c"]"#), "{}", whole[1]);
+    assert!(whole[2].contains("Err(Code(-101))"), "{}", whole[2]);
+    assert!(whole[4].contains("/s0000000003"), "{}", whole[4]);
+    for length in [1, 2, 3, 7, 100] {
+        assert_eq!(pieces(length), whole, "pieces of {length}");
+    }
+}
+
+#[test]
+fn a_watch_is_reported_once_and_its_answer_is_stale() {
+    let mut client = watching();
+    assert_eq!(client.data_mark("/a").unwrap(), Some(Mark::Good));
+    let notice = Record::notice(3, "/a");
+    let mut outputs = client.bytes(START, &notice).unwrap();
+    let Some(Output::Report { path, side, event }) = outputs.next() else {
+        panic!("no report");
+    };
+    assert_eq!((String::from(path).as_str(), side), ("/a", Side::Data));
+    assert_eq!(event, NodeEvent::DataChanged);
+    assert!(outputs.next().is_none());
+    let kept = client.peek_data("/a").unwrap().unwrap();
+    assert_eq!(kept.mark, Mark::Stale);
+    let DataAnswer::Full {
+        data: Some(data),
+        stat,
+    } = kept.answer
+    else {
+        panic!("no data");
+    };
+    assert_eq!((data.as_slice(), stat.mzxid), (b"one".as_slice(), 5));
+    assert!(said(client.bytes(START, &notice).unwrap()).is_empty());
+    client.forget_stale();
+    assert_eq!(client.peek_data("/a").unwrap(), None);
+}
+
+#[test]
+fn names_of_each_length_are_kept_in_byte_order() {
+    let mut client = connected();
+    let long = "n".repeat(1_000);
+    let _ = client.get_children(START, 1, "/a", Watch::Yes).unwrap();
+    let reply = Record::reply(1, 5, 0)
+        .texts(&["z", &long, "b"])
+        .stat(5, 0, 0, 3);
+    let mut outputs = client.bytes(START, &reply.framed()).unwrap();
+    let Some(Output::Answer {
+        outcome: Ok(reply), ..
+    }) = outputs.next()
+    else {
+        panic!("no reply");
+    };
+    let Ok(Brought::Names { names, .. }) = reply.result else {
+        panic!("no names");
+    };
+    assert_eq!(names.iter().collect::<Vec<_>>(), ["z", &long, "b"]);
+    let kept = client.peek_children("/a").unwrap().unwrap();
+    assert_eq!(kept.answer.names, ["b", &long, "z"]);
+    assert_eq!((kept.answer.pzxid, kept.mark), (5, Mark::Good));
+    assert_eq!(client.children_mark("/a").unwrap(), Some(Mark::Good));
+    assert_eq!(client.peek_children("/b").unwrap(), None);
+}
+
+#[test]
+fn pings_and_silence_are_due_at_a_third_and_two_thirds() {
+    let mut client = connected();
+    let ping_at = START.saturating_add(TIMEOUT / 3);
+    assert_eq!(client.deadline(), Some(ping_at));
+    let ping = Record::new().int(jute::PONG).int(jute::PING).framed();
+    assert_eq!(frames(client.tick(ping_at).unwrap()), [ping]);
+    let silent_at = START.saturating_add(TIMEOUT / 3 * 2);
+    assert_eq!(client.deadline(), Some(silent_at));
+    let mut outputs = client.tick(silent_at).unwrap();
+    let Some(Output::Drop(given_up)) = outputs.next() else {
+        panic!("the connection goes on");
+    };
+    assert_eq!(given_up.cause, Cause::Silence);
+    assert_eq!(String::from(given_up.code), "D1");
+    assert!(!given_up.words().unwrap().is_empty());
+    assert!(matches!(outputs.next(), Some(Output::State(State::Idle))));
+    assert_eq!(client.deadline(), None);
+}
+
+#[test]
+fn a_cut_answers_what_waits_and_watches_are_set_again() {
+    let mut client = watching();
+    let _ = client.exists(START, 8, "/b", Watch::No).unwrap();
+    let mut outputs = client.cut(START).unwrap();
+    let Some(Output::Answer { ticket: 8, outcome }) = outputs.next() else {
+        panic!("no answer");
+    };
+    assert_eq!(outcome.unwrap_err(), NoReply::ConnectionLoss);
+    assert!(matches!(outputs.next(), Some(Output::State(State::Idle))));
+    let _ = client.opened(START).unwrap();
+    let outputs = client
+        .bytes(START, &Record::accepted(9_000, SESSION))
+        .unwrap();
+    let set = Record::new()
+        .int(jute::WATCHES_SET)
+        .int(jute::SET_WATCHES)
+        .long(5);
+    let set = set.texts(&["/a"]).texts(&[]).texts(&[]).framed();
+    assert_eq!(frames(outputs), [set]);
+    assert_eq!(client.data_mark("/a").unwrap(), Some(Mark::Good));
+}
+
+#[test]
+fn a_frame_out_of_range_ends_the_connection() {
+    let mut client = connected();
+    let mut outputs = client.bytes(START, &[0xFF; 4]).unwrap();
+    let Some(output) = outputs.next() else {
+        panic!("the connection goes on");
+    };
+    assert!(output.ends_connection());
+    let Output::Drop(given_up) = output else {
+        panic!("{output:?}");
+    };
+    assert_eq!(given_up.cause, Cause::Frame);
+    assert_eq!(given_up.code.to_string(), "F1");
+}
+
+#[test]
+fn a_reply_that_is_behind_ends_the_connection() {
+    let mut client = watching();
+    let _ = client.exists(START, 8, "/b", Watch::Yes).unwrap();
+    let reply = Record::reply(2, 4, 0).stat(4, 0, 0, 0).framed();
+    let mut outputs = client.bytes(START, &reply).unwrap();
+    let Some(Output::Drop(given_up)) = outputs.next() else {
+        panic!("the connection goes on");
+    };
+    assert_eq!(given_up.cause, Cause::Behind { zxid: 4 });
+}
+
+#[test]
+fn watches_that_are_refused_end_the_connection() {
+    let mut client = watching();
+    let _ = client.cut(START).unwrap();
+    let _ = client.opened(START).unwrap();
+    let accepted = Record::accepted(9_000, SESSION);
+    let _ = client.bytes(START, &accepted).unwrap();
+    let refused = Record::reply(jute::WATCHES_SET, 5, -6).framed();
+    let mut outputs = client.bytes(START, &refused).unwrap();
+    let Some(Output::Drop(given_up)) = outputs.next() else {
+        panic!("the connection goes on");
+    };
+    assert_eq!(given_up.cause, Cause::WatchesRefused { code: Code(-6) });
+}
+
+#[test]
+fn an_expired_session_keeps_nothing() {
+    let mut client = watching();
+    let _ = client.cut(START).unwrap();
+    let _ = client.opened(START).unwrap();
+    let refused = Record::new().int(0).int(0).long(0).buffer(&[0; 16]);
+    let mut outputs = client.bytes(START, &refused.framed()).unwrap();
+    let Some(output) = outputs.next() else {
+        panic!("no state");
+    };
+    assert!(matches!(output, Output::State(State::Expired)) && output.ends_connection());
+    assert_eq!(client.peek_data("/a").unwrap(), None);
+    let mut outputs = client.delete(START, 9, "/a", 0).unwrap();
+    let Some(Output::Answer { ticket: 9, outcome }) = outputs.next() else {
+        panic!("no answer");
+    };
+    assert_eq!(outcome.unwrap_err(), NoReply::SessionExpired);
+}
+
+#[test]
+fn a_session_is_saved_and_resumed() {
+    let saved = watching().saved().unwrap();
+    assert_eq!(saved.as_bytes().len(), 36);
+    assert!(
+        !format!("{saved:?}").contains("15"),
+        "a password is printed"
+    );
+    let saved = SavedSession::from_bytes(saved.as_bytes().to_vec());
+    let mut client = Client::resume(TIMEOUT, &saved).unwrap();
+    let password: Vec<u8> = (0..16).collect();
+    let request = Record::new().int(0).long(5).int(9_000).long(SESSION);
+    let request = request.buffer(&password).boolean(false).framed();
+    assert_eq!(frames(client.opened(START).unwrap()), [request]);
+}
+
+#[test]
+fn a_new_session_is_asked_for_from_a_zxid_on() {
+    let mut client = Client::resume(TIMEOUT, &SavedSession::none_from(77)).unwrap();
+    assert_eq!(client.last_zxid(), 77);
+    let request = Record::new().int(0).long(77).int(9_000).long(0);
+    let request = request.buffer(&[0; 16]).boolean(false).framed();
+    assert_eq!(frames(client.opened(START).unwrap()), [request]);
+}
+
+#[test]
+fn what_is_no_timeout_or_session_is_refused() {
+    let too_long = Duration::from_millis(1 << 31);
+    for timeout in [Duration::ZERO, Duration::from_micros(999), too_long] {
+        assert_eq!(Client::open(timeout).unwrap_err(), Fault::BadTimeout);
+    }
+    let short = SavedSession::from_bytes(vec![0; 19]);
+    let resumed = Client::resume(TIMEOUT, &short);
+    assert_eq!(resumed.unwrap_err(), Fault::NotSaved);
+}
+
+#[test]
+fn what_is_no_path_is_refused() {
+    let mut client = connected();
+    for path in ["", "a", "/a/", "//", "/a/../b", "/a\0"] {
+        let asked = client.get_data(START, 1, path, Watch::No).map(said);
+        assert_eq!(asked, Err(Fault::NotPath), "{path:?}");
+        assert_eq!(client.peek_data(path), Err(Fault::NotPath), "{path:?}");
+    }
+    assert_eq!(client.state(), State::Connected);
+}
+
+#[test]
+fn outputs_that_were_not_taken_are_forgotten() {
+    let mut client = connected();
+    let _ = client.exists(START, 1, "/a", Watch::No).unwrap();
+    assert!(said(client.tick(START).unwrap()).is_empty());
+    assert!(said(client.tick(START).unwrap()).is_empty());
+}
+
+#[test]
+fn a_client_moves_between_places_and_threads() {
+    fn is_send<T: Send>() {}
+    is_send::<Client>();
+    is_send::<Outputs<'_>>();
+    is_send::<dirwolleu::Session>();
+    let mut clients = vec![watching()];
+    clients.extend([watching(), connected()]);
+    let mut first = Box::new(clients.remove(0));
+    let thread = std::thread::spawn(move || {
+        let lines = said(first.bytes(START, &Record::notice(2, "/a")).unwrap());
+        (first, lines)
+    });
+    let (first, lines) = thread.join().unwrap();
+    assert_eq!(lines.len(), 1);
+    assert_eq!(first.data_mark("/a").unwrap(), Some(Mark::Stale));
+    assert_eq!(clients[0].data_mark("/a").unwrap(), Some(Mark::Good));
+}

@@ -1,0 +1,363 @@
+//! Sessions over TCP, at the server in memory. Where there is no python3, each says so and passes.
+
+mod server;
+
+use dirwolleu::{
+    Cause, Code, DataAnswer, Error, Event, Fault, Mark, Mode, NoReply, NodeEvent, Session, Side,
+    State, Watch, ANY_VERSION,
+};
+use server::Server;
+use std::io::{BufRead, BufReader};
+use std::path::PathBuf;
+use std::process::{Command, Stdio};
+use std::sync::mpsc::channel;
+use std::thread;
+use std::time::{Duration, Instant};
+
+/// How long an event may take.
+const PATIENCE: Duration = Duration::from_secs(30);
+
+fn session_at(server: &Server, timeout_ms: u64) -> Session {
+    Session::open([server.address], Duration::from_millis(timeout_ms)).unwrap()
+}
+
+/// The first event of this kind. Those before it are skipped.
+fn wait_for(session: &mut Session, is_awaited: impl Fn(&Event) -> bool) -> Event {
+    let until = Instant::now() + PATIENCE;
+    loop {
+        let event = session.next_event(Some(until)).unwrap();
+        let event = event.expect("an event comes in time");
+        if is_awaited(&event) {
+            return event;
+        }
+    }
+}
+
+fn wait_for_state(session: &mut Session, state: State) {
+    wait_for(session, |event| *event == Event::State(state));
+}
+
+fn report(path: &str, side: Side, event: NodeEvent) -> Event {
+    let path = String::from(path);
+    Event::Report { path, side, event }
+}
+
+/// What is kept of the data of a path.
+fn kept(session: &Session, path: &str) -> Option<(Vec<u8>, Mark)> {
+    let kept = session.peek(path).unwrap()?;
+    match kept.answer {
+        DataAnswer::Full { data, .. } => Some((data?, kept.mark)),
+        _ => None,
+    }
+}
+
+/// Each call, as the Programmer's Guide has it, and the errors of the server.
+fn try_calls(mut session: Session) {
+    let server = |code| Err(Error::Server(code));
+    assert_eq!(session.get("/a", Watch::No), server(Code::NO_NODE));
+    assert_eq!(session.exists("/a", Watch::No), Ok(None));
+    let made = session.create("/a", b"one", Mode::Persistent);
+    assert_eq!(made.as_deref(), Ok("/a"));
+    let again = session.create("/a", b"two", Mode::Persistent);
+    assert_eq!(again, Err(Error::Server(Code::NODE_EXISTS)));
+    let node = session.get("/a", Watch::No).unwrap();
+    assert_eq!(node.data.as_deref(), Some(b"one".as_slice()));
+    assert_eq!((node.stat.version, node.stat.data_length), (0, 3));
+    assert_eq!(session.set("/a", b"three", 0).unwrap().version, 1);
+    let late = session.set("/a", b"four", 0);
+    assert_eq!(late, Err(Error::Server(Code::BAD_VERSION)));
+    let first = session
+        .create("/a/s-", b"", Mode::EphemeralSequential)
+        .unwrap();
+    assert_eq!(first, "/a/s-0000000000");
+    let stat = session.exists(&first, Watch::No).unwrap().unwrap();
+    assert_ne!(stat.ephemeral_owner, 0);
+    let below = session.create(&format!("{first}/b"), b"", Mode::Persistent);
+    assert_eq!(below, Err(Error::Server(Code::NO_CHILDREN_FOR_EPHEMERALS)));
+    let (names, stat) = session.children("/a", Watch::No).unwrap();
+    assert_eq!(
+        (names.as_slice(), stat.num_children),
+        (["s-0000000000".to_string()].as_slice(), 1)
+    );
+    assert_eq!(
+        session.delete("/a", ANY_VERSION),
+        server_unit(Code::NOT_EMPTY)
+    );
+    assert_eq!(session.delete(&first, 0), Ok(()));
+    assert_eq!(session.delete("/a", ANY_VERSION), Ok(()));
+    let no_path = session.get("a", Watch::No);
+    assert_eq!(no_path, Err(Error::Fault(Fault::NotPath)));
+    let large = session.set("/a", &vec![0; 1 << 20], ANY_VERSION);
+    assert_eq!(large, Err(Error::NoReply(NoReply::TooLarge)));
+    assert_eq!(session.close(), Ok(()));
+}
+
+fn server_unit(code: Code) -> Result<(), Error> {
+    Err(Error::Server(code))
+}
+
+#[test]
+fn calls_are_answered() {
+    let Some(server) = Server::start(&[]) else {
+        return;
+    };
+    try_calls(session_at(&server, 10_000));
+}
+
+#[test]
+fn calls_are_answered_byte_by_byte() {
+    let Some(server) = Server::start(&["--piece", "1"]) else {
+        return;
+    };
+    try_calls(session_at(&server, 10_000));
+}
+
+#[test]
+fn a_change_is_reported() {
+    let Some(mut server) = Server::start(&[]) else {
+        return;
+    };
+    server.tell("create /a one");
+    let mut session = session_at(&server, 10_000);
+    session.watch("/a").unwrap().expect("there is a node");
+    assert_eq!(kept(&session, "/a"), Some((b"one".to_vec(), Mark::Good)));
+    session.children("/a", Watch::Yes).unwrap();
+    server.tell("set /a two");
+    let changed = report("/a", Side::Data, NodeEvent::DataChanged);
+    wait_for(&mut session, |event| *event == changed);
+    assert_eq!(kept(&session, "/a"), Some((b"one".to_vec(), Mark::Stale)));
+    session.get("/a", Watch::Yes).unwrap();
+    assert_eq!(kept(&session, "/a"), Some((b"two".to_vec(), Mark::Good)));
+    server.tell("create /a/b x");
+    let more = report("/a", Side::Children, NodeEvent::ChildrenChanged);
+    wait_for(&mut session, |event| *event == more);
+    let names = session.peek_children("/a").unwrap().unwrap();
+    assert_eq!((names.answer.names.len(), names.mark), (0, Mark::Stale));
+    session.forget_stale();
+    assert_eq!(session.peek_children("/a").unwrap(), None);
+    assert_eq!(kept(&session, "/a"), Some((b"two".to_vec(), Mark::Good)));
+}
+
+#[test]
+fn a_node_that_is_not_there_is_watched() {
+    let Some(mut server) = Server::start(&[]) else {
+        return;
+    };
+    let mut session = session_at(&server, 10_000);
+    assert_eq!(session.watch("/a"), Ok(None));
+    let absent = session.peek("/a").unwrap().unwrap();
+    assert_eq!(
+        (absent.answer, absent.mark),
+        (DataAnswer::Absent, Mark::Good)
+    );
+    server.tell("create /a one");
+    let made = report("/a", Side::Data, NodeEvent::Created);
+    wait_for(&mut session, |event| *event == made);
+}
+
+#[test]
+fn no_event_is_no_wait() {
+    let Some(server) = Server::start(&[]) else {
+        return;
+    };
+    let mut session = session_at(&server, 10_000);
+    session.exists("/", Watch::No).unwrap();
+    while session.next_event(Some(Instant::now())).unwrap().is_some() {}
+    let begun = Instant::now();
+    let until = begun + Duration::from_millis(50);
+    assert_eq!(session.next_event(Some(until)), Ok(None));
+    assert!(begun.elapsed() >= Duration::from_millis(50));
+}
+
+#[test]
+fn a_connection_that_is_dropped_begins_again() {
+    let Some(mut server) = Server::start(&[]) else {
+        return;
+    };
+    for node in ["create /a one", "create /b one"] {
+        server.tell(node);
+    }
+    let mut session = session_at(&server, 10_000);
+    session.watch("/a").unwrap();
+    session.watch("/b").unwrap();
+    server.tell("drop");
+    server.tell("set /a two");
+    wait_for_state(&mut session, State::Idle);
+    assert_eq!(kept(&session, "/a"), Some((b"one".to_vec(), Mark::Good)));
+    wait_for_state(&mut session, State::Connected);
+    let changed = report("/a", Side::Data, NodeEvent::DataChanged);
+    wait_for(&mut session, |event| *event == changed);
+    assert_eq!(kept(&session, "/b"), Some((b"one".to_vec(), Mark::Good)));
+    let node = session.watch("/a").unwrap().unwrap();
+    assert_eq!(node.data.as_deref(), Some(b"two".as_slice()));
+}
+
+#[test]
+fn a_silent_server_is_left_after_two_thirds_of_the_timeout() {
+    let Some(mut silent) = Server::start(&[]) else {
+        return;
+    };
+    let Some(mut other) = Server::start(&[]) else {
+        return;
+    };
+    other.tell("create /ahead x");
+    other.tell("set /ahead y");
+    let timeout = Duration::from_millis(1_500);
+    let mut session = Session::open([silent.address, other.address], timeout).unwrap();
+    session.exists("/", Watch::No).unwrap();
+    let heard = Instant::now();
+    silent.tell("mute");
+    wait_for(&mut session, |event| {
+        matches!(
+            event,
+            Event::Dropped {
+                cause: Cause::Silence,
+                ..
+            }
+        )
+    });
+    let slack = Duration::from_millis(10);
+    assert!(
+        heard.elapsed() + slack >= timeout * 2 / 3,
+        "{:?}",
+        heard.elapsed()
+    );
+    wait_for_state(&mut session, State::Expired); // the other one has never heard of the session
+}
+
+#[test]
+fn a_call_is_lost_with_its_connection() {
+    let Some(mut server) = Server::start(&[]) else {
+        return;
+    };
+    let mut session = session_at(&server, 1_500);
+    session.exists("/", Watch::No).unwrap();
+    server.tell("mute");
+    let lost = session.exists("/", Watch::No);
+    assert_eq!(lost, Err(Error::NoReply(NoReply::ConnectionLoss)));
+    let nobody = session.exists("/", Watch::No);
+    assert_eq!(nobody, Err(Error::NoReply(NoReply::NotConnected)));
+    server.tell("unmute");
+    wait_for_state(&mut session, State::Connected);
+}
+
+#[test]
+fn an_idle_session_goes_on_by_pings() {
+    let Some(server) = Server::start(&[]) else {
+        return;
+    };
+    let mut session = session_at(&server, 3_000);
+    session.watch("/").unwrap();
+    while session.next_event(Some(Instant::now())).unwrap().is_some() {}
+    let until = Instant::now() + Duration::from_millis(2_500);
+    let event = session.next_event(Some(until)).unwrap();
+    assert_eq!(event, None, "the connection goes on");
+}
+
+#[test]
+fn an_expired_session_is_renewed() {
+    let Some(mut server) = Server::start(&[]) else {
+        return;
+    };
+    server.tell("create /a one");
+    let mut session = session_at(&server, 10_000);
+    session.watch("/a").unwrap();
+    session.create("/mine", b"", Mode::Ephemeral).unwrap();
+    server.tell("expire");
+    wait_for_state(&mut session, State::Expired);
+    assert_eq!(session.next_event(None), Ok(None));
+    assert_eq!(session.peek("/a").unwrap(), None);
+    let expired = session.get("/a", Watch::No);
+    assert_eq!(expired, Err(Error::NoReply(NoReply::SessionExpired)));
+    let seen = session.client().last_zxid();
+    session.renew().unwrap();
+    assert_eq!(session.exists("/mine", Watch::No), Ok(None));
+    assert!(session.client().last_zxid() >= seen);
+}
+
+#[test]
+fn a_session_is_taken_up_by_another() {
+    let Some(server) = Server::start(&[]) else {
+        return;
+    };
+    let mut first = session_at(&server, 10_000);
+    first.create("/mine", b"", Mode::Ephemeral).unwrap();
+    let saved = first.client().saved().unwrap();
+    drop(first);
+    let timeout = Duration::from_secs(10);
+    let mut second = Session::resume([server.address], timeout, &saved).unwrap();
+    assert!(second.exists("/mine", Watch::No).unwrap().is_some());
+    second.close().unwrap();
+    let mut third = session_at(&server, 10_000);
+    assert_eq!(third.exists("/mine", Watch::No), Ok(None));
+}
+
+#[test]
+fn nobody_answers_where_there_is_no_server() {
+    let mut session = Session::open([], Duration::from_millis(100)).unwrap();
+    let nobody = session.get("/a", Watch::No);
+    assert_eq!(nobody, Err(Error::NoReply(NoReply::NotConnected)));
+}
+
+/// Asks a server that answers with random bytes.
+fn try_hostile(seed: &str) {
+    let Some(server) = Server::start(&["--hostile", seed]) else {
+        return;
+    };
+    let mut session = session_at(&server, 100);
+    for _ in 0..4 {
+        let begun = Instant::now();
+        let _ = session.get("/a", Watch::Yes);
+        let _ = session.children("/a", Watch::Yes);
+        assert!(begun.elapsed() < PATIENCE, "seed {seed}");
+    }
+}
+
+#[test]
+fn each_call_returns_whatever_a_server_sends() {
+    for seed in ["1", "2", "3", "4"] {
+        try_hostile(seed);
+    }
+}
+
+/// The example that this run of cargo has built.
+fn follow_example() -> PathBuf {
+    let test = std::env::current_exe().unwrap();
+    let built = test.parent().unwrap().parent().unwrap();
+    built.join("examples").join("follow")
+}
+
+#[test]
+fn the_example_follows_a_node_through_a_restart() {
+    let Some(mut server) = Server::start(&[]) else {
+        return;
+    };
+    server.tell("create /config first");
+    let mut command = Command::new(follow_example());
+    command.arg(server.address.to_string()).arg("/config");
+    let mut child = command.stdout(Stdio::piped()).spawn().unwrap();
+    let output = BufReader::new(child.stdout.take().unwrap());
+    let (sender, lines) = channel();
+    thread::spawn(move || {
+        output
+            .lines()
+            .map_while(Result::ok)
+            .try_for_each(|line| sender.send(line))
+    });
+    let line = || lines.recv_timeout(PATIENCE);
+    let first = line();
+    server.tell("down");
+    server.tell("set /config second");
+    server.tell("up");
+    let second = line();
+    server.tell("expire");
+    let third = line();
+    server.tell("delete /config");
+    let fourth = line();
+    child.kill().unwrap();
+    child.wait().unwrap();
+    assert_eq!(first.as_deref(), Ok("/config version 0: first"));
+    assert_eq!(second.as_deref(), Ok("/config version 1: second"));
+    assert_eq!(third.as_deref(), Ok("/config version 1: second"));
+    assert_eq!(fourth.as_deref(), Ok("/config is not there"));
+}
