@@ -61,7 +61,7 @@ static void take_answer(struct session *s, const dw_output *output)
     s->answers++;
     EXPECT(output->detail >= 0 && output->detail <= 7);
     EXPECT(output->detail == 0 ? output->result >= DW_CODE && output->result <= DW_DONE : output->result == 0);
-    EXPECT(output->detail == 1 || !s->is_dropped);
+    EXPECT(!s->is_dropped || output->detail == 1 || output->detail == 4);
     for (size_t i = 0; i <= output->names; i++) {
         dw_name(&s->client, i, name, sizeof name);
     }
@@ -144,14 +144,15 @@ static void add_frame(struct session *s, struct bytes *bytes)
 /* A frame as it is, or with some bytes changed, or bytes behind a length that fits, or bytes alone. */
 static void make_bytes(struct session *s, struct bytes *bytes)
 {
+    static const uint8_t zeros[200];
     uint64_t kind = draw(s, 6), changes = 0;
     bytes->length = 0;
     if (kind < 4) {
         add_frame(s, bytes);
         changes = kind == 0 ? draw(s, 4) : 0;
     } else {
-        changes = draw(s, 200);
-        put_buffer(bytes, bytes->at + 4, (size_t)changes);
+        changes = draw(s, sizeof zeros);
+        put_buffer(bytes, zeros, (size_t)changes);
     }
     size_t kept = kind == 4 ? 4 : 0;
     for (; changes > 0 && kept < bytes->length; changes--) {
