@@ -469,10 +469,10 @@ static void open_client(struct follower *f)
 /* Goes on where this connection, or this session, is of no use any more. */
 static void renew(struct follower *f)
 {
-    if (f->is_refused) {
-        f->is_refused = false;
-        cut(f, "the next server is tried");
+    if (f->is_refused && f->socket >= 0) {
+        cut(f, "the next server is asked");
     }
+    f->is_refused = false;
     if (dw_state(&f->client) == DW_EXPIRED) {
         open_client(f);
     }
