@@ -216,17 +216,24 @@ static void expect_ended(dw_client *client)
     expect_answer(client, 9, 2);
 }
 
-/* A ping a third of the granted timeout after the last frame that was sent, and silence at two thirds. */
+/* A ping (xid -2, type 11) a third of the granted timeout after the last frame that was sent, and silence two thirds after the last byte
+ * that came. */
 static void expect_deadlines(dw_client *client)
 {
+    static const uint8_t ping[] = {0, 0, 0, 8, 0xff, 0xff, 0xff, 0xfe, 0, 0, 0, 11};
+    uint8_t frame[sizeof ping];
     uint64_t first_ms;
     dw_output output;
     connect_client(client);
     EXPECT_NUMBER(DW_OK, dw_deadline(client, &first_ms));
-    EXPECT_NUMBER(NOW + GRANTED_MS / 3, first_ms);
+    EXPECT(first_ms == NOW + GRANTED_MS / 3 || first_ms == NOW + GRANTED_MS / 3 + 1);
+    EXPECT_NUMBER(DW_OK, dw_tick(client, first_ms - 1));
+    EXPECT_NUMBER(DW_NONE, dw_next(client, &output));
     EXPECT_NUMBER(DW_OK, dw_tick(client, first_ms));
     EXPECT_NUMBER(DW_OK, dw_next(client, &output));
     EXPECT_NUMBER(DW_SEND, output.kind);
+    EXPECT_NUMBER(sizeof ping, dw_copy(client, 0, frame, sizeof frame));
+    EXPECT(memcmp(frame, ping, sizeof ping) == 0);
     EXPECT_NUMBER(DW_OK, dw_tick(client, NOW + 2 * GRANTED_MS / 3 + 1));
     EXPECT_NUMBER(DW_OK, dw_next(client, &output));
     EXPECT_NUMBER(DW_DROP, output.kind);
