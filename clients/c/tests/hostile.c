@@ -1,6 +1,6 @@
 /* Whatever a server sends behind a right connect response, each call returns, all outputs can be read, each call is answered once, and
- * what is told is what the header has. Each seed plays a session of its own: frames that are right, changed, or made up, cut anyhow,
- * between moments, cuts and calls.
+ * what is told is what the header has. Each seed plays a session of its own: frames that are right, out of step, changed, or random,
+ * cut anyhow, between moments, cuts and calls.
  *
  *   hostile [SEEDS] */
 #include "dirwolleu.h"
@@ -9,19 +9,20 @@
 
 #include <string.h>
 
-enum { SEEDS = 2000, MOVES = 120, MOST_TICKETS = 2 * MOVES, ROOM = 64, GUARD = 0x5a };
+enum { SEEDS = 10000, MOVES = 120, MOST_TICKETS = 2 * MOVES, ROOM = 64, GUARD = 0x5a };
 
 static const dw_stat STAT = {.czxid = 3, .mzxid = 5, .version = 1, .data_length = 5, .num_children = 2, .pzxid = 4};
 
 struct session {
     dw_client client;
-    uint64_t random;  /* the state of the generator, which is never 0 */
+    uint64_t random;                 /* the state of the generator, which is never 0 */
     uint64_t now_ms;
-    int32_t xid;      /* of the last request, if none was refused */
+    int32_t xid;                     /* of the last request */
+    uint8_t types[MOST_TICKETS + 1]; /* of requests, by their xids */
+    int64_t zxid;                    /* the greatest that a right reply told */
+    uint64_t tickets, answers;       /* so many calls were made, with the tickets from 1 on, and answered */
     bool is_answered[MOST_TICKETS];
-    uint64_t tickets; /* so many calls were made: 1 to tickets */
-    uint64_t answers;
-    bool is_dropped;  /* within this step */
+    bool is_dropped;                 /* within this step */
 };
 
 /* A number below the bound, by xorshift64*. */
@@ -43,14 +44,23 @@ static void read_text(struct session *s, size_t length)
     EXPECT_NUMBER(GUARD, room[ROOM]);
 }
 
-/* A frame has its own length in its first four bytes. */
+static uint32_t read_int(const uint8_t *at)
+{
+    return (uint32_t)at[0] << 24 | (uint32_t)at[1] << 16 | (uint32_t)at[2] << 8 | at[3];
+}
+
+/* A frame has its own length in its first four bytes; a request of a call its xid, above 0, and its type behind them. */
 static void take_frame(struct session *s, const dw_output *output)
 {
-    uint8_t head[4];
-    EXPECT(!s->is_dropped);
+    uint8_t head[12];
+    EXPECT(!s->is_dropped && output->length >= sizeof head);
     EXPECT_NUMBER(output->length, dw_copy(&s->client, 0, head, sizeof head));
-    size_t told = (size_t)head[0] << 24 | (size_t)head[1] << 16 | (size_t)head[2] << 8 | head[3];
-    EXPECT_NUMBER(output->length, told + 4);
+    EXPECT_NUMBER(output->length, read_int(head) + 4);
+    if ((int32_t)read_int(head + 4) > 0) {
+        EXPECT_NUMBER(s->xid + 1, read_int(head + 4));
+        s->xid++;
+        s->types[s->xid] = (uint8_t)read_int(head + 8);
+    }
 }
 
 static void take_answer(struct session *s, const dw_output *output)
@@ -113,7 +123,6 @@ static void ask(struct session *s)
     const uint8_t path[] = {'/', (uint8_t)('a' + draw(s, 4))};
     uint64_t ticket = ++s->tickets;
     bool watch = draw(s, 2) == 0;
-    s->xid += dw_state(&s->client) == DW_CONNECTED;
     switch (draw(s, 6)) {
     case 0: act(s, dw_exists(&s->client, s->now_ms, ticket, path, sizeof path, watch)); break;
     case 1: act(s, dw_get_data(&s->client, s->now_ms, ticket, path, sizeof path, watch)); break;
@@ -124,37 +133,58 @@ static void ask(struct session *s)
     }
 }
 
-/* Adds a frame that a server could send, though maybe not now. */
-static void add_frame(struct session *s, struct bytes *bytes)
+/* Adds a right reply to the call that waits first, or a notice where none does. */
+static void add_reply(struct session *s, struct bytes *bytes)
+{
+    const char path[] = {'/', (char)('a' + draw(s, 4)), 0};
+    int32_t pending = (int32_t)(s->tickets - s->answers), xid = s->xid - pending + 1;
+    s->zxid += (int64_t)draw(s, 2);
+    switch (pending > 0 ? s->types[xid] : 0) {
+    case 1: add_created(bytes, xid, s->zxid, path); break;
+    case 2: add_header(bytes, xid, s->zxid, 0); break;
+    case 3: case 5: add_stat(bytes, xid, s->zxid, &STAT); break;
+    case 4: add_data(bytes, xid, s->zxid, "data", &STAT); break;
+    case 12: add_names(bytes, xid, s->zxid, "left", "right", &STAT); break;
+    default: add_notice(bytes, 1 + (int32_t)draw(s, 4), path); break;
+    }
+}
+
+/* Adds a frame of a server that is out of step. */
+static void add_other(struct session *s, struct bytes *bytes)
 {
     const char path[] = {'/', (char)('a' + draw(s, 4)), 0};
     int32_t xid = s->xid - (int32_t)draw(s, 4);
+    int64_t zxid = s->zxid - 4 + (int64_t)draw(s, 6);
     switch (draw(s, 8)) {
-    case 0: add_data(bytes, xid, (int64_t)draw(s, 9), "data", &STAT); break;
-    case 1: add_names(bytes, xid, (int64_t)draw(s, 9), "left", "right", &STAT); break;
-    case 2: add_stat(bytes, xid, (int64_t)draw(s, 9), &STAT); break;
-    case 3: add_created(bytes, xid, (int64_t)draw(s, 9), path); break;
-    case 4: add_header(bytes, xid, (int64_t)draw(s, 9), CODE_NO_NODE); break;
-    case 5: add_header(bytes, draw(s, 2) == 0 ? XID_PING : XID_SET_WATCHES, (int64_t)draw(s, 9), 0); break;
+    case 0: add_data(bytes, xid, zxid, "data", &STAT); break;
+    case 1: add_names(bytes, xid, zxid, "left", "right", &STAT); break;
+    case 2: add_stat(bytes, xid, zxid, &STAT); break;
+    case 3: add_created(bytes, xid, zxid, path); break;
+    case 4: add_header(bytes, xid, zxid, CODE_NO_NODE); break;
+    case 5: add_header(bytes, draw(s, 2) == 0 ? XID_PING : XID_SET_WATCHES, zxid, draw(s, 2) == 0 ? 0 : CODE_NO_NODE); break;
     case 6: add_connected(bytes); break;
     default: add_notice(bytes, (int32_t)draw(s, 6), path); break;
     }
 }
 
-/* A frame as it is, or with some bytes changed, or bytes behind a length that fits, or bytes alone. */
+/* A frame: mostly a right one, else one that is out of step, or changed in some bytes, or random bytes behind a length that fits, or
+ * random bytes alone. */
 static void make_bytes(struct session *s, struct bytes *bytes)
 {
     static const uint8_t zeros[200];
-    uint64_t kind = draw(s, 6), changes = 0;
+    uint64_t kind = draw(s, 24), changes = 0;
+    size_t kept = 0;
     bytes->length = 0;
-    if (kind < 4) {
-        add_frame(s, bytes);
-        changes = kind == 0 ? draw(s, 4) : 0;
-    } else {
+    if (kind == 0 || kind == 1) {
         changes = draw(s, sizeof zeros);
+        kept = kind == 0 ? 4 : 0;
         put_buffer(bytes, zeros, (size_t)changes);
+    } else if (kind == 2) {
+        add_other(s, bytes);
+    } else {
+        changes = kind == 3 ? 1 + draw(s, 4) : 0;
+        add_reply(s, bytes);
     }
-    size_t kept = kind == 4 ? 4 : 0;
     for (; changes > 0 && kept < bytes->length; changes--) {
         bytes->at[kept + draw(s, bytes->length - kept)] = (uint8_t)draw(s, 256);
     }
