@@ -303,10 +303,7 @@ static void finish_connection(struct follower *f)
     }
     f->is_connecting = false;
     f->due_ms = UINT64_MAX;
-    act(f, dw_tick(&f->client, now_ms()));
-    if (!f->is_over) {
-        act(f, dw_opened(&f->client, now_ms()));
-    }
+    act(f, dw_opened(&f->client, now_ms()));
 }
 
 static bool is_passing(int error)
@@ -508,7 +505,7 @@ static void serve(struct follower *f)
     }
 }
 
-/* Tells the client the moment. */
+/* Tells the client the moment: what is due at it is done, and a connection that begins later has one before it. */
 static void tick(struct follower *f)
 {
     act(f, dw_tick(&f->client, now_ms()));

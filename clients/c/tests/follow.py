@@ -9,6 +9,7 @@ import signal
 import socket
 import subprocess
 import sys
+import tempfile
 import threading
 import unittest
 
@@ -73,7 +74,9 @@ class Follow(unittest.TestCase):
 
     def follow(self, servers, path="/config"):
         self.last_zxid = 0
-        self.followed = Process(PROGRAM, servers, path, stderr=subprocess.DEVNULL)
+        self.errors = tempfile.TemporaryFile("w+", encoding="utf-8")
+        self.addCleanup(self.errors.close)
+        self.followed = Process(PROGRAM, servers, path, stderr=self.errors)
         self.addCleanup(self.followed.end)
 
     def begin(self, *options):
@@ -92,9 +95,12 @@ class Follow(unittest.TestCase):
             self.assertGreaterEqual(int(zxid), self.last_zxid)
             self.last_zxid = int(zxid)
 
-    def expect_end(self, number, status):
+    def expect_end(self, number, is_closed):
+        """The program ends well at this signal, and says whether the server has closed the session."""
         self.followed.process.send_signal(number)
-        self.assertEqual(self.followed.process.wait(BOUND), status)
+        self.assertEqual(self.followed.process.wait(BOUND), 0)
+        self.errors.seek(0)
+        self.assertEqual("the session is closed" in self.errors.read(), is_closed)
 
     def test_changes(self):
         partner = self.begin()
@@ -104,13 +110,13 @@ class Follow(unittest.TestCase):
         self.expect('stale "second"', "good absent")
         partner.do("create /config a \"quoted\" word")
         self.expect("stale absent", 'good "a \\x22quoted\\x22 word"')
-        self.expect_end(signal.SIGTERM, 0)
+        self.expect_end(signal.SIGTERM, True)
 
     def test_lost_connection(self):
         partner = self.begin()
         partner.do("drop", "set /config second")
         self.expect('stale "first"', 'good "second"')
-        self.expect_end(signal.SIGINT, 0)
+        self.expect_end(signal.SIGINT, True)
 
     def test_server_that_comes_back(self):
         partner = self.begin()
@@ -135,6 +141,11 @@ class Follow(unittest.TestCase):
         partner.do("set /config second")
         self.expect('stale "first"', 'good "second"')
 
+    def test_long_data(self):
+        partner = self.begin()
+        partner.do("set /config " + 200_000 * "x")
+        self.expect('stale "first"', f'good "{200_000 * "x"}"')
+
     def test_hostile_server(self):
         partner = self.partner("--hostile", "7")
         self.follow(partner.address)
@@ -147,12 +158,12 @@ class Follow(unittest.TestCase):
         self.follow(unused_address())
         with self.assertRaises(subprocess.TimeoutExpired):
             self.followed.process.wait(1)
-        self.expect_end(signal.SIGTERM, 0)
+        self.expect_end(signal.SIGTERM, False)
 
     def test_mute_server(self):
         partner = self.begin()
         partner.do("mute")
-        self.expect_end(signal.SIGTERM, 0)
+        self.expect_end(signal.SIGTERM, False)
 
     def test_output_that_fails(self):
         partner = self.partner()
