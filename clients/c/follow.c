@@ -1,0 +1,584 @@
+/* Follows the data of a node of ZooKeeper, through lost connections, restarts of servers and expired sessions:
+ *
+ *   follow HOST:PORT[,HOST:PORT..] PATH
+ *
+ * Each change of what is kept of the node is a line on standard output: the path, the mark, the last seen zxid, the data.
+ *
+ *   /config good 12 "first"     the servers' history has these data at zxid 12
+ *   /config stale 13 "first"    a change was told, and the node is read again
+ *   /config good 14 absent      no node is there
+ *   /config unknown 0           nothing is kept: the session has expired, and another one begins
+ *
+ * What happens to connections is told on standard error. SIGINT and SIGTERM end the session and the program; it also ends, with status
+ * 1, where standard output fails or memory runs out. */
+#define _POSIX_C_SOURCE 200809L
+#include "dirwolleu.h"
+
+#include <errno.h>
+#include <fcntl.h>
+#include <inttypes.h>
+#include <limits.h>
+#include <netdb.h>
+#include <netinet/in.h>
+#include <netinet/tcp.h>
+#include <poll.h>
+#include <signal.h>
+#include <stdio.h>
+#include <stdlib.h>
+#include <string.h>
+#include <sys/socket.h>
+#include <time.h>
+#include <unistd.h>
+
+enum {
+    TIMEOUT_MS = 10000,       /* of the session, as it is asked for */
+    LONGEST_DIAL_MS = 3000,   /* of an attempt to connect */
+    LONGEST_CLOSE_MS = 1000,  /* of the wait for the server's word that the session is closed */
+    FIRST_PAUSE_MS = 100,     /* before the next attempt to connect, and twice as long after each in vain */
+    LONGEST_PAUSE_MS = 10000,
+    LONGEST_NAME = 512,       /* of HOST:PORT */
+    PIECE = 65536             /* the most bytes that are read at once */
+};
+
+/* The tickets of the calls, and the server's code for a path without a node. */
+enum { TICKET_DATA = 1, TICKET_EXISTS = 2, TICKET_CLOSE = 3 };
+enum { NO_NODE = -101 };
+
+struct buffer {
+    uint8_t *bytes;
+    size_t length, room;
+};
+
+struct follower {
+    dw_client client;
+    const char *path;
+    const char *servers, *rest;       /* all servers, and those that were not dialled yet in this round */
+    char server[LONGEST_NAME];        /* the one that was dialled last */
+    struct addrinfo *found, *address; /* its addresses, and the one that was dialled last */
+    int socket;                       /* -1 where there is none */
+    bool is_connecting;               /* the attempt to connect is not over */
+    bool is_asked;                    /* a read waits for its answer */
+    bool is_missing;                  /* the last read found no node */
+    bool is_refused;                  /* the last read was answered with another code */
+    bool is_closing, is_over;         /* the session is being closed, the program is to end */
+    uint64_t due_ms;                  /* when to dial, to give the attempt up, or to wait for the close no longer */
+    uint64_t pause_ms;
+    struct buffer unsent, data;
+    dw_kept_data shown;               /* what the last line was about */
+    int status;
+};
+
+/* Both ends of a pipe, through which a signal wakes poll. */
+static int wakes[2];
+
+static void wake(int signal_number)
+{
+    int kept = errno;
+    ssize_t written = write(wakes[1], "", 1);
+    (void)signal_number;
+    (void)written;
+    errno = kept;
+}
+
+static uint64_t now_ms(void)
+{
+    struct timespec now;
+    clock_gettime(CLOCK_MONOTONIC, &now);
+    return (uint64_t)now.tv_sec * 1000 + (uint64_t)now.tv_nsec / 1000000;
+}
+
+static void say(const char *what, const char *why)
+{
+    fprintf(stderr, "follow: %s: %s\n", what, why);
+}
+
+/* Says why the program ends, and has it end. */
+static void fail(struct follower *f, const char *what, const char *why)
+{
+    say(what, why);
+    f->status = EXIT_FAILURE;
+    f->is_over = true;
+}
+
+static const char *words_of(int32_t code)
+{
+    switch (code) {
+    case DW_HALTED: return "out of memory within a step";
+    case DW_NO_MEMORY: return "out of memory";
+    case DW_CLOSED: return "the handle holds no client";
+    case DW_NOT_TEXT: return "the path is no UTF-8";
+    case DW_NOT_PATH: return "this is no path of a node";
+    default: return "a number that the header does not have";
+    }
+}
+
+/* Makes room for so many bytes in all. */
+static bool reserve(struct buffer *buffer, size_t room)
+{
+    if (room <= buffer->room) {
+        return true;
+    }
+    uint8_t *bytes = realloc(buffer->bytes, room);
+    if (bytes == NULL) {
+        return false;
+    }
+    buffer->bytes = bytes;
+    buffer->room = room;
+    return true;
+}
+
+/* Closes the connection, or gives the attempt up. The next attempt follows after a pause, half of which is up to chance, so that many
+ * clients do not come back at once. */
+static void hang_up(struct follower *f)
+{
+    if (f->socket >= 0) {
+        close(f->socket);
+    }
+    f->socket = -1;
+    f->is_connecting = false;
+    f->is_over = f->is_over || f->is_closing;
+    f->unsent.length = 0;
+    f->due_ms = now_ms() + f->pause_ms / 2 + (uint64_t)rand() % (f->pause_ms / 2 + 1);
+    f->pause_ms = f->pause_ms < LONGEST_PAUSE_MS / 2 ? 2 * f->pause_ms : LONGEST_PAUSE_MS;
+}
+
+/* Keeps the frame of the output that was told last until it is written. */
+static void send_later(struct follower *f, size_t length)
+{
+    if (!reserve(&f->unsent, f->unsent.length + length)) {
+        fail(f, "a frame", strerror(ENOMEM));
+        return;
+    }
+    f->unsent.length += dw_copy(&f->client, 0, f->unsent.bytes + f->unsent.length, length);
+}
+
+static void take_answer(struct follower *f, const dw_output *output)
+{
+    bool is_code = output->result == DW_CODE;
+    f->is_asked = false;
+    f->is_missing = output->ticket == TICKET_DATA && is_code && output->code == NO_NODE;
+    f->is_refused = output->ticket != TICKET_CLOSE && is_code && output->code != NO_NODE;
+    if (f->is_refused) {
+        fprintf(stderr, "follow: %s: the server answers with the code %" PRId32 "\n", f->path, output->code);
+    } else if (output->detail == 0) {
+        f->pause_ms = FIRST_PAUSE_MS;
+    }
+}
+
+static void take_state(struct follower *f, int32_t state)
+{
+    if (state == DW_CONNECTED) {
+        fprintf(stderr, "follow: %s: connected, with a timeout of %" PRId64 " ms\n", f->server, dw_timeout_ms(&f->client));
+    } else if (state == DW_EXPIRED) {
+        say(f->server, "the session has expired");
+        hang_up(f);
+    } else if (state == DW_SESSION_CLOSED) {
+        say(f->server, "the session is closed");
+        hang_up(f);
+    }
+}
+
+static void take_drop(struct follower *f)
+{
+    char words[256];
+    size_t length;
+    int32_t code = dw_words(&f->client, (uint8_t *)words, sizeof words - 1, &length);
+    words[length < sizeof words ? length : sizeof words - 1] = 0;
+    say(f->server, code == DW_OK ? words : words_of(code));
+    hang_up(f);
+}
+
+static void take(struct follower *f, const dw_output *output)
+{
+    switch (output->kind) {
+    case DW_SEND: send_later(f, output->length); break;
+    case DW_ANSWER: take_answer(f, output); break;
+    case DW_REPORT: break; /* what is kept has become stale, which is shown */
+    case DW_STATE: take_state(f, output->detail); break;
+    case DW_DROP: take_drop(f); break;
+    }
+}
+
+/* Takes what a step answered: all its outputs, in their order. */
+static void act(struct follower *f, int32_t code)
+{
+    dw_output output;
+    if (code == DW_OK) {
+        while ((code = dw_next(&f->client, &output)) == DW_OK) {
+            take(f, &output);
+        }
+    }
+    if (code != DW_NONE) {
+        fail(f, f->path, words_of(code));
+    }
+}
+
+/* Ends a connection that was open. */
+static void cut(struct follower *f, const char *why)
+{
+    say(f->server, why);
+    hang_up(f);
+    act(f, dw_cut(&f->client, now_ms()));
+}
+
+/* Looks up the addresses of a server, HOST:PORT or [HOST]:PORT. This may take a while, which no connection waits for. */
+static struct addrinfo *look_up(const char *server)
+{
+    char host[LONGEST_NAME];
+    struct addrinfo wanted = {.ai_family = AF_UNSPEC, .ai_socktype = SOCK_STREAM}, *found = NULL;
+    const char *colon = strrchr(server, ':');
+    bool is_bracketed = server[0] == '[' && colon[-1] == ']';
+    snprintf(host, sizeof host, "%.*s", (int)(colon - server) - 2 * is_bracketed, server + is_bracketed);
+    int code = getaddrinfo(host, colon + 1, &wanted, &found);
+    if (code != 0) {
+        say(server, gai_strerror(code));
+        return NULL;
+    }
+    return found;
+}
+
+/* Goes to the next address of the server, else to the first one of the next server. */
+static void next_address(struct follower *f)
+{
+    f->address = f->address != NULL ? f->address->ai_next : NULL;
+    if (f->address != NULL) {
+        return;
+    }
+    size_t length = strcspn(f->rest, ",");
+    snprintf(f->server, sizeof f->server, "%.*s", (int)length, f->rest);
+    f->rest = f->rest[length] == ',' ? f->rest + length + 1 : f->servers;
+    if (f->found != NULL) {
+        freeaddrinfo(f->found);
+    }
+    f->address = f->found = look_up(f->server);
+}
+
+/* A socket that does not block and is connecting to the address, or -1 with errno. */
+static int begin_connection(const struct addrinfo *address)
+{
+    int on = 1, made = socket(address->ai_family, address->ai_socktype, address->ai_protocol);
+    if (made < 0) {
+        return -1;
+    }
+    if (fcntl(made, F_SETFD, FD_CLOEXEC) == 0 && fcntl(made, F_SETFL, O_NONBLOCK) == 0
+        && setsockopt(made, IPPROTO_TCP, TCP_NODELAY, &on, sizeof on) == 0
+        && (connect(made, address->ai_addr, address->ai_addrlen) == 0 || errno == EINPROGRESS)) {
+        return made;
+    }
+    int kept = errno;
+    close(made);
+    errno = kept;
+    return -1;
+}
+
+static void dial(struct follower *f)
+{
+    next_address(f);
+    if (f->address == NULL) {
+        hang_up(f);
+        return;
+    }
+    f->socket = begin_connection(f->address);
+    if (f->socket < 0) {
+        say(f->server, strerror(errno));
+        hang_up(f);
+        return;
+    }
+    f->is_connecting = true;
+    f->due_ms = now_ms() + LONGEST_DIAL_MS;
+}
+
+/* The attempt to connect is over. */
+static void finish_connection(struct follower *f)
+{
+    int error = 0;
+    socklen_t length = sizeof error;
+    if (getsockopt(f->socket, SOL_SOCKET, SO_ERROR, &error, &length) != 0) {
+        error = errno;
+    }
+    if (error != 0) {
+        say(f->server, strerror(error));
+        hang_up(f);
+        return;
+    }
+    f->is_connecting = false;
+    f->due_ms = UINT64_MAX;
+    act(f, dw_opened(&f->client, now_ms()));
+}
+
+static bool is_passing(int error)
+{
+    return error == EINTR || error == EAGAIN || error == EWOULDBLOCK;
+}
+
+static void receive(struct follower *f)
+{
+    uint8_t piece[PIECE];
+    ssize_t count = recv(f->socket, piece, sizeof piece, 0);
+    if (count > 0) {
+        act(f, dw_bytes(&f->client, now_ms(), piece, (size_t)count));
+    } else if (count == 0) {
+        cut(f, "the server has ended the connection");
+    } else if (!is_passing(errno)) {
+        cut(f, strerror(errno));
+    }
+}
+
+/* Writes as much as the connection takes. The rest waits for poll. */
+static void transmit(struct follower *f)
+{
+    if (f->unsent.length == 0) {
+        return;
+    }
+    ssize_t count = send(f->socket, f->unsent.bytes, f->unsent.length, 0);
+    if (count >= 0) {
+        f->unsent.length -= (size_t)count;
+        memmove(f->unsent.bytes, f->unsent.bytes + count, f->unsent.length);
+    } else if (!is_passing(errno)) {
+        cut(f, strerror(errno));
+    }
+}
+
+/* What is kept of the node, with as much of its data as the buffer is to have room for. */
+static bool look(struct follower *f, dw_kept_data *kept, size_t room)
+{
+    int32_t code = DW_NO_MEMORY;
+    if (reserve(&f->data, room)) {
+        code = dw_peek_data(&f->client, (const uint8_t *)f->path, strlen(f->path), kept, f->data.bytes, room);
+    }
+    if (code != DW_OK) {
+        fail(f, f->path, words_of(code));
+    }
+    return code == DW_OK;
+}
+
+/* Reads the node, with a watch, unless what is kept of it is good. A read of data leaves no watch where there is no node: then it is
+ * asked whether there is one, which does. */
+static void ask(struct follower *f)
+{
+    const uint8_t *path = (const uint8_t *)f->path;
+    dw_kept_data kept;
+    if (f->is_asked || f->is_closing || dw_state(&f->client) != DW_CONNECTED || !look(f, &kept, 0)) {
+        return;
+    }
+    if (kept.mark == DW_GOOD && kept.kind != DW_KNOWN) {
+        return;
+    }
+    f->is_asked = true;
+    if (f->is_missing) {
+        act(f, dw_exists(&f->client, now_ms(), TICKET_EXISTS, path, strlen(f->path), true));
+    } else {
+        act(f, dw_get_data(&f->client, now_ms(), TICKET_DATA, path, strlen(f->path), true));
+    }
+}
+
+static void print_data(const uint8_t *bytes, size_t length)
+{
+    putchar('"');
+    for (size_t i = 0; i < length; i++) {
+        bool is_plain = bytes[i] >= ' ' && bytes[i] <= '~' && bytes[i] != '"' && bytes[i] != '\\';
+        if (is_plain) {
+            putchar(bytes[i]);
+        } else {
+            printf("\\x%02x", bytes[i]);
+        }
+    }
+    putchar('"');
+}
+
+static void print_kept(struct follower *f, const dw_kept_data *kept)
+{
+    static const char *const marks[] = {"unknown", "good", "stale"};
+    printf("%s %s %" PRId64, f->path, marks[kept->mark], dw_last_zxid(&f->client));
+    if (kept->kind == DW_ABSENT) {
+        printf(" absent");
+    } else if (kept->is_null) {
+        printf(" null");
+    } else if (kept->kind == DW_FULL) {
+        putchar(' ');
+        print_data(f->data.bytes, kept->length);
+    }
+    putchar('\n');
+    if (fflush(stdout) != 0) {
+        fail(f, "standard output", strerror(errno));
+    }
+}
+
+/* Prints a line where what is kept is not what the last line was about. */
+static void show(struct follower *f)
+{
+    dw_kept_data kept;
+    if (!look(f, &kept, 0) || kept.kind == DW_KNOWN) {
+        return;
+    }
+    if (kept.kind == f->shown.kind && kept.mark == f->shown.mark && kept.stat.czxid == f->shown.stat.czxid
+        && kept.stat.mzxid == f->shown.stat.mzxid) {
+        return;
+    }
+    if (look(f, &kept, kept.length)) {
+        f->shown = kept;
+        print_kept(f, &kept);
+    }
+}
+
+/* A signal came. The session is closed, for which a second one does not wait. */
+static void leave(struct follower *f)
+{
+    char byte;
+    if (read(wakes[0], &byte, 1) != 1) {
+        return;
+    }
+    if (f->is_closing || dw_state(&f->client) != DW_CONNECTED) {
+        f->is_over = true;
+        return;
+    }
+    f->is_closing = true;
+    f->due_ms = now_ms() + LONGEST_CLOSE_MS;
+    act(f, dw_close_session(&f->client, now_ms(), TICKET_CLOSE));
+}
+
+/* What this program has to do by itself at a moment. */
+static void keep_time(struct follower *f)
+{
+    if (now_ms() < f->due_ms) {
+        return;
+    }
+    if (f->socket < 0) {
+        dial(f);
+    } else if (f->is_connecting) {
+        say(f->server, strerror(ETIMEDOUT));
+        hang_up(f);
+    } else {
+        f->is_over = true;
+    }
+}
+
+/* A client of a new session, which knows nothing. It may meet a server that is behind what the old one saw. */
+static void open_client(struct follower *f)
+{
+    int32_t code = dw_open(&f->client, TIMEOUT_MS);
+    f->is_asked = f->is_missing = false;
+    if (code != DW_OK) {
+        fail(f, f->path, words_of(code));
+    }
+}
+
+/* Goes on where this connection, or this session, is of no use any more. */
+static void renew(struct follower *f)
+{
+    if (f->is_refused && f->socket >= 0) {
+        cut(f, "the next server is asked");
+    }
+    f->is_refused = false;
+    if (dw_state(&f->client) == DW_EXPIRED) {
+        open_client(f);
+    }
+}
+
+/* How long poll may wait. */
+static int wait_ms(struct follower *f)
+{
+    uint64_t first, now = now_ms();
+    if (dw_deadline(&f->client, &first) != DW_OK || first > f->due_ms) {
+        first = f->due_ms;
+    }
+    if (first <= now) {
+        return 0;
+    }
+    return first - now < INT_MAX ? (int)(first - now) : INT_MAX;
+}
+
+/* Waits until something happens or is due, and takes what happened. */
+static void serve(struct follower *f)
+{
+    short wanted = f->is_connecting || f->unsent.length > 0 ? POLLIN | POLLOUT : POLLIN;
+    struct pollfd waits[] = {{.fd = wakes[0], .events = POLLIN}, {.fd = f->socket, .events = wanted}};
+    int ready = poll(waits, 2, wait_ms(f));
+    if (ready < 0 && errno != EINTR) {
+        fail(f, "poll", strerror(errno));
+    } else if (ready > 0 && waits[0].revents != 0) {
+        leave(f);
+    } else if (ready > 0 && f->is_connecting) {
+        finish_connection(f);
+    } else if (ready > 0 && (waits[1].revents & ~POLLOUT) != 0) {
+        receive(f);
+    }
+}
+
+/* Tells the client the moment: what is due at it is done, and a connection that begins later has one before it. */
+static void tick(struct follower *f)
+{
+    act(f, dw_tick(&f->client, now_ms()));
+}
+
+/* What is done in turn, over and over, until the program is to end. */
+static void (*const parts[])(struct follower *f) = {serve, tick, keep_time, renew, ask, show, transmit};
+
+/* Whether the text begins with a HOST:PORT of so many bytes. */
+static bool is_server(const char *text, size_t length)
+{
+    size_t last = length;
+    while (last > 0 && text[last - 1] != ':') {
+        last--;
+    }
+    return length < LONGEST_NAME && last > 1 && last < length;
+}
+
+static bool are_servers(const char *text)
+{
+    size_t length = strcspn(text, ",");
+    while (text[length] == ',' && is_server(text, length)) {
+        text += length + 1;
+        length = strcspn(text, ",");
+    }
+    return text[length] == 0 && is_server(text, length);
+}
+
+/* Has signals wake poll, makes the client, and sees that the path is one. */
+static void begin(struct follower *f)
+{
+    struct sigaction woken = {.sa_handler = wake}, ignored = {.sa_handler = SIG_IGN};
+    dw_kept_data kept;
+    if (pipe(wakes) != 0 || sigaction(SIGINT, &woken, NULL) != 0 || sigaction(SIGTERM, &woken, NULL) != 0
+        || sigaction(SIGPIPE, &ignored, NULL) != 0) {
+        fail(f, "signals", strerror(errno));
+    } else if (!reserve(&f->unsent, PIECE) || !reserve(&f->data, PIECE)) {
+        fail(f, "buffers", strerror(ENOMEM));
+    } else {
+        srand((unsigned)now_ms() ^ (unsigned)getpid());
+        open_client(f);
+    }
+    if (!f->is_over) {
+        look(f, &kept, 0);
+    }
+}
+
+static void end(struct follower *f)
+{
+    if (f->socket >= 0) {
+        close(f->socket);
+    }
+    if (f->found != NULL) {
+        freeaddrinfo(f->found);
+    }
+    free(f->unsent.bytes);
+    free(f->data.bytes);
+    dw_close(&f->client);
+}
+
+int main(int argc, char **argv)
+{
+    struct follower f = {.socket = -1, .pause_ms = FIRST_PAUSE_MS};
+    if (argc != 3 || !are_servers(argv[1])) {
+        fprintf(stderr, "usage: follow HOST:PORT[,HOST:PORT..] PATH\n");
+        return 2;
+    }
+    f.servers = f.rest = argv[1];
+    f.path = argv[2];
+    begin(&f);
+    for (size_t i = 0; !f.is_over; i = (i + 1) % (sizeof parts / sizeof parts[0])) {
+        parts[i](&f);
+    }
+    end(&f);
+    return f.status;
+}

@@ -1,0 +1,260 @@
+/* Each function on a handle that holds nothing, and with arguments that it refuses: the codes are those of the header. */
+#include "dirwolleu.h"
+#include "expect.h"
+#include "frames.h"
+
+#include <string.h>
+
+enum { NOW = 1, ROOM = 8, UNTOUCHED = 0x5a };
+
+#define TEXT(text) (const uint8_t *)(text), sizeof(text) - 1
+
+static void expect_untouched(const void *at, size_t length)
+{
+    const uint8_t *bytes = at;
+    for (size_t i = 0; i < length; i++) {
+        EXPECT_NUMBER(UNTOUCHED, bytes[i]);
+    }
+}
+
+static void expect_closed_steps(dw_client *none)
+{
+    EXPECT_NUMBER(DW_CLOSED, dw_opened(none, NOW));
+    EXPECT_NUMBER(DW_CLOSED, dw_cut(none, NOW));
+    EXPECT_NUMBER(DW_CLOSED, dw_tick(none, NOW));
+    EXPECT_NUMBER(DW_CLOSED, dw_bytes(none, NOW, TEXT("x")));
+    EXPECT_NUMBER(DW_CLOSED, dw_exists(none, NOW, 1, TEXT("/a"), true));
+    EXPECT_NUMBER(DW_CLOSED, dw_get_data(none, NOW, 1, TEXT("/a"), true));
+    EXPECT_NUMBER(DW_CLOSED, dw_get_children(none, NOW, 1, TEXT("/a"), true));
+    EXPECT_NUMBER(DW_CLOSED, dw_set_data(none, NOW, 1, TEXT("/a"), TEXT("x"), false, -1));
+    EXPECT_NUMBER(DW_CLOSED, dw_create(none, NOW, 1, TEXT("/a"), TEXT("x"), false, 0));
+    EXPECT_NUMBER(DW_CLOSED, dw_delete(none, NOW, 1, TEXT("/a"), -1));
+    EXPECT_NUMBER(DW_CLOSED, dw_close_session(none, NOW, 1));
+}
+
+static void expect_closed_outputs(dw_client *none)
+{
+    uint8_t room[ROOM];
+    dw_output output;
+    size_t count = 1;
+    memset(room, UNTOUCHED, sizeof room);
+    memset(&output, UNTOUCHED, sizeof output);
+    EXPECT_NUMBER(DW_CLOSED, dw_next(none, &output));
+    expect_untouched(&output, sizeof output);
+    EXPECT_NUMBER(0, dw_copy(none, 0, room, sizeof room));
+    EXPECT_NUMBER(0, dw_name(none, 0, room, sizeof room));
+    EXPECT_NUMBER(DW_CLOSED, dw_words(none, room, sizeof room, &count));
+    EXPECT_NUMBER(0, count);
+    expect_untouched(room, sizeof room);
+}
+
+static void expect_closed_session(dw_client *none)
+{
+    uint8_t room[ROOM];
+    uint64_t first_ms = 1;
+    size_t count = 1;
+    memset(room, UNTOUCHED, sizeof room);
+    EXPECT_NUMBER(DW_CLOSED, dw_state(none));
+    EXPECT_NUMBER(DW_CLOSED, dw_last_zxid(none));
+    EXPECT_NUMBER(DW_CLOSED, dw_timeout_ms(none));
+    EXPECT_NUMBER(DW_CLOSED, dw_deadline(none, &first_ms));
+    EXPECT_NUMBER(0, first_ms);
+    EXPECT_NUMBER(DW_CLOSED, dw_saved(none, room, sizeof room, &count));
+    EXPECT_NUMBER(0, count);
+    EXPECT_NUMBER(DW_CLOSED, dw_forget(none));
+    expect_untouched(room, sizeof room);
+}
+
+/* The look-ups of a path answer this code and write nothing, but for the count of a name. */
+static void expect_no_look_up(dw_client *client, int32_t code, const uint8_t *path, size_t length)
+{
+    uint8_t room[ROOM];
+    dw_kept_data data;
+    dw_kept_names names;
+    size_t count = 1;
+    memset(room, UNTOUCHED, sizeof room);
+    memset(&data, UNTOUCHED, sizeof data);
+    memset(&names, UNTOUCHED, sizeof names);
+    EXPECT_NUMBER(code, dw_peek_data(client, path, length, &data, room, sizeof room));
+    EXPECT_NUMBER(code, dw_peek_children(client, path, length, &names));
+    EXPECT_NUMBER(code, dw_peek_name(client, path, length, 0, room, sizeof room, &count));
+    EXPECT_NUMBER(0, count);
+    expect_untouched(room, sizeof room);
+    expect_untouched(&data, sizeof data);
+    expect_untouched(&names, sizeof names);
+}
+
+static void expect_closed(dw_client *none)
+{
+    expect_closed_steps(none);
+    expect_closed_outputs(none);
+    expect_closed_session(none);
+    expect_no_look_up(none, DW_CLOSED, TEXT("/a"));
+    dw_close(none);
+}
+
+/* No step is made: the outputs of the step before are there still. */
+static void expect_refused_path(dw_client *client, int32_t code, const uint8_t *path, size_t length)
+{
+    dw_output output;
+    EXPECT_NUMBER(DW_OK, dw_exists(client, NOW, 1, TEXT("/a"), false));
+    EXPECT_NUMBER(code, dw_exists(client, NOW, 2, path, length, true));
+    EXPECT_NUMBER(code, dw_get_data(client, NOW, 2, path, length, true));
+    EXPECT_NUMBER(code, dw_get_children(client, NOW, 2, path, length, true));
+    EXPECT_NUMBER(code, dw_set_data(client, NOW, 2, path, length, TEXT("x"), false, -1));
+    EXPECT_NUMBER(code, dw_create(client, NOW, 2, path, length, TEXT("x"), false, 0));
+    EXPECT_NUMBER(code, dw_delete(client, NOW, 2, path, length, -1));
+    expect_no_look_up(client, code, path, length);
+    EXPECT_NUMBER(DW_OK, dw_next(client, &output));
+    EXPECT_NUMBER(1, output.ticket);
+}
+
+static void expect_refused_paths(dw_client *client)
+{
+    expect_refused_path(client, DW_NOT_TEXT, TEXT("/\xff"));
+    expect_refused_path(client, DW_NOT_TEXT, TEXT("\xc3"));
+    expect_refused_path(client, DW_NOT_PATH, TEXT(""));
+    expect_refused_path(client, DW_NOT_PATH, TEXT("a"));
+    expect_refused_path(client, DW_NOT_PATH, TEXT("/a/"));
+    expect_refused_path(client, DW_NOT_PATH, TEXT("/a//b"));
+    expect_refused_path(client, DW_NOT_PATH, TEXT("/a/../b"));
+    expect_refused_path(client, DW_NOT_PATH, TEXT("/\0"));
+    EXPECT_NUMBER(DW_NO_SUCH_MODE, dw_create(client, NOW, 2, TEXT("/a"), TEXT("x"), false, 4));
+    EXPECT_NUMBER(DW_NO_SUCH_MODE, dw_create(client, NOW, 2, TEXT("/a"), TEXT("x"), false, UINT32_MAX));
+}
+
+/* A handle that held a client holds nothing where dw_open or dw_resume refuses. */
+static void expect_refused_makings(dw_client *client)
+{
+    static const int32_t timeouts[] = {0, -1, INT32_MIN};
+    static const uint8_t saved[37] = {[11] = 16};
+    static const uint8_t behind[36] = {[11] = 16, [28] = 0x80};
+    for (size_t i = 0; i < sizeof timeouts / sizeof timeouts[0]; i++) {
+        EXPECT_NUMBER(DW_OK, dw_open(client, 1));
+        EXPECT_NUMBER(DW_BAD_TIMEOUT, dw_open(client, timeouts[i]));
+        expect_closed(client);
+        EXPECT_NUMBER(DW_BAD_TIMEOUT, dw_resume(client, timeouts[i], saved, 36));
+        expect_closed(client);
+    }
+    EXPECT_NUMBER(DW_OK, dw_resume(client, 1, saved, 36));
+    EXPECT_NUMBER(DW_IDLE, dw_state(client));
+    EXPECT_NUMBER(DW_NOT_SAVED, dw_resume(client, 1, saved, 0));
+    expect_closed(client);
+    EXPECT_NUMBER(DW_NOT_SAVED, dw_resume(client, 1, saved, 35));
+    EXPECT_NUMBER(DW_NOT_SAVED, dw_resume(client, 1, saved, 37));
+    EXPECT_NUMBER(DW_NOT_SAVED, dw_resume(client, 1, behind, 36));
+    expect_closed(client);
+}
+
+/* The next output answers the ticket without a reply. */
+static void expect_answer(dw_client *client, uint64_t ticket, int32_t detail)
+{
+    dw_output output;
+    EXPECT_NUMBER(DW_OK, dw_next(client, &output));
+    EXPECT_NUMBER(DW_ANSWER, output.kind);
+    EXPECT_NUMBER(ticket, output.ticket);
+    EXPECT_NUMBER(detail, output.detail);
+    EXPECT_NUMBER(0, output.result);
+    EXPECT_NUMBER(0, output.length);
+}
+
+static void connect_client(dw_client *client)
+{
+    struct bytes response = {.length = 0};
+    add_connected(&response);
+    EXPECT_NUMBER(DW_OK, dw_open(client, 10000));
+    EXPECT_NUMBER(DW_OK, dw_tick(client, NOW));
+    EXPECT_NUMBER(DW_OK, dw_opened(client, NOW));
+    EXPECT_NUMBER(DW_CONNECTING, dw_state(client));
+    EXPECT_NUMBER(10000, dw_timeout_ms(client));
+    EXPECT_NUMBER(DW_OK, dw_bytes(client, NOW, response.at, response.length));
+    EXPECT_NUMBER(DW_CONNECTED, dw_state(client));
+    EXPECT_NUMBER(GRANTED_MS, dw_timeout_ms(client));
+}
+
+/* K4 without a connection, K6 for a payload above 1,048,575 bytes, K7 where 1,024 calls wait, K1 at the end of the connection. */
+static void expect_answers_without_reply(dw_client *client)
+{
+    enum { MOST_PENDING = 1024, LONGEST = 1048575 };
+    static const uint8_t data[LONGEST];
+    EXPECT_NUMBER(DW_OK, dw_open(client, 10000));
+    EXPECT_NUMBER(DW_OK, dw_get_data(client, NOW, 5, TEXT("/a"), false));
+    expect_answer(client, 5, 4);
+    connect_client(client);
+    EXPECT_NUMBER(DW_OK, dw_set_data(client, NOW, 6, TEXT("/a"), data, sizeof data, false, -1));
+    expect_answer(client, 6, 6);
+    for (uint64_t ticket = 1; ticket <= MOST_PENDING; ticket++) {
+        EXPECT_NUMBER(DW_OK, dw_get_data(client, NOW, ticket, TEXT("/a"), false));
+    }
+    EXPECT_NUMBER(DW_OK, dw_get_data(client, NOW, UINT64_MAX, TEXT("/a"), false));
+    expect_answer(client, UINT64_MAX, 7);
+    EXPECT_NUMBER(DW_OK, dw_cut(client, NOW));
+    for (uint64_t ticket = 1; ticket <= MOST_PENDING; ticket++) {
+        expect_answer(client, ticket, 1);
+    }
+}
+
+/* K2 behind an expiry, K3 behind a close. */
+static void expect_ended(dw_client *client)
+{
+    struct bytes came = {.length = 0};
+    connect_client(client);
+    EXPECT_NUMBER(DW_OK, dw_close_session(client, NOW, 7));
+    EXPECT_NUMBER(DW_OK, dw_get_data(client, NOW, 8, TEXT("/a"), false));
+    expect_answer(client, 8, 3);
+    add_header(&came, 1, 0, 0);
+    EXPECT_NUMBER(DW_OK, dw_bytes(client, NOW, came.at, came.length));
+    EXPECT_NUMBER(DW_SESSION_CLOSED, dw_state(client));
+    connect_client(client);
+    came.length = 0;
+    add_expired(&came);
+    EXPECT_NUMBER(DW_OK, dw_cut(client, NOW));
+    EXPECT_NUMBER(DW_OK, dw_opened(client, NOW));
+    EXPECT_NUMBER(DW_OK, dw_bytes(client, NOW, came.at, came.length));
+    EXPECT_NUMBER(DW_EXPIRED, dw_state(client));
+    EXPECT_NUMBER(DW_OK, dw_get_data(client, NOW, 9, TEXT("/a"), false));
+    expect_answer(client, 9, 2);
+}
+
+/* A ping (xid -2, type 11) a third of the granted timeout after the last frame that was sent, and silence two thirds after the last byte
+ * that came. */
+static void expect_deadlines(dw_client *client)
+{
+    static const uint8_t ping[] = {0, 0, 0, 8, 0xff, 0xff, 0xff, 0xfe, 0, 0, 0, 11};
+    uint8_t frame[sizeof ping];
+    uint64_t first_ms;
+    dw_output output;
+    connect_client(client);
+    EXPECT_NUMBER(DW_OK, dw_deadline(client, &first_ms));
+    EXPECT(first_ms == NOW + GRANTED_MS / 3 || first_ms == NOW + GRANTED_MS / 3 + 1);
+    EXPECT_NUMBER(DW_OK, dw_tick(client, first_ms - 1));
+    EXPECT_NUMBER(DW_NONE, dw_next(client, &output));
+    EXPECT_NUMBER(DW_OK, dw_tick(client, first_ms));
+    EXPECT_NUMBER(DW_OK, dw_next(client, &output));
+    EXPECT_NUMBER(DW_SEND, output.kind);
+    EXPECT_NUMBER(sizeof ping, dw_copy(client, 0, frame, sizeof frame));
+    EXPECT(memcmp(frame, ping, sizeof ping) == 0);
+    EXPECT_NUMBER(DW_OK, dw_tick(client, NOW + 2 * GRANTED_MS / 3 + 1));
+    EXPECT_NUMBER(DW_OK, dw_next(client, &output));
+    EXPECT_NUMBER(DW_DROP, output.kind);
+    EXPECT_NUMBER(3, output.detail);
+    EXPECT_NUMBER(DW_IDLE, dw_state(client));
+    EXPECT_NUMBER(DW_NONE, dw_deadline(client, &first_ms));
+    EXPECT_NUMBER(0, first_ms);
+}
+
+int main(void)
+{
+    dw_client client = {0};
+    expect_closed(&client);
+    EXPECT_NUMBER(DW_OK, dw_open(&client, INT32_MAX));
+    expect_refused_paths(&client);
+    expect_refused_makings(&client);
+    expect_answers_without_reply(&client);
+    expect_ended(&client);
+    expect_deadlines(&client);
+    dw_close(&client);
+    expect_closed(&client);
+    printf("codes: passed\n");
+    return 0;
+}

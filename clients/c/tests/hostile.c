@@ -1,0 +1,264 @@
+/* Whatever a server sends behind a right connect response, each call returns, all outputs can be read, each call is answered once, and
+ * what is told is what the header has. Each seed plays a session of its own: frames that are right, out of step, changed, or random,
+ * cut anyhow, between moments, cuts and calls.
+ *
+ *   hostile [SEEDS] */
+#include "dirwolleu.h"
+#include "expect.h"
+#include "frames.h"
+
+#include <string.h>
+
+enum { SEEDS = 10000, MOVES = 120, MOST_TICKETS = 2 * MOVES, ROOM = 64, GUARD = 0x5a };
+
+static const dw_stat STAT = {.czxid = 3, .mzxid = 5, .version = 1, .data_length = 5, .num_children = 2, .pzxid = 4};
+
+struct session {
+    dw_client client;
+    uint64_t random;                 /* the state of the generator, which is never 0 */
+    uint64_t now_ms;
+    int32_t xid;                     /* of the last request */
+    uint8_t types[MOST_TICKETS + 1]; /* of requests, by their xids */
+    int64_t zxid;                    /* the greatest that a right reply told */
+    uint64_t tickets, answers;       /* so many calls were made, with the tickets from 1 on, and answered */
+    bool is_answered[MOST_TICKETS];
+    bool is_dropped;                 /* within this step */
+};
+
+/* A number below the bound, by xorshift64*. */
+static uint64_t draw(struct session *s, uint64_t bound)
+{
+    s->random ^= s->random >> 12;
+    s->random ^= s->random << 25;
+    s->random ^= s->random >> 27;
+    return (s->random * UINT64_C(2685821657736338717) >> 11) % bound;
+}
+
+/* Reads the text from some place into little room, behind which nothing is written. */
+static void read_text(struct session *s, size_t length)
+{
+    uint8_t room[ROOM + 1];
+    size_t from = (size_t)draw(s, length + 3), left = from < length ? length - from : 0;
+    room[ROOM] = GUARD;
+    EXPECT_NUMBER(left, dw_copy(&s->client, from, room, ROOM));
+    EXPECT_NUMBER(GUARD, room[ROOM]);
+}
+
+static uint32_t read_int(const uint8_t *at)
+{
+    return (uint32_t)at[0] << 24 | (uint32_t)at[1] << 16 | (uint32_t)at[2] << 8 | at[3];
+}
+
+/* A frame has its own length in its first four bytes; a request of a call its xid, above 0, and its type behind them. */
+static void take_frame(struct session *s, const dw_output *output)
+{
+    uint8_t head[12];
+    EXPECT(!s->is_dropped && output->length >= sizeof head);
+    EXPECT_NUMBER(output->length, dw_copy(&s->client, 0, head, sizeof head));
+    EXPECT_NUMBER(output->length, read_int(head) + 4);
+    if ((int32_t)read_int(head + 4) > 0) {
+        EXPECT_NUMBER(s->xid + 1, read_int(head + 4));
+        s->xid++;
+        s->types[s->xid] = (uint8_t)read_int(head + 8);
+    }
+}
+
+static void take_answer(struct session *s, const dw_output *output)
+{
+    uint8_t name[ROOM];
+    EXPECT(output->ticket >= 1 && output->ticket <= s->tickets && !s->is_answered[output->ticket - 1]);
+    s->is_answered[output->ticket - 1] = true;
+    s->answers++;
+    EXPECT(output->detail >= 0 && output->detail <= 7);
+    EXPECT(output->detail == 0 ? output->result >= DW_CODE && output->result <= DW_DONE : output->result == 0);
+    EXPECT(!s->is_dropped || output->detail == 1 || output->detail == 4);
+    for (size_t i = 0; i <= output->names; i++) {
+        dw_name(&s->client, i, name, sizeof name);
+    }
+    EXPECT_NUMBER(0, dw_name(&s->client, output->names, name, sizeof name));
+}
+
+static void take_drop(struct session *s, const dw_output *output)
+{
+    uint8_t words[ROOM];
+    size_t length;
+    EXPECT(output->detail >= 1 && output->detail <= 5 && output->length > 0 && !s->is_dropped);
+    EXPECT_NUMBER(DW_OK, dw_words(&s->client, words, sizeof words, &length));
+    EXPECT(length > 0);
+    s->is_dropped = true;
+}
+
+static void take(struct session *s, const dw_output *output)
+{
+    switch (output->kind) {
+    case DW_SEND: take_frame(s, output); break;
+    case DW_ANSWER: take_answer(s, output); break;
+    case DW_REPORT:
+        EXPECT(output->detail >= DW_NODE_CREATED && output->detail <= DW_CHILDREN_CHANGED);
+        EXPECT(output->length == 2 && (output->result == 1 || output->result == 2));
+        break;
+    case DW_STATE: EXPECT(output->detail >= DW_IDLE && output->detail <= DW_SESSION_CLOSED); break;
+    case DW_DROP: take_drop(s, output); break;
+    default: EXPECT(!"a kind of output that the header has");
+    }
+    read_text(s, output->length);
+}
+
+/* Reads all outputs of a step, which answered this code. Behind a drop the client is idle. */
+static void act(struct session *s, int32_t code)
+{
+    dw_output output;
+    EXPECT_NUMBER(DW_OK, code);
+    s->is_dropped = false;
+    while ((code = dw_next(&s->client, &output)) == DW_OK) {
+        take(s, &output);
+    }
+    EXPECT_NUMBER(DW_NONE, code);
+    EXPECT(!s->is_dropped || dw_state(&s->client) == DW_IDLE);
+}
+
+/* Asks for one of the paths /a to /d. */
+static void ask(struct session *s)
+{
+    const uint8_t path[] = {'/', (uint8_t)('a' + draw(s, 4))};
+    uint64_t ticket = ++s->tickets;
+    bool watch = draw(s, 2) == 0;
+    switch (draw(s, 6)) {
+    case 0: act(s, dw_exists(&s->client, s->now_ms, ticket, path, sizeof path, watch)); break;
+    case 1: act(s, dw_get_data(&s->client, s->now_ms, ticket, path, sizeof path, watch)); break;
+    case 2: act(s, dw_get_children(&s->client, s->now_ms, ticket, path, sizeof path, watch)); break;
+    case 3: act(s, dw_set_data(&s->client, s->now_ms, ticket, path, sizeof path, path, sizeof path, watch, -1)); break;
+    case 4: act(s, dw_create(&s->client, s->now_ms, ticket, path, sizeof path, path, sizeof path, watch, (uint32_t)draw(s, 4))); break;
+    default: act(s, dw_delete(&s->client, s->now_ms, ticket, path, sizeof path, -1)); break;
+    }
+}
+
+/* Adds a right reply to the call that waits first, or a notice where none does. */
+static void add_reply(struct session *s, struct bytes *bytes)
+{
+    const char path[] = {'/', (char)('a' + draw(s, 4)), 0};
+    int32_t pending = (int32_t)(s->tickets - s->answers), xid = s->xid - pending + 1;
+    s->zxid += (int64_t)draw(s, 2);
+    switch (pending > 0 ? s->types[xid] : 0) {
+    case 1: add_created(bytes, xid, s->zxid, path); break;
+    case 2: add_header(bytes, xid, s->zxid, 0); break;
+    case 3: case 5: add_stat(bytes, xid, s->zxid, &STAT); break;
+    case 4: add_data(bytes, xid, s->zxid, "data", &STAT); break;
+    case 12: add_names(bytes, xid, s->zxid, "left", "right", &STAT); break;
+    default: add_notice(bytes, 1 + (int32_t)draw(s, 4), path); break;
+    }
+}
+
+/* Adds a frame of a server that is out of step. */
+static void add_other(struct session *s, struct bytes *bytes)
+{
+    const char path[] = {'/', (char)('a' + draw(s, 4)), 0};
+    int32_t xid = s->xid - (int32_t)draw(s, 4);
+    int64_t zxid = s->zxid - 4 + (int64_t)draw(s, 6);
+    switch (draw(s, 8)) {
+    case 0: add_data(bytes, xid, zxid, "data", &STAT); break;
+    case 1: add_names(bytes, xid, zxid, "left", "right", &STAT); break;
+    case 2: add_stat(bytes, xid, zxid, &STAT); break;
+    case 3: add_created(bytes, xid, zxid, path); break;
+    case 4: add_header(bytes, xid, zxid, CODE_NO_NODE); break;
+    case 5: add_header(bytes, draw(s, 2) == 0 ? XID_PING : XID_SET_WATCHES, zxid, draw(s, 2) == 0 ? 0 : CODE_NO_NODE); break;
+    case 6: add_connected(bytes); break;
+    default: add_notice(bytes, (int32_t)draw(s, 6), path); break;
+    }
+}
+
+/* A frame: mostly a right one, else one that is out of step, or changed in some bytes, or random bytes behind a length that fits, or
+ * random bytes alone. */
+static void make_bytes(struct session *s, struct bytes *bytes)
+{
+    static const uint8_t zeros[200];
+    uint64_t kind = draw(s, 24), changes = 0;
+    size_t kept = 0;
+    bytes->length = 0;
+    if (kind == 0 || kind == 1) {
+        changes = draw(s, sizeof zeros);
+        kept = kind == 0 ? 4 : 0;
+        put_buffer(bytes, zeros, (size_t)changes);
+    } else if (kind == 2) {
+        add_other(s, bytes);
+    } else {
+        changes = kind == 3 ? 1 + draw(s, 4) : 0;
+        add_reply(s, bytes);
+    }
+    for (; changes > 0 && kept < bytes->length; changes--) {
+        bytes->at[kept + draw(s, bytes->length - kept)] = (uint8_t)draw(s, 256);
+    }
+}
+
+static void hand_in(struct session *s)
+{
+    static struct bytes bytes;
+    size_t length;
+    make_bytes(s, &bytes);
+    for (size_t at = 0; at < bytes.length; at += length) {
+        length = 1 + (size_t)draw(s, bytes.length - at);
+        act(s, dw_bytes(&s->client, s->now_ms, bytes.at + at, length));
+    }
+}
+
+static void look_up(struct session *s)
+{
+    const uint8_t path[] = {'/', (uint8_t)('a' + draw(s, 4))};
+    uint8_t room[ROOM];
+    dw_kept_data data;
+    dw_kept_names names;
+    size_t count;
+    EXPECT_NUMBER(DW_OK, dw_peek_data(&s->client, path, sizeof path, &data, room, sizeof room));
+    EXPECT((data.kind == DW_NOTHING) == (data.mark == 0) && data.kind <= DW_FULL && data.mark <= DW_STALE);
+    EXPECT_NUMBER(DW_OK, dw_peek_children(&s->client, path, sizeof path, &names));
+    EXPECT_NUMBER(DW_OK, dw_peek_name(&s->client, path, sizeof path, names.count, room, sizeof room, &count));
+    EXPECT_NUMBER(0, count);
+    EXPECT(dw_last_zxid(&s->client) >= 0 && dw_timeout_ms(&s->client) > 0);
+}
+
+/* A connection begins, and the server accepts the session. */
+static void connect_client(struct session *s)
+{
+    struct bytes response = {.length = 0};
+    add_connected(&response);
+    act(s, dw_opened(&s->client, s->now_ms));
+    act(s, dw_bytes(&s->client, s->now_ms, response.at, response.length));
+}
+
+static void move(struct session *s)
+{
+    switch (draw(s, 16)) {
+    case 0: act(s, dw_tick(&s->client, s->now_ms += draw(s, GRANTED_MS / 2))); break;
+    case 1: act(s, draw(s, 4) == 0 ? dw_cut(&s->client, s->now_ms) : dw_tick(&s->client, s->now_ms)); break;
+    case 2: EXPECT_NUMBER(DW_OK, dw_forget(&s->client)); break;
+    case 3: case 4: case 5: case 6: ask(s); break;
+    case 7: look_up(s); break;
+    default: hand_in(s); break;
+    }
+    if (dw_state(&s->client) == DW_IDLE) {
+        connect_client(s);
+    }
+}
+
+static void play(uint64_t seed)
+{
+    struct session s = {.random = seed * UINT64_C(0x9e3779b97f4a7c15), .now_ms = 1};
+    EXPECT_NUMBER(DW_OK, dw_open(&s.client, 10000));
+    act(&s, dw_tick(&s.client, s.now_ms));
+    for (int i = 0; i < MOVES; i++) {
+        move(&s);
+    }
+    act(&s, dw_cut(&s.client, s.now_ms));
+    EXPECT_NUMBER(s.tickets, s.answers);
+    dw_close(&s.client);
+}
+
+int main(int argc, char **argv)
+{
+    unsigned long seeds = argc > 1 ? strtoul(argv[1], NULL, 10) : SEEDS;
+    for (unsigned long seed = 1; seed <= seeds; seed++) {
+        play(seed);
+    }
+    printf("hostile: %lu seeds: passed\n", seeds);
+    return 0;
+}

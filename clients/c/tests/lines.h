@@ -1,0 +1,35 @@
+/* What a client says and keeps, as lines of text that tests compare. */
+#ifndef DIRWOLLEU_TESTS_LINES_H
+#define DIRWOLLEU_TESTS_LINES_H
+
+#include "dirwolleu.h"
+
+struct lines {
+    char at[1 << 14];
+    size_t length;
+};
+
+/* Adds to the lines, as printf does. */
+void add_line(struct lines *lines, const char *format, ...);
+
+/* Adds the outputs of the last step, all of them:
+ *   send HEX
+ *   answer TICKET K1                                     where there is no reply
+ *   answer TICKET at ZXID code -101
+ *   answer TICKET at ZXID stat [STAT]
+ *   answer TICKET at ZXID data "TEXT" [STAT]
+ *   answer TICKET at ZXID names "A" "B" [STAT]
+ *   answer TICKET at ZXID created "PATH"
+ *   answer TICKET at ZXID done
+ *   report EVENT SIDE "PATH"
+ *   state NUMBER
+ *   drop NUMBER "CODE" WORDS
+ * A STAT is its eleven numbers in the order of zookeeper.jute. */
+void add_outputs(struct lines *lines, dw_client *client);
+
+/* Add what is kept of a path: `data KIND MARK "TEXT"` where its data are, and `names MARK PZXID "A" "B"`. They answer the code of the
+ * look-up, and add nothing where it is not DW_OK. */
+int32_t add_kept_data(struct lines *lines, dw_client *client, const char *path);
+int32_t add_kept_names(struct lines *lines, dw_client *client, const char *path);
+
+#endif

@@ -1,0 +1,175 @@
+/* However the stream of a server is cut into pieces, a client says the same. A session is played at once, byte by byte, in pieces of
+ * several sizes, and cut in two at each place; what came of it is compared with what zookeeper.jute and the header say. */
+#include "dirwolleu.h"
+#include "expect.h"
+#include "frames.h"
+#include "lines.h"
+
+#include <string.h>
+
+/* How a stream is cut: its first piece has so many bytes, and each that follows so many. */
+struct cutting {
+    size_t first, rest;
+};
+
+static const dw_stat STAT = {
+    .czxid = 3, .mzxid = 5, .ctime = 1000, .mtime = 2000, .version = 7, .cversion = 2, .aversion = 1,
+    .ephemeral_owner = 0, .data_length = 5, .num_children = 2, .pzxid = 4,
+};
+
+/* What is to come of the session. Frames are spelled by zookeeper.jute. */
+static const char EXPECTED[] =
+    /* ConnectRequest: version 0, last zxid 0, timeout 10,000, session 0, a password of 16 zeros, read only 0 */
+    "send 0000002d" "00000000" "0000000000000000" "00002710" "0000000000000000"
+    "00000010" "00000000000000000000000000000000" "00\n"
+    "state 1\n"
+    "state 2\n"
+    /* getData (4), getChildren2 (12), exists (3): xid, type, path, watch */
+    "send 0000000f" "00000001" "00000004" "00000002" "2f61" "01\n"
+    "send 0000000f" "00000002" "0000000c" "00000002" "2f61" "01\n"
+    "send 0000000f" "00000003" "00000003" "00000002" "2f62" "01\n"
+    /* create (1): path, data, the one open ACL (31, world, anyone), flags 3 */
+    "send 00000034" "00000004" "00000001" "00000004" "2f612f6e" "00000001" "78"
+    "00000001" "0000001f" "00000005" "776f726c64" "00000006" "616e796f6e65" "00000003\n"
+    /* setData (5): path, null data, version 7; delete (2): path, version -1 */
+    "send 00000016" "00000005" "00000005" "00000002" "2f61" "ffffffff" "00000007\n"
+    "send 00000012" "00000006" "00000002" "00000002" "2f61" "ffffffff\n"
+    "answer 11 at 5 data \"first\" [3 5 1000 2000 7 2 1 0 5 2 4]\n"
+    "answer 12 at 5 names \"right\" \"left\" [3 5 1000 2000 7 2 1 0 5 2 4]\n"
+    "answer 13 at 5 code -101\n"
+    "report 4 2 \"/a\"\n"
+    "answer 14 at 6 created \"/a/n0000000002\"\n"
+    "report 3 1 \"/a\"\n"
+    "answer 15 at 7 stat [3 5 1000 2000 7 2 1 0 5 2 4]\n"
+    "answer 16 at 8 done\n"
+    "data 3 2 \"first\"\n"
+    "names 2 4 \"left\" \"right\"\n"
+    "data 1 1 \"\"\n"
+    "state 0\n"
+    /* ConnectRequest of the session: last zxid 8, timeout 10,000 as before, session 0x1234, its password */
+    "send 0000002d" "00000000" "0000000000000008" "00002710" "0000000000001234"
+    "00000010" "000102030405060708090a0b0c0d0e0f" "00\n"
+    "state 1\n"
+    "state 2\n"
+    /* setWatches (101): xid -8, last zxid 8, no data watches, the exists watch of /b, no child watches */
+    "send 00000022" "fffffff8" "00000065" "0000000000000008" "00000000" "00000001" "00000002" "2f62" "00000000\n"
+    "report 1 1 \"/b\"\n"
+    /* closeSession (-11) */
+    "send 00000008" "00000007" "fffffff5\n"
+    "answer 17 at 9 done\n"
+    "state 4\n";
+
+static void hand_in(dw_client *client, struct lines *lines, const struct bytes *stream, const struct cutting *cutting)
+{
+    size_t length, most = cutting->first;
+    for (size_t at = 0; at < stream->length; at += length) {
+        length = stream->length - at < most ? stream->length - at : most;
+        EXPECT_NUMBER(DW_OK, dw_bytes(client, 1, stream->at + at, length));
+        add_outputs(lines, client);
+        most = cutting->rest;
+    }
+}
+
+static void open_connection(dw_client *client, struct lines *lines, const struct cutting *cutting)
+{
+    static struct bytes response;
+    response.length = 0;
+    add_connected(&response);
+    EXPECT_NUMBER(DW_OK, dw_opened(client, 1));
+    add_outputs(lines, client);
+    hand_in(client, lines, &response, cutting);
+}
+
+static void ask(dw_client *client, struct lines *lines)
+{
+    const uint8_t *a = (const uint8_t *)"/a", *b = (const uint8_t *)"/b", *below = (const uint8_t *)"/a/n", *data = (const uint8_t *)"x";
+    EXPECT_NUMBER(DW_OK, dw_get_data(client, 1, 11, a, 2, true));
+    add_outputs(lines, client);
+    EXPECT_NUMBER(DW_OK, dw_get_children(client, 1, 12, a, 2, true));
+    add_outputs(lines, client);
+    EXPECT_NUMBER(DW_OK, dw_exists(client, 1, 13, b, 2, true));
+    add_outputs(lines, client);
+    EXPECT_NUMBER(DW_OK, dw_create(client, 1, 14, below, 4, data, 1, false, 3));
+    add_outputs(lines, client);
+    EXPECT_NUMBER(DW_OK, dw_set_data(client, 1, 15, a, 2, data, 1, true, 7));
+    add_outputs(lines, client);
+    EXPECT_NUMBER(DW_OK, dw_delete(client, 1, 16, a, 2, -1));
+    add_outputs(lines, client);
+}
+
+/* Replies to what is asked, and notices before the replies that tell a later zxid. */
+static void answer(struct bytes *stream)
+{
+    stream->length = 0;
+    add_data(stream, 1, 5, "first", &STAT);
+    add_names(stream, 2, 5, "right", "left", &STAT);
+    add_header(stream, 3, 5, CODE_NO_NODE);
+    add_notice(stream, DW_CHILDREN_CHANGED, "/a");
+    add_created(stream, 4, 6, "/a/n0000000002");
+    add_notice(stream, DW_DATA_CHANGED, "/a");
+    add_stat(stream, 5, 7, &STAT);
+    add_header(stream, 6, 8, 0);
+}
+
+/* The first connection: what is asked, answered and kept. */
+static void play_first(dw_client *client, struct lines *lines, const struct cutting *cutting)
+{
+    static struct bytes stream;
+    open_connection(client, lines, cutting);
+    ask(client, lines);
+    answer(&stream);
+    hand_in(client, lines, &stream, cutting);
+    EXPECT_NUMBER(DW_OK, add_kept_data(lines, client, "/a"));
+    EXPECT_NUMBER(DW_OK, add_kept_names(lines, client, "/a"));
+    EXPECT_NUMBER(DW_OK, add_kept_data(lines, client, "/b"));
+    EXPECT_NUMBER(DW_OK, dw_cut(client, 1));
+    add_outputs(lines, client);
+}
+
+/* The second one: a watch is set anew and fires, and the session is closed. */
+static void play_second(dw_client *client, struct lines *lines, const struct cutting *cutting)
+{
+    static struct bytes stream;
+    open_connection(client, lines, cutting);
+    stream.length = 0;
+    add_notice(&stream, DW_NODE_CREATED, "/b");
+    add_header(&stream, XID_SET_WATCHES, 9, 0);
+    hand_in(client, lines, &stream, cutting);
+    EXPECT_NUMBER(DW_OK, dw_close_session(client, 1, 17));
+    add_outputs(lines, client);
+    stream.length = 0;
+    add_header(&stream, 7, 9, 0);
+    hand_in(client, lines, &stream, cutting);
+}
+
+static void play(size_t first, size_t rest)
+{
+    struct cutting cutting = {first, rest};
+    static struct lines lines;
+    dw_client client = {0};
+    lines.length = 0;
+    EXPECT_NUMBER(DW_OK, dw_open(&client, 10000));
+    EXPECT_NUMBER(DW_OK, dw_tick(&client, 1));
+    play_first(&client, &lines, &cutting);
+    play_second(&client, &lines, &cutting);
+    dw_close(&client);
+    if (lines.length != strlen(EXPECTED) || memcmp(lines.at, EXPECTED, lines.length) != 0) {
+        fprintf(stderr, "a first piece of %zu bytes, then of %zu:\n%.*s", first, rest, (int)lines.length, lines.at);
+        exit(EXIT_FAILURE);
+    }
+}
+
+int main(void)
+{
+    static struct bytes longest;
+    answer(&longest);
+    play(longest.length, longest.length);
+    for (size_t size = 1; size <= 64; size++) {
+        play(size, size);
+    }
+    for (size_t place = 1; place < longest.length; place++) {
+        play(place, longest.length);
+    }
+    printf("pieces: passed\n");
+    return 0;
+}

@@ -1,0 +1,297 @@
+/* Each request for memory of a short session is refused in turn. The codes are those of the header: where a call was refused, the same
+ * call succeeds behind it, and all goes on as if nothing had happened; where a step halted, nothing is kept, and the saved session is
+ * taken up by another handle. No block is lost. */
+#include "dirwolleu.h"
+#include "expect.h"
+#include "frames.h"
+#include "lines.h"
+#include "refusing_heap.h"
+
+#include <string.h>
+
+enum { SAVED_LENGTH = 36 };
+
+static const dw_stat STAT = {.czxid = 3, .mzxid = 5, .version = 1, .data_length = 5, .num_children = 2, .pzxid = 4};
+static const uint8_t PATH[] = {'/', 'a'}, OTHER[] = {'/', 'b'}, DATA[] = {'x'};
+
+struct play {
+    dw_client client, second;
+    uint8_t saved[64];
+    size_t saved_length;
+    struct lines lines;
+};
+
+static int32_t hand_in(dw_client *client, const struct bytes *bytes)
+{
+    return dw_bytes(client, 1, bytes->at, bytes->length);
+}
+
+static int32_t open_client(struct play *play)
+{
+    int32_t code = dw_open(&play->client, 10000);
+    EXPECT_NUMBER(code == DW_OK ? DW_IDLE : DW_CLOSED, dw_state(&play->client));
+    return code;
+}
+
+static int32_t tick(struct play *play)
+{
+    return dw_tick(&play->client, 1);
+}
+
+static int32_t opened(struct play *play)
+{
+    return dw_opened(&play->client, 1);
+}
+
+static int32_t connected(struct play *play)
+{
+    struct bytes response = {.length = 0};
+    add_connected(&response);
+    return hand_in(&play->client, &response);
+}
+
+static int32_t get_data(struct play *play)
+{
+    return dw_get_data(&play->client, 1, 11, PATH, sizeof PATH, true);
+}
+
+static int32_t get_children(struct play *play)
+{
+    return dw_get_children(&play->client, 1, 12, PATH, sizeof PATH, true);
+}
+
+static int32_t exists(struct play *play)
+{
+    return dw_exists(&play->client, 1, 13, OTHER, sizeof OTHER, true);
+}
+
+static int32_t create(struct play *play)
+{
+    return dw_create(&play->client, 1, 14, OTHER, sizeof OTHER, DATA, sizeof DATA, false, 2);
+}
+
+static int32_t set_data(struct play *play)
+{
+    return dw_set_data(&play->client, 1, 15, PATH, sizeof PATH, DATA, sizeof DATA, false, -1);
+}
+
+static int32_t delete(struct play *play)
+{
+    return dw_delete(&play->client, 1, 16, PATH, sizeof PATH, -1);
+}
+
+/* The replies to these six, and two notices, in one piece. */
+static int32_t replied(struct play *play)
+{
+    struct bytes replies = {.length = 0};
+    add_data(&replies, 1, 5, "first", &STAT);
+    add_names(&replies, 2, 5, "right", "left", &STAT);
+    add_header(&replies, 3, 5, CODE_NO_NODE);
+    add_created(&replies, 4, 6, "/b0000000002");
+    add_notice(&replies, DW_DATA_CHANGED, "/a");
+    add_stat(&replies, 5, 7, &STAT);
+    add_header(&replies, 6, 7, CODE_BAD_VERSION);
+    return hand_in(&play->client, &replies);
+}
+
+static int32_t peek_data(struct play *play)
+{
+    return add_kept_data(&play->lines, &play->client, "/a");
+}
+
+static int32_t peek_names(struct play *play)
+{
+    return add_kept_names(&play->lines, &play->client, "/a");
+}
+
+static int32_t save(struct play *play)
+{
+    int32_t code = dw_saved(&play->client, play->saved, sizeof play->saved, &play->saved_length);
+    EXPECT_NUMBER(code == DW_OK ? SAVED_LENGTH : 0, play->saved_length);
+    return code;
+}
+
+static int32_t forget(struct play *play)
+{
+    return dw_forget(&play->client);
+}
+
+static int32_t cut(struct play *play)
+{
+    return dw_cut(&play->client, 1);
+}
+
+/* A reply for which nobody asked: the connection is given up, which is the first output. */
+static int32_t unasked(struct play *play)
+{
+    struct bytes reply = {.length = 0};
+    dw_output output;
+    add_header(&reply, 99, 9, 0);
+    int32_t code = hand_in(&play->client, &reply);
+    if (code == DW_OK) {
+        EXPECT_NUMBER(DW_OK, dw_next(&play->client, &output));
+        EXPECT_NUMBER(DW_DROP, output.kind);
+    }
+    return code;
+}
+
+/* The words of the drop, which was told last. */
+static int32_t words(struct play *play)
+{
+    uint8_t text[256];
+    size_t length = 1;
+    int32_t code = dw_words(&play->client, text, sizeof text, &length);
+    EXPECT(code == DW_OK ? length > 0 && length <= sizeof text : length == 0);
+    return code;
+}
+
+static int32_t resume(struct play *play)
+{
+    int32_t code = dw_resume(&play->second, 10000, play->saved, play->saved_length);
+    EXPECT_NUMBER(code == DW_OK ? DW_IDLE : DW_CLOSED, dw_state(&play->second));
+    return code;
+}
+
+static int32_t close_session(struct play *play)
+{
+    return dw_close_session(&play->client, 1, 17);
+}
+
+static int32_t closed(struct play *play)
+{
+    struct bytes replies = {.length = 0};
+    add_header(&replies, XID_SET_WATCHES, 8, 0);
+    add_header(&replies, 7, 8, 0);
+    return hand_in(&play->client, &replies);
+}
+
+/* A move: a step may halt, and one that refuses may answer DW_NO_MEMORY, by the header. The outputs of a step are read behind it,
+ * unless a move that follows reads them. */
+enum { STEP = 1, REFUSES = 2, UNREAD = 4 };
+struct move {
+    int32_t (*make)(struct play *play);
+    int kind;
+};
+
+static const struct move MOVES[] = {
+    {open_client, REFUSES},
+    {tick, STEP},
+    {opened, STEP},
+    {connected, STEP | REFUSES},
+    {get_data, STEP | REFUSES},
+    {get_children, STEP | REFUSES},
+    {exists, STEP | REFUSES},
+    {create, STEP | REFUSES},
+    {set_data, STEP | REFUSES},
+    {delete, STEP | REFUSES},
+    {replied, STEP | REFUSES},
+    {peek_data, REFUSES},
+    {peek_names, REFUSES},
+    {forget, 0},
+    {cut, STEP},
+    {opened, STEP},
+    {connected, STEP | REFUSES},
+    {unasked, STEP | REFUSES | UNREAD},
+    {words, REFUSES},
+    {opened, STEP},
+    {connected, STEP | REFUSES},
+    {save, REFUSES},
+    {resume, REFUSES},
+    {close_session, STEP},
+    {closed, STEP | REFUSES},
+};
+
+/* The second handle asks a server for the session of the first one. */
+static void expect_taken_up(struct play *play)
+{
+    uint8_t frame[64];
+    dw_output output;
+    EXPECT_NUMBER(dw_last_zxid(&play->client), dw_last_zxid(&play->second));
+    EXPECT_NUMBER(DW_OK, dw_tick(&play->second, 1));
+    EXPECT_NUMBER(DW_OK, dw_opened(&play->second, 1));
+    EXPECT_NUMBER(DW_OK, dw_next(&play->second, &output));
+    EXPECT_NUMBER(DW_SEND, output.kind);
+    EXPECT_NUMBER(49, dw_copy(&play->second, 0, frame, sizeof frame));
+    /* saved: session, password, zxid; ConnectRequest behind its length: version, zxid, timeout, session, password */
+    EXPECT(memcmp(frame + 20, play->saved, 28) == 0);
+    EXPECT(memcmp(frame + 8, play->saved + 28, 8) == 0);
+}
+
+/* The first handle has halted. */
+static void expect_halted(struct play *play)
+{
+    dw_output output;
+    uint64_t first_ms = 1;
+    struct lines kept = {.length = 0};
+    EXPECT_NUMBER(DW_NONE, dw_next(&play->client, &output));
+    EXPECT_NUMBER(DW_HALTED, tick(play));
+    EXPECT_NUMBER(DW_HALTED, opened(play));
+    EXPECT_NUMBER(DW_HALTED, connected(play));
+    EXPECT_NUMBER(DW_HALTED, get_data(play));
+    EXPECT_NUMBER(DW_HALTED, close_session(play));
+    EXPECT_NUMBER(DW_HALTED, cut(play));
+    EXPECT_NUMBER(DW_NONE, dw_deadline(&play->client, &first_ms));
+    EXPECT_NUMBER(0, first_ms);
+    EXPECT_NUMBER(DW_OK, add_kept_data(&kept, &play->client, "/a"));
+    EXPECT_NUMBER(DW_OK, add_kept_names(&kept, &play->client, "/a"));
+    EXPECT(strcmp(kept.at, "data 0 0 \"\"\nnames 0 0\n") == 0);
+    EXPECT(dw_state(&play->client) >= DW_IDLE && dw_timeout_ms(&play->client) > 0);
+}
+
+/* Makes a move, and once more where it was refused. Answers whether the client can go on. */
+static bool make(struct play *play, const struct move *move)
+{
+    bool was_already = was_refused();
+    int32_t code = move->make(play);
+    if (code == DW_NO_MEMORY) {
+        EXPECT((move->kind & REFUSES) != 0 && !was_already && was_refused());
+        code = move->make(play);
+    }
+    if (code == DW_HALTED) {
+        EXPECT((move->kind & STEP) != 0 && !was_already && was_refused());
+        expect_halted(play);
+        EXPECT_NUMBER(DW_OK, save(play));
+        EXPECT_NUMBER(DW_OK, resume(play));
+        expect_taken_up(play);
+        return false;
+    }
+    EXPECT_NUMBER(DW_OK, code);
+    if ((move->kind & (STEP | UNREAD)) == STEP) {
+        add_outputs(&play->lines, &play->client);
+    }
+    return true;
+}
+
+/* Plays the session with one request refused, or none where it is 0. Answers whether it came to its end. */
+static bool run(struct play *play, long refused_at)
+{
+    bool goes_on = true;
+    heap = (struct counted_heap){.refused_at = refused_at};
+    *play = (struct play){.saved_length = 0};
+    for (size_t i = 0; goes_on && i < sizeof MOVES / sizeof MOVES[0]; i++) {
+        goes_on = make(play, &MOVES[i]);
+    }
+    dw_close(&play->client);
+    dw_close(&play->second);
+    EXPECT_NUMBER(0, heap.blocks);
+    return goes_on;
+}
+
+int main(void)
+{
+    static struct play whole, part;
+    long halted = 0;
+    EXPECT(run(&whole, 0));
+    long asked = heap.asked;
+    EXPECT(asked > 0);
+    for (long refused_at = 1; refused_at <= asked; refused_at++) {
+        if (run(&part, refused_at)) {
+            EXPECT(strcmp(whole.lines.at, part.lines.at) == 0);
+        } else {
+            halted++;
+        }
+        EXPECT(was_refused());
+    }
+    printf("refused: %ld requests, of which %ld halt the client: passed\n", asked, halted);
+    return 0;
+}
