@@ -75,18 +75,54 @@ enum { DW_SEND = 1, DW_ANSWER = 2, DW_REPORT = 3, DW_STATE = 4, DW_DROP = 5 };
 enum { DW_IDLE = 0, DW_CONNECTING = 1, DW_CONNECTED = 2, DW_EXPIRED = 3, DW_SESSION_CLOSED = 4 };
 enum { DW_CODE = 1, DW_STAT = 2, DW_DATA = 3, DW_NAMES = 4, DW_CREATED = 5, DW_DONE = 6 };
 enum { DW_NODE_CREATED = 1, DW_NODE_DELETED = 2, DW_DATA_CHANGED = 3, DW_CHILDREN_CHANGED = 4 };
+enum { DW_DATA_SIDE = 1, DW_CHILDREN_SIDE = 2 };
+
+/* A reply, or why there is none: K1 to K7. */
+enum {
+  DW_REPLIED = 0,
+  DW_LOST = 1,         /* the connection was: the call may or may not have happened. With those below, nothing was sent */
+  DW_AFTER_EXPIRY = 2, /* the session has expired */
+  DW_AFTER_CLOSE = 3,  /* it is closed, or a call that closes it waits */
+  DW_NOT_CONNECTED = 4,
+  DW_TOO_MANY_WATCHES = 5, /* 65,536 paths of the side are watched, with the reads that wait */
+  DW_TOO_LARGE = 6,        /* the request has more than 1,048,575 bytes */
+  DW_TOO_MANY_PENDING = 7  /* 1,024 calls wait */
+};
+
+/* Why a connection is given up. */
+enum {
+  DW_BAD_FRAME = 1,
+  DW_BAD_PAYLOAD = 2, /* one that does not read */
+  DW_SILENT = 3,      /* nothing was heard for two thirds of the timeout */
+  DW_BEHIND = 4,      /* the reply to a watched read is behind what was seen */
+  DW_WATCHES_REFUSED = 5
+};
+
+/* Errors of the server. Another number is one that this list does not name. */
+enum {
+  DW_CONNECTION_LOSS = -4,
+  DW_UNIMPLEMENTED = -6,
+  DW_BAD_ARGUMENTS = -8,
+  DW_NO_NODE = -101,
+  DW_NO_AUTH = -102,
+  DW_BAD_VERSION = -103,
+  DW_NO_CHILDREN_FOR_EPHEMERALS = -108,
+  DW_NODE_EXISTS = -110,
+  DW_NOT_EMPTY = -111,
+  DW_SESSION_EXPIRED = -112,
+  DW_INVALID_ACL = -114,
+  DW_SESSION_MOVED = -118
+};
 
 /* An output. What a kind does not name is 0.
  *   DW_SEND     the text is one frame: write it to the server.
- *   DW_ANSWER   to the call with this ticket. detail 0: a reply, with its zxid and what it brings: result DW_CODE (code, the error
- *               of the server), DW_STAT (stat), DW_DATA (stat; the text, or is_null), DW_NAMES (stat, names), DW_CREATED (the text
- *               is the path), DW_DONE. detail 1 to 7: there is no reply, K1 to K7: the connection was lost, the session has
- *               expired, is closed, the client is not connected, too many watches, too large, too many pending.
- *   DW_REPORT   what was known of a side of a path has ended. detail: the event; result 1 for its data, 2 for its children; the
- *               text is the path.
+ *   DW_ANSWER   to the call with this ticket. detail DW_REPLIED: a reply, with its zxid and what it brings: result DW_CODE (code, the
+ *               error of the server), DW_STAT (stat), DW_DATA (stat; the text, or is_null), DW_NAMES (stat, names), DW_CREATED (the
+ *               text is the path), DW_DONE. Another detail: why there is no reply.
+ *   DW_REPORT   what was known of a side of a path has ended. detail: the event; result: the side; the text is the path.
  *   DW_STATE    detail: the state. With DW_EXPIRED and DW_SESSION_CLOSED the connection is over: close it.
- *   DW_DROP     the connection is given up: close it. detail 1 a frame, 2 a payload that does not read, 3 silence, 4 a reply that
- *               is behind (zxid), 5 setWatches was refused (code). The text is the code of the fault, as D1; dw_words has words. */
+ *   DW_DROP     the connection is given up: close it. detail: why; DW_BEHIND has the zxid that came, DW_WATCHES_REFUSED the code. The
+ *               text is the code of the fault, as D1; dw_words has words. */
 typedef struct dw_output {
   int32_t kind, detail, result, code;
   uint64_t ticket;
@@ -110,7 +146,7 @@ void dw_close(dw_client *handle);
 /* Steps: what happened, at a moment. Each forgets the outputs of the step before, whether they were read or not, and answers
  * DW_OK, DW_HALTED or DW_CLOSED, and what it says besides. */
 
-/* A connection begins. Hand in the first moment by dw_tick before, and dw_cut where one is open still. */
+/* A connection begins. Hand in dw_cut before, where one is open still. */
 int32_t dw_opened(dw_client *handle, uint64_t now_ms);
 
 /* The connection is over. */
@@ -132,7 +168,10 @@ int32_t dw_get_children(dw_client *handle, uint64_t now_ms, uint64_t ticket, con
 int32_t dw_set_data(dw_client *handle, uint64_t now_ms, uint64_t ticket, const uint8_t *path, size_t path_length,
                     const uint8_t *bytes, size_t length, bool is_null, int32_t version);
 
-/* The mode is a sum: 1 where the node goes with the session, 2 where a number is added to its name. Also DW_NO_SUCH_MODE. */
+/* The mode is a sum: DW_EPHEMERAL where the node goes with the session, DW_SEQUENTIAL where a number of ten digits is added to its
+ * name. Also DW_NO_SUCH_MODE. */
+enum { DW_PERSISTENT = 0, DW_EPHEMERAL = 1, DW_SEQUENTIAL = 2 };
+
 int32_t dw_create(dw_client *handle, uint64_t now_ms, uint64_t ticket, const uint8_t *path, size_t path_length,
                   const uint8_t *bytes, size_t length, bool is_null, uint32_t mode);
 int32_t dw_delete(dw_client *handle, uint64_t now_ms, uint64_t ticket, const uint8_t *path, size_t path_length, int32_t version);
@@ -170,7 +209,9 @@ int64_t dw_timeout_ms(dw_client *handle);
 int32_t dw_deadline(dw_client *handle, uint64_t *first_ms);
 
 /* Writes the bytes from which dw_resume takes the session up, as many as there is room for, and how many there are: 20 and those
- * of the password, mostly 36. They are a secret. DW_OK, DW_NO_MEMORY, DW_CLOSED; but for DW_OK the count is 0. */
+ * of the password, mostly 36. They are a secret: a long, the number of the session; a buffer, its password; a long, the greatest zxid
+ * seen; in the spelling of zookeeper.jute. With 0 and 16 bytes of 0 in place of the first two they are no session: dw_resume then begins
+ * a new one, at servers that are not behind that zxid. DW_OK, DW_NO_MEMORY, DW_CLOSED; but for DW_OK the count is 0. */
 int32_t dw_saved(dw_client *handle, uint8_t *out, size_t room, size_t *count);
 
 /* What is kept of a path that was read with a watch. It is good until a change is told, and then stale until it is read again. A

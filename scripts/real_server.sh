@@ -7,52 +7,8 @@
 # The last line is `passed`, or `skipped: ..` where there is no server to be had. Else the exit status is 1.
 set -euo pipefail
 top=$(cd "$(dirname "$0")/.." && pwd)
-jars=/usr/share/java/zookeeper.jar:/usr/share/java/slf4j-simple.jar
-folder=$(mktemp -d)
-declare -A servers=() known=() begun=() seen=()
-gates=()
-
-# Ends each process that was started here, by its number, and removes the folder.
-clean() {
-    trap - EXIT
-    local process
-    for process in ${servers[@]+"${servers[@]}"} ${gates[@]+"${gates[@]}"} ${begun[@]+"${begun[@]}"}; do
-        kill -KILL "$process" 2>/dev/null || true
-        wait "$process" 2>/dev/null || true
-    done
-    rm -rf "$folder"
-}
-trap clean EXIT
-trap 'exit 1' INT TERM HUP
-
-fail() {
-    echo "failed: $*" >&2
-    tail -n 5 "$folder"/*.log >&2 2>/dev/null || true
-    exit 1
-}
-
-# Waits for up to so many seconds until a command succeeds.
-within() {
-    local end=$((SECONDS + $1))
-    shift
-    until "$@"; do
-        ((SECONDS < end)) || return 1
-        sleep 0.2
-    done
-}
-
-has_server() {
-    command -v java >/dev/null && [[ -e /usr/share/java/zookeeper.jar ]]
-}
-
-install_server() {
-    has_server && return
-    command -v apt-get >/dev/null || return 1
-    export DEBIAN_FRONTEND=noninteractive
-    timeout 300 apt-get update >"$folder/apt.log" 2>&1 || true
-    timeout 900 apt-get install -y --no-install-recommends zookeeper default-jre-headless >>"$folder/apt.log" 2>&1 || true
-    has_server
-}
+source "$top/scripts/servers.sh"
+declare -A known=() seen=()
 
 build() {
     (cd "$top/crates/zk_shell" && rt run -- --help) >"$folder/build.log" 2>&1 || fail "zk_shell is not built"
@@ -60,69 +16,6 @@ build() {
     program=$top/crates/zk_shell/out/zk_shell
     follower=$top/crates/config_follower/out/config_follower
     [[ -x $follower ]] || fail "config_follower is not built"
-}
-
-# So many ports that nothing listens at.
-free_ports() {
-    python3 - "$1" <<'EOF'
-import socket, sys
-
-taken = [socket.socket() for _ in range(int(sys.argv[1]))]
-for one in taken:
-    one.bind(("127.0.0.1", 0))
-print(*(one.getsockname()[1] for one in taken))
-EOF
-}
-
-# Writes the settings of a server: its name, its number, its port, and the lines of its ensemble.
-configure() {
-    mkdir -p "$folder/$1"
-    echo "$2" >"$folder/$1/myid"
-    cat >"$folder/$1.cfg" <<EOF
-tickTime=2000
-initLimit=10
-syncLimit=5
-dataDir=$folder/$1
-clientPort=$3
-clientPortAddress=127.0.0.1
-admin.enableServer=false
-4lw.commands.whitelist=srvr
-$4
-EOF
-}
-
-start_server() {
-    java -Xmx128m -Djava.net.preferIPv4Stack=true -Dzookeeper.jmx.log4j.disable=true -cp "$jars" \
-        org.apache.zookeeper.server.quorum.QuorumPeerMain "$folder/$1.cfg" >"$folder/$1.log" 2>&1 &
-    servers[$1]=$!
-}
-
-stop_server() {
-    kill "${servers[$1]}"
-    within 20 is_gone "${servers[$1]}" || kill -KILL "${servers[$1]}"
-    wait "${servers[$1]}" 2>/dev/null || true
-    unset "servers[$1]"
-}
-
-is_gone() {
-    ! kill -0 "$1" 2>/dev/null
-}
-
-# What the server at a port says of itself: standalone, leader or follower. It says nothing before it serves.
-mode_of() {
-    (exec 3<>"/dev/tcp/127.0.0.1/$1" && printf srvr >&3 && timeout 5 sed -n 's/^Mode: //p' <&3) 2>/dev/null
-}
-
-serves() {
-    [[ -n $(mode_of "$1") ]]
-}
-
-# A command of ZooKeeper's own client, at a port.
-outside() {
-    local port=$1
-    shift
-    timeout 60 java -Djava.net.preferIPv4Stack=true -cp "$jars" org.apache.zookeeper.ZooKeeperMain \
-        -server "127.0.0.1:$port" "$@" >>"$folder/outside.log" 2>&1 || fail "ZooKeeper's own client: $*"
 }
 
 # A listener that holds the one connection that comes, until the file NAME.go is there, and then is gone. Its port is in NAME.port;
@@ -633,23 +526,6 @@ stop_and_change() {
     outside "$other" set /live three
     outside "$other" create /live/c c
     touch "$folder/$server.go"
-}
-
-# Starts three servers of one ensemble; their names are NAME-1 to NAME-3.
-start_three() {
-    local name=$1 lines number
-    shift
-    local -a ports=("$@")
-    lines=$(for number in 1 2 3; do
-        echo "server.$number=127.0.0.1:${ports[number + 2]}:${ports[number + 5]}"
-    done)
-    for number in 1 2 3; do
-        configure "$name-$number" "$number" "${ports[number - 1]}" "$lines"
-        start_server "$name-$number"
-    done
-    for number in 1 2 3; do
-        within 60 serves "${ports[number - 1]}" || fail "server $number does not serve"
-    done
 }
 
 # The server that stops, whose session it is, has this mode: leader or follower.
