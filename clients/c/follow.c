@@ -40,9 +40,8 @@ enum {
     PIECE = 65536             /* the most bytes that are read at once */
 };
 
-/* The tickets of the calls, and the server's code for a path without a node. */
+/* The tickets of the calls. */
 enum { TICKET_DATA = 1, TICKET_EXISTS = 2, TICKET_CLOSE = 3 };
-enum { NO_NODE = -101 };
 
 struct buffer {
     uint8_t *bytes;
@@ -156,11 +155,11 @@ static void take_answer(struct follower *f, const dw_output *output)
 {
     bool is_code = output->result == DW_CODE;
     f->is_asked = false;
-    f->is_missing = output->ticket == TICKET_DATA && is_code && output->code == NO_NODE;
-    f->is_refused = output->ticket != TICKET_CLOSE && is_code && output->code != NO_NODE;
+    f->is_missing = output->ticket == TICKET_DATA && is_code && output->code == DW_NO_NODE;
+    f->is_refused = output->ticket != TICKET_CLOSE && is_code && output->code != DW_NO_NODE;
     if (f->is_refused) {
         fprintf(stderr, "follow: %s: the server answers with the code %" PRId32 "\n", f->path, output->code);
-    } else if (output->detail == 0) {
+    } else if (output->detail == DW_REPLIED) {
         f->pause_ms = FIRST_PAUSE_MS;
     }
 }
