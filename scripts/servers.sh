@@ -3,7 +3,7 @@
 # here, and the folder, are gone at the end of the shell that sources this, however it ends.
 jars=/usr/share/java/zookeeper.jar:/usr/share/java/slf4j-simple.jar
 folder=$(mktemp -d)
-# The processes of servers and of other commands by their names, and those without a name.
+# The processes of servers and of other commands by their names, and those without a name; of the whole shell, where a function sources this.
 declare -gA servers=() begun=()
 gates=()
 
