@@ -1,8 +1,8 @@
 //! A client to which frames are handed in pieces, and a count of what it says.
 
-use crate::frames::accepted;
+use crate::frames::{LENGTH, accepted};
 use anyhow::Result;
-use std::alloc::Allocator;
+use std::alloc::{AllocError, Allocator};
 use zk_client::{Call, Client, Input, Outcome, Output};
 
 /// The timeout to ask for, in milliseconds.
@@ -71,7 +71,7 @@ impl<A: Allocator + Copy> Peer<A> {
     }
 
     /// A frame comes, in pieces.
-    pub fn receive(&mut self, frame: &[u8]) -> Result<Count> {
+    fn receive(&mut self, frame: &[u8]) -> Result<Count> {
         let mut count = NOTHING;
         for piece in frame.chunks(self.piece) {
             let bytes = Vec::from_slice(self.alloc, piece)?;
@@ -80,11 +80,20 @@ impl<A: Allocator + Copy> Peer<A> {
         Ok(count)
     }
 
-    /// A connection begins, and its session is accepted with a password of so many bytes.
-    pub fn connect(&mut self, password: usize) -> Result<Count> {
+    /// A frame comes, once it is spelled. How long its payload is, and what was said.
+    pub fn hear(&mut self, spelled: Result<Vec<u8, A>, AllocError>) -> Result<(usize, Count)> {
+        let frame = spelled?;
+        let length = frame.len().saturating_sub(LENGTH);
+        let heard = self.receive(frame.as_slice());
+        drop(frame);
+        Ok((length, heard?))
+    }
+
+    /// A connection begins, and its session is accepted with a password of so many bytes. How many frames are sent behind that.
+    pub fn connect(&mut self, password: usize) -> Result<usize> {
         self.step(Input::Opened, &mut NOTHING)?;
-        let frame = accepted(self.alloc, password)?;
-        self.receive(frame.as_slice())
+        let (_, count) = self.hear(accepted(self.alloc, password))?;
+        Ok(count.frames)
     }
 
     /// The connection is over. Requests begin again from xid 1.
