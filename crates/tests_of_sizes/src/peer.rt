@@ -73,7 +73,7 @@ impl<A: Allocator + Copy> Peer<A> {
     /// A frame comes, in pieces.
     fn receive(&mut self, frame: &[u8]) -> Result<Count> {
         let mut count = NOTHING;
-        for piece in frame.chunks(self.piece) {
+        for piece in frame.chunks(self.piece.max(1)) {
             let bytes = Vec::from_slice(self.alloc, piece)?;
             self.step(Input::Bytes(bytes), &mut count)?;
         }
