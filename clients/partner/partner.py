@@ -61,27 +61,27 @@ class Record:
         self._place += count
         return taken
 
-    def int(self) -> int:
+    def take_int(self) -> int:
         return int(struct.unpack(">i", self._take(4))[0])
 
-    def long(self) -> int:
+    def take_long(self) -> int:
         return int(struct.unpack(">q", self._take(8))[0])
 
-    def boolean(self) -> bool:
+    def take_boolean(self) -> bool:
         return self._take(1) != b"\0"
 
-    def buffer(self) -> Optional[bytes]:
-        length = self.int()
+    def take_buffer(self) -> Optional[bytes]:
+        length = self.take_int()
         return None if length == -1 else self._take(length)
 
-    def text(self) -> str:
+    def take_text(self) -> str:
         try:
-            return (self.buffer() or b"").decode()
+            return (self.take_buffer() or b"").decode()
         except UnicodeDecodeError:
             raise Malformed from None
 
-    def texts(self) -> list[str]:
-        return [self.text() for _ in range(self.int())]
+    def take_texts(self) -> list[str]:
+        return [self.take_text() for _ in range(self.take_int())]
 
 
 def put_buffer(data: Optional[bytes]) -> bytes:
@@ -185,7 +185,8 @@ class Tree:
         if parent.owner != 0:
             raise Refused(NO_CHILDREN_FOR_EPHEMERALS)
         self.zxid += 1
-        self._nodes[path] = Node(data, owner, self.zxid, self.zxid, self.zxid, *2 * [int(time.time() * 1000)])
+        now = int(time.time() * 1000)
+        self._nodes[path] = Node(data, owner, self.zxid, self.zxid, self.zxid, now, now)
         parent.children.add(split(path)[1])
         parent.children_made += 1
         parent.pzxid = self.zxid
@@ -405,7 +406,8 @@ class Connection(asyncio.Protocol):
 
     def _connect(self, record: Record) -> None:
         """Answers a ConnectRequest. A client that has seen more than this server is not admitted."""
-        _, last_zxid, timeout, number, password = record.int(), record.long(), record.int(), record.long(), record.buffer()
+        _, last_zxid, timeout = record.take_int(), record.take_long(), record.take_int()
+        number, password = record.take_long(), record.take_buffer()
         if last_zxid > self._tree.zxid:
             return self._close()
         session = self._partner.admit(number, password or b"")
@@ -418,7 +420,7 @@ class Connection(asyncio.Protocol):
         self._send_frame(struct.pack(">iiq", 0, timeout, session.number) + put_buffer(session.password) + b"\0")
 
     def _request(self, record: Record) -> None:
-        xid, kind = record.int(), record.int()
+        xid, kind = record.take_int(), record.take_int()
         try:
             body = self._answer(kind, record)
         except Refused as refused:
@@ -429,11 +431,11 @@ class Connection(asyncio.Protocol):
 
     def _answer(self, kind: int, record: Record) -> bytes:
         if kind in (EXISTS, GET_DATA, GET_CHILDREN, GET_CHILDREN2):
-            return self._read(kind, record.text(), record.boolean())
+            return self._read(kind, record.take_text(), record.take_boolean())
         if kind in (CREATE, DELETE, SET_DATA):
             return self._write(kind, record)
         if kind == SET_WATCHES:
-            self._set_watches(record.long(), record.texts(), record.texts(), record.texts())
+            self._set_watches(record.take_long(), record.take_texts(), record.take_texts(), record.take_texts())
         elif kind == CLOSE_SESSION and self._session is not None:
             self._partner.end(self._session)
         elif kind != PING:
@@ -455,16 +457,16 @@ class Connection(asyncio.Protocol):
         return put_texts(node.children) + (node.stat() if kind == GET_CHILDREN2 else b"")
 
     def _write(self, kind: int, record: Record) -> bytes:
-        path = record.text()
+        path = record.take_text()
         if kind == DELETE:
-            self._tree.delete(path, record.int())
+            self._tree.delete(path, record.take_int())
             return b""
-        data = record.buffer()
+        data = record.take_buffer()
         if kind == SET_DATA:
-            return self._tree.set(path, data, record.int()).stat()
-        for _ in range(record.int()):  # the ACL, which is open to all whatever it says
-            record.int(), record.text(), record.text()
-        flags = record.int()
+            return self._tree.set(path, data, record.take_int()).stat()
+        for _ in range(record.take_int()):  # the ACL, which is open to all whatever it says
+            record.take_int(), record.take_text(), record.take_text()
+        flags = record.take_int()
         if flags & ~(EPHEMERAL | SEQUENTIAL) or self._session is None:
             raise Refused(BAD_ARGUMENTS)
         owner = self._session.number if flags & EPHEMERAL else 0
