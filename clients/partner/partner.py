@@ -1,8 +1,9 @@
 #!/usr/bin/env python3
 """A small ZooKeeper server in memory, for tests of clients.
 
-It listens on 127.0.0.1, and the first line that it prints is `listening PORT`. Lines on its standard input are commands, each
-answered by one line; it ends where its standard input ends. README.md beside this file names the commands.
+It listens on 127.0.0.1, and the first line that it prints is `listening PORT`. Lines on its standard input are
+commands, each answered by one line; it ends where its standard input ends. README.md beside this file names the
+commands.
 """
 
 from __future__ import annotations
@@ -533,9 +534,9 @@ async def serve(port: int, partner: Partner) -> None:
 
 def main() -> None:
     parser = argparse.ArgumentParser(description="A small ZooKeeper server in memory, for tests of clients.")
-    parser.add_argument("--port", type=int, default=0, help="the port on 127.0.0.1; 0, which is the default, is a free one")
+    parser.add_argument("--port", type=int, default=0, help="the port on 127.0.0.1; by default a free one")
     parser.add_argument("--piece", type=int, metavar="BYTES", help="send at most so many bytes at a time")
-    parser.add_argument("--hostile", type=int, metavar="SEED", help="answer each request but the first with random bytes")
+    parser.add_argument("--hostile", type=int, metavar="SEED", help="answer each request with random bytes")
     chosen = parser.parse_args()
     if chosen.piece is not None and chosen.piece < 1:
         parser.error("--piece is not above 0")

@@ -1,7 +1,7 @@
 """A client of Apache ZooKeeper that knows which of its answers still hold.
 
-`dirwolleu.Client` waits for its answers, and `dirwolleu.aio.Client` is for asyncio. Both stand on the proved machine of the Dirwolleu
-library, which keeps what was read with a watch, and tells whether it is good or stale.
+`dirwolleu.Client` waits for its answers, and `dirwolleu.aio.Client` is for asyncio. Both stand on the proved machine of
+the Dirwolleu library, which keeps what was read with a watch, and tells whether it is good or stale.
 """
 
 from dirwolleu import aio

@@ -25,7 +25,9 @@ def moment() -> int:
 
 
 def addresses(hosts: str) -> list[Address]:
-    """The addresses of a text like `host:port,host:port`. A port that is left out is 2181; an IPv6 address stands in brackets."""
+    """The addresses of a text like `host:port,host:port`. A port that is left out is 2181; an IPv6 address stands in
+    brackets.
+    """
     return [_address(host.strip()) for host in hosts.split(",")]
 
 

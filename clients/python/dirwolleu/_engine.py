@@ -1,4 +1,4 @@
-"""What both clients share: a machine, and who waits for what it tells. It has no socket and no thread, and reads no clock."""
+"""What both clients share: a machine, and who waits for what it tells. It has no socket, no thread and no clock."""
 
 from __future__ import annotations
 
@@ -28,6 +28,7 @@ from dirwolleu.types import EventType, Kept, KeptChildren, Mark, State, WatchedE
 logger = logging.getLogger("dirwolleu")
 
 Listener = Callable[[State], object]
+Tell = Callable[[Callable[[Any], object], Any], None]
 
 _EVENTS = {
     library.NODE_CREATED: EventType.CREATED,
@@ -47,7 +48,7 @@ class Waiter(Protocol):
 
 
 class _Asked(NamedTuple):
-    """A request, who waits for its answer, and the moment at which it is given up where it could not be sent by then."""
+    """A request, who waits for its answer, and the moment at which it is given up if it could not be sent."""
 
     request: Request[Any]
     waiter: Waiter
@@ -79,11 +80,11 @@ def differs(kept: Kept, told: Optional[Kept]) -> bool:
 class Engine:
     """A machine with its callers. Each function may be called by any thread.
 
-    Moments are milliseconds of one clock that does not go back. `tell` is handed a function and its argument: it calls the function
-    later, and not within the call.
+    Moments are milliseconds of one clock that does not go back. `tell` is handed a function and its argument: it calls
+    the function later, and not within the call.
     """
 
-    def __init__(self, timeout: float, saved: Optional[bytes], tell: Callable[[Callable[[Any], object], Any], None]) -> None:
+    def __init__(self, timeout: float, saved: Optional[bytes], tell: Tell) -> None:
         self._timeout_ms = int(timeout * 1000)
         if not 0 < self._timeout_ms <= _LONGEST_TIMEOUT_MS:
             raise ValueError(f"a timeout is 0.001 to {_LONGEST_TIMEOUT_MS / 1000} seconds")
@@ -175,7 +176,10 @@ class Engine:
     # What a program asks.
 
     def ask(self, now: int, request: Request[Any], waiter: Waiter) -> None:
-        """Sends a request, or keeps it until it can be sent: for the timeout of the session at most, where no server accepts it."""
+        """Sends a request, or keeps it until it can be sent.
+
+        Where no server accepts the session, that is for its timeout at most.
+        """
         with self._lock:
             if not self.is_running:
                 raise ConnectionClosedError("the client is not started")

@@ -1,7 +1,7 @@
 """The shared library by ctypes, and `Machine`, which hides its pointers.
 
-A machine opens no socket and reads no clock. Each step is told the moment, in milliseconds of a clock that does not go back, and
-answers what comes out of it. One thread at a time may use a machine.
+A machine opens no socket and reads no clock. Each step is told the moment, in milliseconds of a clock that does not go
+back, and answers what comes out of it. One thread at a time may use a machine.
 """
 
 from __future__ import annotations
@@ -16,7 +16,8 @@ from typing import Any, Callable, NamedTuple, Optional, Union
 
 from dirwolleu.types import DataStat, Stat
 
-OK, HALTED, NO_MEMORY, CLOSED, NOT_TEXT, NOT_PATH, BAD_TIMEOUT, NO_SUCH_MODE, NOT_SAVED = 0, -1, -2, -3, -4, -5, -6, -7, -8
+OK, HALTED, NO_MEMORY, CLOSED, NOT_TEXT, NOT_PATH, BAD_TIMEOUT = 0, -1, -2, -3, -4, -5, -6
+NO_SUCH_MODE, NOT_SAVED = -7, -8
 SEND, ANSWER, REPORT, STATE, DROP = 1, 2, 3, 4, 5
 IDLE, CONNECTING, CONNECTED, EXPIRED, SESSION_CLOSED = 0, 1, 2, 3, 4
 CODE, STAT, DATA, NAMES, CREATED, DONE = 1, 2, 3, 4, 5, 6

@@ -5,31 +5,32 @@ from __future__ import annotations
 import asyncio
 import contextlib
 import inspect
-from collections.abc import AsyncIterator
+from collections.abc import AsyncGenerator
 from types import TracebackType
 from typing import Any, Callable, Optional
 
 from dirwolleu import _requests as requests
 from dirwolleu._driver import Driver, addresses, moment
-from dirwolleu._engine import Engine, Listener, differs
+from dirwolleu._engine import Engine, differs
 from dirwolleu._requests import Request, Result
+from dirwolleu._shown import Shown
 from dirwolleu.exceptions import ConnectionClosedError, ConnectionLoss, NoNodeError, SessionExpiredError, ZookeeperError
-from dirwolleu.types import Kept, KeptChildren, Stat, State, Watch
+from dirwolleu.types import Kept, Stat, Watch
 
 __all__ = ["Client"]
 
 
-class Client:
+class Client(Shown):
     """A client of ZooKeeper whose functions are coroutines. It belongs to the event loop in which it is started.
 
-    The parameters and what calls raise are those of `dirwolleu.Client`. Watches and listeners are functions or coroutine functions,
-    which the event loop calls. A call that is cancelled may still happen at the server.
+    The parameters and what calls raise are those of `dirwolleu.Client`. Watches and listeners are functions or
+    coroutine functions, which the event loop calls. A call that is cancelled may still happen at the server.
     """
 
     def __init__(self, hosts: str, timeout: float = 10.0, saved: Optional[bytes] = None) -> None:
         addresses(hosts)
         self._hosts = hosts
-        self._engine = Engine(timeout, saved, self._tell)
+        super().__init__(Engine(timeout, saved, self._tell))
         self._driver: Optional[Driver] = None
         self._running: Optional[asyncio.Task[None]] = None
         self._callbacks: set[asyncio.Future[Any]] = set()
@@ -50,7 +51,7 @@ class Client:
     async def start(self, timeout: Optional[float] = 15.0) -> None:
         """Begins to connect, and waits until a server has accepted the session.
 
-        Raises `TimeoutError` where that takes longer than so many seconds; the client is stopped then. None is no bound.
+        Raises `TimeoutError` where that takes longer than so many seconds; the client is stopped then.
         """
         self._engine.begin()
         if self._running is None:
@@ -65,7 +66,7 @@ class Client:
     async def stop(self) -> None:
         """Ends the session, with its ephemeral nodes and its watches. `start` begins another one.
 
-        Where no server says within a third of the session's timeout that it has ended the session, it lives on for its timeout.
+        Where no server has done so within a third of the session's timeout, the session lives on for its timeout.
         """
         if self._running is None:
             return
@@ -83,53 +84,15 @@ class Client:
         self._engine.close()
         await self._end_driver()
 
-    @property
-    def state(self) -> State:
-        """How the client stands to the servers."""
-        return self._engine.state
-
-    @property
-    def connected(self) -> bool:
-        """Whether a server has accepted the session."""
-        return self.state is State.CONNECTED
-
-    @property
-    def session_id(self) -> int:
-        """The number of the session, which ephemeral nodes of this client have as their owner. 0 where none was begun."""
-        return self._engine.session_id()
-
-    @property
-    def last_zxid(self) -> int:
-        """The greatest zxid that the client has seen."""
-        return self._engine.last_zxid()
-
-    @property
-    def session_timeout(self) -> float:
-        """The timeout of the session in seconds: the one that a server granted last, or the one to ask for."""
-        return self._engine.timeout()
-
-    @property
-    def saved_session(self) -> Optional[bytes]:
-        """What takes the session up in another client, maybe of another process. It is a secret. None where no session was begun.
-
-        One client at a time has a session: close this one before.
-        """
-        return self._engine.saved() if self.session_id else None
-
-    def add_listener(self, listener: Listener) -> None:
-        """Calls the listener with each new state."""
-        self._engine.add_listener(listener)
-
-    def remove_listener(self, listener: Listener) -> None:
-        """Calls the listener no more. Raises `ValueError` where it was not added."""
-        self._engine.remove_listener(listener)
-
     async def exists(self, path: str, watch: Watch = None) -> Optional[Stat]:
         """What is known of a node, or None where there is none. A watch is left also where there is none."""
         return await self._ask(requests.exists(path, watch))
 
     async def get(self, path: str, watch: Watch = None) -> tuple[Optional[bytes], Stat]:
-        """The data of a node, None where they are null, and what is known of it. Raises `NoNodeError`; then no watch is left."""
+        """The data of a node, None where they are null, and what is known of it.
+
+        Raises `NoNodeError`; then no watch is left.
+        """
         return await self._ask(requests.get(path, watch))
 
     async def get_children(self, path: str, watch: Watch = None) -> list[str]:
@@ -151,27 +114,18 @@ class Client:
         return await self._ask(requests.set(path, value, version))
 
     async def delete(self, path: str, version: int = -1) -> None:
-        """Deletes a node of this version, where -1 is any. Raises `NoNodeError`, `BadVersionError` and `NotEmptyError`."""
+        """Deletes a node of this version, where -1 is any.
+
+        Raises `NoNodeError`, `BadVersionError`, `NotEmptyError`.
+        """
         await self._ask(requests.delete(path, version))
 
-    def kept(self, path: str) -> Optional[Kept]:
-        """What is kept of a node that `get`, `exists` or `follow` read with a watch, or None. It asks no server."""
-        return self._engine.kept(path)
-
-    def kept_children(self, path: str) -> Optional[KeptChildren]:
-        """What is kept of the children of a node that `get_children` read with a watch, or None. It asks no server."""
-        return self._engine.kept_children(path)
-
-    def forget_stale(self) -> None:
-        """Forgets all kept answers that are stale. Until then, what was read with a watch takes memory."""
-        self._engine.forget_stale()
-
-    async def follow(self, path: str) -> AsyncIterator[Kept]:
+    async def follow(self, path: str) -> AsyncGenerator[Kept, None]:
         """Yields what a node holds, and again whenever that has changed, through reconnects and new sessions.
 
-        Each answer was good when it was yielded. Where the node changes more than once between two of them, the last one is told.
-        Where there is no node, that is told too. It ends when the client is stopped or closed, and raises what `get` raises for other
-        reasons than the connection.
+        Each answer was good when it was yielded. Where the node changes more than once between two of them, the last
+        one is told. Where there is no node, that is told too. It ends when the client is stopped or closed, and raises
+        what `get` raises for other reasons than the connection.
         """
         if not self._engine.is_running:
             raise ConnectionClosedError("the client is not started")

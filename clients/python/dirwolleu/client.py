@@ -9,16 +9,17 @@ import logging
 import queue
 import threading
 import time
-from collections.abc import Iterator
+from collections.abc import Generator
 from types import TracebackType
 from typing import Any, Callable, Optional
 
 from dirwolleu import _requests as requests
 from dirwolleu._driver import Driver, addresses, moment
-from dirwolleu._engine import Engine, Listener, differs
+from dirwolleu._engine import Engine, differs
 from dirwolleu._requests import Request, Result
+from dirwolleu._shown import Shown
 from dirwolleu.exceptions import ConnectionClosedError, ConnectionLoss, NoNodeError, SessionExpiredError, ZookeeperError
-from dirwolleu.types import Kept, KeptChildren, Stat, State, Watch
+from dirwolleu.types import Kept, Stat, State, Watch
 
 logger = logging.getLogger("dirwolleu")
 
@@ -30,23 +31,32 @@ class _Loop(threading.Thread):
         super().__init__(name="dirwolleu", daemon=True)
         self._driver = driver
         self._ready = threading.Event()
+        self._loop: Optional[asyncio.AbstractEventLoop] = None
+        self._task: Optional[asyncio.Task[None]] = None
 
     def start(self) -> None:
         super().start()
         self._ready.wait()
 
     def run(self) -> None:
-        asyncio.run(self._drive())
+        try:
+            asyncio.run(self._drive())
+        finally:
+            self._ready.set()
 
     def act(self) -> None:
         """Lets the driver do what came out of the engine."""
-        with contextlib.suppress(RuntimeError):  # the loop is closed: the engine has failed the call, or will
-            self._loop.call_soon_threadsafe(self._driver.act)
+        self._soon(self._driver.act)
 
     def stop(self) -> None:
-        with contextlib.suppress(RuntimeError):
-            self._loop.call_soon_threadsafe(self._task.cancel)
+        if self._task is not None:
+            self._soon(self._task.cancel)
         self.join()
+
+    def _soon(self, call: Callable[[], object]) -> None:
+        if self._loop is not None:
+            with contextlib.suppress(RuntimeError):  # the loop is closed
+                self._loop.call_soon_threadsafe(call)
 
     async def _drive(self) -> None:
         self._loop = asyncio.get_running_loop()
@@ -81,25 +91,27 @@ class _Callbacks(threading.Thread):
                 logger.exception("a callback failed")
 
 
-class Client:
+class Client(Shown):
     """A client of ZooKeeper whose functions wait for their answers. Any thread may call them.
 
-    `hosts` is a text like `host:port,host:port`: the addresses are tried in this order, again and again. `timeout` is that of the
-    session in seconds, as it is asked for; a server grants what lies between its own bounds. `saved` takes up the session of another
-    client, as its `saved_session` told it.
+    `hosts` is a text like `host:port,host:port`: the addresses are tried in this order, again and again. `timeout` is
+    that of the session in seconds, as it is asked for; a server grants what lies between its own bounds. `saved` takes
+    up the session of another client, as its `saved_session` told it.
 
-    What all calls may raise: `ConnectionLoss` where the connection ended before the reply; `NotConnectedError`, which is one, where
-    there was no connection for the timeout of the session; `SessionExpiredError`; `ConnectionClosedError` where the client is not
-    started; `ValueError` where the path is none; and another `ZookeeperError` where the server answers with an error.
+    What all calls may raise: `ConnectionLoss` where the connection ended before the reply; `NotConnectedError`, which
+    is one, where there was no connection for the timeout of the session; `SessionExpiredError`; `ConnectionClosedError`
+    where the client is not started; `ValueError` where the path is none; and another `ZookeeperError` where the server
+    answers with an error.
 
-    Functions that it calls (watches and listeners) run one after the other in a thread of their own, and may call the client.
-    A process that forks uses the client in one of the two processes alone.
+    Functions that it calls (watches and listeners) run one after the other in a thread of their own, and may call the
+    client. A process that forks uses the client in one of the two processes alone.
     """
 
     def __init__(self, hosts: str, timeout: float = 10.0, saved: Optional[bytes] = None) -> None:
         addresses(hosts)
         self._hosts = hosts
-        self._engine = Engine(timeout, saved, self._tell)
+        super().__init__(Engine(timeout, saved, self._tell))
+        self._life = threading.Lock()
         self._loop: Optional[_Loop] = None
         self._callbacks: Optional[_Callbacks] = None
 
@@ -119,22 +131,19 @@ class Client:
     def start(self, timeout: Optional[float] = 15.0) -> None:
         """Begins to connect, and waits until a server has accepted the session.
 
-        Raises `TimeoutError` where that takes longer than so many seconds; the client is stopped then. None is no bound.
+        Raises `TimeoutError` where that takes longer than so many seconds; the client is stopped then.
         """
         self._engine.begin()
-        if self._loop is None:
-            self._callbacks = _Callbacks()
-            self._callbacks.start()
-            self._loop = _Loop(Driver(self._hosts, self._engine))
-            self._loop.start()
+        self._begin_threads()
         if not self._wait_until_connected(timeout):
             self.stop()
             raise TimeoutError(f"no server of {self._hosts} accepted the session in {timeout} seconds")
 
     def stop(self) -> None:
-        """Ends the session, with its ephemeral nodes and its watches, and the threads of the client. `start` begins another one.
+        """Ends the session, with its ephemeral nodes and its watches, and the threads of the client. `start` begins
+        another one.
 
-        Where no server says within a third of the session's timeout that it has ended the session, it lives on for its timeout.
+        Where no server has done so within a third of the session's timeout, the session lives on for its timeout.
         """
         if self._loop is None:
             return
@@ -152,60 +161,24 @@ class Client:
         self._engine.close()
         self._end_threads()
 
-    @property
-    def state(self) -> State:
-        """How the client stands to the servers."""
-        return self._engine.state
-
-    @property
-    def connected(self) -> bool:
-        """Whether a server has accepted the session."""
-        return self.state is State.CONNECTED
-
-    @property
-    def session_id(self) -> int:
-        """The number of the session, which ephemeral nodes of this client have as their owner. 0 where none was begun."""
-        return self._engine.session_id()
-
-    @property
-    def last_zxid(self) -> int:
-        """The greatest zxid that the client has seen."""
-        return self._engine.last_zxid()
-
-    @property
-    def session_timeout(self) -> float:
-        """The timeout of the session in seconds: the one that a server granted last, or the one to ask for."""
-        return self._engine.timeout()
-
-    @property
-    def saved_session(self) -> Optional[bytes]:
-        """What takes the session up in another client, maybe of another process. It is a secret. None where no session was begun.
-
-        One client at a time has a session: close this one before.
-        """
-        return self._engine.saved() if self.session_id else None
-
-    def add_listener(self, listener: Listener) -> None:
-        """Calls the listener with each new state."""
-        self._engine.add_listener(listener)
-
-    def remove_listener(self, listener: Listener) -> None:
-        """Calls the listener no more. Raises `ValueError` where it was not added."""
-        self._engine.remove_listener(listener)
-
     def exists(self, path: str, watch: Watch = None) -> Optional[Stat]:
         """What is known of a node, or None where there is none. A watch is left also where there is none."""
         return self._ask(requests.exists(path, watch))
 
     def get(self, path: str, watch: Watch = None) -> tuple[Optional[bytes], Stat]:
-        """The data of a node, None where they are null, and what is known of it. Raises `NoNodeError`; then no watch is left."""
+        """The data of a node, None where they are null, and what is known of it.
+
+        Raises `NoNodeError`; then no watch is left.
+        """
         return self._ask(requests.get(path, watch))
 
     def get_children(self, path: str, watch: Watch = None) -> list[str]:
         """The names of a node's children, in no order. Raises `NoNodeError`; then no watch is left."""
         return self._ask(requests.get_children(path, watch))
 
-    def create(self, path: str, value: Optional[bytes] = b"", *, ephemeral: bool = False, sequence: bool = False) -> str:
+    def create(
+        self, path: str, value: Optional[bytes] = b"", *, ephemeral: bool = False, sequence: bool = False
+    ) -> str:
         """Makes a node, open to all, and tells its path. None as value is null data.
 
         An ephemeral node goes with the session. Where `sequence` is true, ten digits are added to the path. Raises
@@ -218,27 +191,18 @@ class Client:
         return self._ask(requests.set(path, value, version))
 
     def delete(self, path: str, version: int = -1) -> None:
-        """Deletes a node of this version, where -1 is any. Raises `NoNodeError`, `BadVersionError` and `NotEmptyError`."""
+        """Deletes a node of this version, where -1 is any.
+
+        Raises `NoNodeError`, `BadVersionError`, `NotEmptyError`.
+        """
         self._ask(requests.delete(path, version))
 
-    def kept(self, path: str) -> Optional[Kept]:
-        """What is kept of a node that `get`, `exists` or `follow` read with a watch, or None. It asks no server."""
-        return self._engine.kept(path)
-
-    def kept_children(self, path: str) -> Optional[KeptChildren]:
-        """What is kept of the children of a node that `get_children` read with a watch, or None. It asks no server."""
-        return self._engine.kept_children(path)
-
-    def forget_stale(self) -> None:
-        """Forgets all kept answers that are stale. Until then, what was read with a watch takes memory."""
-        self._engine.forget_stale()
-
-    def follow(self, path: str) -> Iterator[Kept]:
+    def follow(self, path: str) -> Generator[Kept, None, None]:
         """Yields what a node holds, and again whenever that has changed, through reconnects and new sessions.
 
-        Each answer was good when it was yielded. Where the node changes more than once between two of them, the last one is told.
-        Where there is no node, that is told too. It ends when the client is stopped or closed, and raises what `get` raises for other
-        reasons than the connection.
+        Each answer was good when it was yielded. Where the node changes more than once between two of them, the last
+        one is told. Where there is no node, that is told too. It ends when the client is stopped or closed, and raises
+        what `get` raises for other reasons than the connection.
         """
         if not self._engine.is_running:
             raise ConnectionClosedError("the client is not started")
@@ -267,8 +231,9 @@ class Client:
     def _ask(self, request: Request[Result], timeout: Optional[float] = None) -> Result:
         waiter: concurrent.futures.Future[Result] = concurrent.futures.Future()
         self._engine.ask(moment(), request, waiter)
-        if self._loop is not None:
-            self._loop.act()
+        loop = self._loop
+        if loop is not None:
+            loop.act()
         return waiter.result(timeout)
 
     def _wait_until_connected(self, timeout: Optional[float]) -> bool:
@@ -283,12 +248,22 @@ class Client:
         return True
 
     def _tell(self, function: Callable[[Any], object], argument: Any) -> None:
-        if self._callbacks is not None:
-            self._callbacks.tell(function, argument)
+        callbacks = self._callbacks
+        if callbacks is not None:
+            callbacks.tell(function, argument)
+
+    def _begin_threads(self) -> None:
+        with self._life:
+            if self._loop is None:
+                self._callbacks = _Callbacks()
+                self._callbacks.start()
+                self._loop = _Loop(Driver(self._hosts, self._engine))
+                self._loop.start()
 
     def _end_threads(self) -> None:
-        loop, self._loop = self._loop, None
-        callbacks, self._callbacks = self._callbacks, None
+        with self._life:
+            loop, self._loop = self._loop, None
+            callbacks, self._callbacks = self._callbacks, None
         if loop is not None:
             loop.stop()
         if callbacks is not None:

@@ -16,10 +16,13 @@ class State(str, enum.Enum):
     """A server has accepted the session."""
 
     SUSPENDED = "SUSPENDED"
-    """There is a session and no connection. What is kept stays kept, and the watches are set again with the next connection."""
+    """There is a session and no connection. What is kept stays kept, and the watches are set again with the next
+    connection.
+    """
 
     LOST = "LOST"
-    """There is no session: none was begun yet, it has expired, or the client was stopped. Nothing is kept or watched."""
+    """There is no session: none was begun yet, it has expired, or the client was stopped. Nothing is kept or watched.
+    """
 
 
 class EventType(str, enum.Enum):
@@ -43,7 +46,9 @@ class WatchedEvent(NamedTuple):
 
 
 Watch = Union[bool, Callable[[WatchedEvent], object], None]
-"""Whether a read leaves a watch, so that its answer is kept: a callable is called when the watch fires, True calls nothing."""
+"""Whether a read leaves a watch, so that its answer is kept: a callable is called when the watch fires, True calls
+nothing.
+"""
 
 
 class Mark(enum.IntEnum):
@@ -93,7 +98,9 @@ class Kept:
     mark: Mark
 
     last_zxid: int
-    """The greatest zxid that the client has seen: where the mark is good, the answer is that of the history at this zxid."""
+    """The greatest zxid that the client has seen: where the mark is good, the answer is that of the history at this
+    zxid.
+    """
 
     stat: Optional[DataStat]
     """None where no node is there."""
@@ -119,7 +126,9 @@ class KeptChildren:
     mark: Mark
 
     last_zxid: int
-    """The greatest zxid that the client has seen: where the mark is good, the names are those of the history at this zxid."""
+    """The greatest zxid that the client has seen: where the mark is good, the names are those of the history at this
+    zxid.
+    """
 
     names: tuple[str, ...]
     """The names of the children, in the order of their bytes."""

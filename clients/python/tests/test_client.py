@@ -91,7 +91,8 @@ class CallsTest(ClientCase):
         self.assertEqual(client.create("/a", b"one"), "/a")
         data, stat = client.get("/a")
         self.assertEqual((data, stat.version, stat.data_length, stat.ephemeral_owner), (b"one", 0, 3, 0))
-        self.assertEqual(client.set("/a", b"three", 0)._replace(mtime=0), stat._replace(mzxid=3, mtime=0, version=1, data_length=5))
+        changed = stat._replace(mzxid=3, mtime=0, version=1, data_length=5)
+        self.assertEqual(client.set("/a", b"three", 0)._replace(mtime=0), changed)
         self.assertEqual(client.create("/a/b"), "/a/b")
         found = client.exists("/a")
         assert found is not None
@@ -241,7 +242,8 @@ class KeptTest(ClientCase):
         assert kept.stat is not None
         self.assertEqual((kept.stat.czxid, kept.stat.mzxid, kept.stat.version), (1, 1, 0))
         partner.do("set /a two")
-        self.assertEqual(within(lambda: self.kept(client, "/a").mark is Mark.STALE and self.kept(client, "/a")).data, b"one")
+        within(lambda: self.kept(client, "/a").mark is Mark.STALE)
+        self.assertEqual(self.kept(client, "/a").data, b"one")
         client.get("/a", watch=True)
         self.assertEqual((self.kept(client, "/a").mark, self.kept(client, "/a").data), (Mark.GOOD, b"two"))
 
@@ -508,7 +510,12 @@ class SessionTest(ClientCase):
         partner = self.partner()
         client = self.client(partner)
         stopped = threading.Event()
-        client.exists("/a", watch=lambda _: (client.stop(), stopped.set()))
+
+        def stop(_: WatchedEvent) -> None:
+            client.stop()
+            stopped.set()
+
+        client.exists("/a", watch=stop)
         partner.do("create /a")
         self.assertTrue(stopped.wait(WAIT))
         self.assertIs(client.state, State.LOST)

@@ -1,4 +1,5 @@
-"""Tests of the machine, by frames that are spelled here as zookeeper.jute has them, and of its layouts by the header."""
+"""Tests of the machine, by frames that are spelled here as zookeeper.jute has them, and of its layouts by the header.
+"""
 
 from __future__ import annotations
 
@@ -78,7 +79,7 @@ class LayoutTest(unittest.TestCase):
         with tempfile.TemporaryDirectory() as folder:
             source, program = pathlib.Path(folder, "layout.c"), pathlib.Path(folder, "layout")
             lines = [
-                " ".join([f"P(sizeof({name}));", *(f"P(offsetof({name}, {field[0]}));" for field in kind._fields_), "E;"])
+                f"P(sizeof({name})); {' '.join(f'P(offsetof({name}, {field[0]}));' for field in kind._fields_)} E;"
                 for name, kind in STRUCTS.items()
             ]
             source.write_text(
@@ -120,7 +121,8 @@ class MachineTest(unittest.TestCase):
         machine = connected()
         machine.get_children(200, 8, "/", True)
         names = struct.pack(">i", 2) + buffer("ö".encode()) + buffer(b"a")
-        outputs = [output for byte in reply(1, 9, 0, names + STAT_BYTES) for output in machine.received(300, bytes([byte]))]
+        came = reply(1, 9, 0, names + STAT_BYTES)
+        outputs = [output for byte in came for output in machine.received(300, bytes([byte]))]
         self.assertEqual(outputs, [Answer(8, 0, library.NAMES, 0, STAT, None, ["ö", "a"])])
         self.assertEqual(machine.peek_children("/"), (1, ("a", "ö"), STAT.pzxid))
 

@@ -53,9 +53,8 @@ class ExampleTest(PartnerCase):
     def test_the_example_prints_each_change(self) -> None:
         partner = self.partner()
         partner.do("create /config one")
-        process = subprocess.Popen(
-            [sys.executable, str(FOLLOW), partner.host, "/config"], stdout=subprocess.PIPE, stderr=subprocess.DEVNULL, text=True
-        )
+        command = [sys.executable, str(FOLLOW), partner.host, "/config"]
+        process = subprocess.Popen(command, stdout=subprocess.PIPE, stderr=subprocess.DEVNULL, text=True)
         self.addCleanup(process.kill)
         assert process.stdout is not None
         self.assertEqual(process.stdout.readline(), "/config good 0x2 one\n")
