@@ -4,6 +4,8 @@
 the Dirwolleu library, which keeps what was read with a watch, and tells whether it is good or stale.
 """
 
+import logging
+
 from dirwolleu import aio
 from dirwolleu.client import Client
 from dirwolleu.exceptions import *  # noqa: F403
@@ -12,3 +14,5 @@ from dirwolleu.types import *  # noqa: F403
 from dirwolleu.types import __all__ as _types
 
 __all__ = ["Client", "aio", *_exceptions, *_types]
+
+logging.getLogger(__name__).addHandler(logging.NullHandler())

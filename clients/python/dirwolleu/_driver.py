@@ -25,8 +25,9 @@ def moment() -> int:
 
 
 def addresses(hosts: str) -> list[Address]:
-    """The addresses of a text like `host:port,host:port`. A port that is left out is 2181; an IPv6 address stands in
-    brackets.
+    """The addresses of a text like `host:port,host:port`.
+
+    A port that is left out is 2181. An IPv6 address stands in brackets.
     """
     return [_address(host.strip()) for host in hosts.split(",")]
 
@@ -79,15 +80,19 @@ class Driver:
         self._link: Optional[Link] = None
         self._timer: Optional[asyncio.TimerHandle] = None
         self._wakes_at = 0
+        self._is_to_act = False
         self._admissions, self._next_pause = 0, FIRST_PAUSE
 
     async def run(self) -> None:
         """Dials one address after the other, until the engine is at its end or this is cancelled."""
+        address = next(self._addresses)
         try:
-            for host, port in self._addresses:
-                await self._visit(host, port)
-                if not self._engine.is_running:
-                    return
+            while self._engine.is_running:
+                had_session = self._engine.session_id() != 0
+                await self._visit(*address)
+                has_expired = had_session and self._engine.session_id() == 0
+                if not has_expired:  # the server that said so gives a new session
+                    address = next(self._addresses)
                 await asyncio.sleep(self._pause())
         except Exception:
             self._engine.end()
@@ -107,8 +112,15 @@ class Driver:
             self._engine.received(moment(), data)
             self.act()
 
+    def act_soon(self) -> None:
+        """Acts once behind all that is asked in this turn of the event loop."""
+        if not self._is_to_act:
+            self._is_to_act = True
+            asyncio.get_running_loop().call_soon(self.act)
+
     def act(self) -> None:
         """Does what came out of the engine, and sees to it that it is woken."""
+        self._is_to_act = False
         frames, is_over = self._engine.take_frames()
         if self._link is not None and self._link.transport is not None:
             if frames:

@@ -103,7 +103,7 @@ class Engine:
         self.is_running = False
         self.state = State.LOST
         self.admissions = 0
-        """How often a server has accepted the session, or said that it has expired."""
+        """How often a server has accepted the session."""
 
     # The life of a client.
 
@@ -295,7 +295,9 @@ class Engine:
                 return
 
     def _answer(self, answer: Answer) -> None:
-        asked = self._sent.pop(answer.ticket)
+        asked = self._sent.pop(answer.ticket, None)
+        if asked is None:
+            return
         if answer.lack in (requests.NOT_CONNECTED, requests.TOO_MANY_PENDING):
             self._line.appendleft(asked)
             return
@@ -318,7 +320,6 @@ class Engine:
             self.admissions += 1
             self._enter(State.CONNECTED)
         elif state == library.EXPIRED:
-            self.admissions += 1
             self._is_over = True
             self._begin_anew(SessionExpiredError("the session has expired"))
         elif state == library.SESSION_CLOSED:

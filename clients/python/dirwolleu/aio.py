@@ -51,7 +51,7 @@ class Client(Shown):
     async def start(self, timeout: Optional[float] = 15.0) -> None:
         """Begins to connect, and waits until a server has accepted the session.
 
-        Raises `TimeoutError` where that takes longer than so many seconds; the client is stopped then.
+        Raises `TimeoutError`, and stops, where that takes longer than `timeout` seconds; None is no bound.
         """
         self._engine.begin()
         if self._running is None:
@@ -59,8 +59,10 @@ class Client(Shown):
             self._running = asyncio.ensure_future(self._driver.run())
         try:
             await asyncio.wait_for(self._wait_until_connected(), timeout)
-        except asyncio.TimeoutError:
+        except BaseException as error:
             await self.stop()
+            if not isinstance(error, asyncio.TimeoutError):
+                raise
             raise TimeoutError(f"no server of {self._hosts} accepted the session in {timeout} seconds") from None
 
     async def stop(self) -> None:
@@ -155,7 +157,7 @@ class Client(Shown):
         waiter: asyncio.Future[Result] = asyncio.get_running_loop().create_future()
         self._engine.ask(moment(), request, waiter)
         if self._driver is not None:
-            self._driver.act()
+            self._driver.act_soon()
         return await waiter
 
     async def _wait_until_connected(self) -> None:

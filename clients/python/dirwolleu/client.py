@@ -131,12 +131,17 @@ class Client(Shown):
     def start(self, timeout: Optional[float] = 15.0) -> None:
         """Begins to connect, and waits until a server has accepted the session.
 
-        Raises `TimeoutError` where that takes longer than so many seconds; the client is stopped then.
+        Raises `TimeoutError`, and stops, where that takes longer than `timeout` seconds; None is no bound.
         """
         self._engine.begin()
         self._begin_threads()
-        if not self._wait_until_connected(timeout):
-            self.stop()
+        is_connected = False
+        try:
+            is_connected = self._wait_until_connected(timeout)
+        finally:
+            if not is_connected:
+                self.stop()
+        if not is_connected:
             raise TimeoutError(f"no server of {self._hosts} accepted the session in {timeout} seconds")
 
     def stop(self) -> None:

@@ -37,6 +37,9 @@ async def within(condition: Callable[[], Any]) -> None:
 
 
 class AioTest(unittest.IsolatedAsyncioTestCase, PartnerCase):
+    async def asyncSetUp(self) -> None:
+        asyncio.get_running_loop().slow_callback_duration = WAIT  # a partner that starts holds the loop up
+
     async def client(self, partner: Partner, timeout: float = 6.0, saved: Optional[bytes] = None) -> Client:
         client = Client(partner.host, timeout, saved)
         self.addAsyncCleanup(client.close)
@@ -71,7 +74,7 @@ class AioTest(unittest.IsolatedAsyncioTestCase, PartnerCase):
     async def test_more_at_once_than_a_session_takes(self) -> None:
         partner = self.partner()
         partner.do("create /a one")
-        client = await self.client(partner)
+        client = await self.client(partner, timeout=60)
         reads = await asyncio.wait_for(asyncio.gather(*(client.get("/a") for _ in range(3000))), 3 * WAIT)
         self.assertEqual({data for data, _ in reads}, {b"one"})
 
@@ -126,7 +129,7 @@ class AioTest(unittest.IsolatedAsyncioTestCase, PartnerCase):
 
     async def test_calls_without_a_connection(self) -> None:
         partner = self.partner()
-        client = await self.client(partner, timeout=0.6)
+        client = await self.client(partner, timeout=1.5)
         partner.do("mute")
         lost = asyncio.ensure_future(client.get("/"))
         with self.raises(ConnectionLoss, -4):

@@ -427,18 +427,18 @@ class SessionTest(ClientCase):
     def test_a_silent_server_is_left_for_the_next(self) -> None:
         first, second = self.partner(), self.partner()
         second.do("create /a second", "create /b", "create /c")
-        client = self.client(first, second, timeout=0.9)
+        client = self.client(first, second, timeout=3.0)
         states = self.listen(client)
         began = time.monotonic()
         first.do("mute")
         self.assertEqual([states.get(timeout=WAIT) for _ in range(3)], [State.SUSPENDED, State.LOST, State.CONNECTED])
-        self.assertGreaterEqual(time.monotonic() - began, 0.2)
+        self.assertGreaterEqual(time.monotonic() - began, 0.9)
         self.assertEqual(client.get("/a")[0], b"second")
 
     def test_an_idle_session_is_kept_up(self) -> None:
-        client = self.client(self.partner(), timeout=0.3)
+        client = self.client(self.partner(), timeout=2.4)
         states = self.listen(client)
-        time.sleep(1)
+        time.sleep(2.4)
         self.assertTrue(client.connected and states.empty())
 
     def test_a_session_is_put_away_and_taken_up(self) -> None:

@@ -5,6 +5,7 @@ from __future__ import annotations
 
 import ctypes
 import gc
+import os
 import pathlib
 import re
 import shutil
@@ -12,6 +13,7 @@ import struct
 import subprocess
 import tempfile
 import unittest
+from unittest import mock
 
 import support
 
@@ -91,13 +93,30 @@ class LayoutTest(unittest.TestCase):
         self.assertEqual([tuple(map(int, line.split())) for line in printed.stdout.splitlines()], wanted)
 
 
+class FindTest(unittest.TestCase):
+    def test_the_environment_names_the_library(self) -> None:
+        with mock.patch.dict(os.environ, {"DIRWOLLEU_LIBRARY": "/a/library.so"}):
+            self.assertEqual(library._find(), "/a/library.so")
+
+    def test_a_checkout_comes_before_the_system(self) -> None:
+        built = str(support.CLIENTS / "out" / "libdirwolleu.so")
+        with mock.patch.dict(os.environ, {"DIRWOLLEU_LIBRARY": ""}), mock.patch("ctypes.util.find_library") as find:
+            with mock.patch("pathlib.Path.exists", return_value=True):
+                self.assertEqual(library._find(), built)
+            find.return_value = "libdirwolleu.so.0"
+            with mock.patch("pathlib.Path.exists", return_value=False):
+                self.assertEqual(library._find(), "libdirwolleu.so.0")
+                find.return_value = None
+                self.assertRaises(ImportError, library._find)
+
+
 class MachineTest(unittest.TestCase):
     def test_a_session_begins(self) -> None:
         machine = Machine(6000)
         self.assertEqual(machine.state(), library.IDLE)
         self.assertIsNone(machine.deadline())
         self.assertEqual(machine.tick(100), [])
-        self.assertEqual(machine.opened(100), [StateChange(library.CONNECTING), Send(CONNECT_REQUEST)])
+        self.assertEqual(machine.opened(100), [Send(CONNECT_REQUEST), StateChange(library.CONNECTING)])
         self.assertEqual(machine.deadline(), 4100)
         self.assertEqual(machine.received(200, CONNECT_RESPONSE), [StateChange(library.CONNECTED)])
         self.assertEqual((machine.state(), machine.timeout_ms(), machine.last_zxid()), (library.CONNECTED, 4000, 0))

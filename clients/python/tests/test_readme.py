@@ -26,11 +26,11 @@ class ReadmeTest(PartnerCase):
         lines = re.findall(r"```python\n(.*?)```", README.read_text(), re.DOTALL)[0]
         partner, printed = self.partner(), io.StringIO()
         partner.do("create /config one")
-        clients: list[dirwolleu.Client] = []
+        real, clients = dirwolleu.Client, list[dirwolleu.Client]()
 
         def client(hosts: str) -> dirwolleu.Client:
             self.assertEqual(hosts, "127.0.0.1:2181,127.0.0.1:2182")
-            clients.append(made := dirwolleu.Client(partner.host))
+            clients.append(made := real(partner.host))
             return made
 
         def run() -> None:
