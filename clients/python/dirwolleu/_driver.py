@@ -39,6 +39,7 @@ def _address(text: str) -> Address:
     host = host[1:-1] if host.startswith("[") and host.endswith("]") else host
     if not host or "/" in host or not port.isdecimal() or not 0 < int(port) < 65536:
         raise ValueError(f"{text!r} is no address: host:port is wanted, and no path behind it")
+    host.encode("idna")  # a ValueError where it is no name
     return host, int(port)
 
 

@@ -127,8 +127,7 @@ class Engine:
                 return
             self.is_running = False
             self._saved_at_close = self._machine.saved()
-            self._forget_callers(ConnectionClosedError("the client was closed"))
-            self._enter(State.LOST)
+            self._forget_callers(ConnectionClosedError("the client was closed"), State.LOST)
             self._machine.close()
 
     # What happens to the connection.
@@ -334,19 +333,17 @@ class Engine:
         if self._saved_at_close is None:
             old, self._machine = self._machine, Machine(self._timeout_ms, _session_behind(self._machine.last_zxid()))
             old.close()
-        self._forget_callers(error)
-        self._enter(State.LOST)
+        self._forget_callers(error, State.LOST)
 
     def _resume(self) -> None:
         """Has a machine of the same session, where the old one ran out of memory. It keeps nothing."""
         old, self._machine = self._machine, Machine(self._timeout_ms, self._machine.saved())
         old.close()
         self._is_over = True
-        self._forget_callers(ConnectionLoss("the client ran out of memory"))
-        self._enter(State.SUSPENDED)
+        self._forget_callers(ConnectionLoss("the client ran out of memory"), State.SUSPENDED)
 
-    def _forget_callers(self, error: ZookeeperError) -> None:
-        """Fails all that waits for an answer, and ends all watches."""
+    def _forget_callers(self, error: ZookeeperError, state: State) -> None:
+        """Fails all that waits for an answer, ends all watches, and enters a state."""
         waiting = [*self._sent.values(), *self._line]
         watchers = list(itertools.chain.from_iterable(self._watchers.values()))
         self._sent.clear()
@@ -355,7 +352,8 @@ class Engine:
         for asked in waiting:
             asked.fail(type(error)(*error.args))
         for watcher in watchers:
-            self._tell(watcher.function, WatchedEvent(EventType.NONE, State.LOST, watcher.path))
+            self._tell(watcher.function, WatchedEvent(EventType.NONE, state, watcher.path))
+        self._enter(state)
 
     def _enter(self, state: State) -> None:
         if state is not self.state:

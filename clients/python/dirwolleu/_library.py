@@ -12,6 +12,7 @@ import os
 import pathlib
 from ctypes import POINTER, Structure, byref, string_at
 from ctypes import c_bool, c_char, c_char_p, c_int32, c_int64, c_size_t, c_uint32, c_uint64, c_void_p
+from operator import attrgetter
 from typing import Any, Callable, NamedTuple, Optional, Union
 
 from dirwolleu.types import DataStat, Stat
@@ -209,6 +210,9 @@ def _checked(code: int) -> None:
     )
 
 
+_fields_of_stat, _fields_of_data_stat = attrgetter(*Stat._fields), attrgetter(*DataStat._fields)
+
+
 class Machine:
     """One session, as a machine. It holds memory of the library's until `close`."""
 
@@ -303,7 +307,7 @@ class Machine:
             _checked(
                 _library.dw_peek_data(self._handle, spelled, len(spelled), byref(kept), self._room, len(self._room))
             )
-        stat = _data_stat(kept.stat) if kept.kind in (KNOWN, FULL) else None
+        stat = DataStat._make(_fields_of_data_stat(kept.stat)) if kept.kind in (KNOWN, FULL) else None
         data = string_at(self._room, kept.length) if kept.kind == FULL and not kept.is_null else None
         return KeptData(kept.kind, kept.mark, stat, data)
 
@@ -344,7 +348,7 @@ class Machine:
             output.detail,
             output.result,
             output.code,
-            _stat(output.stat) if output.has_stat else None,
+            Stat._make(_fields_of_stat(output.stat)) if output.has_stat else None,
             self._text() if has_text else None,
             [self._name(index) for index in range(output.names)],
         )
@@ -381,11 +385,3 @@ class Machine:
         if is_short:
             self._room = ctypes.create_string_buffer(length)
         return is_short
-
-
-def _stat(stat: _Stat) -> Stat:
-    return Stat(*(getattr(stat, name) for name in Stat._fields))
-
-
-def _data_stat(stat: _DataStat) -> DataStat:
-    return DataStat(*(getattr(stat, name) for name in DataStat._fields))

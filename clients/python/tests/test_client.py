@@ -530,7 +530,7 @@ class SessionTest(ClientCase):
 
     def test_addresses(self) -> None:
         self.assertEqual(addresses("a:1, b,[::1]:3,[::1]"), [("a", 1), ("b", 2181), ("::1", 3), ("::1", 2181)])
-        for wrong in ("", "a:", "a:x", "a:0", ":1", "a:1/root", "a:1,,b:2"):
+        for wrong in ("", "a:", "a:x", "a:0", ":1", "a..b:1", "a:1/root", "a:1,,b:2"):
             with self.subTest(wrong), self.assertRaises(ValueError):
                 Client(wrong)
         for timeout in (0, -1, 3e6):
