@@ -94,7 +94,7 @@ class Engine:
         self._tickets = itertools.count(1)
         self._sent: dict[int, _Asked] = {}
         self._line: collections.deque[_Asked] = collections.deque()
-        self._watchers: dict[tuple[str, int], list[Watcher]] = {}
+        self._watchers: dict[tuple[str, int], dict[Watcher, None]] = {}
         self._news: dict[object, tuple[Optional[str], Callable[[], None]]] = {}
         self._listeners: list[Listener] = []
         self._frames: list[bytes] = []
@@ -304,7 +304,7 @@ class Engine:
             self._is_over = True
         watcher = asked.request.watcher
         if watcher is not None and asked.request.leaves_watch(answer):
-            self._watchers.setdefault((watcher.path, watcher.side), []).append(watcher)
+            self._watchers.setdefault((watcher.path, watcher.side), {})[watcher] = None
         asked.answer(answer)
 
     def _report(self, report: Report) -> None:

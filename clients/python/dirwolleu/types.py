@@ -46,8 +46,10 @@ class WatchedEvent(NamedTuple):
 
 
 Watch = Union[bool, Callable[[WatchedEvent], object], None]
-"""Whether a read leaves a watch, so that its answer is kept: a callable is called when the watch fires, True calls
-nothing.
+"""Whether a read leaves a watch, so that its answer is kept.
+
+A callable is called when the watch fires, and once where it was left on the same data or children more than once. True
+calls nothing.
 """
 
 

@@ -8,6 +8,7 @@ import threading
 import time
 import unittest
 from typing import Any, Callable, Optional
+from unittest import mock
 
 from support import WAIT, Partner, PartnerCase, within
 
@@ -193,6 +194,19 @@ class WatchTest(ClientCase):
         client.exists("/b", watch=events.put)
         partner.do("set /a four", "delete /b")
         self.assertEqual(events.get(timeout=WAIT), (EventType.DELETED, State.CONNECTED, "/b"))
+        self.assertTrue(events.empty())
+
+    def test_a_function_that_is_left_twice_is_called_once(self) -> None:
+        partner = self.partner()
+        partner.do("create /a one")
+        client, events = self.client(partner), queue.Queue[WatchedEvent]()
+        client.get("/a", watch=events.put)
+        client.exists("/a", watch=events.put)
+        partner.do("set /a two", "create /b")
+        self.assertEqual(events.get(timeout=WAIT).type, EventType.CHANGED)
+        client.get("/a", watch=events.put)
+        partner.do("delete /a")
+        self.assertEqual(events.get(timeout=WAIT).type, EventType.DELETED)
         self.assertTrue(events.empty())
 
     def test_a_watch_is_left_only_where_there_is_a_node(self) -> None:
@@ -456,6 +470,7 @@ class SessionTest(ClientCase):
         self.assertEqual(found.ephemeral_owner, other.session_id)
         self.assertGreaterEqual(other.last_zxid, client.last_zxid)
 
+    @mock.patch("dirwolleu._driver.LONGEST_PAUSE", 0.2)
     def test_a_server_that_is_behind_is_not_read(self) -> None:
         partner = self.partner()
         partner.do("create /a one")
@@ -475,10 +490,10 @@ class SessionTest(ClientCase):
         self.assertEqual(client.get("/a")[0], b"two")
 
     def test_hostile_servers(self) -> None:
-        for seed in range(8):
+        for seed in range(6):
             with self.subTest(seed=seed):
                 partner = self.partner("--hostile", str(seed))
-                client = Client(partner.host, 1.5)
+                client = Client(partner.host, 1.2)
                 client.start(WAIT)
                 for _ in range(4):
                     try:

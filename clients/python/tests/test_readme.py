@@ -49,6 +49,12 @@ class ReadmeTest(PartnerCase):
         self.assertEqual(len(lines.splitlines()), 10)
 
 
+class VersionTest(unittest.TestCase):
+    def test_the_version_is_that_of_the_repository(self) -> None:
+        version = (CLIENTS.parent / "VERSION").read_text().strip()
+        self.assertIn(f'version = "{version}"', (CLIENTS / "python" / "pyproject.toml").read_text())
+
+
 class ExampleTest(PartnerCase):
     def test_the_example_prints_each_change(self) -> None:
         partner = self.partner()
