@@ -283,15 +283,19 @@ class Engine:
         """Sends what waits to be sent, as far as the machine takes it."""
         while self._line and self.state is State.CONNECTED:
             asked = self._line.popleft()
-            ticket = next(self._tickets)
-            self._sent[ticket] = asked
-            try:
-                self._step(lambda machine: asked.request.call(machine, now, ticket))
-            except (ValueError, MemoryError) as error:
-                self._sent.pop(ticket, None)
-                asked.fail(error)
+            self._send(asked, now)
             if self._line and self._line[0] is asked:
                 return
+
+    def _send(self, asked: _Asked, now: int) -> None:
+        """Sends a request. Where the machine does not take it yet, it is the first of the line again."""
+        ticket = next(self._tickets)
+        self._sent[ticket] = asked
+        try:
+            self._step(lambda machine: asked.request.call(machine, now, ticket))
+        except (ValueError, MemoryError) as error:
+            self._sent.pop(ticket, None)
+            asked.fail(error)
 
     def _answer(self, answer: Answer) -> None:
         asked = self._sent.pop(answer.ticket, None)

@@ -66,9 +66,10 @@ class Client(Shown):
             raise TimeoutError(f"no server of {self._hosts} accepted the session in {timeout} seconds") from None
 
     async def stop(self) -> None:
-        """Ends the session, with its ephemeral nodes and its watches. `start` begins another one.
+        """Ends the session, with its ephemeral nodes and its watches.
 
-        Where no server has done so within a third of the session's timeout, the session lives on for its timeout.
+        `start` begins another session. Where no server has done so within a third of the session's timeout, the session
+        lives on for its timeout.
         """
         if self._running is None:
             return
@@ -164,6 +165,8 @@ class Client(Shown):
         news = asyncio.Event()
         with self._engine.news(news.set):
             while not self.connected:
+                if not self._engine.is_running:
+                    raise ConnectionClosedError("the client was stopped")
                 await news.wait()
                 news.clear()
 

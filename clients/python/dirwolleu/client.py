@@ -145,10 +145,10 @@ class Client(Shown):
             raise TimeoutError(f"no server of {self._hosts} accepted the session in {timeout} seconds")
 
     def stop(self) -> None:
-        """Ends the session, with its ephemeral nodes and its watches, and the threads of the client. `start` begins
-        another one.
+        """Ends the session, with its ephemeral nodes and its watches, and the threads of the client.
 
-        Where no server has done so within a third of the session's timeout, the session lives on for its timeout.
+        `start` begins another session. Where no server has done so within a third of the session's timeout, the session
+        lives on for its timeout.
         """
         if self._loop is None:
             return
@@ -246,6 +246,8 @@ class Client(Shown):
         news = threading.Event()
         with self._engine.news(news.set):
             while not self.connected:
+                if not self._engine.is_running:
+                    raise ConnectionClosedError("the client was stopped")
                 left = None if until is None else until - time.monotonic()
                 if not news.wait(left):
                     return False

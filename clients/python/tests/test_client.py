@@ -543,6 +543,17 @@ class SessionTest(ClientCase):
             client.start(0.3)
         client.close()
 
+    def test_a_client_may_be_stopped_while_it_starts(self) -> None:
+        partner = self.partner()
+        partner.do("mute")
+        client = Client(partner.host)
+        self.addCleanup(client.close)
+        starts = InThread(lambda: client.start(None))
+        within(lambda: client._loop)
+        client.stop()
+        with self.raises(ConnectionClosedError, None):
+            starts.result()
+
     def test_addresses(self) -> None:
         self.assertEqual(addresses("a:1, b,[::1]:3,[::1]"), [("a", 1), ("b", 2181), ("::1", 3), ("::1", 2181)])
         for wrong in ("", "a:", "a:x", "a:0", ":1", "a..b:1", "a:1/root", "a:1,,b:2"):
