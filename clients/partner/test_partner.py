@@ -1,0 +1,195 @@
+"""Tests of the partner by frames that are spelled here, as zookeeper.jute has them."""
+
+from __future__ import annotations
+
+import os
+import socket
+import struct
+import subprocess
+import sys
+import unittest
+from typing import Optional
+
+PARTNER = os.path.join(os.path.dirname(os.path.abspath(__file__)), "partner.py")
+PASSWORD_OF_NONE = struct.pack(">i", 16) + bytes(16)
+OPEN_ACL = struct.pack(">ii", 1, 31) + struct.pack(">i", 5) + b"world" + struct.pack(">i", 6) + b"anyone"
+WAIT = 5.0
+
+
+def text(value: str) -> bytes:
+    return struct.pack(">i", len(value)) + value.encode()
+
+
+class Peer:
+    """A connection that sends and takes frames."""
+
+    def __init__(self, port: int) -> None:
+        self.socket = socket.create_connection(("127.0.0.1", port), timeout=WAIT)
+
+    def send(self, payload: bytes) -> None:
+        self.socket.sendall(struct.pack(">i", len(payload)) + payload)
+
+    def take_bytes(self, count: int) -> Optional[bytes]:
+        taken = b""
+        while len(taken) < count:
+            piece = self.socket.recv(count - len(taken))
+            if not piece:
+                return None
+            taken += piece
+        return taken
+
+    def take(self) -> Optional[bytes]:
+        """The next payload, or None where the connection is over."""
+        try:
+            length = self.take_bytes(4)
+            return None if length is None else self.take_bytes(struct.unpack(">i", length)[0])
+        except ConnectionError:
+            return None
+
+    def connect(self, last_zxid: int = 0, session: int = 0, password: bytes = PASSWORD_OF_NONE) -> Optional[bytes]:
+        self.send(struct.pack(">iqiq", 0, last_zxid, 6000, session) + password)
+        return self.take()
+
+    def ask(self, xid: int, kind: int, body: bytes = b"") -> Optional[bytes]:
+        self.send(struct.pack(">ii", xid, kind) + body)
+        return self.take()
+
+
+def header(payload: Optional[bytes]) -> tuple[int, int, int]:
+    """xid, zxid and error of a reply."""
+    assert payload is not None
+    xid, zxid, code = struct.unpack(">iqi", payload[:16])
+    return xid, zxid, code
+
+
+class PartnerTest(unittest.TestCase):
+    def start(self, *options: str) -> None:
+        self.process = subprocess.Popen(
+            [sys.executable, PARTNER, *options], stdin=subprocess.PIPE, stdout=subprocess.PIPE, text=True
+        )
+        self.addCleanup(self.stop)
+        assert self.process.stdout is not None
+        self.port = int(self.process.stdout.readline().split()[1])
+
+    def stop(self) -> None:
+        self.process.communicate(timeout=WAIT)
+
+    def command(self, line: str) -> str:
+        assert self.process.stdin is not None and self.process.stdout is not None
+        self.process.stdin.write(line + "\n")
+        self.process.stdin.flush()
+        return self.process.stdout.readline().strip()
+
+    def peer(self) -> Peer:
+        peer = Peer(self.port)
+        self.addCleanup(peer.socket.close)
+        return peer
+
+    def connected(self) -> Peer:
+        peer = self.peer()
+        self.assertIsNotNone(peer.connect())
+        return peer
+
+    def test_a_session_is_granted_taken_up_and_refused(self) -> None:
+        self.start()
+        first = self.peer().connect()
+        assert first is not None
+        _, timeout, session = struct.unpack(">iiq", first[:16])
+        self.assertEqual(timeout, 6000)
+        self.assertNotEqual(session, 0)
+        self.assertEqual(self.peer().connect(session=session, password=first[16:36]), first)
+        refused = struct.pack(">iiq", 0, 0, 0) + PASSWORD_OF_NONE + b"\0"
+        self.assertEqual(self.peer().connect(session=session), refused)
+
+    def test_a_client_that_is_ahead_is_not_admitted(self) -> None:
+        self.start()
+        self.assertIsNone(self.peer().connect(last_zxid=1))
+
+    def test_a_notice_comes_before_the_reply(self) -> None:
+        self.start()
+        peer = self.connected()
+        create = text("/a") + struct.pack(">i", 1) + b"x" + OPEN_ACL + struct.pack(">i", 0)
+        self.assertEqual(peer.ask(1, 1, create), struct.pack(">iqi", 1, 2, 0) + text("/a"))
+        self.assertEqual(header(peer.ask(2, 4, text("/a") + b"\1")), (2, 2, 0))
+        notice = struct.pack(">iqiii", -1, -1, 0, 3, 3) + text("/a")
+        self.assertEqual(peer.ask(3, 5, text("/a") + struct.pack(">ii", -1, -1)), notice)
+        self.assertEqual(header(peer.take()), (3, 3, 0))
+        self.assertEqual(header(peer.ask(4, 5, text("/a") + struct.pack(">ii", -1, 7))), (4, 3, -103))
+
+    def test_each_refusal_has_its_code(self) -> None:
+        self.start()
+        self.assertEqual(self.command("create /a x"), "done")
+        self.assertEqual(self.command("create /a/b"), "done")
+        self.assertEqual(self.command("create /a x"), "refused: -110")
+        self.assertEqual(self.command("create /c/d x"), "refused: -101")
+        self.assertEqual(self.command("delete /a"), "refused: -111")
+        self.assertEqual(self.command("set /c x"), "refused: -101")
+        self.assertEqual(self.command("create a x"), "refused: -8")
+        self.assertEqual(self.command("fly"), "unknown: fly")
+        self.assertEqual(header(self.connected().ask(1, 77)), (1, 3, -6))
+
+    def test_a_sequential_ephemeral_node_goes_with_its_session(self) -> None:
+        self.start()
+        peer, other = self.connected(), self.connected()
+        create = text("/n-") + struct.pack(">i", -1) + OPEN_ACL + struct.pack(">i", 3)
+        self.assertEqual((peer.ask(1, 1, create) or b"")[16:], text("/n-0000000000"))
+        self.assertEqual((peer.ask(2, 1, create) or b"")[16:], text("/n-0000000001"))
+        self.assertEqual(header(other.ask(1, 12, text("/") + b"\1"))[2], 0)
+        self.assertEqual(header(peer.ask(3, -11)), (3, 5, 0))
+        self.assertIsNone(peer.take())
+        self.assertEqual((other.take() or b"")[16:24], struct.pack(">ii", 4, 3))
+        self.assertEqual((other.ask(2, 8, text("/") + b"\0") or b"")[16:], struct.pack(">i", 0))
+
+    def test_watches_are_set_again(self) -> None:
+        self.start()
+        for path in ("/changed", "/same", "/gone"):
+            self.command(f"create {path} x")
+        for line in ("set /changed y", "delete /gone", "create /same/child"):
+            self.command(line)
+        peer = self.connected()
+        three, one = struct.pack(">i", 3) + text("/changed") + text("/same") + text("/gone"), struct.pack(">i", 1)
+        peer.send(struct.pack(">iiq", -8, 101, 3) + three + one + text("/same") + one + text("/same"))
+        events = [(peer.take() or b"")[16:] for _ in range(4)]
+        told = [struct.pack(">ii", kind, 3) + text(path) for kind, path in
+                ((3, "/changed"), (2, "/gone"), (1, "/same"), (4, "/same"))]  # fmt: skip
+        self.assertEqual(events, told)
+        self.assertEqual(header(peer.take()), (-8, 7, 0))
+        self.command("set /same z")
+        self.assertEqual((peer.take() or b"")[16:], struct.pack(">ii", 3, 3) + text("/same"))
+
+    def test_drop_down_up_and_expire(self) -> None:
+        self.start()
+        peer = self.peer()
+        first = peer.connect() or b""
+        session, password = struct.unpack(">q", first[8:16])[0], first[16:36]
+        self.assertEqual(self.command("drop"), "done")
+        self.assertIsNone(peer.take())
+        self.assertEqual(self.command("down"), "done")
+        with self.assertRaises(ConnectionError):
+            self.peer()
+        self.assertEqual(self.command("up"), "done")
+        self.assertEqual(self.peer().connect(session=session, password=password), first)
+        self.assertEqual(self.command("expire"), "done")
+        self.assertEqual((self.peer().connect(session=session, password=password) or b"")[8:16], bytes(8))
+
+    def test_what_came_while_mute_is_answered_behind_it(self) -> None:
+        self.start()
+        peer = self.connected()
+        self.command("mute")
+        peer.send(struct.pack(">ii", -2, 11))
+        peer.socket.settimeout(0.1)
+        with self.assertRaises(socket.timeout):
+            peer.take()
+        peer.socket.settimeout(WAIT)
+        self.command("unmute")
+        self.assertEqual(header(peer.take()), (-2, 1, 0))
+
+    def test_pieces_and_hostility(self) -> None:
+        self.start("--piece", "1", "--hostile", "7")
+        peer = self.connected()
+        peer.send(struct.pack(">ii", -2, 11))
+        self.assertIsNotNone(peer.take_bytes(1))
+
+
+if __name__ == "__main__":
+    unittest.main()

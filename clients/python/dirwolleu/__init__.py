@@ -1,0 +1,18 @@
+"""A client of Apache ZooKeeper that knows which of its answers still hold.
+
+`dirwolleu.Client` waits for its answers, and `dirwolleu.aio.Client` is for asyncio. Both stand on the proved machine of
+the Dirwolleu library, which keeps what was read with a watch, and tells whether it is good or stale.
+"""
+
+import logging
+
+from dirwolleu import aio
+from dirwolleu.client import Client
+from dirwolleu.exceptions import *  # noqa: F403
+from dirwolleu.exceptions import __all__ as _exceptions
+from dirwolleu.types import *  # noqa: F403
+from dirwolleu.types import __all__ as _types
+
+__all__ = ["Client", "aio", *_exceptions, *_types]
+
+logging.getLogger(__name__).addHandler(logging.NullHandler())

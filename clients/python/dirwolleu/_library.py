@@ -1,0 +1,387 @@
+"""The shared library by ctypes, and `Machine`, which hides its pointers.
+
+A machine opens no socket and reads no clock. Each step is told the moment, in milliseconds of a clock that does not go
+back, and answers what comes out of it. One thread at a time may use a machine.
+"""
+
+from __future__ import annotations
+
+import ctypes
+import ctypes.util
+import os
+import pathlib
+from ctypes import POINTER, Structure, byref, string_at
+from ctypes import c_bool, c_char, c_char_p, c_int32, c_int64, c_size_t, c_uint32, c_uint64, c_void_p
+from operator import attrgetter
+from typing import Any, Callable, NamedTuple, Optional, Union
+
+from dirwolleu.types import DataStat, Stat
+
+OK, HALTED, NO_MEMORY, CLOSED, NOT_TEXT, NOT_PATH, BAD_TIMEOUT = 0, -1, -2, -3, -4, -5, -6
+NO_SUCH_MODE, NOT_SAVED = -7, -8
+SEND, ANSWER, REPORT, STATE, DROP = 1, 2, 3, 4, 5
+IDLE, CONNECTING, CONNECTED, EXPIRED, SESSION_CLOSED = 0, 1, 2, 3, 4
+CODE, STAT, DATA, NAMES, CREATED, DONE = 1, 2, 3, 4, 5, 6
+NODE_CREATED, NODE_DELETED, DATA_CHANGED, CHILDREN_CHANGED = 1, 2, 3, 4
+DATA_SIDE, CHILD_SIDE = 1, 2
+NOTHING, ABSENT, KNOWN, FULL = 0, 1, 2, 3
+EPHEMERAL, SEQUENTIAL = 1, 2
+
+
+class _Slot(Structure):
+    _fields_ = [("at", c_void_p)]
+
+
+class _Handle(Structure):
+    _fields_ = [("is_open", c_bool), ("slot", _Slot)]
+
+
+class _Stat(Structure):
+    _fields_ = [
+        *((name, c_int64) for name in ("czxid", "mzxid", "ctime", "mtime", "ephemeral_owner", "pzxid")),
+        *((name, c_int32) for name in ("version", "cversion", "aversion", "data_length", "num_children")),
+    ]
+
+
+class _Output(Structure):
+    _fields_ = [
+        *((name, c_int32) for name in ("kind", "detail", "result", "code")),
+        ("ticket", c_uint64),
+        ("zxid", c_int64),
+        ("length", c_size_t),
+        ("names", c_size_t),
+        ("is_null", c_bool),
+        ("has_stat", c_bool),
+        ("stat", _Stat),
+    ]
+
+
+class _DataStat(Structure):
+    _fields_ = [
+        *((name, c_int64) for name in ("czxid", "mzxid", "ctime", "mtime", "ephemeral_owner")),
+        *((name, c_int32) for name in ("version", "data_length")),
+    ]
+
+
+class _KeptData(Structure):
+    _fields_ = [("kind", c_int32), ("mark", c_int32), ("length", c_size_t), ("is_null", c_bool), ("stat", _DataStat)]
+
+
+class _KeptNames(Structure):
+    _fields_ = [("mark", c_int32), ("count", c_size_t), ("pzxid", c_int64)]
+
+
+_HANDLE, _BYTES, _ROOM = POINTER(_Handle), (c_char_p, c_size_t), (POINTER(c_char), c_size_t)
+_STEP, _PATH_STEP = (_HANDLE, c_uint64), (_HANDLE, c_uint64, c_uint64, *_BYTES)
+_FUNCTIONS: dict[str, tuple[Any, tuple[Any, ...]]] = {
+    "dw_open": (c_int32, (_HANDLE, c_int32)),
+    "dw_resume": (c_int32, (_HANDLE, c_int32, *_BYTES)),
+    "dw_close": (None, (_HANDLE,)),
+    "dw_opened": (c_int32, _STEP),
+    "dw_cut": (c_int32, _STEP),
+    "dw_tick": (c_int32, _STEP),
+    "dw_bytes": (c_int32, (*_STEP, *_BYTES)),
+    "dw_exists": (c_int32, (*_PATH_STEP, c_bool)),
+    "dw_get_data": (c_int32, (*_PATH_STEP, c_bool)),
+    "dw_get_children": (c_int32, (*_PATH_STEP, c_bool)),
+    "dw_set_data": (c_int32, (*_PATH_STEP, *_BYTES, c_bool, c_int32)),
+    "dw_create": (c_int32, (*_PATH_STEP, *_BYTES, c_bool, c_uint32)),
+    "dw_delete": (c_int32, (*_PATH_STEP, c_int32)),
+    "dw_close_session": (c_int32, (_HANDLE, c_uint64, c_uint64)),
+    "dw_next": (c_int32, (_HANDLE, POINTER(_Output))),
+    "dw_copy": (c_size_t, (_HANDLE, c_size_t, *_ROOM)),
+    "dw_name": (c_size_t, (_HANDLE, c_size_t, *_ROOM)),
+    "dw_words": (c_int32, (_HANDLE, *_ROOM, POINTER(c_size_t))),
+    "dw_state": (c_int32, (_HANDLE,)),
+    "dw_last_zxid": (c_int64, (_HANDLE,)),
+    "dw_timeout_ms": (c_int64, (_HANDLE,)),
+    "dw_deadline": (c_int32, (_HANDLE, POINTER(c_uint64))),
+    "dw_saved": (c_int32, (_HANDLE, *_ROOM, POINTER(c_size_t))),
+    "dw_peek_data": (c_int32, (_HANDLE, *_BYTES, POINTER(_KeptData), *_ROOM)),
+    "dw_peek_children": (c_int32, (_HANDLE, *_BYTES, POINTER(_KeptNames))),
+    "dw_peek_name": (c_int32, (_HANDLE, *_BYTES, c_size_t, *_ROOM, POINTER(c_size_t))),
+    "dw_forget": (c_int32, (_HANDLE,)),
+}
+
+
+def _find() -> str:
+    """The file of the library: what the environment names, else what a checkout has built, else what the system has."""
+    named = os.environ.get("DIRWOLLEU_LIBRARY")
+    if named:
+        return named
+    built = pathlib.Path(__file__).resolve().parents[2] / "out" / "libdirwolleu.so"
+    found = str(built) if built.exists() else ctypes.util.find_library("dirwolleu")
+    if found is None:
+        raise ImportError("libdirwolleu.so is not found: run scripts/client_libraries, or name it by DIRWOLLEU_LIBRARY")
+    return found
+
+
+def _load(file: str) -> ctypes.CDLL:
+    library = ctypes.CDLL(file)
+    for name, (result, parameters) in _FUNCTIONS.items():
+        function = getattr(library, name)
+        function.restype, function.argtypes = result, parameters
+    return library
+
+
+_library = _load(_find())
+
+
+class Send(NamedTuple):
+    """A frame to write to the server."""
+
+    frame: bytes
+
+
+class Answer(NamedTuple):
+    """The answer to a call. `lack` is 0 for a reply, and else 1 to 7, for K1 to K7."""
+
+    ticket: int
+    lack: int
+    result: int
+    code: int
+    stat: Optional[Stat]
+    text: Optional[bytes]
+    names: list[str]
+
+
+class Report(NamedTuple):
+    """What was known of a side of a path has ended."""
+
+    event: int
+    side: int
+    path: str
+
+
+class StateChange(NamedTuple):
+    """The state is another one."""
+
+    state: int
+
+
+class Drop(NamedTuple):
+    """The connection is given up: close it. The fault is one of docs/CODES.md."""
+
+    fault: str
+    words: str
+
+
+Output = Union[Send, Answer, Report, StateChange, Drop]
+
+
+class KeptData(NamedTuple):
+    """What is kept of the data of a path."""
+
+    kind: int
+    mark: int
+    stat: Optional[DataStat]
+    data: Optional[bytes]
+
+
+class KeptNames(NamedTuple):
+    """What is kept of the children of a path. The mark is 0 where nothing is."""
+
+    mark: int
+    names: tuple[str, ...]
+    pzxid: int
+
+
+class Halted(MemoryError):
+    """The machine ran out of memory within a step. It has no use from then on, but its session can still be taken."""
+
+
+def _checked(code: int) -> None:
+    """Raises what a code below 0 says."""
+    if code >= OK:
+        return
+    if code == HALTED:
+        raise Halted("the client ran out of memory")
+    if code == NO_MEMORY:
+        raise MemoryError
+    if code == CLOSED:
+        raise RuntimeError("the machine is closed")
+    raise ValueError(
+        {
+            NOT_TEXT: "the path is no UTF-8",
+            NOT_PATH: "this is no path of a node",
+            BAD_TIMEOUT: "the timeout is not above 0",
+            NOT_SAVED: "these bytes are no saved session",
+        }.get(code, f"the library answered {code}")
+    )
+
+
+_fields_of_stat, _fields_of_data_stat = attrgetter(*Stat._fields), attrgetter(*DataStat._fields)
+
+
+class Machine:
+    """One session, as a machine. It holds memory of the library's until `close`."""
+
+    def __init__(self, timeout_ms: int, saved: Optional[bytes] = None) -> None:
+        self._handle, self._output = _Handle(), _Output()
+        self._room = ctypes.create_string_buffer(4096)
+        if saved is None:
+            _checked(_library.dw_open(self._handle, timeout_ms))
+        else:
+            _checked(_library.dw_resume(self._handle, timeout_ms, saved, len(saved)))
+
+    def close(self) -> None:
+        """Frees what it holds. It ends no session."""
+        _library.dw_close(self._handle)
+
+    def __del__(self) -> None:
+        self.close()
+
+    # Steps.
+
+    def opened(self, now: int) -> list[Output]:
+        return self._outputs(_library.dw_opened(self._handle, now))
+
+    def cut(self, now: int) -> list[Output]:
+        return self._outputs(_library.dw_cut(self._handle, now))
+
+    def tick(self, now: int) -> list[Output]:
+        return self._outputs(_library.dw_tick(self._handle, now))
+
+    def received(self, now: int, data: bytes) -> list[Output]:
+        return self._outputs(_library.dw_bytes(self._handle, now, data, len(data)))
+
+    def exists(self, now: int, ticket: int, path: str, watch: bool) -> list[Output]:
+        spelled = path.encode()
+        return self._outputs(_library.dw_exists(self._handle, now, ticket, spelled, len(spelled), watch))
+
+    def get_data(self, now: int, ticket: int, path: str, watch: bool) -> list[Output]:
+        spelled = path.encode()
+        return self._outputs(_library.dw_get_data(self._handle, now, ticket, spelled, len(spelled), watch))
+
+    def get_children(self, now: int, ticket: int, path: str, watch: bool) -> list[Output]:
+        spelled = path.encode()
+        return self._outputs(_library.dw_get_children(self._handle, now, ticket, spelled, len(spelled), watch))
+
+    def set_data(self, now: int, ticket: int, path: str, data: Optional[bytes], version: int) -> list[Output]:
+        spelled, given = path.encode(), data or b""
+        return self._outputs(
+            _library.dw_set_data(
+                self._handle, now, ticket, spelled, len(spelled), given, len(given), data is None, version
+            )
+        )
+
+    def create(self, now: int, ticket: int, path: str, data: Optional[bytes], mode: int) -> list[Output]:
+        spelled, given = path.encode(), data or b""
+        return self._outputs(
+            _library.dw_create(self._handle, now, ticket, spelled, len(spelled), given, len(given), data is None, mode)
+        )
+
+    def delete(self, now: int, ticket: int, path: str, version: int) -> list[Output]:
+        spelled = path.encode()
+        return self._outputs(_library.dw_delete(self._handle, now, ticket, spelled, len(spelled), version))
+
+    def close_session(self, now: int, ticket: int) -> list[Output]:
+        return self._outputs(_library.dw_close_session(self._handle, now, ticket))
+
+    # Look-ups.
+
+    def state(self) -> int:
+        return int(_library.dw_state(self._handle))
+
+    def last_zxid(self) -> int:
+        return int(_library.dw_last_zxid(self._handle))
+
+    def timeout_ms(self) -> int:
+        return int(_library.dw_timeout_ms(self._handle))
+
+    def deadline(self) -> Optional[int]:
+        """The first moment at which something is due, if anything ever is."""
+        first = c_uint64()
+        code = _library.dw_deadline(self._handle, byref(first))
+        _checked(code)
+        return first.value if code == OK else None
+
+    def saved(self) -> bytes:
+        """What takes the session up again."""
+        return self._counted(lambda *room: _library.dw_saved(self._handle, *room))
+
+    def peek_data(self, path: str) -> KeptData:
+        spelled, kept = path.encode(), _KeptData()
+        _checked(_library.dw_peek_data(self._handle, spelled, len(spelled), byref(kept), self._room, len(self._room)))
+        if self._widen(kept.length):
+            _checked(
+                _library.dw_peek_data(self._handle, spelled, len(spelled), byref(kept), self._room, len(self._room))
+            )
+        stat = DataStat._make(_fields_of_data_stat(kept.stat)) if kept.kind in (KNOWN, FULL) else None
+        data = string_at(self._room, kept.length) if kept.kind == FULL and not kept.is_null else None
+        return KeptData(kept.kind, kept.mark, stat, data)
+
+    def peek_children(self, path: str) -> KeptNames:
+        spelled, kept = path.encode(), _KeptNames()
+        _checked(_library.dw_peek_children(self._handle, spelled, len(spelled), byref(kept)))
+        names = tuple(self._peek_name(spelled, index) for index in range(kept.count))
+        return KeptNames(kept.mark, names, kept.pzxid)
+
+    def forget(self) -> None:
+        """Forgets all stale answers."""
+        _checked(_library.dw_forget(self._handle))
+
+    # What a step tells.
+
+    def _outputs(self, code: int) -> list[Output]:
+        _checked(code)
+        outputs: list[Output] = []
+        while _library.dw_next(self._handle, self._output) == OK:
+            outputs.append(self._read(self._output))
+        return outputs
+
+    def _read(self, output: _Output) -> Output:
+        if output.kind == SEND:
+            return Send(self._text())
+        if output.kind == ANSWER:
+            return self._answer(output)
+        if output.kind == REPORT:
+            return Report(output.detail, output.result, self._text().decode())
+        if output.kind == STATE:
+            return StateChange(output.detail)
+        return Drop(self._text().decode(), self._words())
+
+    def _answer(self, output: _Output) -> Answer:
+        has_text = output.result == CREATED or output.result == DATA and not output.is_null
+        return Answer(
+            output.ticket,
+            output.detail,
+            output.result,
+            output.code,
+            Stat._make(_fields_of_stat(output.stat)) if output.has_stat else None,
+            self._text() if has_text else None,
+            [self._name(index) for index in range(output.names)],
+        )
+
+    def _text(self) -> bytes:
+        length = self._output.length
+        self._widen(length)
+        _library.dw_copy(self._handle, 0, self._room, length)
+        return string_at(self._room, length)
+
+    def _name(self, index: int) -> str:
+        length = _library.dw_name(self._handle, index, self._room, len(self._room))
+        if self._widen(length):
+            _library.dw_name(self._handle, index, self._room, len(self._room))
+        return string_at(self._room, length).decode()
+
+    def _words(self) -> str:
+        return self._counted(lambda *room: _library.dw_words(self._handle, *room)).decode(errors="replace")
+
+    def _peek_name(self, path: bytes, index: int) -> str:
+        return self._counted(lambda *room: _library.dw_peek_name(self._handle, path, len(path), index, *room)).decode()
+
+    def _counted(self, call: Callable[..., int]) -> bytes:
+        """What a call writes into a room, of which it is told how much there is, and counts."""
+        count = c_size_t()
+        _checked(call(self._room, len(self._room), byref(count)))
+        if self._widen(count.value):
+            _checked(call(self._room, len(self._room), byref(count)))
+        return string_at(self._room, count.value)
+
+    def _widen(self, length: int) -> bool:
+        """Makes room for so many bytes. Answers whether there was too little."""
+        is_short = length > len(self._room)
+        if is_short:
+            self._room = ctypes.create_string_buffer(length)
+        return is_short

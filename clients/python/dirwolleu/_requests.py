@@ -1,0 +1,125 @@
+"""What a program can ask of a server, and what its answer brings."""
+
+from __future__ import annotations
+
+from dataclasses import dataclass
+from typing import Any, Callable, Generic, NamedTuple, Optional, TypeVar
+
+from dirwolleu import _library as library
+from dirwolleu._library import Answer, Machine, Output
+from dirwolleu.exceptions import (
+    ConnectionClosedError,
+    ConnectionLoss,
+    NoNodeError,
+    SessionExpiredError,
+    TooLargeError,
+    TooManyWatchesError,
+    ZookeeperError,
+    error_of,
+)
+from dirwolleu.types import Stat, Watch, WatchedEvent
+
+Result = TypeVar("Result")
+
+# Why a call has no reply: K1 to K7.
+CONNECTION_LOSS, SESSION_EXPIRED, CLOSED, NOT_CONNECTED, TOO_MANY_WATCHES, TOO_LARGE, TOO_MANY_PENDING = range(1, 8)
+
+_ERRORS: dict[int, ZookeeperError] = {
+    CONNECTION_LOSS: ConnectionLoss("the connection ended before the reply"),
+    SESSION_EXPIRED: SessionExpiredError("the session has expired"),
+    CLOSED: ConnectionClosedError("the session is closed"),
+    TOO_MANY_WATCHES: TooManyWatchesError("65,536 paths are watched"),
+    TOO_LARGE: TooLargeError("the request would have more than 1,048,575 bytes"),
+}
+
+
+class Watcher(NamedTuple):
+    """Who is to be called when a watch fires."""
+
+    path: str
+    side: int
+    function: Callable[[WatchedEvent], object]
+
+
+@dataclass(frozen=True)
+class Request(Generic[Result]):
+    """A call of a machine, at a moment and with a ticket, whose answer brings a result of this type."""
+
+    call: Callable[[Machine, int, int], list[Output]]
+    is_exists: bool = False
+    watcher: Optional[Watcher] = None
+
+    def leaves_watch(self, answer: Answer) -> bool:
+        """Whether a watch that was asked for is left: where there is no node, `exists` alone leaves one."""
+        is_absent = answer.result == library.CODE
+        return answer.lack == 0 and (not is_absent or self.is_exists and answer.code == NoNodeError.code)
+
+    def result(self, answer: Answer) -> Any:
+        """What the answer brings, or raises its error."""
+        if answer.lack:
+            raise _fresh(_ERRORS[answer.lack])
+        if answer.result == library.CODE:
+            if self.is_exists and answer.code == NoNodeError.code:
+                return None
+            raise error_of(answer.code)
+        if answer.result == library.DATA:
+            return answer.text, answer.stat
+        if answer.result == library.CREATED:
+            return (answer.text or b"").decode()
+        return answer.names if answer.result == library.NAMES else answer.stat
+
+
+def _fresh(error: ZookeeperError) -> ZookeeperError:
+    """A copy: what is raised carries the trace of where it was."""
+    return type(error)(*error.args)
+
+
+def _watcher(path: str, side: int, watch: Watch) -> Optional[Watcher]:
+    return Watcher(path, side, watch) if callable(watch) else None
+
+
+def _data(value: Optional[bytes]) -> Optional[bytes]:
+    if value is not None and not isinstance(value, bytes):
+        raise TypeError(f"data are bytes or None, and not {type(value).__name__}")
+    return value
+
+
+def exists(path: str, watch: Watch) -> Request[Optional[Stat]]:
+    return Request(
+        lambda machine, now, ticket: machine.exists(now, ticket, path, bool(watch)),
+        is_exists=True,
+        watcher=_watcher(path, library.DATA_SIDE, watch),
+    )
+
+
+def get(path: str, watch: Watch) -> Request[tuple[Optional[bytes], Stat]]:
+    return Request(
+        lambda machine, now, ticket: machine.get_data(now, ticket, path, bool(watch)),
+        watcher=_watcher(path, library.DATA_SIDE, watch),
+    )
+
+
+def get_children(path: str, watch: Watch) -> Request[list[str]]:
+    return Request(
+        lambda machine, now, ticket: machine.get_children(now, ticket, path, bool(watch)),
+        watcher=_watcher(path, library.CHILD_SIDE, watch),
+    )
+
+
+def set(path: str, value: Optional[bytes], version: int) -> Request[Stat]:
+    data = _data(value)
+    return Request(lambda machine, now, ticket: machine.set_data(now, ticket, path, data, version))
+
+
+def create(path: str, value: Optional[bytes], ephemeral: bool, sequence: bool) -> Request[str]:
+    data = _data(value)
+    mode = (library.EPHEMERAL if ephemeral else 0) | (library.SEQUENTIAL if sequence else 0)
+    return Request(lambda machine, now, ticket: machine.create(now, ticket, path, data, mode))
+
+
+def delete(path: str, version: int) -> Request[None]:
+    return Request(lambda machine, now, ticket: machine.delete(now, ticket, path, version))
+
+
+def close_session() -> Request[None]:
+    return Request(lambda machine, now, ticket: machine.close_session(now, ticket))

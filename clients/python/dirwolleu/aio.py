@@ -1,0 +1,187 @@
+"""The client for asyncio."""
+
+from __future__ import annotations
+
+import asyncio
+import contextlib
+import inspect
+from collections.abc import AsyncGenerator
+from types import TracebackType
+from typing import Any, Callable, Optional
+
+from dirwolleu import _requests as requests
+from dirwolleu._driver import Driver, addresses, moment
+from dirwolleu._engine import Engine, differs
+from dirwolleu._requests import Request, Result
+from dirwolleu._shown import Shown
+from dirwolleu.exceptions import ConnectionClosedError, ConnectionLoss, NoNodeError, SessionExpiredError, ZookeeperError
+from dirwolleu.types import Kept, Stat, Watch
+
+__all__ = ["Client"]
+
+
+class Client(Shown):
+    """A client of ZooKeeper whose functions are coroutines. It belongs to the event loop in which it is started.
+
+    The parameters and what calls raise are those of `dirwolleu.Client`. Watches and listeners are functions or
+    coroutine functions, which the event loop calls. A call that is cancelled may still happen at the server.
+    """
+
+    def __init__(self, hosts: str, timeout: float = 10.0, saved: Optional[bytes] = None) -> None:
+        addresses(hosts)
+        self._hosts = hosts
+        super().__init__(Engine(timeout, saved, self._tell))
+        self._driver: Optional[Driver] = None
+        self._running: Optional[asyncio.Task[None]] = None
+        self._callbacks: set[asyncio.Future[Any]] = set()
+
+    async def __aenter__(self) -> Client:
+        await self.start()
+        return self
+
+    async def __aexit__(
+        self,
+        kind: Optional[type[BaseException]],
+        error: Optional[BaseException],
+        trace: Optional[TracebackType],
+    ) -> None:
+        await self.stop()
+        await self.close()
+
+    async def start(self, timeout: Optional[float] = 15.0) -> None:
+        """Begins to connect, and waits until a server has accepted the session.
+
+        Raises `TimeoutError`, and stops, where that takes longer than `timeout` seconds; None is no bound.
+        """
+        self._engine.begin()
+        if self._running is None:
+            self._driver = Driver(self._hosts, self._engine)
+            self._running = asyncio.ensure_future(self._driver.run())
+        try:
+            await asyncio.wait_for(self._wait_until_connected(), timeout)
+        except BaseException as error:
+            await self.stop()
+            if not isinstance(error, asyncio.TimeoutError):
+                raise
+            raise TimeoutError(f"no server of {self._hosts} accepted the session in {timeout} seconds") from None
+
+    async def stop(self) -> None:
+        """Ends the session, with its ephemeral nodes and its watches.
+
+        `start` begins another session. Where no server has done so within a third of the session's timeout, the session
+        lives on for its timeout.
+        """
+        if self._running is None:
+            return
+        if self.connected:
+            with contextlib.suppress(ZookeeperError, asyncio.TimeoutError):
+                await asyncio.wait_for(self._ask(requests.close_session()), self._engine.timeout() / 3)
+        self._engine.end()
+        await self._end_driver()
+
+    async def close(self) -> None:
+        """Frees what the client holds; it can't be started again.
+
+        The session of a client that was not stopped lives on for its timeout, and `saved_session` can be taken up.
+        """
+        self._engine.close()
+        await self._end_driver()
+
+    async def exists(self, path: str, watch: Watch = None) -> Optional[Stat]:
+        """What is known of a node, or None where there is none. A watch is left also where there is none."""
+        return await self._ask(requests.exists(path, watch))
+
+    async def get(self, path: str, watch: Watch = None) -> tuple[Optional[bytes], Stat]:
+        """The data of a node, None where they are null, and what is known of it.
+
+        Raises `NoNodeError`; then no watch is left.
+        """
+        return await self._ask(requests.get(path, watch))
+
+    async def get_children(self, path: str, watch: Watch = None) -> list[str]:
+        """The names of a node's children, in no order. Raises `NoNodeError`; then no watch is left."""
+        return await self._ask(requests.get_children(path, watch))
+
+    async def create(
+        self, path: str, value: Optional[bytes] = b"", *, ephemeral: bool = False, sequence: bool = False
+    ) -> str:
+        """Makes a node, open to all, and tells its path. None as value is null data.
+
+        An ephemeral node goes with the session. Where `sequence` is true, ten digits are added to the path. Raises
+        `NodeExistsError`, `NoNodeError` where there is no parent, `NoChildrenForEphemeralsError`.
+        """
+        return await self._ask(requests.create(path, value, ephemeral, sequence))
+
+    async def set(self, path: str, value: Optional[bytes], version: int = -1) -> Stat:
+        """Sets the data of a node of this version, where -1 is any. Raises `NoNodeError` and `BadVersionError`."""
+        return await self._ask(requests.set(path, value, version))
+
+    async def delete(self, path: str, version: int = -1) -> None:
+        """Deletes a node of this version, where -1 is any.
+
+        Raises `NoNodeError`, `BadVersionError`, `NotEmptyError`.
+        """
+        await self._ask(requests.delete(path, version))
+
+    async def follow(self, path: str) -> AsyncGenerator[Kept, None]:
+        """Yields what a node holds, and again whenever that has changed, through reconnects and new sessions.
+
+        Each answer was good when it was yielded. Where the node changes more than once between two of them, the last
+        one is told. Where there is no node, that is told too. It ends when the client is stopped or closed, and raises
+        what `get` raises for other reasons than the connection.
+        """
+        if not self._engine.is_running:
+            raise ConnectionClosedError("the client is not started")
+        news = asyncio.Event()
+        told: Optional[Kept] = None
+        with self._engine.news(news.set, path):
+            while self._engine.is_running:
+                news.clear()
+                kept = self._engine.settled(path)
+                if kept is not None and differs(kept, told):
+                    told = kept
+                    yield kept
+                elif kept is None and self.connected:
+                    await self._read(path)
+                else:
+                    await news.wait()
+
+    async def _read(self, path: str) -> None:
+        """Reads a node, or its absence, with a watch."""
+        with contextlib.suppress(ConnectionLoss, SessionExpiredError, ConnectionClosedError):
+            try:
+                await self.get(path, watch=True)
+            except NoNodeError:
+                await self.exists(path, watch=True)
+
+    async def _ask(self, request: Request[Result]) -> Result:
+        waiter: asyncio.Future[Result] = asyncio.get_running_loop().create_future()
+        self._engine.ask(moment(), request, waiter)
+        if self._driver is not None:
+            self._driver.act_soon()
+        return await waiter
+
+    async def _wait_until_connected(self) -> None:
+        news = asyncio.Event()
+        with self._engine.news(news.set):
+            while not self.connected:
+                if not self._engine.is_running:
+                    raise ConnectionClosedError("the client was stopped")
+                await news.wait()
+                news.clear()
+
+    def _tell(self, function: Callable[[Any], object], argument: Any) -> None:
+        asyncio.get_running_loop().call_soon(self._call, function, argument)
+
+    def _call(self, function: Callable[[Any], object], argument: Any) -> None:
+        told = function(argument)
+        if inspect.isawaitable(told):
+            callback = asyncio.ensure_future(told)
+            self._callbacks.add(callback)
+            callback.add_done_callback(self._callbacks.discard)
+
+    async def _end_driver(self) -> None:
+        running, self._running, self._driver = self._running, None, None
+        if running is not None:
+            running.cancel()
+            await asyncio.wait({running})

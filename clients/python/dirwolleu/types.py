@@ -1,0 +1,139 @@
+"""What a client answers and tells."""
+
+from __future__ import annotations
+
+import enum
+from dataclasses import dataclass
+from typing import Callable, NamedTuple, Optional, Union
+
+__all__ = ["DataStat", "EventType", "Kept", "KeptChildren", "Mark", "Stat", "State", "Watch", "WatchedEvent"]
+
+
+class State(str, enum.Enum):
+    """How a client stands to the servers."""
+
+    CONNECTED = "CONNECTED"
+    """A server has accepted the session."""
+
+    SUSPENDED = "SUSPENDED"
+    """There is a session and no connection. What is kept stays kept, and the watches are set again with the next
+    connection.
+    """
+
+    LOST = "LOST"
+    """There is no session: none was begun yet, it has expired, or the client was stopped. Nothing is kept or watched.
+    """
+
+
+class EventType(str, enum.Enum):
+    """What a watch tells."""
+
+    CREATED = "CREATED"
+    DELETED = "DELETED"
+    CHANGED = "CHANGED"
+    CHILD = "CHILD"
+
+    NONE = "NONE"
+    """Nothing of the node: the watch has ended with the session."""
+
+
+class WatchedEvent(NamedTuple):
+    """What a watch is called with, once."""
+
+    type: EventType
+    state: State
+    path: str
+
+
+Watch = Union[bool, Callable[[WatchedEvent], object], None]
+"""Whether a read leaves a watch, so that its answer is kept.
+
+A callable is called when the watch fires, and once where it was left on the same data or children more than once. True
+calls nothing.
+"""
+
+
+class Mark(enum.IntEnum):
+    """Whether a kept answer still holds."""
+
+    GOOD = 1
+    """The answer is what the servers' history has at the last seen zxid."""
+
+    STALE = 2
+    """A change was told since, and the path was not read again."""
+
+
+class Stat(NamedTuple):
+    """What is known of a node, as zookeeper.jute has it. Times are milliseconds since 1970."""
+
+    czxid: int
+    mzxid: int
+    ctime: int
+    mtime: int
+    version: int
+    cversion: int
+    aversion: int
+    ephemeral_owner: int
+    data_length: int
+    num_children: int
+    pzxid: int
+
+
+class DataStat(NamedTuple):
+    """The fields of a `Stat` that change only where a data watch fires."""
+
+    czxid: int
+    mzxid: int
+    ctime: int
+    mtime: int
+    version: int
+    ephemeral_owner: int
+    data_length: int
+
+
+@dataclass(frozen=True)
+class Kept:
+    """What a client keeps of a node that was read with a watch."""
+
+    path: str
+
+    mark: Mark
+
+    last_zxid: int
+    """The greatest zxid that the client has seen: where the mark is good, the answer is that of the history at this
+    zxid.
+    """
+
+    stat: Optional[DataStat]
+    """None where no node is there."""
+
+    data: Optional[bytes]
+    """The node's data. None where they are null, where they were not read, and where no node is there."""
+
+    has_data: bool
+    """Whether the data are known, null or not: `exists` alone does not tell them."""
+
+    @property
+    def exists(self) -> bool:
+        """Whether there is a node."""
+        return self.stat is not None
+
+
+@dataclass(frozen=True)
+class KeptChildren:
+    """What a client keeps of the children of a node that were read with a watch."""
+
+    path: str
+
+    mark: Mark
+
+    last_zxid: int
+    """The greatest zxid that the client has seen: where the mark is good, the names are those of the history at this
+    zxid.
+    """
+
+    names: tuple[str, ...]
+    """The names of the children, in the order of their bytes."""
+
+    pzxid: int
+    """The zxid of the last change of this set."""

@@ -1,0 +1,124 @@
+"""Tests of the engine for what the partner does not do: want of memory, and answers that end a session."""
+
+from __future__ import annotations
+
+import concurrent.futures
+import struct
+import unittest
+from typing import Any, Callable
+from unittest import mock
+
+import support
+from test_library import CONNECT_RESPONSE, STAT, STAT_BYTES, buffer, reply
+
+from dirwolleu import (
+    ConnectionClosedError,
+    ConnectionLoss,
+    EventType,
+    Mark,
+    NoAuthError,
+    SessionMovedError,
+    State,
+    TooManyWatchesError,
+    ZookeeperError,
+)
+from dirwolleu import _requests as requests
+from dirwolleu._engine import Engine
+from dirwolleu._library import Answer, Halted, Machine
+from dirwolleu.exceptions import error_of
+
+Future = concurrent.futures.Future
+
+
+class EngineTest(support.PartnerCase):
+    def setUp(self) -> None:
+        self.told: list[tuple[Callable[[Any], object], Any]] = []
+        self.engine = Engine(6.0, None, lambda function, argument: self.told.append((function, argument)))
+        self.addCleanup(self.engine.close)
+        self.engine.begin()
+        self.engine.opened(100)
+        self.engine.received(100, CONNECT_RESPONSE)
+        self.engine.take_frames()
+
+    def ask(self, request: requests.Request[Any]) -> Future[Any]:
+        waiter: Future[Any] = Future()
+        self.engine.ask(200, request, waiter)
+        return waiter
+
+    def test_want_of_memory_within_a_step_leaves_the_session(self) -> None:
+        def watch(_: object) -> None: ...
+
+        read = self.ask(requests.get("/a", watch))
+        self.engine.received(300, reply(1, 9, 0, buffer(b"one") + STAT_BYTES))
+        self.assertEqual(read.result(0), (b"one", STAT))
+        lost, session = self.ask(requests.get("/b", None)), self.engine.session_id()
+        with mock.patch.object(Machine, "received", side_effect=Halted):
+            self.engine.received(400, b"bytes")
+        with self.raises(ConnectionLoss, -4):
+            lost.result(0)
+        self.assertEqual((self.engine.session_id(), self.engine.last_zxid()), (session, 9))
+        self.assertEqual((self.engine.state, self.engine.take_frames()[1]), (State.SUSPENDED, True))
+        self.assertIsNone(self.engine.kept("/a"))
+        self.assertEqual(self.told, [(watch, (EventType.NONE, State.SUSPENDED, "/a"))])
+
+    def test_no_memory_for_a_call_is_told_to_its_caller(self) -> None:
+        with mock.patch.object(Machine, "get_data", side_effect=MemoryError):
+            refused = self.ask(requests.get("/a", None))
+        with self.raises(MemoryError, None):
+            refused.result(0)
+        self.assertIs(self.engine.state, State.CONNECTED)
+
+    def test_a_session_that_has_moved_leaves_the_connection(self) -> None:
+        moved = self.ask(requests.get("/a", None))
+        self.engine.received(300, reply(1, 9, -118))
+        with self.raises(SessionMovedError, -118):
+            moved.result(0)
+        self.assertTrue(self.engine.take_frames()[1])
+
+    def test_what_was_to_be_written_goes_with_its_connection(self) -> None:
+        self.ask(requests.get("/a", None))
+        self.engine.cut(300)
+        self.engine.opened(400)
+        frames, _ = self.engine.take_frames()
+        self.assertEqual(struct.unpack(">iiqi", frames[:20]), (45, 0, 0, 6000))
+        self.assertEqual(len(frames), 49)
+
+    def test_an_answer_that_nobody_waits_for_is_left(self) -> None:
+        given_up = self.ask(requests.get("/a", True))
+        self.assertTrue(given_up.cancel())
+        self.engine.received(300, reply(1, 9, 0, buffer(b"one") + STAT_BYTES))
+        kept = self.engine.kept("/a")
+        assert kept is not None
+        self.assertEqual((kept.mark, kept.data, kept.last_zxid), (Mark.GOOD, b"one", 9))
+
+    def test_each_code_has_its_error(self) -> None:
+        for kind in ZookeeperError.__subclasses__():
+            if kind.code is not None:
+                self.assertIs(type(error_of(kind.code)), kind)
+        self.assertIs(type(error_of(-102)), NoAuthError)
+        other = error_of(-125)
+        self.assertEqual((type(other), other.code, ZookeeperError.code), (ZookeeperError, -125, None))
+
+    def test_each_lack_of_a_reply_has_its_error(self) -> None:
+        request = requests.get("/a", None)
+        for lack, kind in {1: ConnectionLoss, 3: ConnectionClosedError, 5: TooManyWatchesError}.items():
+            with self.assertRaises(kind):
+                request.result(Answer(1, lack, 0, 0, None, None, []))
+
+    def test_a_client_that_is_closed_takes_no_call(self) -> None:
+        waits = self.ask(requests.get("/a", None))
+        self.engine.close()
+        with self.raises(ConnectionClosedError, None):
+            waits.result(0)
+        with self.raises(ConnectionClosedError, None):
+            self.ask(requests.get("/a", None))
+        self.assertEqual((self.engine.session_id(), self.engine.timeout()), (0x1234, 6.0))
+        self.assertIsNone(self.engine.deadline())
+        self.assertIsNone(self.engine.kept("/a") or self.engine.kept_children("/a"))
+        self.engine.cut(300)
+        self.engine.forget_stale()
+        self.engine.close()
+
+
+if __name__ == "__main__":
+    unittest.main()

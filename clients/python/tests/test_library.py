@@ -1,0 +1,222 @@
+"""Tests of the machine, by frames that are spelled here as zookeeper.jute has them, and of its layouts by the header.
+"""
+
+from __future__ import annotations
+
+import ctypes
+import gc
+import os
+import pathlib
+import re
+import shutil
+import struct
+import subprocess
+import tempfile
+import unittest
+from unittest import mock
+
+import support
+
+from dirwolleu import _library as library
+from dirwolleu._library import Answer, Drop, Machine, Report, Send, StateChange
+from dirwolleu.types import DataStat, Stat
+
+HEADER = support.CLIENTS.parent / "include" / "dirwolleu.h"
+STRUCTS = {
+    "dw_client": library._Handle,
+    "dw_stat": library._Stat,
+    "dw_output": library._Output,
+    "dw_data_stat": library._DataStat,
+    "dw_kept_data": library._KeptData,
+    "dw_kept_names": library._KeptNames,
+}
+
+PASSWORD = bytes(range(16))
+STAT = Stat(2, 5, 1000, 2000, 3, 4, 0, 0, 5, 1, 6)
+STAT_BYTES = struct.pack(">qqqqiiiqiiq", *STAT)
+
+
+def frame(payload: bytes) -> bytes:
+    return struct.pack(">i", len(payload)) + payload
+
+
+def buffer(data: bytes) -> bytes:
+    return struct.pack(">i", len(data)) + data
+
+
+def reply(xid: int, zxid: int, code: int = 0, body: bytes = b"") -> bytes:
+    return frame(struct.pack(">iqi", xid, zxid, code) + body)
+
+
+CONNECT_RESPONSE = frame(struct.pack(">iiq", 0, 4000, 0x1234) + buffer(PASSWORD) + b"\0")
+CONNECT_REQUEST = frame(struct.pack(">iqiq", 0, 0, 6000, 0) + buffer(bytes(16)) + b"\0")
+
+
+def connected() -> Machine:
+    machine = Machine(6000)
+    machine.tick(100)
+    machine.opened(100)
+    machine.received(100, CONNECT_RESPONSE)
+    return machine
+
+
+class LayoutTest(unittest.TestCase):
+    def test_each_function_of_the_header_is_declared(self) -> None:
+        declared = re.findall(r"^\w+ (dw_\w+)\(", HEADER.read_text(), re.MULTILINE)
+        self.assertEqual(sorted(declared), sorted(library._FUNCTIONS))
+
+    def test_each_function_has_the_parameters_of_the_header(self) -> None:
+        found = re.findall(r"^\w+ (dw_\w+)\(([^)]*)\)", HEADER.read_text(), re.MULTILINE)
+        counts = {name: parameters.count(",") + 1 for name, parameters in found}
+        self.assertEqual(counts, {name: len(types) for name, (_, types) in library._FUNCTIONS.items()})
+
+    def test_structs_are_those_of_the_header(self) -> None:
+        compiler = shutil.which("cc")
+        if compiler is None:
+            self.skipTest("there is no C compiler")
+        wanted = [
+            (ctypes.sizeof(kind), *(getattr(kind, field[0]).offset for field in kind._fields_))
+            for kind in STRUCTS.values()
+        ]
+        with tempfile.TemporaryDirectory() as folder:
+            source, program = pathlib.Path(folder, "layout.c"), pathlib.Path(folder, "layout")
+            lines = [
+                f"P(sizeof({name})); {' '.join(f'P(offsetof({name}, {field[0]}));' for field in kind._fields_)} E;"
+                for name, kind in STRUCTS.items()
+            ]
+            source.write_text(
+                '#include <stdio.h>\n#define P(n) printf("%zu ", (size_t)(n))\n#define E putchar(10)\n'
+                f'#include "{HEADER}"\nint main(void) {{ {" ".join(lines)} return 0; }}\n'
+            )
+            subprocess.run([compiler, str(source), "-o", str(program)], check=True, timeout=support.WAIT)
+            printed = subprocess.run([str(program)], check=True, timeout=support.WAIT, capture_output=True, text=True)
+        self.assertEqual([tuple(map(int, line.split())) for line in printed.stdout.splitlines()], wanted)
+
+
+class FindTest(unittest.TestCase):
+    def test_the_environment_names_the_library(self) -> None:
+        with mock.patch.dict(os.environ, {"DIRWOLLEU_LIBRARY": "/a/library.so"}):
+            self.assertEqual(library._find(), "/a/library.so")
+
+    def test_a_checkout_comes_before_the_system(self) -> None:
+        built = str(support.CLIENTS / "out" / "libdirwolleu.so")
+        with mock.patch.dict(os.environ, {"DIRWOLLEU_LIBRARY": ""}), mock.patch("ctypes.util.find_library") as find:
+            with mock.patch("pathlib.Path.exists", return_value=True):
+                self.assertEqual(library._find(), built)
+            find.return_value = "libdirwolleu.so.0"
+            with mock.patch("pathlib.Path.exists", return_value=False):
+                self.assertEqual(library._find(), "libdirwolleu.so.0")
+                find.return_value = None
+                self.assertRaises(ImportError, library._find)
+
+
+class MachineTest(unittest.TestCase):
+    def test_a_session_begins(self) -> None:
+        machine = Machine(6000)
+        self.assertEqual(machine.state(), library.IDLE)
+        self.assertIsNone(machine.deadline())
+        self.assertEqual(machine.tick(100), [])
+        self.assertEqual(machine.opened(100), [Send(CONNECT_REQUEST), StateChange(library.CONNECTING)])
+        self.assertEqual(machine.deadline(), 4100)
+        self.assertEqual(machine.received(200, CONNECT_RESPONSE), [StateChange(library.CONNECTED)])
+        self.assertEqual((machine.state(), machine.timeout_ms(), machine.last_zxid()), (library.CONNECTED, 4000, 0))
+        self.assertEqual(machine.saved(), struct.pack(">q", 0x1234) + buffer(PASSWORD) + struct.pack(">q", 0))
+
+    def test_a_read_is_kept_until_it_is_reported(self) -> None:
+        machine = connected()
+        request = struct.pack(">ii", 1, 4) + buffer(b"/a") + b"\1"
+        self.assertEqual(machine.get_data(200, 7, "/a", True), [Send(frame(request))])
+        answer = Answer(7, 0, library.DATA, 0, STAT, b"hello", [])
+        self.assertEqual(machine.received(300, reply(1, 9, 0, buffer(b"hello") + STAT_BYTES)), [answer])
+        stat = DataStat(2, 5, 1000, 2000, 3, 0, 5)
+        self.assertEqual(machine.peek_data("/a"), (library.FULL, 1, stat, b"hello"))
+        notice = reply(-1, -1, 0, struct.pack(">ii", 3, 3) + buffer(b"/a"))
+        self.assertEqual(machine.received(400, notice), [Report(library.DATA_CHANGED, library.DATA_SIDE, "/a")])
+        self.assertEqual(machine.peek_data("/a").mark, 2)
+        machine.forget()
+        self.assertEqual(machine.peek_data("/a"), (library.NOTHING, 0, None, None))
+
+    def test_bytes_may_come_one_at_a_time(self) -> None:
+        machine = connected()
+        machine.get_children(200, 8, "/", True)
+        names = struct.pack(">i", 2) + buffer("ö".encode()) + buffer(b"a")
+        came = reply(1, 9, 0, names + STAT_BYTES)
+        outputs = [output for byte in came for output in machine.received(300, bytes([byte]))]
+        self.assertEqual(outputs, [Answer(8, 0, library.NAMES, 0, STAT, None, ["ö", "a"])])
+        self.assertEqual(machine.peek_children("/"), (1, ("a", "ö"), STAT.pzxid))
+
+    def test_null_data_are_not_empty_data(self) -> None:
+        machine = connected()
+        create = struct.pack(">ii", 1, 1) + buffer(b"/a") + struct.pack(">i", -1)
+        sent = machine.create(200, 1, "/a", None, library.EPHEMERAL)
+        self.assertTrue(isinstance(sent[0], Send) and sent[0].frame[4:].startswith(create))
+        set_data = struct.pack(">ii", 2, 5) + buffer(b"/a") + buffer(b"") + struct.pack(">i", 4)
+        self.assertEqual(machine.set_data(200, 2, "/a", b"", 4), [Send(frame(set_data))])
+        created = machine.received(300, reply(1, 9, 0, buffer(b"/a")))
+        self.assertEqual(created, [Answer(1, 0, library.CREATED, 0, None, b"/a", [])])
+        machine.received(300, reply(2, 10, -103))
+        machine.get_data(400, 3, "/a", True)
+        answer = machine.received(500, reply(3, 11, 0, struct.pack(">i", -1) + STAT_BYTES))
+        self.assertEqual(answer, [Answer(3, 0, library.DATA, 0, STAT, None, [])])
+        self.assertIsNone(machine.peek_data("/a").data)
+
+    def test_what_is_longer_than_the_room_comes_whole(self) -> None:
+        machine, data, name = connected(), bytes(100_000), "n" * 5000
+        machine.get_data(200, 1, "/a", True)
+        answer = machine.received(300, reply(1, 9, 0, buffer(data) + STAT_BYTES))
+        self.assertEqual(answer, [Answer(1, 0, library.DATA, 0, STAT, data, [])])
+        fresh = connected()
+        fresh.get_data(200, 1, "/a", True)
+        fresh.received(300, reply(1, 9, 0, buffer(data) + STAT_BYTES))
+        fresh._room = ctypes.create_string_buffer(16)
+        self.assertEqual(fresh.peek_data("/a").data, data)
+        other = connected()
+        other.get_children(200, 1, "/a", True)
+        listed = other.received(300, reply(1, 9, 0, struct.pack(">i", 1) + buffer(name.encode()) + STAT_BYTES))
+        self.assertEqual(listed, [Answer(1, 0, library.NAMES, 0, STAT, None, [name])])
+        other._room = ctypes.create_string_buffer(16)
+        self.assertEqual(other.peek_children("/a").names, (name,))
+
+    def test_a_bad_frame_ends_the_connection(self) -> None:
+        machine = connected()
+        machine.get_data(200, 1, "/a", False)
+        dropped, lost, idle = machine.received(300, struct.pack(">i", -5))
+        self.assertTrue(isinstance(dropped, Drop) and dropped.fault == "F1" and dropped.words)
+        self.assertEqual(lost, Answer(1, 1, 0, 0, None, None, []))
+        self.assertEqual(idle, StateChange(library.IDLE))
+
+    def test_a_session_is_put_away_and_taken_up(self) -> None:
+        saved = connected().saved()
+        machine = Machine(6000, saved)
+        machine.tick(100)
+        request = struct.pack(">iqiq", 0, 0, 6000, 0x1234) + buffer(PASSWORD) + b"\0"
+        self.assertIn(Send(frame(request)), machine.opened(100))
+        self.assertEqual(Machine(6000, saved).saved(), saved)
+
+    def test_what_is_wrong_is_said(self) -> None:
+        machine = connected()
+        for path in ("", "a", "/a/", "/a//b", "/a/../b", "/\0"):
+            with self.assertRaises(ValueError):
+                machine.get_data(200, 1, path, False)
+        with self.assertRaises(ValueError):
+            machine.peek_data("no path")
+        with self.assertRaises(ValueError):
+            machine.create(200, 1, "/a", b"", 4)
+        with self.assertRaises(ValueError):
+            Machine(0)
+        with self.assertRaises(ValueError):
+            Machine(6000, b"short")
+
+    def test_a_closed_machine_says_so(self) -> None:
+        machine = connected()
+        machine.close()
+        machine.close()
+        for use in (lambda: machine.tick(300), lambda: machine.peek_data("/a"), machine.saved, machine.deadline):
+            with self.assertRaises(RuntimeError):
+                use()
+        del machine
+        gc.collect()
+
+
+if __name__ == "__main__":
+    unittest.main()
