@@ -1,0 +1,4 @@
+pub mod GoingOn
+pub mod Stepping
+pub mod Turning
+pub mod Keeping
