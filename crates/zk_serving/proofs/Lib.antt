@@ -1,4 +1,3 @@
-pub mod GoingOn
 pub mod Stepping
 pub mod Turning
 pub mod Keeping

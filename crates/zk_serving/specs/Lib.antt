@@ -1,4 +1,3 @@
-pub mod GoingOn
 pub mod Steps
 pub mod Shown
 pub mod Lines
