@@ -15,7 +15,7 @@ use Rattle.zk_laws.specs.GoingOn.{GoesOn}
 use Rattle.zk_laws.proofs.GoingOn.{goes_serving, goes_line}
 use Rattle.zk_laws.specs.Served.{Sent, Entry, Goes_on, items_in, Line, line_past, new_line, line_of, is_going, unread, requests, MayEnter, IsServing}
 use Rattle.zk_serving.specs.Steps.{Step, Moves, ended_by, sent_by, processed_by, behind}
-use Rattle.zk_serving.specs.Shown.{Shown, Open, connected, with_output, more_requests, sent_in, Hears, GoesBy, Takes, Processes}
+use Rattle.zk_serving.specs.Shown.{Shown, Apart, Open, Over, connected, with_output, more_requests, sent_in, Hears, GoesBy, Takes, Processes}
 use Rattle.zk_serving.specs.Lines.{IsLine, Shows}
 use Rattle.zk_serving.proofs.Stepping.{Waits, processed_low, items_behind, server_behind, processed_behind, coming_behind, serving_behind, drop_twice}
 use Rattle.zk_serving.proofs.Turning.{framed, framed_more, Adds, KeepsOn, signals_on, Begins, opens_on, cut_over, halted_over, NotOpens, comes_all}
@@ -198,3 +198,21 @@ processes_shown start entries first more steps old new s going was e p =
     (λ up.
     append_cancel_left (frame first.payload) new.requests (framed more) (sym (p.requests up) ∙ (s.line going).waiting was ∙ ap framed e)
     ∙ ap framed (ap (drop 1) (sym e) ∙ drop_twice line.processed 1 (requests start past)) ∙ ap (λ n. framed (drop (line.processed + n) (requests start past))) (sym (p.done up)))
+
+-- Nothing is shown of a connection that the server has ended, but what it sent, and of none nothing.
+pub rests_shown : (start : Start) (entries : List Entry) (old new : Shown) → Shows start entries old → GoesOn old.history new.history
+    → (is_going (past_of start (items_in entries)) ≡ true → (new.phase ≡ Over) × (new.output ≡ old.output)) → Shows start entries new
+rests_shown start entries old new s g rests = record {
+  serving = goes_serving old.history new.history start entries g s.serving;
+  line = λ going.
+      let past : Past = past_of start (items_in entries) in
+      let l : IsLine start past (line_of old.history entries) old = s.line going in
+      let r = rests going in
+      subst (λ x. IsLine start past x new) (sym (goes_line old.history new.history start entries g s.serving)) (record {
+        there = λ e. absurd (let f : Over ≡ Apart = sym r.0 ∙ e in cc);
+        coming = l.coming ∙ sym r.1;
+        server = λ e. absurd (let f : Over ≡ Open = sym r.0 ∙ e in cc);
+        waiting = λ e. absurd (let f : Over ≡ Open = sym r.0 ∙ e in cc);
+        processed = l.processed;
+      });
+}

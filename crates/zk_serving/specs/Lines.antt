@@ -1,9 +1,9 @@
 -- What a server in memory shows, and a schedule of servers that meet a client.
-use Rattle.std.specs.Prelude.{ℕ, ℤ, pos, ◌≡◌, ◌≢◌, ◌≤◌, ◌<◌, ◌^◌, true, false, List, ◌++◌, length, map, Some, ⊤}
+use Rattle.std.specs.Prelude.{ℕ, ℤ, pos, ◌≡◌, ◌≢◌, ◌≤◌, ◌<◌, ◌^◌, true, false, List, [], ◌∷◌, ◌++◌, length, map, Some, ⊤, ◌⊎◌}
 use Rattle.zk_frames.specs.Frame.{frame, joined}
 use Rattle.zk_records.specs.Layouts.{connect_request}
 use Rattle.zk_conversation.specs.Calls.{Call}
-use Rattle.zk_turns.specs.Turns.{Start, Item}
+use Rattle.zk_turns.specs.Turns.{Start, Input, Output, Item, Turned, Call as Calling}
 use Rattle.zk_turns.specs.Kept.{Past}
 use Rattle.zk_turns.specs.Taken.{past_of}
 use Rattle.zk_laws.specs.Served.{Entry, items_in, Line, line_of, is_going, unread, requests, IsServing}
@@ -32,18 +32,32 @@ pub record IsServedBy (start : Start) (items : List Item) (shown : Shown) : Type
   pub whole : items_in entries ≡ items
   pub shows : Shows start entries shown
 
--- What is known of a request by what the client was handed: this of each call; and a client that comes asks for its timeout.
-abbrev pub IsFor : (Call → Type 0) → Start → Request → List ℕ → Type 0
-IsFor P start (Connect seen) payload = (session : ℤ) × (password : List ℕ) × IsRecord connect_request (pos 0, (pos seen, (pos start.timeout, (session, (Some password, false))))) payload
-IsFor P start (Ask call) payload = P call
-IsFor P start _ payload = ⊤
+-- an input with the outputs that it gave, as an item
+abbrev pub item_of : Input → List Output → Item
+item_of input outputs = Turned (record { input = input; outputs = outputs })
+
+-- a caller asked this
+abbrev pub Asks : Call → Input → Type 0
+Asks call (Calling ticket asked) = asked ≡ call
+Asks call _ = ⊥
+
+abbrev pub WasAsked : Call → List Item → Type 0
+WasAsked call [] = ⊥
+WasAsked call (Turned turn ∷ items) = Asks call turn.input ⊎ WasAsked call items
+WasAsked call (_ ∷ items) = WasAsked call items
+
+-- Where a request comes from: a caller asked the call; and a client that comes asks for its timeout.
+abbrev pub ComesOf : Start → List Item → Request → List ℕ → Type 0
+ComesOf start items (Connect seen) payload = (session : ℤ) × (password : List ℕ) × IsRecord connect_request (pos 0, (pos seen, (pos start.timeout, (session, (Some password, false))))) payload
+ComesOf start items (Ask call) payload = WasAsked call items
+ComesOf start items _ payload = ⊤
 
 -- In front of some bytes stands the frame of a payload that is read as this request, with this xid.
-pub record StandsFirst (P : Call → Type 0) (start : Start) (request : Request) (xid : ℤ) (payload rest bytes : List ℕ) : Type 0 where
+pub record StandsFirst (start : Start) (items : List Item) (request : Request) (xid : ℤ) (payload rest bytes : List ℕ) : Type 0 where
   pub whole : bytes ≡ frame payload ++ rest
   pub small : length payload < 2 ^ 31
   pub read : IsReadAs request xid payload
-  pub known : IsFor P start request payload
+  pub comes : ComesOf start items request payload
 
 -- The bytes that a connection was sent are the frames of what was processed, so many, and then those that wait.
 pub record IsCutAt (items : List Item) (processed : ℕ) (waiting : List ℕ) : Type 0 where

@@ -1,14 +1,24 @@
-//! What a server in memory shows, and the schedules of servers that meet a client. The functions have empty bodies: their
-//! contracts are the laws.
+//! What servers in memory show, and schedules of servers that meet a client: each thing that happens to them keeps the relation.
+//! The functions have empty bodies: their contracts are the laws.
 #![tactic(auto)]
 
-ghost use Rattle.std.specs.Prelude.{◌≡◌, ◌++◌, ◌+◌, List, ℕ, ℤ, drop};
+ghost use Rattle.std.specs.Prelude.{◌≡◌, ◌≢◌, ◌≤◌, ◌⊎◌, ◌++◌, ◌+◌, true, List, [], ◌∷◌, ℕ, ℤ, drop, slice_index, slice_set, length as length_of};
 ghost use Rattle.zk_history.specs.History.{History};
+ghost use Rattle.zk_conversation.specs.Calls.{Call};
+ghost use Rattle.zk_turns.specs.Turns.{Start, Output, Item as Client_item, Forgets, Halts, Bytes, Cut, Now, Call as Calling, Opened as Opening};
+ghost use Rattle.zk_turns.specs.View.{View};
+ghost use Rattle.zk_turns.specs.Taken.{past_of};
+ghost use Rattle.zk_turns.specs.Rule.{Stands};
+ghost use Rattle.zk_turns.specs.Ranges.{IsResumable, IsTyped, AllAskOf};
 ghost use Rattle.zk_laws.specs.Messages.{Request};
 ghost use Rattle.zk_laws.specs.ServerSteps.{ServerEnd};
+ghost use Rattle.zk_laws.specs.GoingOn.{GoesOn};
+ghost use Rattle.zk_laws.specs.Served.{is_going, Served};
 ghost use Rattle.zk_serving.specs.Steps.{Step, Moves, ended_by, sent_by, processed_by};
+ghost use Rattle.zk_serving.specs.Shown.{Shown, Open, Over, AllTaken, connected, with_output, Hears, Takes, Processes};
+ghost use Rattle.zk_serving.specs.Lines.{IsServedBy, StandsFirst, IsCutAt, item_of};
 
-/// Steps may be taken behind others, and then end, send and process what both do.
+/// Steps may be taken behind others: then they end where the later ones do, and send and process what both do.
 #[tactic(auto, using(crate::proofs::Stepping::moves_more, crate::proofs::Stepping::ended_more, crate::proofs::Stepping::sent_more, crate::proofs::Stepping::processed_more))]
 pub fn joined_steps()
     ensures moves { (h : History) (xid : ℤ) (asked : List Request) (first second : List Step) (server : ServerEnd) → Moves h xid asked first server
@@ -16,4 +26,69 @@ pub fn joined_steps()
     ensures ended { (h : History) (first second : List Step) (server : ServerEnd) → ended_by h (first ++ second) server ≡ ended_by h second (ended_by h first server) }
     ensures sent { (first second : List Step) → sent_by (first ++ second) ≡ sent_by first ++ sent_by second }
     ensures processed { (first second : List Step) → processed_by (first ++ second) ≡ processed_by first + processed_by second }
+{}
+
+/// Steps that a server may take it may take over a history that goes on, and they end where they did: at a place of the history.
+#[tactic(auto, using(crate::proofs::Later::moves_later, crate::proofs::Later::ended_later, crate::proofs::Later::place_low))]
+pub fn steps_go_on()
+    ensures moves { (h later : History) (xid : ℤ) (asked : List Request) (steps : List Step) (server : ServerEnd) → GoesOn h later → server.place ≤ length_of h.transactions
+        → Moves h xid asked steps server → Moves later xid asked steps server }
+    ensures ended { (h later : History) (xid : ℤ) (asked : List Request) (steps : List Step) (server : ServerEnd) → GoesOn h later → server.place ≤ length_of h.transactions
+        → Moves h xid asked steps server → ended_by later steps server ≡ ended_by h steps server }
+    ensures place { (h : History) (xid : ℤ) (asked : List Request) (steps : List Step) (server : ServerEnd) → server.place ≤ length_of h.transactions
+        → Moves h xid asked steps server → (ended_by h steps server).place ≤ length_of h.transactions }
+{}
+
+/// Servers that hold beginnings of a history do so where one of them goes on to a place of it, and where the history goes on.
+#[tactic(auto, using(crate::proofs::Later::taken_at, crate::proofs::Later::taken_set, crate::proofs::Later::taken_later))]
+pub fn places()
+    ensures each { (h : History) (taken : List ℕ) (server : ℕ) → AllTaken h taken → slice_index taken server ≤ length_of h.transactions }
+    ensures set { (h : History) (taken : List ℕ) (server place : ℕ) → AllTaken h taken → place ≤ length_of h.transactions → AllTaken h (slice_set taken server place) }
+    ensures later { (h later : History) (taken : List ℕ) → GoesOn h later → AllTaken h taken → AllTaken later taken }
+{}
+
+/// A client that was served by the servers in memory was served by servers of the laws. One that has gone through nothing was.
+#[tactic(auto, using(crate::proofs::Entries::nobody, crate::proofs::Entries::served_so))]
+pub fn served()
+    ensures begins { (start : Start) (shown : Shown) → IsServedBy start [] shown }
+    ensures served { (start : Start) (items : List Client_item) (shown : Shown) → IsServedBy start items shown → Served shown.history start items }
+{}
+
+/// What happens to the client: a connection to a server begins, at a place of the history; bytes that were on their way are
+/// received, in whatever pieces; the connection is cut; it is a moment; a caller asks; stale answers are forgotten; the client
+/// halts. The servers hear what it says, and it goes on to be served by them.
+pub fn client_goes_on()
+    ensures opened { (start : Start) (items : List Client_item) (view : View) (place : ℕ) (outputs : List Output) (old new : Shown) → IsServedBy start items old → Stands start (item_of Opening outputs ∷ items) view
+        → place ≤ length_of old.history.transactions → Hears outputs (connected place old) new → IsServedBy start (item_of Opening outputs ∷ items) new }
+    ensures received { (start : Start) (items : List Client_item) (view : View) (bytes rest : List ℕ) (outputs : List Output) (old new : Shown) → IsServedBy start items old → Stands start (item_of (Bytes bytes) outputs ∷ items) view
+        → old.output ≡ bytes ++ rest → Hears outputs (with_output rest old) new → IsServedBy start (item_of (Bytes bytes) outputs ∷ items) new }
+    ensures cut { (start : Start) (items : List Client_item) (outputs : List Output) (old new : Shown) → IsServedBy start items old → new.history ≡ old.history → IsServedBy start (item_of Cut outputs ∷ items) new }
+    ensures told { (start : Start) (items : List Client_item) (view : View) (moment : ℕ) (outputs : List Output) (old new : Shown) → IsServedBy start items old → Stands start (item_of (Now moment) outputs ∷ items) view
+        → Hears outputs old new → IsServedBy start (item_of (Now moment) outputs ∷ items) new }
+    ensures asked { (start : Start) (items : List Client_item) (view : View) (ticket : ℕ) (call : Call) (outputs : List Output) (old new : Shown) → IsServedBy start items old
+        → Stands start (item_of (Calling ticket call) outputs ∷ items) view → Hears outputs old new → IsServedBy start (item_of (Calling ticket call) outputs ∷ items) new }
+    ensures forgets { (start : Start) (items : List Client_item) (shown : Shown) → IsServedBy start items shown → IsServedBy start (Forgets ∷ items) shown }
+    ensures halts { (start : Start) (items : List Client_item) (old new : Shown) → IsServedBy start items old → new.history ≡ old.history → IsServedBy start (Halts ∷ items) new }
+{}
+
+/// What the servers do: the connected one takes transactions, or processes the first request that waits, which is the one that was
+/// asked; and where the client has no connection, or the server has ended it and sends nothing, the history may go on.
+pub fn servers_go_on()
+    ensures takes { (start : Start) (items : List Client_item) (steps : List Step) (old new : Shown) → IsServedBy start items old → is_going (past_of start items) ≡ true → old.phase ≡ Open → Takes steps old new → IsServedBy start items new }
+    ensures processes { (start : Start) (items : List Client_item) (view : View) (old new : Shown) → IsServedBy start items old → IsResumable start → AllAskOf IsTyped items → Stands start items view
+        → is_going (past_of start items) ≡ true → old.phase ≡ Open → old.requests ≢ []
+        → ((request : Request) (xid : ℤ) (payload rest : List ℕ) → StandsFirst start items request xid payload rest old.requests → (steps : List Step) × Processes request xid payload steps old new)
+        → IsServedBy start items new }
+    ensures rests { (start : Start) (items : List Client_item) (old new : Shown) → IsServedBy start items old → GoesOn old.history new.history
+        → (is_going (past_of start items) ≡ true → (new.phase ≡ Over) × (new.output ≡ old.output)) → IsServedBy start items new }
+{}
+
+/// What waits to be processed: nothing, or in front the frame of a request that was asked; and before it, in the bytes that the
+/// connection was sent, the frames of what was processed.
+pub fn what_waits()
+    ensures first { (start : Start) (items : List Client_item) (view : View) (shown : Shown) → IsServedBy start items shown → IsResumable start → AllAskOf IsTyped items → Stands start items view
+        → is_going (past_of start items) ≡ true → shown.phase ≡ Open
+        → (shown.requests ≡ []) ⊎ ((request : Request) × (xid : ℤ) × (payload : List ℕ) × (rest : List ℕ) × StandsFirst start items request xid payload rest shown.requests) }
+    ensures cut { (start : Start) (items : List Client_item) (view : View) (shown : Shown) → IsServedBy start items shown → IsResumable start → Stands start items view
+        → is_going (past_of start items) ≡ true → shown.phase ≡ Open → (processed : ℕ) × IsCutAt items processed shown.requests }
 {}
