@@ -29,7 +29,6 @@ pub fn joined_steps()
 {}
 
 /// Steps that a server may take it may take over a history that goes on, and they end where they did: at a place of the history.
-#[tactic(auto, using(crate::proofs::Later::moves_later, crate::proofs::Later::ended_later, crate::proofs::Later::place_low))]
 pub fn steps_go_on()
     ensures moves { (h later : History) (xid : ℤ) (asked : List Request) (steps : List Step) (server : ServerEnd) → GoesOn h later → server.place ≤ length_of h.transactions
         → Moves h xid asked steps server → Moves later xid asked steps server }
