@@ -1,6 +1,6 @@
 -- A client that was served goes on to be.
 use Rattle.std.proofs.Common.{ℕ, ℤ, ◌≡◌, ◌≢◌, ◌≤◌, true, List, [], ◌∷◌, ◌++◌, map, drop, length, refl, ap, sym, ◌∙◌, subst, inl, inr, ◌⊎◌}
-use Rattle.zk_history.specs.History.{History}
+use Rattle.zk_history.specs.History.{IsHistory}
 use Rattle.zk_conversation.specs.Calls.{Call}
 use Rattle.zk_turns.specs.Turns.{Start, Output, Item, Turned, Forgets, Halts, Bytes, Cut, Now, Call as Calling, Opened as Opening, Opens, Comes, Ticks, Calls}
 use Rattle.zk_turns.specs.View.{View}
@@ -10,6 +10,8 @@ use Rattle.zk_turns.specs.Ranges.{IsResumable, IsTyped, AllAskOf}
 use Rattle.zk_laws.specs.Messages.{Request}
 use Rattle.zk_laws.specs.GoingOn.{GoesOn}
 use Rattle.zk_laws.specs.Served.{Sent, Goes_on, items_in, line_of, is_going, unread, Served}
+use Rattle.zk_laws.specs.Headline.{IsCoherentWith}
+use Rattle.zk_laws.proofs.Headlines.{coherent_client}
 use Rattle.zk_serving.specs.Steps.{Step, behind}
 use Rattle.zk_serving.specs.Shown.{Shown, Open, Over, connected, with_output, Hears, Takes, Processes}
 use Rattle.zk_serving.specs.Lines.{Shows, IsServedBy, StandsFirst, IsCutAt}
@@ -23,6 +25,9 @@ nobody start shown = record { entries = []; whole = refl; shows = record { servi
 
 pub served_so : (start : Start) (items : List Item) (shown : Shown) → IsServedBy start items shown → Served shown.history start items
 served_so start items shown s = record { entries = s.entries; whole = s.whole; may = s.shows.serving }
+
+pub coherent_so : (start : Start) (items : List Item) (view : View) (shown : Shown) → IsHistory shown.history → Stands start items view → IsServedBy start items shown → IsCoherentWith shown.history view
+coherent_so start items view shown is stands s = coherent_client shown.history is start items view stands (served_so start items shown s)
 
 -- A turn of a client: what holds of its entries holds of its items.
 module _ (start : Start) (items : List Item) (old : Shown) (s : IsServedBy start items old) where

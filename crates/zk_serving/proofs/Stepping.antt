@@ -170,3 +170,72 @@ serving_behind h start xid asked (one ∷ more) earlier going w m s =
       },
       s,
     )
+
+-- ---- steps with no request to process
+
+idle_step : (h : History) (asked : List Request) (step : ServerStep) (server : ServerEnd) → MayDo h step server [] → MayDo h step server asked
+idle_step h asked (Advances sent) server m = m
+idle_step h asked (Admits seen) server m = absurd m.1
+idle_step h asked (Refuses seen) server m = absurd m.1
+idle_step h asked (Answers call result) server m = absurd m.1
+idle_step h asked (Restores is_last relative part sent) server m = absurd m.1
+idle_step h asked Pongs server m = absurd m.1
+
+idle_told : (h : History) (first second : ℤ) (step : ServerStep) (server : ServerEnd) (payloads : List (List ℕ)) → MayDo h step server [] → ArePayloads first (messages_by h step server.place) payloads
+    → ArePayloads second (messages_by h step server.place) payloads
+idle_told h first second (Advances sent) server payloads m a = notices_any first second sent payloads a
+idle_told h first second (Admits seen) server payloads m a = absurd m.1
+idle_told h first second (Refuses seen) server payloads m a = absurd m.1
+idle_told h first second (Answers call result) server payloads m a = absurd m.1
+idle_told h first second (Restores is_last relative part sent) server payloads m a = absurd m.1
+idle_told h first second Pongs server payloads m a = absurd m.1
+
+idle_stage : (h : History) (step : ServerStep) (server : ServerEnd) → MayDo h step server [] → (end_after h step server).stage ≡ server.stage
+idle_stage h (Advances sent) server m = refl
+idle_stage h (Admits seen) server m = absurd m.1
+idle_stage h (Refuses seen) server m = absurd m.1
+idle_stage h (Answers call result) server m = absurd m.1
+idle_stage h (Restores is_last relative part sent) server m = absurd m.1
+idle_stage h Pongs server m = absurd m.1
+
+idle_rest : (h : History) (xid : ℤ) (one : Step) (rest : List Step) (server : ServerEnd) → Moves h xid (drop (used_by one.step) []) rest server → Moves h xid [] rest server
+idle_rest h xid one rest server m = subst (λ rs. Moves h xid rs rest server) (drop_none (used_by one.step)) m
+
+-- they may be taken whatever is asked
+pub idle_moves : (h : History) (first second : ℤ) (asked : List Request) (steps : List Step) (server : ServerEnd) → Moves h first [] steps server → Moves h second asked steps server
+idle_moves h first second asked [] server m = tt
+idle_moves h first second asked (one ∷ rest) server m = (
+  idle_step h asked one.step server m.0,
+  idle_told h first second one.step server one.payloads m.0 m.1,
+  idle_moves h first second (drop (used_by one.step) asked) rest (end_after h one.step server) (idle_rest h first one rest (end_after h one.step server) m.2),
+)
+
+pub idle_processes : (h : History) (xid : ℤ) (steps : List Step) (server : ServerEnd) → Moves h xid [] steps server → processed_by steps ≡ 0
+idle_processes h xid steps server m = let few = processed_low h xid [] steps server m in omega (arith, few)
+
+pub idle_stays : (h : History) (xid : ℤ) (steps : List Step) (server : ServerEnd) → Moves h xid [] steps server → (ended_by h steps server).stage ≡ server.stage
+idle_stays h xid [] server m = refl
+idle_stays h xid (one ∷ rest) server m =
+    idle_stays h xid rest (end_after h one.step server) (idle_rest h xid one rest (end_after h one.step server) m.2) ∙ idle_stage h one.step server m.0
+
+-- ---- one step behind others
+
+pub last_moves : (h : History) (xid : ℤ) (asked : List Request) (first : List Step) (last : Step) (server : ServerEnd) → Moves h xid asked first server
+    → MayDo h last.step (ended_by h first server) (drop (processed_by first) asked) → ArePayloads xid (messages_by h last.step (ended_by h first server).place) last.payloads → Moves h xid asked (first ++ last ∷ []) server
+last_moves h xid asked first last server m may told = moves_more h xid asked first (last ∷ []) server m (may, told, tt)
+
+-- steps with no request, and then one that processes it
+pub answer_moves : (h : History) (other xid : ℤ) (request : Request) (first : List Step) (last : Step) (server : ServerEnd) → Moves h other [] first server
+    → MayDo h last.step (ended_by h first server) (request ∷ []) → ArePayloads xid (messages_by h last.step (ended_by h first server).place) last.payloads → Moves h xid (request ∷ []) (first ++ last ∷ []) server
+answer_moves h other xid request first last server m may told =
+    last_moves h xid (request ∷ []) first last server (idle_moves h other xid (request ∷ []) first server m)
+    (subst (λ n. MayDo h last.step (ended_by h first server) (drop n (request ∷ []))) (sym (idle_processes h other first server m)) may) told
+
+pub last_ended : (h : History) (first : List Step) (last : Step) (server : ServerEnd) → ended_by h (first ++ last ∷ []) server ≡ end_after h last.step (ended_by h first server)
+last_ended h first last server = ended_more h first (last ∷ []) server
+
+pub last_sent : (first : List Step) (last : Step) → sent_by (first ++ last ∷ []) ≡ sent_by first ++ joined last.payloads
+last_sent first last = sent_more first (last ∷ []) ∙ ap (λ bytes. sent_by first ++ bytes) (append-nil (joined last.payloads))
+
+pub last_processed : (first : List Step) (last : Step) → processed_by (first ++ last ∷ []) ≡ processed_by first + used_by last.step
+last_processed first last = let r = processed_more first (last ∷ []) in omega (arith, r)

@@ -3,7 +3,7 @@
 #![tactic(auto)]
 
 ghost use Rattle.std.specs.Prelude.{◌≡◌, ◌≢◌, ◌≤◌, ◌⊎◌, ◌++◌, ◌+◌, true, List, [], ◌∷◌, ℕ, ℤ, drop, slice_index, slice_set, length as length_of};
-ghost use Rattle.zk_history.specs.History.{History};
+ghost use Rattle.zk_history.specs.History.{History, IsHistory};
 ghost use Rattle.zk_conversation.specs.Calls.{Call};
 ghost use Rattle.zk_turns.specs.Turns.{Start, Output, Item as Client_item, Forgets, Halts, Bytes, Cut, Now, Call as Calling, Opened as Opening};
 ghost use Rattle.zk_turns.specs.View.{View};
@@ -11,10 +11,12 @@ ghost use Rattle.zk_turns.specs.Taken.{past_of};
 ghost use Rattle.zk_turns.specs.Rule.{Stands};
 ghost use Rattle.zk_turns.specs.Ranges.{IsResumable, IsTyped, AllAskOf};
 ghost use Rattle.zk_laws.specs.Messages.{Request};
-ghost use Rattle.zk_laws.specs.ServerSteps.{ServerEnd};
+ghost use Rattle.zk_laws.specs.ServerSteps.{ServerEnd, MayDo, messages_by, end_after};
+ghost use Rattle.zk_frames.specs.Frame.{joined as frames};
+ghost use Rattle.zk_laws.specs.Headline.{IsCoherentWith};
 ghost use Rattle.zk_laws.specs.GoingOn.{GoesOn};
-ghost use Rattle.zk_laws.specs.Served.{is_going, Served};
-ghost use Rattle.zk_serving.specs.Steps.{Step, Moves, ended_by, sent_by, processed_by};
+ghost use Rattle.zk_laws.specs.Served.{ArePayloads, is_going, Served};
+ghost use Rattle.zk_serving.specs.Steps.{Step, used_by, Moves, ended_by, sent_by, processed_by};
 ghost use Rattle.zk_serving.specs.Shown.{Shown, Open, Over, AllTaken, connected, with_output, Hears, Takes, Processes};
 ghost use Rattle.zk_serving.specs.Lines.{IsServedBy, StandsFirst, IsCutAt, item_of};
 
@@ -26,6 +28,29 @@ pub fn joined_steps()
     ensures ended { (h : History) (first second : List Step) (server : ServerEnd) → ended_by h (first ++ second) server ≡ ended_by h second (ended_by h first server) }
     ensures sent { (first second : List Step) → sent_by (first ++ second) ≡ sent_by first ++ sent_by second }
     ensures processed { (first second : List Step) → processed_by (first ++ second) ≡ processed_by first + processed_by second }
+{}
+
+/// One step more, behind others.
+#[tactic(auto, using(crate::proofs::Stepping::last_moves, crate::proofs::Stepping::last_ended, crate::proofs::Stepping::last_sent, crate::proofs::Stepping::last_processed))]
+pub fn one_more_step()
+    ensures moves { (h : History) (xid : ℤ) (asked : List Request) (first : List Step) (last : Step) (server : ServerEnd) → Moves h xid asked first server
+        → MayDo h last.step (ended_by h first server) (drop (processed_by first) asked) → ArePayloads xid (messages_by h last.step (ended_by h first server).place) last.payloads
+        → Moves h xid asked (first ++ last ∷ []) server }
+    ensures ended { (h : History) (first : List Step) (last : Step) (server : ServerEnd) → ended_by h (first ++ last ∷ []) server ≡ end_after h last.step (ended_by h first server) }
+    ensures sent { (first : List Step) (last : Step) → sent_by (first ++ last ∷ []) ≡ sent_by first ++ frames last.payloads }
+    ensures processed { (first : List Step) (last : Step) → processed_by (first ++ last ∷ []) ≡ processed_by first + used_by last.step }
+{}
+
+/// Steps with no request to process may be taken whatever is asked, and a step that processes the request behind them. They
+/// process none, and leave the stage of the connection.
+#[tactic(auto, using(crate::proofs::Stepping::idle_moves, crate::proofs::Stepping::answer_moves, crate::proofs::Stepping::idle_processes, crate::proofs::Stepping::idle_stays))]
+pub fn steps_without_request()
+    ensures moves { (h : History) (first second : ℤ) (asked : List Request) (steps : List Step) (server : ServerEnd) → Moves h first [] steps server → Moves h second asked steps server }
+    ensures answers { (h : History) (other xid : ℤ) (request : Request) (first : List Step) (last : Step) (server : ServerEnd) → Moves h other [] first server
+        → MayDo h last.step (ended_by h first server) (request ∷ []) → ArePayloads xid (messages_by h last.step (ended_by h first server).place) last.payloads
+        → Moves h xid (request ∷ []) (first ++ last ∷ []) server }
+    ensures processes { (h : History) (xid : ℤ) (steps : List Step) (server : ServerEnd) → Moves h xid [] steps server → processed_by steps ≡ 0 }
+    ensures stays { (h : History) (xid : ℤ) (steps : List Step) (server : ServerEnd) → Moves h xid [] steps server → (ended_by h steps server).stage ≡ server.stage }
 {}
 
 /// Steps that a server may take it may take over a history that goes on, and they end where they did: at a place of the history.
@@ -46,11 +71,13 @@ pub fn places()
     ensures later { (h later : History) (taken : List ℕ) → GoesOn h later → AllTaken h taken → AllTaken later taken }
 {}
 
-/// A client that was served by the servers in memory was served by servers of the laws. One that has gone through nothing was.
-#[tactic(auto, using(crate::proofs::Entries::nobody, crate::proofs::Entries::served_so))]
+/// A client that was served by the servers in memory was served by servers of the laws, so that its good answers are those of the
+/// history that is shown at its last seen zxid. One that has gone through nothing was.
+#[tactic(auto, using(crate::proofs::Entries::nobody, crate::proofs::Entries::served_so, crate::proofs::Entries::coherent_so))]
 pub fn served()
     ensures begins { (start : Start) (shown : Shown) → IsServedBy start [] shown }
     ensures served { (start : Start) (items : List Client_item) (shown : Shown) → IsServedBy start items shown → Served shown.history start items }
+    ensures coherent { (start : Start) (items : List Client_item) (view : View) (shown : Shown) → IsHistory shown.history → Stands start items view → IsServedBy start items shown → IsCoherentWith shown.history view }
 {}
 
 /// What happens to the client: a connection to a server begins, at a place of the history; bytes that were on their way are
