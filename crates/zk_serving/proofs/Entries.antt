@@ -13,7 +13,7 @@ use Rattle.zk_laws.specs.Served.{Sent, Goes_on, items_in, line_of, is_going, unr
 use Rattle.zk_laws.specs.Headline.{IsCoherentWith}
 use Rattle.zk_laws.proofs.Headlines.{coherent_client}
 use Rattle.zk_serving.specs.Steps.{Step, behind}
-use Rattle.zk_serving.specs.Shown.{Shown, Open, Over, connected, with_output, Hears, Takes, Processes}
+use Rattle.zk_serving.specs.Shown.{Shown, Apart, Open, Over, connected, with_output, Hears, Takes, Processes}
 use Rattle.zk_serving.specs.Lines.{Shows, IsServedBy, StandsFirst, IsCutAt}
 use Rattle.zk_serving.proofs.Stepping.{items_behind}
 use Rattle.zk_serving.proofs.Turning.{framed}
@@ -80,6 +80,9 @@ module _ (start : Start) (items : List Item) (old : Shown) (s : IsServedBy start
   pub rests_served : (new : Shown) → GoesOn old.history new.history → (is_going (past_of start items) ≡ true → (new.phase ≡ Over) × (new.output ≡ old.output)) → IsServedBy start items new
   rests_served new g rests =
       record { entries = s.entries; whole = s.whole; shows = rests_shown start s.entries old new s.shows g (λ going. rests (subst (λ is. is_going (past_of start is) ≡ true) s.whole going)) }
+
+  pub there_served : is_going (past_of start items) ≡ true → old.phase ≢ Apart
+  there_served going = (s.shows.line (here (λ is. is_going (past_of start is) ≡ true) going)).there
 
   module _ (view : View) (from : IsResumable start) (typed : AllAskOf IsTyped items) (stands : Stands start items view) (going : is_going (past_of start items) ≡ true) (up : old.phase ≡ Open) where
     stands_first : (first : Sent) (more : List Sent) → unread start (past_of start (items_in s.entries)) (line_of old.history s.entries) ≡ first ∷ more → StandsFirst start items first.request first.xid first.payload (framed more) old.requests

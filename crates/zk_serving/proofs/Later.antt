@@ -1,9 +1,9 @@
 -- Steps over a history that goes on.
 use Rattle.std.proofs.Common.{ℕ, zero, suc, ℤ, ◌≡◌, ◌≤◌, ◌<◌, ◌+◌, List, [], ◌∷◌, ◌++◌, drop, length, Option, Some, None, refl, ap, sym, ◌∙◌, subst, arith, inl, inr}
 use Rattle.std.specs.Prelude.{slice_get, slice_index, slice_set}
-use Rattle.std.specs.List.{All}
+use Rattle.std.specs.List.{All, AllByRecursion}
 use Rattle.std.proofs.lemmas.List.{length-append}
-use Rattle.std.proofs.lemmas.List.Elements.{All-set}
+use Rattle.std.proofs.lemmas.List.Elements.{All-set, All-from_recursion}
 use Rattle.std.proofs.Math.ListN.{get_or-eq_default}
 use Rattle.std.proofs.lemmas.Bool.{cases_lt}
 use Rattle.zk_history.specs.History.{Transaction, Change, History, Tree, after}
@@ -104,6 +104,13 @@ ended_later h later xid asked steps server g low m = subst (λ (x : History). en
 
 grown : (h later : History) → GoesOn h later → length h.transactions ≤ length later.transactions
 grown h later g = let same : length later.transactions ≡ length h.transactions + length g.more = ap length g.transactions ∙ length-append h.transactions g.more in omega (arith, same)
+
+pub taken_none : (h : History) (taken : List ℕ) → AllByRecursion (λ place. place ≡ 0) taken → AllTaken h taken
+taken_none h taken zeros = All-from_recursion (λ place. place ≤ length h.transactions) taken (by taken zeros)
+  where
+    by : (places : List ℕ) → AllByRecursion (λ place. place ≡ 0) places → AllByRecursion (λ place. place ≤ length h.transactions) places
+    by [] z = tt
+    by (place ∷ places) z = let zero_here : place ≡ 0 = z.0 in (omega (arith, zero_here), by places z.1)
 
 pub taken_at : (h : History) (taken : List ℕ) (server : ℕ) → AllTaken h taken → slice_index taken server ≤ length h.transactions
 taken_at h taken server all = elim (cases_lt server (length taken)) [

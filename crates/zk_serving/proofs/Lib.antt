@@ -4,3 +4,4 @@ pub mod Turning
 pub mod Keeping
 pub mod Waiting
 pub mod Entries
+pub mod Fronts

@@ -2,7 +2,8 @@
 //! The functions have empty bodies: their contracts are the laws.
 #![tactic(auto)]
 
-ghost use Rattle.std.specs.Prelude.{◌≡◌, ◌≢◌, ◌≤◌, ◌⊎◌, ◌++◌, ◌+◌, true, List, [], ◌∷◌, ℕ, ℤ, drop, slice_index, slice_set, length as length_of};
+ghost use Rattle.std.specs.Prelude.{◌≡◌, ◌≢◌, ◌≤◌, ◌<◌, ◌⊎◌, ◌++◌, ◌+◌, ◌^◌, true, List, [], ◌∷◌, ℕ, ℤ, take, drop, slice_index, slice_set, length as length_of};
+ghost use Rattle.std.specs.List.{AllByRecursion};
 ghost use Rattle.zk_history.specs.History.{History, IsHistory};
 ghost use Rattle.zk_conversation.specs.Calls.{Call};
 ghost use Rattle.zk_turns.specs.Turns.{Start, Output, Item as Client_item, Forgets, Halts, Bytes, Cut, Now, Call as Calling, Opened as Opening};
@@ -12,12 +13,12 @@ ghost use Rattle.zk_turns.specs.Rule.{Stands};
 ghost use Rattle.zk_turns.specs.Ranges.{IsResumable, IsTyped, AllAskOf};
 ghost use Rattle.zk_laws.specs.Messages.{Request};
 ghost use Rattle.zk_laws.specs.ServerSteps.{ServerEnd, MayDo, messages_by, end_after};
-ghost use Rattle.zk_frames.specs.Frame.{joined as frames};
+ghost use Rattle.zk_frames.specs.Frame.{frame, joined as frames, length_field};
 ghost use Rattle.zk_laws.specs.Headline.{IsCoherentWith};
 ghost use Rattle.zk_laws.specs.GoingOn.{GoesOn};
 ghost use Rattle.zk_laws.specs.Served.{ArePayloads, is_going, Served};
 ghost use Rattle.zk_serving.specs.Steps.{Step, used_by, Moves, ended_by, sent_by, processed_by};
-ghost use Rattle.zk_serving.specs.Shown.{Shown, Open, Over, AllTaken, connected, with_output, Hears, Takes, Processes};
+ghost use Rattle.zk_serving.specs.Shown.{Shown, Apart, Open, Over, AllTaken, connected, with_output, Hears, Takes, Processes};
 ghost use Rattle.zk_serving.specs.Lines.{IsServedBy, StandsFirst, IsCutAt, item_of};
 
 /// Steps may be taken behind others: then they end where the later ones do, and send and process what both do.
@@ -64,8 +65,9 @@ pub fn steps_go_on()
 {}
 
 /// Servers that hold beginnings of a history do so where one of them goes on to a place of it, and where the history goes on.
-#[tactic(auto, using(crate::proofs::Later::taken_at, crate::proofs::Later::taken_set, crate::proofs::Later::taken_later))]
+#[tactic(auto, using(crate::proofs::Later::taken_none, crate::proofs::Later::taken_at, crate::proofs::Later::taken_set, crate::proofs::Later::taken_later))]
 pub fn places()
+    ensures none { (h : History) (taken : List ℕ) → AllByRecursion (λ place. place ≡ 0) taken → AllTaken h taken }
     ensures each { (h : History) (taken : List ℕ) (server : ℕ) → AllTaken h taken → slice_index taken server ≤ length_of h.transactions }
     ensures set { (h : History) (taken : List ℕ) (server place : ℕ) → AllTaken h taken → place ≤ length_of h.transactions → AllTaken h (slice_set taken server place) }
     ensures later { (h later : History) (taken : List ℕ) → GoesOn h later → AllTaken h taken → AllTaken later taken }
@@ -109,9 +111,20 @@ pub fn servers_go_on()
         → (is_going (past_of start items) ≡ true → (new.phase ≡ Over) × (new.output ≡ old.output)) → IsServedBy start items new }
 {}
 
-/// What waits to be processed: nothing, or in front the frame of a request that was asked; and before it, in the bytes that the
-/// connection was sent, the frames of what was processed.
+/// A frame that stands in front of some bytes: its length, its payload, and what stands behind it.
+#[tactic(auto, using(crate::proofs::Fronts::front_there, crate::proofs::Fronts::front_field, crate::proofs::Fronts::front_behind, crate::proofs::Fronts::front_payload))]
+pub fn first_frame()
+    ensures there { (payload rest bytes : List ℕ) → bytes ≡ frame payload ++ rest → 4 + length_of payload ≤ length_of bytes }
+    ensures field { (payload rest bytes : List ℕ) → bytes ≡ frame payload ++ rest → length_of payload < 2 ^ 31 → length_field bytes ≡ length_of payload }
+    ensures behind { (payload rest bytes : List ℕ) → bytes ≡ frame payload ++ rest → drop (4 + length_of payload) bytes ≡ rest }
+    ensures payload { (payload rest bytes : List ℕ) → bytes ≡ frame payload ++ rest → take (length_of payload) (drop 4 bytes) ≡ payload }
+{}
+
+/// While the client has a connection there is one, and while this is open, what waits to be processed is nothing, or has in front
+/// the frame of a request that was asked; and before it, in the bytes that the connection was sent, stand the frames of what was
+/// processed.
 pub fn what_waits()
+    ensures there { (start : Start) (items : List Client_item) (shown : Shown) → IsServedBy start items shown → is_going (past_of start items) ≡ true → shown.phase ≢ Apart }
     ensures first { (start : Start) (items : List Client_item) (view : View) (shown : Shown) → IsServedBy start items shown → IsResumable start → AllAskOf IsTyped items → Stands start items view
         → is_going (past_of start items) ≡ true → shown.phase ≡ Open
         → (shown.requests ≡ []) ⊎ ((request : Request) × (xid : ℤ) × (payload : List ℕ) × (rest : List ℕ) × StandsFirst start items request xid payload rest shown.requests) }
