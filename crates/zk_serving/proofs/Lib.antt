@@ -5,3 +5,4 @@ pub mod Keeping
 pub mod Waiting
 pub mod Entries
 pub mod Fronts
+pub mod Longer_shown

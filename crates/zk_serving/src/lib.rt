@@ -2,21 +2,28 @@
 //! The functions have empty bodies: their contracts are the laws.
 #![tactic(auto)]
 
-ghost use Rattle.std.specs.Prelude.{◌≡◌, ◌≢◌, ◌≤◌, ◌<◌, ◌⊎◌, ◌++◌, ◌+◌, ◌^◌, true, List, [], ◌∷◌, ℕ, ℤ, take, drop, slice_index, slice_set, length as length_of};
+ghost use Rattle.std.specs.Prelude.{◌≡◌, ◌≢◌, ◌≤◌, ◌<◌, ◌⊎◌, ◌++◌, ◌+◌, ◌^◌, true, List, [], ◌∷◌, ℕ, ℤ, pos, Some, take, drop, slice_index, slice_set, length as length_of};
 ghost use Rattle.std.specs.List.{AllByRecursion};
 ghost use Rattle.zk_history.specs.History.{History, IsHistory};
 ghost use Rattle.zk_conversation.specs.Calls.{Call};
 ghost use Rattle.zk_turns.specs.Turns.{Start, Output, Item as Client_item, Forgets, Halts, Bytes, Cut, Now, Call as Calling, Opened as Opening};
-ghost use Rattle.zk_turns.specs.View.{View};
+ghost use Rattle.zk_turns.specs.View.{View, view_at};
+ghost use Rattle.zk_turns.specs.Kept.{kept_data, last_of, state_of};
+ghost use Rattle.zk_cache.specs.Kept.{Full};
+ghost use Rattle.zk_cache.specs.declared.held.Mark.TheVariants.{Stale};
+ghost use Rattle.zk_session.specs.declared.states.State.TheVariants.{Expired};
+ghost use Rattle.zk_laws.specs.Example.{at_a, fields_at_five};
+ghost use Rattle.zk_laws.specs.Meeting_example.{new_client};
+ghost use Rattle.zk_serving.specs.Longer_example.{three_changes, until_told, until_written, until_expired};
 ghost use Rattle.zk_turns.specs.Taken.{past_of};
 ghost use Rattle.zk_turns.specs.Rule.{Stands};
 ghost use Rattle.zk_turns.specs.Ranges.{IsResumable, IsTyped, AllAskOf};
 ghost use Rattle.zk_laws.specs.Messages.{Request};
 ghost use Rattle.zk_laws.specs.ServerSteps.{ServerEnd, MayDo, messages_by, end_after};
 ghost use Rattle.zk_frames.specs.Frame.{frame, joined as frames, length_field};
-ghost use Rattle.zk_laws.specs.Headline.{IsCoherentWith};
+ghost use Rattle.zk_laws.specs.Headline.{IsCoherentWith, IsQuietAt};
 ghost use Rattle.zk_laws.specs.GoingOn.{GoesOn};
-ghost use Rattle.zk_laws.specs.Served.{ArePayloads, is_going, Served};
+ghost use Rattle.zk_laws.specs.Served.{ArePayloads, is_going, items_in, IsServing, Served};
 ghost use Rattle.zk_serving.specs.Steps.{Step, used_by, Moves, ended_by, sent_by, processed_by};
 ghost use Rattle.zk_serving.specs.Shown.{Shown, Apart, Open, Over, AllTaken, connected, with_output, Hears, Takes, Processes};
 ghost use Rattle.zk_serving.specs.Lines.{IsServedBy, StandsFirst, IsCutAt, item_of};
@@ -130,4 +137,19 @@ pub fn what_waits()
         → (shown.requests ≡ []) ⊎ ((request : Request) × (xid : ℤ) × (payload : List ℕ) × (rest : List ℕ) × StandsFirst start items request xid payload rest shown.requests) }
     ensures cut { (start : Start) (items : List Client_item) (view : View) (shown : Shown) → IsServedBy start items shown → IsResumable start → Stands start items view
         → is_going (past_of start items) ≡ true → shown.phase ≡ Open → (processed : ℕ) × IsCutAt items processed shown.requests }
+{}
+
+/// The premises can be met by a schedule in bytes with three connections to three servers: one that is cut in the middle of a
+/// notice; one to a server that is behind, and tells of the change that was missed as the watch is set again, and which takes a
+/// write and ends quiet; and one over which the session expires.
+pub fn longer_schedule()
+    ensures history { IsHistory three_changes }
+    ensures serving { IsServing three_changes new_client until_expired }
+    ensures stands { Stands new_client (items_in until_expired) (view_at new_client (past_of new_client (items_in until_expired))) }
+    ensures resumable { IsResumable new_client }
+    ensures typed { AllAskOf IsTyped (items_in until_expired) }
+    ensures stale { kept_data at_a (past_of new_client (items_in until_told)) ≡ Some (record { answer = Full (Some (104 ∷ 105 ∷ [])) fields_at_five; mark = Stale }) }
+    ensures quiet { IsQuietAt three_changes new_client until_written }
+    ensures written { last_of new_client (past_of new_client (items_in until_written)) ≡ pos 7 }
+    ensures expired { state_of (past_of new_client (items_in until_expired)) ≡ Expired }
 {}
