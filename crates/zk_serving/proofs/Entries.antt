@@ -1,5 +1,5 @@
 -- A client that was served goes on to be.
-use Rattle.std.proofs.Common.{ℕ, ℤ, ◌≡◌, ◌≢◌, ◌≤◌, true, List, [], ◌∷◌, ◌++◌, map, drop, length, refl, ap, sym, ◌∙◌, subst, inl, inr, ◌⊎◌}
+use Rattle.std.proofs.Common.{ℕ, ℤ, ◌≡◌, ◌≢◌, ◌≤◌, ◌<◌, true, List, [], ◌∷◌, ◌++◌, map, drop, length, refl, ap, sym, ◌∙◌, subst, inl, inr, ◌⊎◌}
 use Rattle.zk_history.specs.History.{IsHistory}
 use Rattle.zk_conversation.specs.Calls.{Call}
 use Rattle.zk_turns.specs.Turns.{Start, Output, Item, Turned, Forgets, Halts, Bytes, Cut, Now, Call as Calling, Opened as Opening, Opens, Comes, Ticks, Calls}
@@ -14,7 +14,7 @@ use Rattle.zk_laws.specs.Headline.{IsCoherentWith}
 use Rattle.zk_laws.proofs.Headlines.{coherent_client}
 use Rattle.zk_serving.specs.Steps.{Step, behind}
 use Rattle.zk_serving.specs.Shown.{Shown, Apart, Open, Over, connected, with_output, Hears, Takes, Processes}
-use Rattle.zk_serving.specs.Lines.{Shows, IsServedBy, StandsFirst, IsCutAt}
+use Rattle.zk_serving.specs.Lines.{Shows, IsServedBy, IsPathCall, StandsFirst, IsCutAt}
 use Rattle.zk_serving.proofs.Stepping.{items_behind}
 use Rattle.zk_serving.proofs.Turning.{framed}
 use Rattle.zk_serving.proofs.Keeping.{opened_shown, bytes_shown, cut_shown, moment_shown, call_shown, forget_shown, halt_shown, takes_shown, processes_shown, rests_shown}
@@ -84,16 +84,15 @@ module _ (start : Start) (items : List Item) (old : Shown) (s : IsServedBy start
   pub there_served : is_going (past_of start items) ≡ true → old.phase ≢ Apart
   there_served going = (s.shows.line (here (λ is. is_going (past_of start is) ≡ true) going)).there
 
-  module _ (view : View) (from : IsResumable start) (typed : AllAskOf IsTyped items) (stands : Stands start items view) (going : is_going (past_of start items) ≡ true) (up : old.phase ≡ Open) where
-    stands_first : (first : Sent) (more : List Sent) → unread start (past_of start (items_in s.entries)) (line_of old.history s.entries) ≡ first ∷ more → StandsFirst start items first.request first.xid first.payload (framed more) old.requests
+  module _ (view : View) (from : IsResumable start) (timed : 0 < start.timeout) (typed : AllAskOf IsTyped items) (paths : AllAskOf IsPathCall items) (stands : Stands start items view) (going : is_going (past_of start items) ≡ true) (up : old.phase ≡ Open) where
+    stands_first : (first : Sent) (more : List Sent) → unread start (past_of start (items_in s.entries)) (line_of old.history s.entries) ≡ first ∷ more → StandsFirst first.request first.xid first.payload (framed more) old.requests
     stands_first first more e =
-        subst (λ is. StandsFirst start is first.request first.xid first.payload (framed more) old.requests) s.whole
-        (first_stands start s.entries view old first more from (here (λ is. AllAskOf IsTyped is) typed) (here (λ is. Stands start is view) stands) s.shows
-        (here (λ is. is_going (past_of start is) ≡ true) going) up e)
+        first_stands start s.entries view old first more from timed (here (λ is. AllAskOf IsTyped is) typed) (here (λ is. AllAskOf IsPathCall is) paths) (here (λ is. Stands start is view) stands) s.shows
+        (here (λ is. is_going (past_of start is) ≡ true) going) up e
 
     -- whether any waits
     abbrev pub Waits : Type 0
-    Waits = (request : Request) × (xid : ℤ) × (payload : List ℕ) × (rest : List ℕ) × StandsFirst start items request xid payload rest old.requests
+    Waits = (request : Request) × (xid : ℤ) × (payload : List ℕ) × (rest : List ℕ) × StandsFirst request xid payload rest old.requests
 
     waits_by : (waiting : List Sent) → unread start (past_of start (items_in s.entries)) (line_of old.history s.entries) ≡ waiting → (old.requests ≡ []) ⊎ Waits
     waits_by [] e = inl ((s.shows.line (here (λ is. is_going (past_of start is) ≡ true) going)).waiting up ∙ ap framed e)
@@ -103,14 +102,14 @@ module _ (start : Start) (items : List Item) (old : Shown) (s : IsServedBy start
     waits_served = waits_by (unread start (past_of start (items_in s.entries)) (line_of old.history s.entries)) refl
 
     processes_by : (new : Shown) (waiting : List Sent) → unread start (past_of start (items_in s.entries)) (line_of old.history s.entries) ≡ waiting → old.requests ≢ []
-        → ((request : Request) (xid : ℤ) (payload rest : List ℕ) → StandsFirst start items request xid payload rest old.requests → (steps : List Step) × Processes request xid payload steps old new) → IsServedBy start items new
+        → ((request : Request) (xid : ℤ) (payload rest : List ℕ) → StandsFirst request xid payload rest old.requests → (steps : List Step) × Processes request xid payload steps old new) → IsServedBy start items new
     processes_by new [] e some does = absurd (some ((s.shows.line (here (λ is. is_going (past_of start is) ≡ true) going)).waiting up ∙ ap framed e))
     processes_by new (first ∷ more) e some does =
         let d = does first.request first.xid first.payload (framed more) (stands_first first more e) in
         by_steps d.0 new (processes_shown start s.entries first more d.0 old new s.shows (here (λ is. is_going (past_of start is) ≡ true) going) up e d.1)
 
     pub processes_served : (new : Shown) → old.requests ≢ []
-        → ((request : Request) (xid : ℤ) (payload rest : List ℕ) → StandsFirst start items request xid payload rest old.requests → (steps : List Step) × Processes request xid payload steps old new) → IsServedBy start items new
+        → ((request : Request) (xid : ℤ) (payload rest : List ℕ) → StandsFirst request xid payload rest old.requests → (steps : List Step) × Processes request xid payload steps old new) → IsServedBy start items new
     processes_served new some does = processes_by new (unread start (past_of start (items_in s.entries)) (line_of old.history s.entries)) refl some does
 
   pub cut_served_at : (view : View) → IsResumable start → Stands start items view → is_going (past_of start items) ≡ true → old.phase ≡ Open → (processed : ℕ) × IsCutAt items processed old.requests

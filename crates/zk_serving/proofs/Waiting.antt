@@ -7,63 +7,59 @@ use Rattle.std.proofs.lemmas.List.{append-nil, take-append-drop}
 use Rattle.std.proofs.lemmas.Int.{ints}
 use Rattle.zk_frames.specs.Frame.{frame, joined}
 use Rattle.zk_records.specs.Layouts.{connect_request}
+use Rattle.zk_history.specs.History.{Text}
+use Rattle.zk_history.specs.PathFault.{IsPath}
+use Rattle.zk_conversation.specs.Calls as call
 use Rattle.zk_conversation.specs.Calls.{Call, connect_payload}
+use Rattle.zk_conversation.specs.Questions.{question_of}
 use Rattle.zk_watches.specs.Lists.{Lists}
 use Rattle.zk_watches.specs.Parts.{parts}
-use Rattle.zk_turns.specs.Turns.{Start, Input, Item, Turned, Forgets, Halts, AsksOf, Bytes, Cut, Now, Call as Calling, Opened as Opening}
+use Rattle.zk_turns.specs.Turns.{Start, Item}
 use Rattle.zk_turns.specs.View.{View}
-use Rattle.zk_turns.specs.Kept.{Past, Happening, Began, Asked, Pinged, Took as Takes_in, Accepted as Accepts, Expiry, Replies as Answers_call, Watches_set as Sets_watches, Notifies as Tells, Pong as Echo, Skipped, is_open, state_of, has_halted, last_of, session_of, lists_of}
+use Rattle.zk_turns.specs.Kept.{Past, Happening, Began, Asked, Pinged, Took as Takes_in, Accepted as Accepts, Expiry, Replies as Answers_call, Watches_set as Sets_watches, Notifies as Tells, Pong as Echo, Skipped, is_open, state_of, has_halted, last_of, session_of, lists_of, in_known, in_missing, in_parents, path_of_read}
 use Rattle.zk_turns.specs.Taken.{past_of}
 use Rattle.zk_turns.specs.Rule.{Stands, IsOpen}
 use Rattle.zk_turns.specs.Ranges.{IsResumable, IsTyped, AllAskOf}
-use Rattle.zk_turns.proofs.Ranged.{all_append, AreRanged, items_ranged}
+use Rattle.zk_turns.proofs.Ranged.{all_append, AreRanged, items_ranged, listed_short}
+use Rattle.zk_turns.proofs.Fitting.{IsShort, IsSmall, parts_small}
 use Rattle.zk_turns.proofs.Meant.{is_last_seen}
-use Rattle.zk_laws.specs.Messages.{Request, Connect, Ask, from_zero}
+use Rattle.zk_laws.specs.Messages.{Request, Connect, from_zero}
 use Rattle.zk_laws.specs.Served.{Sent, Entry, items_in, Line, line_of, is_going, unread, requests, part_requests}
 use Rattle.zk_laws.specs.Parsed.{AreTold, IsRecord, IsReadAs, AreReadAs, stream_of, payloads_of}
 use Rattle.zk_laws.proofs.Found.{all_told, first_found, each_read, connect_found}
 use Rattle.zk_serving.specs.Shown.{Shown, Open}
-use Rattle.zk_serving.specs.Lines.{IsLine, Shows, Asks, WasAsked, ComesOf, StandsFirst, IsCutAt}
+use Rattle.zk_serving.specs.Lines.{IsLine, Shows, IsPathCall, IsFit, StandsFirst, IsCutAt}
 use Rattle.zk_serving.proofs.Turning.{framed, framed_more}
 
 -- ---- what is known of each request
 
--- what holds of each call holds of one that was asked
-pub holds_asked : (P : Call → Type 0) (items : List Item) (call : Call) → AllAskOf P items → WasAsked call items → P call
-holds_asked P [] call a w = absurd w
-holds_asked P (Turned turn ∷ items) call a (inl here) = by turn.input a.0 here
-  where
-    by : (input : Input) → AsksOf P input → Asks call input → P call
-    by (Calling ticket asked) p same = subst P same p
-    by Opening p w = absurd w
-    by Cut p w = absurd w
-    by (Bytes bytes) p w = absurd w
-    by (Now moment) p w = absurd w
-holds_asked P (Turned turn ∷ items) call a (inr more) = holds_asked P items call a.1 more
-holds_asked P (Forgets ∷ items) call a w = holds_asked P items call a w
-holds_asked P (Halts ∷ items) call a w = holds_asked P items call a w
+abbrev IsSentFit : Sent → Type 0
+IsSentFit sent = IsFit sent.request sent.payload
 
--- each call that was asked was asked
-asked_among : (P : Call → Type 0) (items : List Item) → ((call : Call) → WasAsked call items → P call) → AllAskOf P items
-asked_among P [] f = tt
-asked_among P (Turned turn ∷ items) f = (by turn.input (λ call w. f call (inl w)), asked_among P items (λ call w. f call (inr w)))
-  where
-    by : (input : Input) → ((call : Call) → Asks call input → P call) → AsksOf P input
-    by (Calling ticket asked) g = g asked refl
-    by Opening g = tt
-    by Cut g = tt
-    by (Bytes bytes) g = tt
-    by (Now moment) g = tt
-asked_among P (Forgets ∷ items) f = asked_among P items f
-asked_among P (Halts ∷ items) f = asked_among P items f
+path_of_call : (asked : Call) → IsPathCall asked → AllByRecursion IsPath (path_of_read (question_of asked))
+path_of_call (call.Exists path watch) p = (p, tt)
+path_of_call (call.GetData path watch) p = (p, tt)
+path_of_call (call.GetChildren path watch) p = (p, tt)
+path_of_call (call.SetData path content version) p = tt
+path_of_call (call.Create path content mode) p = tt
+path_of_call (call.Delete path version) p = tt
+path_of_call call.Close p = tt
 
-abbrev Comes : Start → List Item → Sent → Type 0
-Comes start items sent = ComesOf start items sent.request sent.payload
+short_paths : (texts : List Text) → AllByRecursion (IsShort IsPath) texts → AllByRecursion IsPath texts
+short_paths [] a = tt
+short_paths (text ∷ texts) a = (a.0.1, short_paths texts a.1)
 
-parts_come : (start : Start) (items : List Item) (relative : ℤ) (ps : List Lists) → AllByRecursion (Comes start items) (part_requests relative ps)
-parts_come start items relative [] = tt
-parts_come start items relative (part ∷ []) = (tt, tt)
-parts_come start items relative (part ∷ next ∷ more) = (tt, parts_come start items relative (next ∷ more))
+parts_fit : (relative : ℤ) (ps : List Lists) → AllByRecursion (IsSmall IsPath) ps → AllByRecursion IsSentFit (part_requests relative ps)
+parts_fit relative [] a = tt
+parts_fit relative (part ∷ []) a = ((short_paths part.data_watches a.0.known, short_paths part.exist_watches a.0.missing, short_paths part.child_watches a.0.parents), tt)
+parts_fit relative (part ∷ next ∷ more) a =
+    ((short_paths part.data_watches a.0.known, short_paths part.exist_watches a.0.missing, short_paths part.child_watches a.0.parents), parts_fit relative (next ∷ more) a.1)
+
+-- the texts of the parts are paths that callers asked about
+parts_paths : (past : Past) → AreRanged IsPathCall past → AllByRecursion (IsSmall IsPath) (parts (lists_of past))
+parts_paths past r =
+    parts_small IsPath (lists_of past) (listed_short IsPathCall IsPath path_of_call in_known past r) (listed_short IsPathCall IsPath path_of_call in_missing past r)
+    (listed_short IsPathCall IsPath path_of_call in_parents past r)
 
 counted : (z : ℤ) → pos 0 ≤ℤ z → z ≡ pos (from_zero z)
 counted (pos n) l = refl
@@ -75,12 +71,14 @@ last_counted start past s =
     let counts = s.counts in
     counted (last_of start past) (omega (arith, ints))
 
-module _ (start : Start) (items : List Item) (from : IsResumable start) where
+module _ (start : Start) (items : List Item) (from : IsResumable start) (timed : 0 < start.timeout) where
   connects : (since : List Happening) (before : Past) → past_of start items ≡ since ++ Began ∷ before
-      → ComesOf start items (Connect (from_zero (last_of start before))) (connect_payload (last_of start before) (pos start.timeout) (session_of start before).session (session_of start before).password)
+      → IsFit (Connect (from_zero (last_of start before))) (connect_payload (last_of start before) (pos start.timeout) (session_of start before).session (session_of start before).password)
   connects since before e =
       let session = (session_of start before).session in
       let password = (session_of start before).password in (
+        start.timeout,
+        timed,
         session,
         password,
         subst (λ z. IsRecord connect_request (pos 0, (z, (pos start.timeout, (session, (Some password, false))))) (connect_payload (last_of start before) (pos start.timeout) session password)) (last_counted start before from)
@@ -90,23 +88,23 @@ module _ (start : Start) (items : List Item) (from : IsResumable start) where
   behind_one : (since : List Happening) (x : Happening) (before : Past) → past_of start items ≡ since ++ x ∷ before → past_of start items ≡ (since ++ x ∷ []) ++ before
   behind_one since x before e = e ∙ sym (append_assoc since (x ∷ []) before)
 
-  sent_comes : (since : List Happening) (past : Past) → past_of start items ≡ since ++ past → AreRanged (λ call. WasAsked call items) past → AllByRecursion (Comes start items) (requests start past)
-  sent_comes since [] e r = tt
-  sent_comes since (Began ∷ past) e r = (connects since past e, tt)
-  sent_comes since (Takes_in (Accepts welcome) ∷ past) e r =
-      all_append (Comes start items) (requests start past) (part_requests (last_of start past) (parts (lists_of past)))
-      (sent_comes (since ++ Takes_in (Accepts welcome) ∷ []) past (behind_one since (Takes_in (Accepts welcome)) past e) r.1) (parts_come start items (last_of start past) (parts (lists_of past)))
-  sent_comes since (Asked ticket call ∷ past) e r =
-      all_append (Comes start items) (requests start past) _ (sent_comes (since ++ Asked ticket call ∷ []) past (behind_one since (Asked ticket call) past e) r.1) (r.0.0, tt)
-  sent_comes since (Pinged ∷ past) e r = all_append (Comes start items) (requests start past) _ (sent_comes (since ++ Pinged ∷ []) past (behind_one since Pinged past e) r.1) (tt, tt)
-  sent_comes since (Takes_in Expiry ∷ past) e r = sent_comes (since ++ Takes_in Expiry ∷ []) past (behind_one since (Takes_in Expiry) past e) r.1
-  sent_comes since (Takes_in (Answers_call ticket question zxid result) ∷ past) e r =
-      sent_comes (since ++ Takes_in (Answers_call ticket question zxid result) ∷ []) past (behind_one since (Takes_in (Answers_call ticket question zxid result)) past e) r.1
-  sent_comes since (Takes_in (Sets_watches last zxid) ∷ past) e r = sent_comes (since ++ Takes_in (Sets_watches last zxid) ∷ []) past (behind_one since (Takes_in (Sets_watches last zxid)) past e) r.1
-  sent_comes since (Takes_in (Tells event path) ∷ past) e r = sent_comes (since ++ Takes_in (Tells event path) ∷ []) past (behind_one since (Takes_in (Tells event path)) past e) r.1
-  sent_comes since (Takes_in Echo ∷ past) e r = sent_comes (since ++ Takes_in Echo ∷ []) past (behind_one since (Takes_in Echo) past e) r.1
-  sent_comes since (Takes_in Skipped ∷ past) e r = sent_comes (since ++ Takes_in Skipped ∷ []) past (behind_one since (Takes_in Skipped) past e) r.1
-  sent_comes since (x ∷ past) e r = sent_comes (since ++ x ∷ []) past (behind_one since x past e) r.1
+  sent_fit : (since : List Happening) (past : Past) → past_of start items ≡ since ++ past → AreRanged IsPathCall past → AreRanged IsTyped past → AllByRecursion IsSentFit (requests start past)
+  sent_fit since [] e r t = tt
+  sent_fit since (Began ∷ past) e r t = (connects since past e, tt)
+  sent_fit since (Takes_in (Accepts welcome) ∷ past) e r t =
+      all_append IsSentFit (requests start past) (part_requests (last_of start past) (parts (lists_of past)))
+      (sent_fit (since ++ Takes_in (Accepts welcome) ∷ []) past (behind_one since (Takes_in (Accepts welcome)) past e) r.1 t.1) (parts_fit (last_of start past) (parts (lists_of past)) (parts_paths past r.1))
+  sent_fit since (Asked ticket call ∷ past) e r t =
+      all_append IsSentFit (requests start past) _ (sent_fit (since ++ Asked ticket call ∷ []) past (behind_one since (Asked ticket call) past e) r.1 t.1) ((t.0.0, r.0.0), tt)
+  sent_fit since (Pinged ∷ past) e r t = all_append IsSentFit (requests start past) _ (sent_fit (since ++ Pinged ∷ []) past (behind_one since Pinged past e) r.1 t.1) (tt, tt)
+  sent_fit since (Takes_in Expiry ∷ past) e r t = sent_fit (since ++ Takes_in Expiry ∷ []) past (behind_one since (Takes_in Expiry) past e) r.1 t.1
+  sent_fit since (Takes_in (Answers_call ticket question zxid result) ∷ past) e r t =
+      sent_fit (since ++ Takes_in (Answers_call ticket question zxid result) ∷ []) past (behind_one since (Takes_in (Answers_call ticket question zxid result)) past e) r.1 t.1
+  sent_fit since (Takes_in (Sets_watches last zxid) ∷ past) e r t = sent_fit (since ++ Takes_in (Sets_watches last zxid) ∷ []) past (behind_one since (Takes_in (Sets_watches last zxid)) past e) r.1 t.1
+  sent_fit since (Takes_in (Tells event path) ∷ past) e r t = sent_fit (since ++ Takes_in (Tells event path) ∷ []) past (behind_one since (Takes_in (Tells event path)) past e) r.1 t.1
+  sent_fit since (Takes_in Echo ∷ past) e r t = sent_fit (since ++ Takes_in Echo ∷ []) past (behind_one since (Takes_in Echo) past e) r.1 t.1
+  sent_fit since (Takes_in Skipped ∷ past) e r t = sent_fit (since ++ Takes_in Skipped ∷ []) past (behind_one since (Takes_in Skipped) past e) r.1 t.1
+  sent_fit since (x ∷ past) e r t = sent_fit (since ++ x ∷ []) past (behind_one since x past e) r.1 t.1
 
 -- ---- the first that is not processed
 
@@ -143,10 +141,10 @@ all_read start items view s up from typed =
     let whole : joined (payloads_of start items) ++ [] ≡ stream_of items = append-nil (joined (payloads_of start items)) ∙ ap joined f.1 ∙ sym f.2 in
     each_read start items view (payloads_of start items) [] s up from typed told whole
 
-pub first_stands : (start : Start) (entries : List Entry) (view : View) (shown : Shown) (first : Sent) (more : List Sent) → IsResumable start → AllAskOf IsTyped (items_in entries)
+pub first_stands : (start : Start) (entries : List Entry) (view : View) (shown : Shown) (first : Sent) (more : List Sent) → IsResumable start → 0 < start.timeout → AllAskOf IsTyped (items_in entries) → AllAskOf IsPathCall (items_in entries)
     → Stands start (items_in entries) view → Shows start entries shown → is_going (past_of start (items_in entries)) ≡ true → shown.phase ≡ Open
-    → unread start (past_of start (items_in entries)) (line_of shown.history entries) ≡ first ∷ more → StandsFirst start (items_in entries) first.request first.xid first.payload (framed more) shown.requests
-first_stands start entries view shown first more from typed s shows going was e =
+    → unread start (past_of start (items_in entries)) (line_of shown.history entries) ≡ first ∷ more → StandsFirst first.request first.xid first.payload (framed more) shown.requests
+first_stands start entries view shown first more from timed typed paths s shows going was e =
     let items : List Item = items_in entries in
     let past : Past = past_of start items in
     let line : Line = line_of shown.history entries in
@@ -155,8 +153,8 @@ first_stands start entries view shown first more from typed s shows going was e 
       whole = (shows.line going).waiting was ∙ ap framed e;
       small = first_told line.processed (requests start past) first more e (all_told start items from);
       read = first_read line.processed (requests start past) first more e (all_read start items view s up from typed);
-      comes = first_all (Comes start items) line.processed (requests start past) first more e
-          (sent_comes start items from [] past refl (items_ranged (λ call. WasAsked call items) start items (asked_among (λ call. WasAsked call items) items (λ call w. w))));
+      fit = first_all IsSentFit line.processed (requests start past) first more e
+          (sent_fit start items from timed [] past refl (items_ranged IsPathCall start items paths) (items_ranged IsTyped start items typed));
     }
 
 -- ---- the bytes that were sent

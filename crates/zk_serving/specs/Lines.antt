@@ -1,13 +1,20 @@
 -- What a server in memory shows, and a schedule of servers that meet a client.
-use Rattle.std.specs.Prelude.{ℕ, ℤ, pos, ◌≡◌, ◌≢◌, ◌≤◌, ◌<◌, ◌^◌, true, false, List, [], ◌∷◌, ◌++◌, length, map, Some, ⊤, ◌⊎◌}
+use Rattle.std.specs.Prelude.{ℕ, ℤ, pos, ◌≡◌, ◌≢◌, ◌≤◌, ◌<◌, ◌^◌, Bool, true, false, not, ◌&&◌, List, ◌++◌, length, map, Some, ⊤}
+use Rattle.std.specs.List.{AllByRecursion}
+use Rattle.zk_history.specs.PathFault.{IsPath}
+use Rattle.zk_watches.specs.Lists.{Lists}
+use Rattle.zk_conversation.specs.Calls as call
+use Rattle.zk_turns.specs.View.{View}
+use Rattle.zk_turns.specs.Rule.{Stands}
+use Rattle.zk_turns.specs.Ranges.{IsResumable, IsTyped, AllAskOf}
 use Rattle.zk_frames.specs.Frame.{frame, joined}
 use Rattle.zk_records.specs.Layouts.{connect_request}
 use Rattle.zk_conversation.specs.Calls.{Call}
-use Rattle.zk_turns.specs.Turns.{Start, Input, Output, Item, Turned, Call as Calling}
-use Rattle.zk_turns.specs.Kept.{Past}
+use Rattle.zk_turns.specs.Turns.{Start, Input, Output, Item, Turned}
+use Rattle.zk_turns.specs.Kept.{Past, is_open}
 use Rattle.zk_turns.specs.Taken.{past_of}
 use Rattle.zk_laws.specs.Served.{Entry, items_in, Line, line_of, is_going, unread, requests, IsServing}
-use Rattle.zk_laws.specs.Messages.{Request, Connect, Ask}
+use Rattle.zk_laws.specs.Messages.{Request, Connect, Restore, Ask, Ping}
 use Rattle.zk_laws.specs.Parsed.{AreTold, IsRecord, IsReadAs, stream_of}
 use Rattle.zk_serving.specs.Shown.{Shown, Apart, Open}
 
@@ -36,28 +43,34 @@ pub record IsServedBy (start : Start) (items : List Item) (shown : Shown) : Type
 abbrev pub item_of : Input → List Output → Item
 item_of input outputs = Turned (record { input = input; outputs = outputs })
 
--- a caller asked this
-abbrev pub Asks : Call → Input → Type 0
-Asks call (Calling ticket asked) = asked ≡ call
-Asks call _ = ⊥
+-- what a caller asks is about a path
+abbrev pub IsPathCall : Call → Type 0
+IsPathCall (call.Exists path watch) = IsPath path
+IsPathCall (call.GetData path watch) = IsPath path
+IsPathCall (call.GetChildren path watch) = IsPath path
+IsPathCall (call.SetData path content version) = IsPath path
+IsPathCall (call.Create path content mode) = IsPath path
+IsPathCall (call.Delete path version) = IsPath path
+IsPathCall call.Close = ⊤
 
-abbrev pub WasAsked : Call → List Item → Type 0
-WasAsked call [] = ⊥
-WasAsked call (Turned turn ∷ items) = Asks call turn.input ⊎ WasAsked call items
-WasAsked call (_ ∷ items) = WasAsked call items
+-- the texts of a part are paths
+abbrev pub HasPaths : Lists → Type 0
+HasPaths part = AllByRecursion IsPath part.data_watches × AllByRecursion IsPath part.exist_watches × AllByRecursion IsPath part.child_watches
 
--- Where a request comes from: a caller asked the call; and a client that comes asks for its timeout.
-abbrev pub ComesOf : Start → List Item → Request → List ℕ → Type 0
-ComesOf start items (Connect seen) payload = (session : ℤ) × (password : List ℕ) × IsRecord connect_request (pos 0, (pos seen, (pos start.timeout, (session, (Some password, false))))) payload
-ComesOf start items (Ask call) payload = WasAsked call items
-ComesOf start items _ payload = ⊤
+-- What is known of a request beside its reading, where callers ask about paths with values of their types: a client that comes asks
+-- for a timeout above 0.
+abbrev pub IsFit : Request → List ℕ → Type 0
+IsFit (Connect seen) payload = (timeout : ℕ) × (0 < timeout) × (session : ℤ) × (password : List ℕ) × IsRecord connect_request (pos 0, (pos seen, (pos timeout, (session, (Some password, false))))) payload
+IsFit (Restore is_last relative part) payload = HasPaths part
+IsFit (Ask asked) payload = IsTyped asked × IsPathCall asked
+IsFit Ping payload = ⊤
 
 -- In front of some bytes stands the frame of a payload that is read as this request, with this xid.
-pub record StandsFirst (start : Start) (items : List Item) (request : Request) (xid : ℤ) (payload rest bytes : List ℕ) : Type 0 where
+pub record StandsFirst (request : Request) (xid : ℤ) (payload rest bytes : List ℕ) : Type 0 where
   pub whole : bytes ≡ frame payload ++ rest
   pub small : length payload < 2 ^ 31
   pub read : IsReadAs request xid payload
-  pub comes : ComesOf start items request payload
+  pub fit : IsFit request payload
 
 -- The bytes that a connection was sent are the frames of what was processed, so many, and then those that wait.
 pub record IsCutAt (items : List Item) (processed : ℕ) (waiting : List ℕ) : Type 0 where
@@ -65,3 +78,18 @@ pub record IsCutAt (items : List Item) (processed : ℕ) (waiting : List ℕ) : 
   pub told : AreTold found
   pub count : length found ≡ processed
   pub stream : joined found ++ waiting ≡ stream_of items
+
+-- A client with this view has gone through some items, from some start on, in range, and was served by the servers in memory.
+pub record WasServed (view : View) (shown : Shown) : Type 0 where
+  pub start : Start
+  pub items : List Item
+  pub resumable : IsResumable start
+  pub timed : 0 < start.timeout
+  pub typed : AllAskOf IsTyped items
+  pub paths : AllAskOf IsPathCall items
+  pub stands : Stands start items view
+  pub served : IsServedBy start items shown
+
+-- the client has a connection
+abbrev pub is_up : View → Bool
+is_up view = is_open view.standing.state && not view.standing.halted

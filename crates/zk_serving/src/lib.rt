@@ -26,7 +26,7 @@ ghost use Rattle.zk_laws.specs.GoingOn.{GoesOn};
 ghost use Rattle.zk_laws.specs.Served.{ArePayloads, is_going, items_in, IsServing, Served};
 ghost use Rattle.zk_serving.specs.Steps.{Step, used_by, Moves, ended_by, sent_by, processed_by};
 ghost use Rattle.zk_serving.specs.Shown.{Shown, Apart, Open, Over, AllTaken, connected, with_output, Hears, Takes, Processes};
-ghost use Rattle.zk_serving.specs.Lines.{IsServedBy, StandsFirst, IsCutAt, item_of};
+ghost use Rattle.zk_serving.specs.Lines.{IsServedBy, IsPathCall, StandsFirst, IsCutAt, item_of};
 
 /// Steps may be taken behind others: then they end where the later ones do, and send and process what both do.
 #[tactic(auto, using(crate::proofs::Stepping::moves_more, crate::proofs::Stepping::ended_more, crate::proofs::Stepping::sent_more, crate::proofs::Stepping::processed_more))]
@@ -110,9 +110,9 @@ pub fn client_goes_on()
 /// asked; and where the client has no connection, or the server has ended it and sends nothing, the history may go on.
 pub fn servers_go_on()
     ensures takes { (start : Start) (items : List Client_item) (steps : List Step) (old new : Shown) → IsServedBy start items old → is_going (past_of start items) ≡ true → old.phase ≡ Open → Takes steps old new → IsServedBy start items new }
-    ensures processes { (start : Start) (items : List Client_item) (view : View) (old new : Shown) → IsServedBy start items old → IsResumable start → AllAskOf IsTyped items → Stands start items view
+    ensures processes { (start : Start) (items : List Client_item) (view : View) (old new : Shown) → IsServedBy start items old → IsResumable start → 0 < start.timeout → AllAskOf IsTyped items → AllAskOf IsPathCall items → Stands start items view
         → is_going (past_of start items) ≡ true → old.phase ≡ Open → old.requests ≢ []
-        → ((request : Request) (xid : ℤ) (payload rest : List ℕ) → StandsFirst start items request xid payload rest old.requests → (steps : List Step) × Processes request xid payload steps old new)
+        → ((request : Request) (xid : ℤ) (payload rest : List ℕ) → StandsFirst request xid payload rest old.requests → (steps : List Step) × Processes request xid payload steps old new)
         → IsServedBy start items new }
     ensures rests { (start : Start) (items : List Client_item) (old new : Shown) → IsServedBy start items old → GoesOn old.history new.history
         → (is_going (past_of start items) ≡ true → (new.phase ≡ Over) × (new.output ≡ old.output)) → IsServedBy start items new }
@@ -132,9 +132,9 @@ pub fn first_frame()
 /// processed.
 pub fn what_waits()
     ensures there { (start : Start) (items : List Client_item) (shown : Shown) → IsServedBy start items shown → is_going (past_of start items) ≡ true → shown.phase ≢ Apart }
-    ensures first { (start : Start) (items : List Client_item) (view : View) (shown : Shown) → IsServedBy start items shown → IsResumable start → AllAskOf IsTyped items → Stands start items view
+    ensures first { (start : Start) (items : List Client_item) (view : View) (shown : Shown) → IsServedBy start items shown → IsResumable start → 0 < start.timeout → AllAskOf IsTyped items → AllAskOf IsPathCall items → Stands start items view
         → is_going (past_of start items) ≡ true → shown.phase ≡ Open
-        → (shown.requests ≡ []) ⊎ ((request : Request) × (xid : ℤ) × (payload : List ℕ) × (rest : List ℕ) × StandsFirst start items request xid payload rest shown.requests) }
+        → (shown.requests ≡ []) ⊎ ((request : Request) × (xid : ℤ) × (payload : List ℕ) × (rest : List ℕ) × StandsFirst request xid payload rest shown.requests) }
     ensures cut { (start : Start) (items : List Client_item) (view : View) (shown : Shown) → IsServedBy start items shown → IsResumable start → Stands start items view
         → is_going (past_of start items) ≡ true → shown.phase ≡ Open → (processed : ℕ) × IsCutAt items processed shown.requests }
 {}
