@@ -6,3 +6,4 @@ pub mod Waiting
 pub mod Entries
 pub mod Fronts
 pub mod Longer_shown
+pub mod Views

@@ -16,7 +16,7 @@ ghost use Rattle.zk_laws.specs.Example.{at_a, fields_at_five};
 ghost use Rattle.zk_laws.specs.Meeting_example.{new_client};
 ghost use Rattle.zk_serving.specs.Longer_example.{three_changes, until_told, until_written, until_expired};
 ghost use Rattle.zk_turns.specs.Taken.{past_of};
-ghost use Rattle.zk_turns.specs.Rule.{Stands};
+ghost use Rattle.zk_turns.specs.Rule.{Rule, Stands};
 ghost use Rattle.zk_turns.specs.Ranges.{IsResumable, IsTyped, AllAskOf};
 ghost use Rattle.zk_laws.specs.Messages.{Request};
 ghost use Rattle.zk_laws.specs.ServerSteps.{ServerEnd, MayDo, messages_by, end_after};
@@ -26,7 +26,7 @@ ghost use Rattle.zk_laws.specs.GoingOn.{GoesOn};
 ghost use Rattle.zk_laws.specs.Served.{ArePayloads, is_going, items_in, IsServing, Served};
 ghost use Rattle.zk_serving.specs.Steps.{Step, used_by, Moves, ended_by, sent_by, processed_by};
 ghost use Rattle.zk_serving.specs.Shown.{Shown, Apart, Open, Over, AllTaken, connected, with_output, Hears, Takes, Processes};
-ghost use Rattle.zk_serving.specs.Lines.{IsServedBy, IsPathCall, StandsFirst, IsCutAt, item_of};
+ghost use Rattle.zk_serving.specs.Lines.{IsServedBy, IsPathCall, StandsFirst, IsCutAt, WasServed, item_of, is_up};
 
 /// Steps may be taken behind others: then they end where the later ones do, and send and process what both do.
 #[tactic(auto, using(crate::proofs::Stepping::moves_more, crate::proofs::Stepping::ended_more, crate::proofs::Stepping::sent_more, crate::proofs::Stepping::processed_more))]
@@ -137,6 +137,30 @@ pub fn what_waits()
         → (shown.requests ≡ []) ⊎ ((request : Request) × (xid : ℤ) × (payload : List ℕ) × (rest : List ℕ) × StandsFirst request xid payload rest shown.requests) }
     ensures cut { (start : Start) (items : List Client_item) (view : View) (shown : Shown) → IsServedBy start items shown → IsResumable start → Stands start items view
         → is_going (past_of start items) ≡ true → shown.phase ≡ Open → (processed : ℕ) × IsCutAt items processed shown.requests }
+{}
+
+/// The same by the view of the client alone: one that begins in range, with a timeout above 0, was served; so it is behind each
+/// turn by the rule, where callers ask about paths with values of their types; and what the servers do keeps it so. Then its good
+/// answers are those of the history at its last seen zxid.
+pub fn sessions()
+    ensures begins { (start : Start) (view : View) (shown : Shown) → IsResumable start → 0 < start.timeout → Stands start [] view → WasServed view shown }
+    ensures opened { (view after : View) (place : ℕ) (outputs : List Output) (old new : Shown) → WasServed view old → Rule view (record { input = Opening; outputs = outputs }) after
+        → place ≤ length_of old.history.transactions → Hears outputs (connected place old) new → WasServed after new }
+    ensures received { (view after : View) (bytes rest : List ℕ) (outputs : List Output) (old new : Shown) → WasServed view old → Rule view (record { input = Bytes bytes; outputs = outputs }) after
+        → old.output ≡ bytes ++ rest → Hears outputs (with_output rest old) new → WasServed after new }
+    ensures cut { (view after : View) (outputs : List Output) (old new : Shown) → WasServed view old → Rule view (record { input = Cut; outputs = outputs }) after → new.history ≡ old.history → WasServed after new }
+    ensures told { (view after : View) (moment : ℕ) (outputs : List Output) (old new : Shown) → WasServed view old → Rule view (record { input = Now moment; outputs = outputs }) after → Hears outputs old new → WasServed after new }
+    ensures asked { (view after : View) (ticket : ℕ) (call : Call) (outputs : List Output) (old new : Shown) → WasServed view old → IsTyped call → IsPathCall call
+        → Rule view (record { input = Calling ticket call; outputs = outputs }) after → Hears outputs old new → WasServed after new }
+    ensures forgets { (view after : View) (shown : Shown) → WasServed view shown → ((start : Start) (items : List Client_item) → Stands start items view → Stands start (Forgets ∷ items) after) → WasServed after shown }
+    ensures there { (view : View) (shown : Shown) → WasServed view shown → is_up view ≡ true → shown.phase ≢ Apart }
+    ensures takes { (view : View) (steps : List Step) (old new : Shown) → WasServed view old → is_up view ≡ true → old.phase ≡ Open → Takes steps old new → WasServed view new }
+    ensures waits { (view : View) (shown : Shown) → WasServed view shown → is_up view ≡ true → shown.phase ≡ Open
+        → (shown.requests ≡ []) ⊎ ((request : Request) × (xid : ℤ) × (payload : List ℕ) × (rest : List ℕ) × StandsFirst request xid payload rest shown.requests) }
+    ensures processes { (view : View) (old new : Shown) → WasServed view old → is_up view ≡ true → old.phase ≡ Open → old.requests ≢ []
+        → ((request : Request) (xid : ℤ) (payload rest : List ℕ) → StandsFirst request xid payload rest old.requests → (steps : List Step) × Processes request xid payload steps old new) → WasServed view new }
+    ensures rests { (view : View) (old new : Shown) → WasServed view old → GoesOn old.history new.history → (is_up view ≡ true → (new.phase ≡ Over) × (new.output ≡ old.output)) → WasServed view new }
+    ensures good { (view : View) (shown : Shown) → IsHistory shown.history → WasServed view shown → IsCoherentWith shown.history view }
 {}
 
 /// The premises can be met by a schedule in bytes with three connections to three servers: one that is cut in the middle of a
