@@ -23,3 +23,4 @@ pub mod Resumed
 pub mod Outputs
 pub mod Ordering
 pub mod Reading_trees
+pub mod GoingOn

@@ -13,3 +13,4 @@ pub mod Parsed
 pub mod Headline
 pub mod Meeting_example
 pub mod Flight
+pub mod GoingOn

@@ -1,0 +1,9 @@
+pub mod Stepping
+pub mod Later
+pub mod Turning
+pub mod Keeping
+pub mod Waiting
+pub mod Entries
+pub mod Fronts
+pub mod Longer_shown
+pub mod Views

@@ -1,0 +1,30 @@
+use Rattle.zk_laws.proofs.Meeting_shown.{resumable_then}
+use Rattle.zk_serving.proofs.Longer_shown.{three_history, expired_then, long_stands, long_typed, stale_then, quiet_then, seven_then, over_then}
+use Rattle.zk_serving.proofs.longer_schedule.Goals as goal
+
+pub returns-clause-history : goal.returns-clause-history
+returns-clause-history c = three_history
+
+pub returns-clause-serving : goal.returns-clause-serving
+returns-clause-serving c = expired_then
+
+pub returns-clause-stands : goal.returns-clause-stands
+returns-clause-stands c = long_stands
+
+pub returns-clause-resumable : goal.returns-clause-resumable
+returns-clause-resumable c = resumable_then
+
+pub returns-clause-typed : goal.returns-clause-typed
+returns-clause-typed c = long_typed
+
+pub returns-clause-stale : goal.returns-clause-stale
+returns-clause-stale c = stale_then
+
+pub returns-clause-quiet : goal.returns-clause-quiet
+returns-clause-quiet c = quiet_then
+
+pub returns-clause-written : goal.returns-clause-written
+returns-clause-written c = seven_then
+
+pub returns-clause-expired : goal.returns-clause-expired
+returns-clause-expired c = over_then

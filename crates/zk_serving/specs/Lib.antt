@@ -1,0 +1,4 @@
+pub mod Steps
+pub mod Shown
+pub mod Lines
+pub mod Longer_example
