@@ -1,6 +1,10 @@
 //! How far each server is in the history.
 
-ghost use Rattle.std.specs.Prelude.{◌≡◌, ◌<◌, ◌^◌, IfSome, is_some, slice_get};
+ghost use Rattle.std.specs.Prelude.{◌≡◌, ◌<◌, ◌≤◌, ◌^◌, IfSome, is_some, slice_get, map, length, pos};
+ghost use Rattle.zk_history.specs.Kept.{history_of};
+ghost use Rattle.zk_history.specs.Made.{change_of};
+ghost use Rattle.zk_laws.specs.Server.{zxid_held};
+ghost use Rattle.zk_laws.specs.ServerSteps.{changes_next};
 
 use crate::connection::Connection;
 use crate::notices::tell_changes;
@@ -9,10 +13,14 @@ use std::alloc::Allocator;
 use zk_history::{Change, History};
 
 /// The zxid of a server that has taken so many transactions: that of the last of them, and 0 before the first.
-pub(crate) fn zxid_after<A: Allocator + Copy>(history: &History<A>, taken: usize) -> i64 {
+pub(crate) fn zxid_after<A: Allocator + Copy>(history: &History<A>, taken: usize) -> i64
+    ensures { taken ≤ length history.now.transactions → result ≡ pos (zxid_held (history_of history.now) taken) }
+{
     if taken == 0 {
         return 0;
     }
+    // Zxids rise from 1 on.
+    let _last = history.last_zxid();
     match history.transaction(taken - 1) {
         Some((zxid, _, _)) => zxid,
         None => 0,
@@ -25,6 +33,8 @@ pub(crate) fn next_changes<A: Allocator + Copy>(
     taken: usize,
 ) -> Option<&[Change<A>]>
     ensures there { is_some result ≡ is_some (slice_get history.now.transactions taken) }
+    ensures changes { IfSome result (λ changes. changes_next (history_of history.now) taken ≡ map change_of changes.now) }
+    ensures room { IfSome result (λ _. taken < length history.now.transactions) }
     // Zxids rise, so there are fewer transactions than zxids.
     ensures small { IfSome result (λ _. taken < 2 ^ 63) }
 {
