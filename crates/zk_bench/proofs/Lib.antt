@@ -4,3 +4,4 @@ pub mod Placed
 pub mod Answered
 pub mod Admitted
 pub mod Restored
+pub mod Stepped

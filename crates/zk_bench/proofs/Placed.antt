@@ -50,6 +50,12 @@ is_room [] n t is = absurd (none-some t is)
 is_room (one ∷ more) zero t is = omega arith
 is_room (one ∷ more) (suc n) t is = let r = is_room more n t is in omega (arith, r)
 
+-- where none is there, there are no more
+pub no_room : (ts : List Transaction) (n : ℕ) → slice_get ts n ≡ None → length ts ≤ n
+no_room [] n is = omega arith
+no_room (one ∷ more) zero is = absurd cc
+no_room (one ∷ more) (suc n) is = let r = no_room more n is in omega (arith, r)
+
 -- its changes are the next ones
 pub next_are : (h : History) (n : ℕ) (t : Transaction) → slice_get h.transactions n ≡ Some t → changes_next h n ≡ t.changes
 next_are h n t is = ap (λ (o : Option Transaction). elim o [ None ↦ [] | Some one ↦ one.changes ]) is

@@ -6,3 +6,4 @@ pub mod Refusals
 pub mod Serving
 pub mod Answering
 pub mod Restoring
+pub mod Stepping
