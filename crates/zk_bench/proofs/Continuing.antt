@@ -1,5 +1,5 @@
 -- How a history goes on.
-use Rattle.std.proofs.Common.{◌≡◌, ◌<◌, ◌+◌, ◌^◌, ℕ, zero, suc, ℤ, List, [], ◌∷◌, ◌++◌, Option, Some, None, refl, sym, ap, subst, ◌∙◌, arith}
+use Rattle.std.proofs.Common.{◌≡◌, ◌<◌, ◌+◌, ◌^◌, ℕ, zero, suc, ℤ, List, [], ◌∷◌, ◌++◌, Option, Some, refl, sym, ap, subst, ◌∙◌, arith}
 use Rattle.std.specs.Prelude.{unwrap_or, slice_get}
 use Rattle.std.proofs.lemmas.List.{append-nil}
 use Rattle.std.proofs.lemmas.Option.{none-some}
@@ -40,7 +40,7 @@ changed_goes_on old mid new zxid time c begun changed =
     }
 
 -- The n-th of rising transactions has a zxid above n more than the bound.
-above : (ts : List Transaction) (low n : ℕ) (t : Transaction) → AreRising low ts → slice_get ts n ≡ Some t → (low + n < t.zxid) × (t.zxid < 2 ^ 63)
+pub above : (ts : List Transaction) (low n : ℕ) (t : Transaction) → AreRising low ts → slice_get ts n ≡ Some t → (low + n < t.zxid) × (t.zxid < 2 ^ 63)
 above [] low n t rising is = absurd (none-some t is)
 above (one ∷ more) low zero t rising is =
     let e : one ≡ t = ap (λ (o : Option Transaction). unwrap_or o one) is in

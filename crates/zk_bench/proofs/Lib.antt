@@ -1,1 +1,7 @@
 pub mod Continuing
+pub mod Watched
+pub mod Placed
+pub mod Answered
+pub mod Admitted
+pub mod Restored
+pub mod Stepped

@@ -3,3 +3,7 @@ pub mod Linked
 pub mod Front
 pub mod Watching
 pub mod Refusals
+pub mod Serving
+pub mod Answering
+pub mod Restoring
+pub mod Stepping

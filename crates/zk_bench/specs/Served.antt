@@ -1,5 +1,5 @@
 -- What there is to see of a bench: servers over one history, and the connection to one of them.
-use Rattle.std.specs.Prelude.{ℕ, zero, suc, ◌+◌, ◌≡◌, Bool, true, false, List, [], ◌∷◌, ◌++◌, drop, length, slice_index, slice_set, Option, None, Some, slice_get}
+use Rattle.std.specs.Prelude.{ℕ, ◌+◌, ◌≡◌, Bool, true, false, List, [], ◌∷◌, ◌++◌, drop, slice_index, slice_set, Option, None, Some, slice_get}
 use Rattle.zk_history.specs.Kept.{Kept}
 use Rattle.zk_history.specs.History.{Text, Transaction}
 use Rattle.zk_bench.specs.declared.phase.Phase.{Phase}

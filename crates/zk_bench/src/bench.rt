@@ -8,13 +8,13 @@ ghost use Rattle.zk_bench.specs.Front.{IsShort, IsWhole};
 ghost use Rattle.zk_bench.specs.Served.{started, linked, connected, disconnected, ended, is_open, advanced, with_requests, without_output, Continues};
 
 use crate::connection::Connection;
-use crate::connects::{accepted, expired};
+use crate::connects::{send_accepted, send_expired};
 use crate::frames::{Front, first_frame, remove_front};
 use crate::notices::tell_accepted;
 use crate::payloads::{first_request, next_request};
 use crate::phase::Phase;
 use crate::reads::read;
-use crate::replies::{send_header, send_response, send_result};
+use crate::replies::{send_header, send_result};
 use crate::servers::{next_changes, take_all, zxid_after};
 use crate::stop::{Refusal, Stop};
 use crate::tree::{Tree, text_of};
@@ -24,8 +24,8 @@ use std::marker::Model;
 use zk_history::{Change, History};
 use zk_jute::{Buffer, TextRef};
 use zk_records::{
-    Code, ConnectRequest, ConnectResponse, CreateRef, CreateRequest, DeleteRequest, ReplyHeader,
-    Request, SetDataRequest,
+    Code, ConnectRequest, CreateRef, CreateRequest, DeleteRequest, ReplyHeader, Request,
+    SetDataRequest,
 };
 
 // The xid of the answer to a ping.
@@ -289,23 +289,14 @@ impl<A: Allocator + Copy> Bench<A> {
         if self.zxid() < request.last_zxid_seen {
             return Err(Stop::End);
         }
-        let response = self.first_answer(request.time_out)?;
-        send_response(self.alloc, response, &mut self.connection.output)?;
-        self.connection.phase = if self.expired {
-            Phase::Ended
-        } else {
-            Phase::Accepted
-        };
-        Ok(())
-    }
-
-    // What a client is answered that asks for this timeout.
-    fn first_answer(&self, time_out: i32) -> Result<ConnectResponse<A>, AllocError> {
         if self.expired {
-            expired(self.alloc)
+            send_expired(self.alloc, &mut self.connection.output)?;
+            self.connection.phase = Phase::Ended;
         } else {
-            accepted(self.alloc, time_out)
+            send_accepted(self.alloc, request.time_out, &mut self.connection.output)?;
+            self.connection.phase = Phase::Accepted;
         }
+        Ok(())
     }
 
     // Answers a request with its result, or says why it has none.

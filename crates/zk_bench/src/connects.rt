@@ -1,5 +1,12 @@
 //! The first request of a connection.
 
+ghost use Rattle.std.specs.Prelude.{◌≡◌, pos, true, int_lt, None, IfOk, OnOk, IsErrOf};
+ghost use Rattle.zk_laws.specs.Messages.{Accepted, Expired};
+ghost use Rattle.zk_bench.specs.Serving.{SendsMessage};
+ghost use Rattle.zk_bench.specs.declared.stop.Stop.TheVariants as stops;
+
+use crate::replies::send_response;
+use crate::stop::Stop;
 use std::alloc::{AllocError, Allocator};
 use zk_jute::Buffer;
 use zk_records::ConnectResponse;
@@ -8,16 +15,41 @@ use zk_records::ConnectResponse;
 const SESSION: i64 = 1;
 
 /// The answer to a client that is accepted: session 1 with the timeout that was asked for, and sixteen bytes 01.
-pub(crate) fn accepted<A: Allocator>(
-    alloc: A,
-    time_out: i32,
-) -> Result<ConnectResponse<A>, AllocError> {
+fn accepted<A: Allocator>(alloc: A, time_out: i32) -> Result<ConnectResponse<A>, AllocError>
+    ensures { IfOk result (λ response. (response.time_out ≡ time_out) × (response.read_only ≡ None)) }
+{
     response(alloc, time_out, SESSION, 1)
 }
 
 /// The answer to a client whose session has expired: timeout 0, session 0 and sixteen zero bytes.
-pub(crate) fn expired<A: Allocator>(alloc: A) -> Result<ConnectResponse<A>, AllocError> {
+fn expired<A: Allocator>(alloc: A) -> Result<ConnectResponse<A>, AllocError>
+    ensures { IfOk result (λ response. (response.time_out ≡ pos 0) × (response.read_only ≡ None)) }
+{
     response(alloc, 0, 0, 0)
+}
+
+/// Sends the answer to a client that is accepted.
+pub(crate) fn send_accepted<A: Allocator + Copy>(
+    alloc: A,
+    time_out: i32,
+    out: &mut Vec<u8, A>,
+) -> Result<(), Stop>
+    ensures sends { int_lt (pos 0) time_out ≡ true → OnOk result (SendsMessage Accepted out.old.items out.new.items) }
+    ensures ended { IsErrOf result stops.End → out.new.items ≡ out.old.items }
+{
+    let response = accepted(alloc, time_out)?;
+    send_response(alloc, response, out)?;
+    Ok(())
+}
+
+/// Sends the answer to a client whose session has expired.
+pub(crate) fn send_expired<A: Allocator + Copy>(alloc: A, out: &mut Vec<u8, A>) -> Result<(), Stop>
+    ensures sends { OnOk result (SendsMessage Expired out.old.items out.new.items) }
+    ensures ended { IsErrOf result stops.End → out.new.items ≡ out.old.items }
+{
+    let response = expired(alloc)?;
+    send_response(alloc, response, out)?;
+    Ok(())
 }
 
 // It has no readOnly byte.
@@ -26,7 +58,9 @@ fn response<A: Allocator>(
     time_out: i32,
     session_id: i64,
     byte: u8,
-) -> Result<ConnectResponse<A>, AllocError> {
+) -> Result<ConnectResponse<A>, AllocError>
+    ensures { IfOk result (λ response. (response.time_out ≡ time_out) × (response.read_only ≡ None)) }
+{
     let passwd = Vec::from_slice(alloc, &[byte; 16])?;
     Ok(ConnectResponse {
         protocol_version: 0,

@@ -1,8 +1,9 @@
 //! Frames: a payload behind its length, which `byteorder` reads and writes.
 
-ghost use Rattle.std.specs.Prelude.{◌≡◌, ◌≤◌, drop, vec_len, ◌-◌, OnOk, ◌++◌};
+ghost use Rattle.std.specs.Prelude.{◌≡◌, ◌≤◌, ◌<◌, ◌^◌, drop, take as first, length as bytes_of, vec_len, ◌-◌, OnOk, IsErrOf, ◌++◌};
 ghost use Rattle.zk_frames.specs.Frame.{frame};
 ghost use Rattle.zk_bench.specs.Front.{IsFront};
+ghost use Rattle.zk_bench.specs.declared.stop.Stop.TheVariants as stops;
 
 use crate::stop::Stop;
 use byteorder::{BigEndian, ByteOrder};
@@ -39,7 +40,10 @@ pub(crate) fn first_frame(bytes: &[u8]) -> Front
 
 /// Appends the frame of a payload. One of more than 2,147,483,647 bytes has no length, so the connection ends.
 pub(crate) fn push_frame<A: Allocator>(payload: &[u8], out: &mut Vec<u8, A>) -> Result<(), Stop>
-    ensures { OnOk result (out.new.items ≡ out.old.items ++ frame payload.now) }
+    ensures ok { OnOk result (out.new.items ≡ out.old.items ++ frame payload.now) }
+    ensures small { OnOk result (bytes_of payload.now < 2 ^ 31) }
+    ensures ended { IsErrOf result stops.End → out.new.items ≡ out.old.items }
+    ensures begun { first (bytes_of out.old.items) out.new.items ≡ out.old.items }
 {
     if payload.len() > i32::MAX as usize {
         return Err(Stop::End);

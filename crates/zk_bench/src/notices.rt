@@ -1,6 +1,11 @@
 //! What a transaction tells the connection that watches.
 
-ghost use Rattle.std.specs.Prelude.{◌≡◌};
+ghost use Rattle.std.specs.Prelude.{◌≡◌, ◌≢◌, OnOk, OnErr, map, take as first, length as bytes_of};
+ghost use Rattle.zk_history.specs.History.{path_of, IsPathText};
+ghost use Rattle.zk_history.specs.Made.{change_of};
+ghost use Rattle.zk_laws.specs.Server.{fires, leaves_set, fires_all, leaves_set_all};
+ghost use Rattle.zk_bench.specs.declared.phase.Phase.TheVariants.{Accepted};
+ghost use Rattle.zk_bench.specs.Serving.{watched, fires_at, leaves_at, Tells};
 
 use crate::connection::Connection;
 use crate::phase::Phase;
@@ -17,7 +22,11 @@ fn tell<A: Allocator + Copy>(
     path: &str,
     connection: &mut Connection<A>,
 ) -> Result<(), Stop>
-    ensures { connection.new.requests ≡ connection.old.requests }
+    requires { IsPathText path.now }
+    ensures rest { connection.new ≡ record connection.old { watches = connection.new.watches; output = connection.new.output } }
+    ensures left { watched connection.new.watches ≡ leaves_at event (path_of path.now) (watched connection.old.watches) }
+    ensures tells { OnOk result (Tells (fires_at event (path_of path.now) (watched connection.old.watches)) connection.old.output.items connection.new.output.items) }
+    ensures begun { first (bytes_of connection.old.output.items) connection.new.output.items ≡ connection.old.output.items }
 {
     if connection.watches.fire(event, path) {
         send_notice(alloc, event, path, &mut connection.output)?;
@@ -31,32 +40,62 @@ fn tell_change<A: Allocator + Copy>(
     change: &Change<A>,
     connection: &mut Connection<A>,
 ) -> Result<(), Stop>
-    ensures { connection.new.requests ≡ connection.old.requests }
+    ensures rest { connection.new ≡ record connection.old { watches = connection.new.watches; output = connection.new.output } }
+    ensures left { OnOk result (watched connection.new.watches ≡ leaves_set (change_of change.now) (watched connection.old.watches)) }
+    ensures tells { OnOk result (Tells (fires (change_of change.now) (watched connection.old.watches)) connection.old.output.items connection.new.output.items) }
+    ensures begun { first (bytes_of connection.old.output.items) connection.new.output.items ≡ connection.old.output.items }
 {
     let (event, path) = match change {
-        Change::Set(path, _) => return tell(alloc, Event::DataChanged, path.as_str(), connection),
+        Change::Set(path, _) => {
+            tell(alloc, Event::DataChanged, path.as_str(), connection)?;
+            return Ok(());
+        }
         Change::Create(path, _, _) => (Event::Created, path),
         Change::Delete(path) => (Event::Deleted, path),
     };
+    // The root is neither made nor deleted.
+    let Some(parent) = path.parent() else {
+        return Ok(());
+    };
     tell(alloc, event, path.as_str(), connection)?;
-    match path.parent() {
-        Some(parent) => tell(alloc, Event::ChildrenChanged, parent, connection),
-        None => Ok(()),
-    }
+    tell(alloc, Event::ChildrenChanged, parent, connection)?;
+    Ok(())
 }
 
-/// Sends the notices of a transaction's changes, in their order.
-pub(crate) fn tell_changes<A: Allocator + Copy>(
+// Sends the notices of changes, in their order.
+fn tell_each<A: Allocator + Copy>(
     alloc: A,
     changes: &[Change<A>],
     connection: &mut Connection<A>,
 ) -> Result<(), Stop>
-    ensures { connection.new.requests ≡ connection.old.requests }
+    ensures rest { connection.new ≡ record connection.old { watches = connection.new.watches; output = connection.new.output } }
+    ensures left { OnOk result (watched connection.new.watches ≡ leaves_set_all (map change_of changes.now) (watched connection.old.watches)) }
+    ensures tells { OnOk result (Tells (fires_all (map change_of changes.now) (watched connection.old.watches)) connection.old.output.items connection.new.output.items) }
+    ensures begun { first (bytes_of connection.old.output.items) connection.new.output.items ≡ connection.old.output.items }
 {
     for change in changes {
         tell_change(alloc, change, connection)?;
     }
     Ok(())
+}
+
+/// Sends the notices of a transaction's changes, in their order: all of them, or with an error none.
+pub(crate) fn tell_changes<A: Allocator + Copy>(
+    alloc: A,
+    changes: &[Change<A>],
+    connection: &mut Connection<A>,
+) -> Result<(), Stop>
+    ensures rest { connection.new ≡ record connection.old { watches = connection.new.watches; output = connection.new.output } }
+    ensures left { OnOk result (watched connection.new.watches ≡ leaves_set_all (map change_of changes.now) (watched connection.old.watches)) }
+    ensures tells { OnOk result (Tells (fires_all (map change_of changes.now) (watched connection.old.watches)) connection.old.output.items connection.new.output.items) }
+    ensures err { OnErr result (connection.new.output.items ≡ connection.old.output.items) }
+{
+    let start = connection.output.len();
+    let outcome = tell_each(alloc, changes, connection);
+    if outcome.is_err() {
+        connection.output.truncate(start);
+    }
+    outcome
 }
 
 /// The same for a connection whose client may not have been accepted: then nothing is sent.
@@ -65,7 +104,11 @@ pub(crate) fn tell_accepted<A: Allocator + Copy>(
     changes: &[Change<A>],
     connection: &mut Connection<A>,
 ) -> Result<(), Stop>
-    ensures { connection.new.requests ≡ connection.old.requests }
+    ensures rest { connection.new ≡ record connection.old { watches = connection.new.watches; output = connection.new.output } }
+    ensures left { connection.old.phase ≡ Accepted → OnOk result (watched connection.new.watches ≡ leaves_set_all (map change_of changes.now) (watched connection.old.watches)) }
+    ensures tells { connection.old.phase ≡ Accepted → OnOk result (Tells (fires_all (map change_of changes.now) (watched connection.old.watches)) connection.old.output.items connection.new.output.items) }
+    ensures idle { connection.old.phase ≢ Accepted → connection.new ≡ connection.old }
+    ensures err { OnErr result (connection.new.output.items ≡ connection.old.output.items) }
 {
     if connection.phase == Phase::Accepted {
         tell_changes(alloc, changes, connection)?;

@@ -3,14 +3,24 @@
 //! exists leaves a data watch whether a node is there or not; getData a data watch, and getChildren a child watch, where
 //! one is there (Programmer's Guide, "ZooKeeper Watches").
 
-ghost use Rattle.std.specs.Prelude.{◌≡◌};
+ghost use Rattle.std.specs.Prelude.{◌≡◌, ℕ, pos, Some, None, cond, map, OnOk, IfOk, IfErr, string_bytes};
+ghost use Rattle.std.specs.Option.{option_map};
+ghost use Rattle.std.specs.FinSet as set;
+ghost use Rattle.zk_jute.specs.Lenient.{or_empty};
+ghost use Rattle.zk_history.specs.History.{Text as Bytes, tree_at, path_of};
+ghost use Rattle.zk_history.specs.Kept.{history_of, natural};
+ghost use Rattle.zk_history.specs.NamesKept.{names_of};
+ghost use Rattle.zk_history.specs.PathFault.{IsPath};
+ghost use Rattle.zk_history.specs.Shown.{IsStat};
+ghost use Rattle.zk_conversation.specs.Calls.{Exists, GetData, GetChildren};
+ghost use Rattle.zk_bench.specs.Answering.{AnswersRead, RefusesRead, MissesNode, ListsChildren, FindsNoNode};
 
 use crate::connection::Connection;
 use crate::replies::send_result;
 use crate::rewatch::set_watches;
 use crate::stop::Refusal;
 use crate::tree::{Tree, text_of};
-use crate::watches::add_watch;
+use crate::watches::add_where;
 use std::alloc::{AllocError, Allocator};
 use std::collections::BTreeSet;
 use zk_jute::{Buffer, List, Text};
@@ -32,7 +42,7 @@ pub(crate) fn read<A: Allocator + Copy>(
         Request::GetData(r) => get_data(tree, xid, r, connection),
         Request::GetChildren(r) => get_children(tree, xid, r, connection),
         Request::GetChildren2(r) => get_children_2(tree, xid, r, connection),
-        Request::SetWatches(r) => set_watches(tree, xid, r, connection),
+        Request::SetWatches(r) => set_watches(tree, xid, r, connection).map_err(Refusal::from),
         _ => Ok(()),
     }
 }
@@ -44,18 +54,22 @@ fn exists<A: Allocator + Copy>(
     request: &ReadRequest<A>,
     connection: &mut Connection<A>,
 ) -> Result<(), Refusal>
-    ensures { connection.new.requests ≡ connection.old.requests }
+    ensures requests { connection.new.requests ≡ connection.old.requests }
+    ensures answers { (text : Bytes) (zxid : ℕ) → IsPath text → request.now.path ≡ Some text → tree.now.zxid ≡ pos zxid
+        → OnOk result (AnswersRead (tree_at (history_of tree.now.history.now) zxid) zxid xid (Exists text request.now.watch) connection.old connection.new) }
+    ensures refuses { (text : Bytes) (zxid : ℕ) → IsPath text → request.now.path ≡ Some text → tree.now.zxid ≡ pos zxid
+        → IfErr result (RefusesRead (tree_at (history_of tree.now.history.now) zxid) (Exists text request.now.watch) connection.old connection.new) }
 {
     let text = text_of(&request.path);
     let stat = tree.stat(text)?;
-    if request.watch {
-        add_watch(tree.alloc, &mut connection.watches.data, text)?;
-    }
+    let paths = &mut connection.watches.data;
+    add_where(tree.alloc, paths, request.watch, text)?;
     let Some(stat) = stat else {
         return Err(Refusal::Code(Code::NoNode));
     };
-    let out = &mut connection.output;
-    send_result(tree.alloc, xid, tree.zxid, stat, out).map_err(Refusal::from)
+    let zxid = tree.zxid;
+    send_result(tree.alloc, xid, zxid, stat, &mut connection.output)?;
+    Ok(())
 }
 
 // The `Stat` of the node that is read, and -101 where no node is there. Where one is, the watch that is asked for is left
@@ -64,14 +78,18 @@ fn watched<A: Allocator + Copy>(
     tree: &Tree<'_, A>,
     request: &ReadRequest<A>,
     paths: &mut BTreeSet<String<A>, A>,
-) -> Result<Stat, Refusal> {
+) -> Result<Stat, Refusal>
+    ensures found { (text : Bytes) → IsPath text → request.now.path ≡ Some text
+        → IfOk result (λ stat. IsStat (tree_at (history_of tree.now.history.now) (natural tree.now.zxid)) (path_of text) (Some stat)) }
+    ensures left { OnOk result (names_of paths.new ≡ cond request.now.watch (set.insert (names_of paths.old) (or_empty request.now.path)) (names_of paths.old)) }
+    ensures misses { (text : Bytes) → IsPath text → request.now.path ≡ Some text
+        → IfErr result (MissesNode (tree_at (history_of tree.now.history.now) (natural tree.now.zxid)) (path_of text) (names_of paths.old) (names_of paths.new)) }
+{
     let text = text_of(&request.path);
     let Some(stat) = tree.stat(text)? else {
         return Err(Refusal::Code(Code::NoNode));
     };
-    if request.watch {
-        add_watch(tree.alloc, paths, text)?;
-    }
+    add_where(tree.alloc, paths, request.watch, text)?;
     Ok(stat)
 }
 
@@ -82,7 +100,11 @@ fn get_data<A: Allocator + Copy>(
     request: &ReadRequest<A>,
     connection: &mut Connection<A>,
 ) -> Result<(), Refusal>
-    ensures { connection.new.requests ≡ connection.old.requests }
+    ensures requests { connection.new.requests ≡ connection.old.requests }
+    ensures answers { (text : Bytes) (zxid : ℕ) → IsPath text → request.now.path ≡ Some text → tree.now.zxid ≡ pos zxid
+        → OnOk result (AnswersRead (tree_at (history_of tree.now.history.now) zxid) zxid xid (GetData text request.now.watch) connection.old connection.new) }
+    ensures refuses { (text : Bytes) (zxid : ℕ) → IsPath text → request.now.path ≡ Some text → tree.now.zxid ≡ pos zxid
+        → IfErr result (RefusesRead (tree_at (history_of tree.now.history.now) zxid) (GetData text request.now.watch) connection.old connection.new) }
 {
     let stat = watched(tree, request, &mut connection.watches.data)?;
     let Some(data) = tree.data(text_of(&request.path))? else {
@@ -90,8 +112,9 @@ fn get_data<A: Allocator + Copy>(
     };
     let bytes = Buffer::new(data.bytes);
     let record = GetDataResponse { bytes, stat };
-    let out = &mut connection.output;
-    send_result(tree.alloc, xid, tree.zxid, record, out).map_err(Refusal::from)
+    let zxid = tree.zxid;
+    send_result(tree.alloc, xid, zxid, record, &mut connection.output)?;
+    Ok(())
 }
 
 // Answers getChildren, the names in byte order.
@@ -117,20 +140,28 @@ fn get_children_2<A: Allocator + Copy>(
     request: &ReadRequest<A>,
     connection: &mut Connection<A>,
 ) -> Result<(), Refusal>
-    ensures { connection.new.requests ≡ connection.old.requests }
+    ensures requests { connection.new.requests ≡ connection.old.requests }
+    ensures answers { (text : Bytes) (zxid : ℕ) → IsPath text → request.now.path ≡ Some text → tree.now.zxid ≡ pos zxid
+        → OnOk result (AnswersRead (tree_at (history_of tree.now.history.now) zxid) zxid xid (GetChildren text request.now.watch) connection.old connection.new) }
+    ensures refuses { (text : Bytes) (zxid : ℕ) → IsPath text → request.now.path ≡ Some text → tree.now.zxid ≡ pos zxid
+        → IfErr result (RefusesRead (tree_at (history_of tree.now.history.now) zxid) (GetChildren text request.now.watch) connection.old connection.new) }
 {
     let stat = watched(tree, request, &mut connection.watches.child)?;
     let children = children_at(tree, text_of(&request.path))?;
     let record = GetChildren2Response { children, stat };
-    let out = &mut connection.output;
-    send_result(tree.alloc, xid, tree.zxid, record, out).map_err(Refusal::from)
+    let zxid = tree.zxid;
+    send_result(tree.alloc, xid, zxid, record, &mut connection.output)?;
+    Ok(())
 }
 
 // The names of the children at a text, in byte order, and -101 where no node is there.
 fn children_at<A: Allocator + Copy>(
     tree: &Tree<'_, A>,
     text: &str,
-) -> Result<List<Text<A>, A>, Refusal> {
+) -> Result<List<Text<A>, A>, Refusal>
+    ensures found { IsPath text.now → IfOk result (λ list. ListsChildren (tree_at (history_of tree.now.history.now) (natural tree.now.zxid)) (path_of text.now) (option_map (λ v. v.items) list.elements)) }
+    ensures misses { IsPath text.now → IfErr result (FindsNoNode (tree_at (history_of tree.now.history.now) (natural tree.now.zxid)) (path_of text.now)) }
+{
     let Some(names) = tree.names(text)? else {
         return Err(Refusal::Code(Code::NoNode));
     };
@@ -142,7 +173,9 @@ fn children_at<A: Allocator + Copy>(
 fn list_of<A: Allocator + Copy>(
     alloc: A,
     names: BTreeSet<String<A>, A>,
-) -> Result<List<Text<A>, A>, AllocError> {
+) -> Result<List<Text<A>, A>, AllocError>
+    ensures { IfOk result (λ list. option_map (λ v. v.items) list.elements ≡ Some (map Some (map string_bytes names.keys))) }
+{
     let mut elements = Vec::new(alloc);
     for name in names {
         elements.push(Text::new(Some(name)))?;

@@ -1,5 +1,12 @@
 //! What a server sends.
 
+ghost use Rattle.std.specs.Prelude.{◌≡◌, negsuc, pos, Some, OnOk, IsErrOf, take as first, length as bytes_of};
+ghost use Rattle.zk_records.specs.Layouts.{watcher_event};
+ghost use Rattle.zk_records.specs.Events.{event_number};
+ghost use Rattle.zk_bench.specs.Serving.{Sends, SendsHeader, SendsResponse};
+ghost use Rattle.zk_bench.specs.declared.stop.Stop.TheVariants as stops;
+ghost use Rattle.zk_records.specs.Views.{response_of};
+
 use crate::frames::push_frame;
 use crate::stop::Stop;
 use std::alloc::Allocator;
@@ -14,7 +21,11 @@ pub(crate) fn send_header<A: Allocator + Copy>(
     alloc: A,
     header: ReplyHeader,
     out: &mut Vec<u8, A>,
-) -> Result<(), Stop> {
+) -> Result<(), Stop>
+    ensures sends { OnOk result (SendsHeader (header.xid, (header.zxid, header.err)) out.old.items out.new.items) }
+    ensures ended { IsErrOf result stops.End → out.new.items ≡ out.old.items }
+    ensures begun { first (bytes_of out.old.items) out.new.items ≡ out.old.items }
+{
     let mut payload = Vec::new(alloc);
     header.put(&mut payload)?;
     push_frame(&payload, out)
@@ -25,12 +36,16 @@ pub(crate) fn send_result<A: Allocator + Copy, R: Record<A> + Drop>(
     alloc: A,
     xid: i32,
     zxid: i64,
-    record: R,
+    answer: R,
     out: &mut Vec<u8, A>,
-) -> Result<(), Stop> {
+) -> Result<(), Stop>
+    ensures sends { OnOk result (Sends (xid, (zxid, pos 0)) R.layout (R.view answer) out.old.items out.new.items) }
+    ensures ended { IsErrOf result stops.End → out.new.items ≡ out.old.items }
+    ensures begun { first (bytes_of out.old.items) out.new.items ≡ out.old.items }
+{
     let reply = Reply {
         header: ReplyHeader { xid, zxid, err: 0 },
-        result: Some(record),
+        result: Some(answer),
     };
     let mut payload = Vec::new(alloc);
     reply.put(&mut payload)?;
@@ -43,7 +58,11 @@ pub(crate) fn send_notice<A: Allocator + Copy>(
     event: Event,
     path: &str,
     out: &mut Vec<u8, A>,
-) -> Result<(), Stop> {
+) -> Result<(), Stop>
+    ensures sends { OnOk result (Sends (negsuc 0, (negsuc 0, pos 0)) watcher_event (event_number event, (pos 3, Some path.now)) out.old.items out.new.items) }
+    ensures ended { IsErrOf result stops.End → out.new.items ≡ out.old.items }
+    ensures begun { first (bytes_of out.old.items) out.new.items ≡ out.old.items }
+{
     let notice = WatcherEventRef {
         kind: event.number(),
         state: CONNECTED,
@@ -57,7 +76,10 @@ pub(crate) fn send_response<A: Allocator + Copy>(
     alloc: A,
     response: ConnectResponse<A>,
     out: &mut Vec<u8, A>,
-) -> Result<(), Stop> {
+) -> Result<(), Stop>
+    ensures sends { OnOk result (SendsResponse (response_of response) out.old.items out.new.items) }
+    ensures ended { IsErrOf result stops.End → out.new.items ≡ out.old.items }
+{
     let mut payload = Vec::new(alloc);
     let put = response.put(&mut payload);
     drop(response);

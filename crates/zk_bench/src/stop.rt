@@ -3,7 +3,7 @@
 ghost use Rattle.std.specs.Prelude.{◌≡◌};
 ghost use Rattle.zk_bench.specs.declared.stop.Stop.TheVariants as stops;
 ghost use Rattle.zk_bench.specs.declared.stop.Refusal.TheVariants as refusals;
-ghost use Rattle.zk_bench.specs.Refusals.{stop_of};
+ghost use Rattle.zk_bench.specs.Refusals.{stop_of, stop_of_put, stop_of_take, stop_of_request, refusal_of_path};
 
 use std::alloc::{AllocError, AllocFailed};
 use zk_history::{HistoryFault, PathFault};
@@ -29,12 +29,16 @@ pub(crate) enum Refusal {
 }
 
 impl From<AllocError> for Stop {
+    ghost from_gives = { λ _ stop. stop ≡ stops.Memory };
+
     fn from(_e: AllocError) -> Stop {
         Stop::Memory
     }
 }
 
 impl From<PutError> for Stop {
+    ghost from_gives = { λ fault stop. stop ≡ stop_of_put fault };
+
     fn from(e: PutError) -> Stop {
         match e {
             PutError::TooLong => Stop::End,
@@ -44,6 +48,8 @@ impl From<PutError> for Stop {
 }
 
 impl From<TakeError> for Stop {
+    ghost from_gives = { λ fault stop. stop ≡ stop_of_take fault };
+
     fn from(e: TakeError) -> Stop {
         match e {
             TakeError::Memory => Stop::Memory,
@@ -53,6 +59,8 @@ impl From<TakeError> for Stop {
 }
 
 impl From<RequestFault> for Stop {
+    ghost from_gives = { λ fault stop. stop ≡ stop_of_request fault };
+
     fn from(e: RequestFault) -> Stop {
         match e {
             RequestFault::Unknown(_) => Stop::End,
@@ -70,12 +78,16 @@ impl From<Stop> for Refusal {
 }
 
 impl From<AllocError> for Refusal {
+    ghost from_gives = { λ _ refusal. refusal ≡ refusals.Stop stops.Memory };
+
     fn from(_e: AllocError) -> Refusal {
         Refusal::Stop(Stop::Memory)
     }
 }
 
 impl From<Code> for Refusal {
+    ghost from_gives = { λ code refusal. refusal ≡ refusals.Code code };
+
     fn from(code: Code) -> Refusal {
         Refusal::Code(code)
     }
@@ -96,6 +108,8 @@ impl From<HistoryFault> for Refusal {
 }
 
 impl From<PathFault> for Refusal {
+    ghost from_gives = { λ fault refusal. refusal ≡ refusal_of_path fault };
+
     fn from(fault: PathFault) -> Refusal {
         match fault {
             PathFault::Memory => Refusal::Stop(Stop::Memory),

@@ -1,11 +1,13 @@
 //! The watches of one connection.
 
-ghost use Rattle.std.specs.Prelude.{◌≡◌, ◌&&◌, ◌||◌, [], OnOk};
+ghost use Rattle.std.specs.Prelude.{◌≡◌, ◌&&◌, ◌||◌, [], OnOk, cond};
 ghost use Rattle.std.specs.FinSet as set;
 ghost use Rattle.zk_history.specs.NamesKept.{names_of};
 ghost use Rattle.zk_history.specs.declared.side.Side.TheVariants as sides;
 ghost use Rattle.zk_records.specs.Events.{concerns};
+ghost use Rattle.zk_history.specs.History.{path_of, IsPathText};
 ghost use Rattle.zk_bench.specs.Watching.{used_up};
+ghost use Rattle.zk_bench.specs.Serving.{watched, leaves_at, is_watched};
 
 use std::alloc::{AllocError, Allocator};
 use std::collections::BTreeSet;
@@ -27,6 +29,21 @@ pub(crate) fn add_watch<A: Allocator + Copy>(
     ensures { OnOk result (names_of paths.new ≡ set.insert (names_of paths.old) path.now) }
 {
     paths.insert(String::from_str(alloc, path)?)?;
+    Ok(())
+}
+
+/// Adds a path to those of one side, where it is to be watched.
+pub(crate) fn add_where<A: Allocator + Copy>(
+    alloc: A,
+    paths: &mut BTreeSet<String<A>, A>,
+    watch: bool,
+    path: &str,
+) -> Result<(), AllocError>
+    ensures { OnOk result (names_of paths.new ≡ cond watch (set.insert (names_of paths.old) path.now) (names_of paths.old)) }
+{
+    if watch {
+        add_watch(alloc, paths, path)?;
+    }
     Ok(())
 }
 
@@ -56,6 +73,8 @@ impl<A: Allocator + Copy> Watches<A> {
 
     /// Uses up the watches that an event at a path concerns, and says whether there was one.
     pub(crate) fn fire(&mut self, event: Event, path: &str) -> bool
+        ensures left { IsPathText path.now → watched self.new ≡ leaves_at event (path_of path.now) (watched self.old) }
+        ensures told { IsPathText path.now → result ≡ is_watched event (path_of path.now) (watched self.old) }
         ensures data { names_of self.new.data ≡ used_up (concerns event sides.Data) (names_of self.old.data) path.now }
         ensures child { names_of self.new.child ≡ used_up (concerns event sides.Child) (names_of self.old.child) path.now }
         ensures fired { result ≡ ((concerns event sides.Data && set.contains (names_of self.old.data) path.now)

@@ -1,5 +1,15 @@
-use Rattle.std.proofs.Common.{◌≡◌}
+use Rattle.std.proofs.Common.{◌≡◌, ◌≤◌, ◌-◌, length}
+use Rattle.zk_history.specs.Kept.{history_of}
+use Rattle.zk_bench.specs.declared.phase.Phase.TheVariants.{Accepted}
+use Rattle.zk_bench.specs.Stepping.{CatchesUp}
 use Rattle.zk_bench.proofs.servers.take_all.Given as goal
 
-abbrev pub invariant-loop-place : goal.invariant-loop-place
-invariant-loop-place g l = l.connection.requests ≡ l.initial.connection.requests
+-- so far it has taken transactions, each of which was told
+abbrev pub invariant-loop-changes : goal.invariant-loop-changes
+invariant-loop-changes g l = record {
+  goes : l.fn.connection.phase ≡ Accepted → l.fn.taken ≤ length l.history.transactions → CatchesUp (history_of l.history) l.fn.taken l.fn.connection l.taken l.connection;
+  rest : l.connection ≡ record l.fn.connection { watches = l.connection.watches; output = l.connection.output };
+}
+
+abbrev pub decreases-loop-changes : goal.decreases-loop-changes
+decreases-loop-changes g l = length l.history.transactions - l.taken

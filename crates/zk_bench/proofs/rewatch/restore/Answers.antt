@@ -1,0 +1,25 @@
+use Rattle.std.proofs.Common.{◌≡◌, ◌∙◌, ap, subst, pos, rules, to_z, of_z, w32, w64}
+use Rattle.zk_history.specs.History.{tree_at}
+use Rattle.zk_history.specs.Kept.{history_of, natural}
+use Rattle.zk_laws.specs.Server.{part_tells, part_sets, both}
+use Rattle.zk_bench.specs.Serving.{watched, Tells, SendsHeader}
+use Rattle.zk_bench.proofs.Restored.{part_restored}
+use Rattle.zk_bench.proofs.Watched.{output_more}
+use Rattle.zk_bench.proofs.rewatch.restore.Goals as goal
+
+pub returns-clause-restores : goal.returns-clause-restores
+returns-clause-restores g c = λ since zxid part is paths at.
+    let h = history_of c.args.tree.now.history.now in
+    let tree = tree_at h zxid in
+    let xid : to_z w32 (of_z w32 c.args.xid) ≡ c.args.xid = search rules in
+    let ranged : to_z w64 (of_z w64 c.args.tree.now.zxid) ≡ c.args.tree.now.zxid = search rules in
+    let old = c.args.connection.now in
+    let mid = c.rewatch_lists.new.connection.output.items in
+    let new = c.send_header.new.out.items in
+    let told : Tells (part_tells since tree part) old.output.items mid = subst (λ z. Tells (part_tells since (tree_at h (natural z)) part) old.output.items mid) at (c.in_ok-rewatch_lists.ensures.tells since part is paths) in
+    let sends : SendsHeader (c.args.xid, (pos zxid, pos 0)) mid new =
+    subst (λ x. SendsHeader (x, (pos zxid, pos 0)) mid new) xid (subst (λ z. SendsHeader (to_z w32 (of_z w32 c.args.xid), (z, pos 0)) mid new) (ranged ∙ at) c.in_ok-send_header.ensures.sends) in
+    let left : watched c.rewatch_lists.new.connection.watches ≡ both (watched old.watches) (part_sets since tree part) =
+    subst (λ z. watched c.rewatch_lists.new.connection.watches ≡ both (watched old.watches) (part_sets since (tree_at h (natural z)) part)) at (c.in_ok-rewatch_lists.ensures.left since part is paths) in
+    part_restored tree zxid c.args.xid since part old (record c.rewatch_lists.new.connection { output = c.send_header.new.out }) mid told sends left
+    (output_more old c.rewatch_lists.new.connection c.send_header.new.out c.rewatch_lists.ensures.rest)

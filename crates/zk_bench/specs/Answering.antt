@@ -1,0 +1,57 @@
+-- What a server answers a call, in the words of the laws.
+use Rattle.std.specs.Prelude.{ℕ, ℤ, ◌≡◌, ◌<◌, ◌^◌, List, ◌∷◌, ◌++◌, length, Option, None, is_some}
+use Rattle.std.specs.FinSet as set
+use Rattle.zk_frames.specs.Frame.{frame}
+use Rattle.zk_history.specs.History.{Text, Name, NodePath, Tree}
+use Rattle.zk_history.specs.Replay.{Names}
+use Rattle.zk_history.specs.Shown.{IsStat}
+use Rattle.zk_conversation.specs.Calls.{Call}
+use Rattle.zk_conversation.specs.Questions.{question_of}
+use Rattle.zk_conversation.specs.Results.{Result, NoNode, texts_of}
+use Rattle.zk_records.specs.declared.code.Code.TheVariants as codes
+use Rattle.zk_laws.specs.Server.{Reads, sets, both}
+use Rattle.zk_laws.specs.Messages.{Replies}
+use Rattle.zk_laws.specs.Served.{IsPayload}
+use Rattle.zk_bench.specs.declared.connection.Connection.{Connection}
+use Rattle.zk_bench.specs.declared.stop.Refusal.{Refusal}
+use Rattle.zk_bench.specs.declared.stop.Refusal.TheVariants as refusals
+use Rattle.zk_bench.specs.Refusals.{IsCode}
+use Rattle.zk_bench.specs.Serving.{watched}
+
+-- A read is answered from a tree: with what there is to see, under the xid and the zxid, and with the watches that this sets.
+pub record AnswersRead {A : Type 0} (tree : Tree) (zxid : ℕ) (xid : ℤ) (asked : Call) (old new : Connection A) : Type 0 where
+  pub result : Result
+  pub reads : Reads tree (question_of asked) result
+  pub payload : List ℕ
+  pub small : length payload < 2 ^ 31
+  pub spelled : IsPayload xid (Replies (question_of asked) zxid result) payload
+  pub output : new.output.items ≡ old.output.items ++ frame payload
+  pub left : watched new.watches ≡ both (watched old.watches) (sets (question_of asked) result)
+  pub rest : new ≡ record old { watches = new.watches; output = new.output }
+
+-- It is to be answered that no node is there: so it is, and nothing is sent yet.
+pub record FindsNone {A : Type 0} (tree : Tree) (asked : Call) (old new : Connection A) : Type 0 where
+  pub reads : Reads tree (question_of asked) NoNode
+  pub output : new.output.items ≡ old.output.items
+  pub left : watched new.watches ≡ both (watched old.watches) (sets (question_of asked) NoNode)
+  pub rest : new ≡ record old { watches = new.watches; output = new.output }
+
+-- A refusal that is a code is that of no node, which is to be answered then.
+abbrev pub RefusesRead : {A : Type 0} → Tree → Call → Connection A → Connection A → Refusal → Type 0
+RefusesRead tree asked old new refusal = IsCode refusal → (refusal ≡ refusals.Code codes.NoNode) × FindsNone tree asked old new
+
+-- A refusal that is a code is that of no node: none is there, and no watch is left.
+abbrev pub MissesNode : {W : Type 0} → Tree → NodePath → W → W → Refusal → Type 0
+MissesNode tree path old new refusal = IsCode refusal → (refusal ≡ refusals.Code codes.NoNode) × IsStat tree path None × (new ≡ old)
+
+-- names as a set
+abbrev pub name_set : List Text → Names
+name_set names = set.from_list names
+
+-- The texts on the wire are the names of a node's children.
+abbrev pub ListsChildren : Tree → NodePath → Option (List (Option (List ℕ))) → Type 0
+ListsChildren tree path texts = (name : Name) → set.contains (name_set (texts_of texts)) name ≡ is_some (tree (name ∷ path))
+
+-- A refusal that is a code is that of no node, and none is there.
+abbrev pub FindsNoNode : Tree → NodePath → Refusal → Type 0
+FindsNoNode tree path refusal = IsCode refusal → (refusal ≡ refusals.Code codes.NoNode) × (tree path ≡ None)
