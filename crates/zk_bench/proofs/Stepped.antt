@@ -10,7 +10,7 @@ use Rattle.zk_history.specs.History.{NodePath, path_eq, Creates, Sets, Deletes}
 use Rattle.zk_history.specs.Kept.{history_of}
 use Rattle.zk_history.specs.declared.side.Side.{Side}
 use Rattle.zk_history.specs.declared.side.Side.TheVariants.{Data, Child}
-use Rattle.zk_laws.specs.GoingOn.{GoesOn}
+use Rattle.zk_serving.specs.GoingOn.{GoesOn}
 use Rattle.zk_laws.specs.Server.{Watches, Notice, AreSent, fires, leaves_set, fires_all, leaves_set_all, no_watches, without, same_side}
 use Rattle.zk_laws.specs.Messages.{Notifies}
 use Rattle.zk_laws.specs.Served.{ArePayloads}

@@ -23,4 +23,3 @@ pub mod Resumed
 pub mod Outputs
 pub mod Ordering
 pub mod Reading_trees
-pub mod GoingOn

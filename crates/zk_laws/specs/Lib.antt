@@ -13,4 +13,3 @@ pub mod Parsed
 pub mod Headline
 pub mod Meeting_example
 pub mod Flight
-pub mod GoingOn

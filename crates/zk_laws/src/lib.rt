@@ -23,7 +23,6 @@ ghost use Rattle.zk_conversation.specs.Results.{Result, NoNode, Found, Read, Lis
 ghost use Rattle.zk_turns.specs.Turns.{Framed, Silent, Start, Fault, Drop, Replied, Answer as Given_answer, Item as Client_item};
 ghost use Rattle.zk_laws.specs.Invariant.{IsKept};
 ghost use Rattle.zk_laws.specs.Laws.{IsTrueWrite};
-ghost use Rattle.zk_laws.specs.GoingOn.{GoesOn};
 ghost use Rattle.zk_laws.specs.Example.{at_a, at_b, fields_at_five, two_changes, two_nodes, until_first_part, until_restored, until_told};
 ghost use Rattle.zk_laws.specs.Log.{good, IsCoherent, last, Took, listed, Of_data, Of_absence, Of_children, Item, left_by, Suits, Full};
 ghost use Rattle.zk_laws.specs.Run.{IsSchedule, May, Move, moved, run, start, AgreesWhenQuiet, NoneBehind};
@@ -170,15 +169,6 @@ pub fn parsed_requests()
     ensures connect { (start : Start) (items : List Client_item) (since : List Happening) (before : Past) → IsResumable start → past_of start items ≡ since ++ Began ∷ before
         → IsRecord connect_request (pos 0, (last_of start before, (pos start.timeout, ((session_of start before).session, (Some (session_of start before).password, false)))))
         (connect_payload (last_of start before) (pos start.timeout) (session_of start before).session (session_of start before).password) }
-{}
-
-/// A schedule stays one when the history goes on, its servers end where they did, and each stands at a place of the history.
-#[tactic(auto, using(crate::proofs::GoingOn::goes_serving, crate::proofs::GoingOn::goes_line, crate::proofs::GoingOn::place_low, crate::proofs::GoingOn::goes_served))]
-pub fn history_goes_on()
-    ensures serving { (h later : History) (start : Start) (entries : List Entry) → GoesOn h later → IsServing h start entries → IsServing later start entries }
-    ensures line { (h later : History) (start : Start) (entries : List Entry) → GoesOn h later → IsServing h start entries → line_of later entries ≡ line_of h entries }
-    ensures place { (h : History) (start : Start) (entries : List Entry) → IsServing h start entries → (line_of h entries).server.place ≤ length h.transactions }
-    ensures served { (h later : History) (start : Start) (items : List Client_item) → GoesOn h later → Served h start items → Served later start items }
 {}
 
 /// The premises can be met: a schedule in bytes, whose client stands at its items, with an answer kept over a cut in the

@@ -8,7 +8,7 @@ use Rattle.zk_turns.specs.Taken.{past_of}
 use Rattle.zk_turns.specs.Rule.{due_signals, Stands}
 use Rattle.zk_turns.specs.Ranges.{IsResumable, IsTyped, AllAskOf}
 use Rattle.zk_laws.specs.Messages.{Request}
-use Rattle.zk_laws.specs.GoingOn.{GoesOn}
+use Rattle.zk_serving.specs.GoingOn.{GoesOn}
 use Rattle.zk_laws.specs.Served.{Sent, Goes_on, items_in, line_of, is_going, unread, Served}
 use Rattle.zk_laws.specs.Headline.{IsCoherentWith}
 use Rattle.zk_laws.proofs.Headlines.{coherent_client}

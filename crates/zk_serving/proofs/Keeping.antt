@@ -11,8 +11,8 @@ use Rattle.zk_turns.specs.Kept.{Past, Forgot, Halted}
 use Rattle.zk_turns.specs.Taken.{past_of, past_after}
 use Rattle.zk_turns.specs.Rule.{due_signals}
 use Rattle.zk_laws.specs.Messages.{Request}
-use Rattle.zk_laws.specs.GoingOn.{GoesOn}
-use Rattle.zk_laws.proofs.GoingOn.{goes_serving, goes_line}
+use Rattle.zk_serving.specs.GoingOn.{GoesOn}
+use Rattle.zk_serving.proofs.GoingOn.{goes_serving, goes_line}
 use Rattle.zk_laws.specs.Served.{Sent, Entry, Goes_on, items_in, Line, line_past, new_line, line_of, is_going, unread, requests, MayEnter, IsServing}
 use Rattle.zk_serving.specs.Steps.{Step, Moves, ended_by, sent_by, processed_by, behind}
 use Rattle.zk_serving.specs.Shown.{Shown, Apart, Open, Over, connected, with_output, more_requests, sent_in, Hears, GoesBy, Takes, Processes}

@@ -15,8 +15,8 @@ use Rattle.zk_laws.specs.Server.{tree_held, Gives, Reads, AreSent, fires_all, le
 use Rattle.zk_laws.specs.Messages.{Message, Request}
 use Rattle.zk_laws.specs.ServerSteps.{ServerEnd, ServerStep, Advances, Admits, Refuses, Answers, Restores, Pongs, changes_next, MayDo, messages_by, end_after}
 use Rattle.zk_laws.specs.Served.{ArePayloads}
-use Rattle.zk_laws.specs.GoingOn.{GoesOn}
-use Rattle.zk_laws.proofs.GoingOn.{longer, held_more}
+use Rattle.zk_serving.specs.GoingOn.{GoesOn}
+use Rattle.zk_serving.proofs.GoingOn.{longer, held_more}
 use Rattle.zk_serving.specs.Steps.{Step, used_by, Moves, ended_by}
 use Rattle.zk_serving.specs.Shown.{AllTaken}
 

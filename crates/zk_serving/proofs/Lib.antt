@@ -1,3 +1,4 @@
+pub mod GoingOn
 pub mod Stepping
 pub mod Later
 pub mod Turning

@@ -23,8 +23,8 @@ use Rattle.zk_turns.specs.Taken.{cut, past_of}
 use Rattle.zk_turns.specs.Rule.{Stands}
 use Rattle.zk_turns.specs.Ranges.{IsTyped, AllAskOf}
 use Rattle.zk_laws.specs.Headline.{IsQuietAt}
-use Rattle.zk_laws.specs.GoingOn.{GoesOn}
-use Rattle.zk_laws.proofs.GoingOn.{goes_serving}
+use Rattle.zk_serving.specs.GoingOn.{GoesOn}
+use Rattle.zk_serving.proofs.GoingOn.{goes_serving}
 use Rattle.zk_laws.specs.ServerSteps.{Waiting, Serving, Ended}
 use Rattle.zk_laws.specs.Served.{items_in, IsServing}
 use Rattle.zk_laws.specs.Example.{two_changes, at_a, fields_at_five, a_changed}

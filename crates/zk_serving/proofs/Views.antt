@@ -11,7 +11,7 @@ use Rattle.zk_turns.specs.Rule.{Rule, Stands, forgotten}
 use Rattle.zk_turns.specs.Ranges.{IsResumable, IsTyped, AsksOf, AllAskOf}
 use Rattle.zk_turns.proofs.Stepped.{one_turn}
 use Rattle.zk_laws.specs.Messages.{Request}
-use Rattle.zk_laws.specs.GoingOn.{GoesOn}
+use Rattle.zk_serving.specs.GoingOn.{GoesOn}
 use Rattle.zk_laws.specs.Served.{is_going}
 use Rattle.zk_laws.specs.Headline.{IsCoherentWith}
 use Rattle.zk_serving.specs.Steps.{Step}

@@ -5,7 +5,7 @@ use Rattle.zk_frames.specs.Frame.{frame}
 use Rattle.zk_history.specs.History.{History}
 use Rattle.zk_turns.specs.Turns.{Output, Send, ends_connection}
 use Rattle.zk_laws.specs.Messages.{Request}
-use Rattle.zk_laws.specs.GoingOn.{GoesOn}
+use Rattle.zk_serving.specs.GoingOn.{GoesOn}
 use Rattle.zk_laws.specs.ServerSteps.{ServerEnd}
 use Rattle.zk_laws.specs.Served.{new_line}
 use Rattle.zk_serving.specs.Steps.{Step, Moves, ended_by, sent_by, processed_by}

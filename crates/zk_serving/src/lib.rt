@@ -22,11 +22,20 @@ ghost use Rattle.zk_laws.specs.Messages.{Request};
 ghost use Rattle.zk_laws.specs.ServerSteps.{ServerEnd, MayDo, messages_by, end_after};
 ghost use Rattle.zk_frames.specs.Frame.{frame, joined as frames, length_field};
 ghost use Rattle.zk_laws.specs.Headline.{IsCoherentWith, IsQuietAt};
-ghost use Rattle.zk_laws.specs.GoingOn.{GoesOn};
-ghost use Rattle.zk_laws.specs.Served.{ArePayloads, is_going, items_in, IsServing, Served};
+ghost use Rattle.zk_serving.specs.GoingOn.{GoesOn};
+ghost use Rattle.zk_laws.specs.Served.{ArePayloads, Entry, is_going, items_in, line_of, IsServing, Served};
 ghost use Rattle.zk_serving.specs.Steps.{Step, used_by, Moves, ended_by, sent_by, processed_by};
 ghost use Rattle.zk_serving.specs.Shown.{Shown, Apart, Open, Over, AllTaken, connected, with_output, Hears, Takes, Processes};
 ghost use Rattle.zk_serving.specs.Lines.{IsServedBy, IsPathCall, StandsFirst, IsCutAt, WasServed, item_of, is_up};
+
+/// A schedule stays one when the history goes on, its servers end where they did, and each stands at a place of the history.
+#[tactic(auto, using(crate::proofs::GoingOn::goes_serving, crate::proofs::GoingOn::goes_line, crate::proofs::GoingOn::place_low, crate::proofs::GoingOn::goes_served))]
+pub fn history_goes_on()
+    ensures serving { (h later : History) (start : Start) (entries : List Entry) → GoesOn h later → IsServing h start entries → IsServing later start entries }
+    ensures line { (h later : History) (start : Start) (entries : List Entry) → GoesOn h later → IsServing h start entries → line_of later entries ≡ line_of h entries }
+    ensures place { (h : History) (start : Start) (entries : List Entry) → IsServing h start entries → (line_of h entries).server.place ≤ length_of h.transactions }
+    ensures served { (h later : History) (start : Start) (items : List Client_item) → GoesOn h later → Served h start items → Served later start items }
+{}
 
 /// Steps may be taken behind others: then they end where the later ones do, and send and process what both do.
 #[tactic(auto, using(crate::proofs::Stepping::moves_more, crate::proofs::Stepping::ended_more, crate::proofs::Stepping::sent_more, crate::proofs::Stepping::processed_more))]

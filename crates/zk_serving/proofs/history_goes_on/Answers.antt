@@ -1,5 +1,5 @@
-use Rattle.zk_laws.proofs.GoingOn.{goes_serving, goes_served}
-use Rattle.zk_laws.proofs.history_goes_on.Goals as goal
+use Rattle.zk_serving.proofs.GoingOn.{goes_serving, goes_served}
+use Rattle.zk_serving.proofs.history_goes_on.Goals as goal
 
 pub returns-clause-serving : goal.returns-clause-serving
 returns-clause-serving c = goes_serving
