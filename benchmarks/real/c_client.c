@@ -1,7 +1,8 @@
 /* The rows over ZooKeeper's C client of many threads: its blocking functions where one call waits at a time, else the others.
  *
- * usage: c_client PORT ROW COUNT TIMES
+ * usage: c_client RESOLVES PORT ROW COUNT TIMES
  *
+ * RESOLVES says when the server's name is looked up: `always`, each time that the client waits, which it does by default, or `once`.
  * The rows are those of dirwolleu.c, without `make` and `change`. */
 #define _POSIX_C_SOURCE 200809L
 #include "measure.h"
@@ -141,15 +142,16 @@ static void run(zhandle_t *handle, const char *row, int count, int times) {
 
 int main(int words, char **word) {
   char server[32];
-  if (words != 5) fail("usage: c_client PORT ROW COUNT TIMES");
-  snprintf(server, sizeof server, "127.0.0.1:%s", word[1]);
+  if (words != 6) fail("usage: c_client RESOLVES PORT ROW COUNT TIMES");
+  snprintf(server, sizeof server, "127.0.0.1:%s", word[2]);
   sem_init(&connected, 0, 0);
   sem_init(&all_answered, 0, 0);
   sem_init(&all_reported, 0, 0);
   zoo_set_debug_level((ZooLogLevel)0);
   zhandle_t *handle = zookeeper_init(server, on_state, TIMEOUT_MS, NULL, NULL, 0);
   if (!handle) fail("a client");
+  if (strcmp(word[1], "once") == 0) zoo_set_servers_resolution_delay(handle, -1);
   sem_wait(&connected);
-  run(handle, word[2], atoi(word[3]), atoi(word[4]));
+  run(handle, word[3], atoi(word[4]), atoi(word[5]));
   zookeeper_close(handle);
 }
