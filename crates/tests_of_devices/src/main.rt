@@ -17,10 +17,13 @@ const LONGEST: usize = 64;
 
 /// A session whole, and then with its bytes in pieces of each length: the same is told.
 fn play_cut<W: Write>(alloc: Global, events: &[Event], out: &mut W) -> Result<()> {
-    let whole = play(alloc, events, usize::MAX)?;
+    let (mut whole, mut told) = (String::new(alloc), String::new(alloc));
+    play(alloc, events, usize::MAX, &mut whole)?;
     out.write_all(whole.as_bytes())?;
     for piece in 1..=LONGEST {
-        if play(alloc, events, piece)?.as_str() != whole.as_str() {
+        told.clear();
+        play(alloc, events, piece, &mut told)?;
+        if told.as_str() != whole.as_str() {
             writeln!(out, "pieces of {piece}: something else is told")?;
         }
     }

@@ -19,14 +19,13 @@ const PIECES: usize = 1_000;
 /// More requests than are sent at one event.
 const REQUESTS: usize = 4;
 
-/// A device, its server, the moment, and what was told.
+/// A device, its server, and the moment.
 #[derive(Drop)]
 struct Session {
     alloc: Global,
     bench: Bench<Global>,
     device: Device,
     now: u64,
-    told: String,
 }
 
 /// A device that was put away, and taken up again.
@@ -83,8 +82,8 @@ impl Session {
     }
 
     /// Tells what the device says, and lets the server process what goes to it.
-    fn hear(&mut self) -> Result<()> {
-        let frames = tell(self.alloc, &mut self.device, &mut self.told)?;
+    fn hear(&mut self, told: &mut String) -> Result<()> {
+        let frames = tell(self.alloc, &mut self.device, told)?;
         self.bench.receive(frames.as_slice())?;
         for _ in 0..REQUESTS {
             self.bench.process()?;
@@ -93,8 +92,8 @@ impl Session {
     }
 
     /// Goes on until the server has nothing to say, whose bytes come in pieces of this length at most.
-    fn settle(&mut self, piece: usize) -> Result<()> {
-        self.hear()?;
+    fn settle(&mut self, piece: usize, told: &mut String) -> Result<()> {
+        self.hear(told)?;
         for _ in 0..PIECES {
             let bytes = self.bench.output(piece)?;
             if bytes.is_empty() {
@@ -102,38 +101,44 @@ impl Session {
             }
             let heard = self.device.bytes_at(self.alloc, self.now, bytes.as_slice());
             drop(bytes);
-            tell_number("bytes", code_of(heard), &mut self.told)?;
-            self.hear()?;
+            tell_number("bytes", code_of(heard), told)?;
+            self.hear(told)?;
         }
         Ok(())
     }
 
     /// One event, and what comes of it.
-    fn go(&mut self, event: Event, piece: usize) -> Result<()> {
+    fn go(&mut self, event: Event, piece: usize, told: &mut String) -> Result<()> {
         self.now = self.now.saturating_add(APART);
         if let Event::Peeks(path) = event {
-            return tell_kept(self.alloc, &self.device, path, &mut self.told);
+            return tell_kept(self.alloc, &self.device, path, told);
         }
         let done = self.happen(event);
-        tell_number("event", code_of(done), &mut self.told)?;
-        self.settle(piece)
+        tell_number("event", code_of(done), told)?;
+        self.settle(piece, told)
+    }
+
+    /// All events, in order.
+    fn go_on(&mut self, events: &[Event], piece: usize, told: &mut String) -> Result<()> {
+        for event in events {
+            self.go(*event, piece, told)?;
+        }
+        Ok(())
     }
 }
 
-/// These events, with the bytes of the server in pieces of this length at most: what is told.
-pub fn play(alloc: Global, events: &[Event], piece: usize) -> Result<String> {
+/// These events, with the bytes of the server in pieces of this length at most: tells what is told.
+pub fn play(alloc: Global, events: &[Event], piece: usize, told: &mut String) -> Result<()> {
     let Ok(device) = Device::new(alloc, TIMEOUT_MS) else {
-        return Ok(String::new(alloc));
+        return Ok(());
     };
     let mut session = Session {
         alloc,
         bench: Bench::new(alloc, History::new(alloc)),
         device,
         now: 0,
-        told: String::new(alloc),
     };
-    for event in events {
-        session.go(*event, piece)?;
-    }
-    Ok(session.told)
+    let played = session.go_on(events, piece, told);
+    drop(session);
+    played
 }

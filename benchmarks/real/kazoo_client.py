@@ -1,0 +1,107 @@
+"""The rows over kazoo: the same words and lines as dirwolleu.c, without `make` and `change`.
+
+usage: kazoo_client.py PORT ROW COUNT TIMES
+"""
+
+import logging
+import resource
+import sys
+import threading
+import time
+
+from kazoo.client import KazooClient
+from kazoo.protocol.states import EventType, KazooState
+
+NODE = "/real"
+DATA = b"0123456789" * 10
+AT_ONCE = 1000
+
+
+def mark():
+    """The moment, and the processor time of this process until then, in microseconds."""
+    usage = resource.getrusage(resource.RUSAGE_SELF)
+    return time.monotonic_ns() // 1000, round((usage.ru_utime + usage.ru_stime) * 1_000_000)
+
+
+def tell(since):
+    wall, processor = (now - then for now, then in zip(mark(), since))
+    with open("/proc/self/status") as status:
+        peak = next(line.split()[1] for line in status if line.startswith("VmHWM:"))
+    print("took", wall, processor, peak, flush=True)
+
+
+def ask_at_once(ask, paths):
+    for answer in [ask(path) for path in paths]:
+        answer.get()
+
+
+def ask_each(ask, count):
+    for first in range(0, count, AT_ONCE):
+        ask_at_once(ask, [f"{NODE}/{number}" for number in range(first, min(first + AT_ONCE, count))])
+
+
+def ask_over(client, write, count, times):
+    one = (lambda path: client.set(path, DATA)) if write else client.get
+    many = (lambda path: client.set_async(path, DATA)) if write else client.get_async
+    for _ in range(times):
+        if count > 1:
+            ask_at_once(many, [NODE] * count)
+        else:
+            one(NODE)
+
+
+def measure_over(client, write, count, times):
+    ask_over(client, write, count, (times + 9) // 10)
+    since = mark()
+    ask_over(client, write, count, times)
+    tell(since)
+
+
+def measure_watches(client, count):
+    reports = 0
+    all_reported = threading.Event()
+
+    def reported(event):
+        nonlocal reports
+        reports += event.type == EventType.CHANGED
+        if reports == count:
+            all_reported.set()
+
+    ask_each(client.get_async, count)
+    since = mark()
+    ask_each(lambda path: client.get_async(path, watch=reported), count)
+    tell(since)
+    since = mark()
+    print("ready", flush=True)
+    all_reported.wait()
+    tell(since)
+
+
+def measure_reconnect(client, count):
+    """Kazoo sets no watch again: where a connection ends it forgets them all, and its program reads all nodes anew."""
+    connected = threading.Event()
+    watched = lambda path: client.get_async(path, watch=lambda event: None)
+    client.add_listener(lambda state: state == KazooState.CONNECTED and connected.set())
+    ask_each(watched, count)
+    since = mark()
+    print("ready", flush=True)
+    connected.wait()
+    ask_each(watched, count)
+    tell(since)
+
+
+def main():
+    port, row, count, times = sys.argv[1], sys.argv[2], int(sys.argv[3]), int(sys.argv[4])
+    logging.disable(logging.CRITICAL)
+    client = KazooClient(f"127.0.0.1:{port}", timeout=30)
+    client.start()
+    if row in ("read", "write"):
+        measure_over(client, row == "write", count, times)
+    elif row == "watch":
+        measure_watches(client, count)
+    else:
+        measure_reconnect(client, count)
+    client.stop()
+
+
+main()
