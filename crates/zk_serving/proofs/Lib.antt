@@ -7,3 +7,4 @@ pub mod Entries
 pub mod Fronts
 pub mod Longer_shown
 pub mod Views
+pub mod Heard

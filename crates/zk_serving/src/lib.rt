@@ -6,7 +6,7 @@ ghost use Rattle.std.specs.Prelude.{◌≡◌, ◌≢◌, ◌≤◌, ◌<◌, �
 ghost use Rattle.std.specs.List.{AllByRecursion};
 ghost use Rattle.zk_history.specs.History.{History, IsHistory};
 ghost use Rattle.zk_conversation.specs.Calls.{Call};
-ghost use Rattle.zk_turns.specs.Turns.{Start, Output, Item as Client_item, Forgets, Halts, Bytes, Cut, Now, Call as Calling, Opened as Opening};
+ghost use Rattle.zk_turns.specs.Turns.{Start, Output, Send, ends_connection, Item as Client_item, Forgets, Halts, Bytes, Cut, Now, Call as Calling, Opened as Opening};
 ghost use Rattle.zk_turns.specs.View.{View, view_at};
 ghost use Rattle.zk_turns.specs.Kept.{kept_data, last_of, state_of};
 ghost use Rattle.zk_cache.specs.Kept.{Full};
@@ -25,7 +25,7 @@ ghost use Rattle.zk_laws.specs.Headline.{IsCoherentWith, IsQuietAt};
 ghost use Rattle.zk_laws.specs.GoingOn.{GoesOn};
 ghost use Rattle.zk_laws.specs.Served.{ArePayloads, is_going, items_in, IsServing, Served};
 ghost use Rattle.zk_serving.specs.Steps.{Step, used_by, Moves, ended_by, sent_by, processed_by};
-ghost use Rattle.zk_serving.specs.Shown.{Shown, Apart, Open, Over, AllTaken, connected, with_output, Hears, Takes, Processes};
+ghost use Rattle.zk_serving.specs.Shown.{Shown, Apart, Open, Over, AllTaken, connected, with_output, more_requests, Hears, Takes, Processes};
 ghost use Rattle.zk_serving.specs.Lines.{IsServedBy, IsPathCall, StandsFirst, IsCutAt, WasServed, item_of, is_up};
 
 /// Steps may be taken behind others: then they end where the later ones do, and send and process what both do.
@@ -104,6 +104,15 @@ pub fn client_goes_on()
         → Stands start (item_of (Calling ticket call) outputs ∷ items) view → Hears outputs old new → IsServedBy start (item_of (Calling ticket call) outputs ∷ items) new }
     ensures forgets { (start : Start) (items : List Client_item) (shown : Shown) → IsServedBy start items shown → IsServedBy start (Forgets ∷ items) shown }
     ensures halts { (start : Start) (items : List Client_item) (old new : Shown) → IsServedBy start items old → new.history ≡ old.history → IsServedBy start (Halts ∷ items) new }
+{}
+
+/// The servers hear outputs one after the other: the bytes of one that sends come behind those that wait, one that neither sends nor
+/// ends the connection leaves all as it is, and with one that ends it nothing is meant but that the history stays.
+pub fn hearing()
+    ensures nothing { (shown : Shown) → Hears [] shown shown }
+    ensures bytes { (bytes : List ℕ) (outputs : List Output) (old new : Shown) → Hears outputs (record old { requests = more_requests old.phase old.requests bytes }) new → Hears (Send bytes ∷ outputs) old new }
+    ensures other { (output : Output) (outputs : List Output) (old new : Shown) → ((bytes : List ℕ) → output ≢ Send bytes) → Hears outputs old new → Hears (output ∷ outputs) old new }
+    ensures end { (output : Output) (outputs : List Output) (old new : Shown) → ends_connection output ≡ true → new.history ≡ old.history → Hears (output ∷ outputs) old new }
 {}
 
 /// What the servers do: the connected one takes transactions, or processes the first request that waits, which is the one that was
