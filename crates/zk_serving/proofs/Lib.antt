@@ -8,3 +8,4 @@ pub mod Fronts
 pub mod Longer_shown
 pub mod Views
 pub mod Heard
+pub mod Two_parts_shown

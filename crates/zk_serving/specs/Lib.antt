@@ -2,3 +2,4 @@ pub mod Steps
 pub mod Shown
 pub mod Lines
 pub mod Longer_example
+pub mod Two_parts_example
