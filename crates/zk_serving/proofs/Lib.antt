@@ -8,3 +8,5 @@ pub mod Entries
 pub mod Fronts
 pub mod Longer_shown
 pub mod Views
+pub mod Heard
+pub mod Two_parts_shown

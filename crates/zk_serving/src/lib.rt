@@ -2,30 +2,31 @@
 //! The functions have empty bodies: their contracts are the laws.
 #![tactic(auto)]
 
-ghost use Rattle.std.specs.Prelude.{◌≡◌, ◌≢◌, ◌≤◌, ◌<◌, ◌⊎◌, ◌++◌, ◌+◌, ◌^◌, true, List, [], ◌∷◌, ℕ, ℤ, pos, Some, take, drop, slice_index, slice_set, length as length_of};
+ghost use Rattle.std.specs.Prelude.{◌≡◌, ◌≢◌, ◌≤◌, ◌<◌, ◌⊎◌, ◌++◌, ◌+◌, ◌^◌, true, false, map, List, [], ◌∷◌, ℕ, ℤ, pos, Some, take, drop, slice_index, slice_set, length as length_of};
 ghost use Rattle.std.specs.List.{AllByRecursion};
 ghost use Rattle.zk_history.specs.History.{History, IsHistory};
 ghost use Rattle.zk_conversation.specs.Calls.{Call};
-ghost use Rattle.zk_turns.specs.Turns.{Start, Output, Item as Client_item, Forgets, Halts, Bytes, Cut, Now, Call as Calling, Opened as Opening};
+ghost use Rattle.zk_turns.specs.Turns.{Start, Output, Send, ends_connection, Item as Client_item, Forgets, Halts, Bytes, Cut, Now, Call as Calling, Opened as Opening};
 ghost use Rattle.zk_turns.specs.View.{View, view_at};
 ghost use Rattle.zk_turns.specs.Kept.{kept_data, last_of, state_of};
 ghost use Rattle.zk_cache.specs.Kept.{Full};
 ghost use Rattle.zk_cache.specs.declared.held.Mark.TheVariants.{Stale};
 ghost use Rattle.zk_session.specs.declared.states.State.TheVariants.{Expired};
-ghost use Rattle.zk_laws.specs.Example.{at_a, fields_at_five};
+ghost use Rattle.zk_laws.specs.Example.{at_a, fields_at_five, two_changes};
 ghost use Rattle.zk_laws.specs.Meeting_example.{new_client};
+ghost use Rattle.zk_serving.specs.Two_parts_example.{just, first_path, second_path, until_both_set};
 ghost use Rattle.zk_serving.specs.Longer_example.{three_changes, until_told, until_written, until_expired};
 ghost use Rattle.zk_turns.specs.Taken.{past_of};
 ghost use Rattle.zk_turns.specs.Rule.{Rule, Stands};
 ghost use Rattle.zk_turns.specs.Ranges.{IsResumable, IsTyped, AllAskOf};
-ghost use Rattle.zk_laws.specs.Messages.{Request};
+ghost use Rattle.zk_laws.specs.Messages.{Request, Connect, Restore};
 ghost use Rattle.zk_laws.specs.ServerSteps.{ServerEnd, MayDo, messages_by, end_after};
 ghost use Rattle.zk_frames.specs.Frame.{frame, joined as frames, length_field};
 ghost use Rattle.zk_laws.specs.Headline.{IsCoherentWith, IsQuietAt};
 ghost use Rattle.zk_serving.specs.GoingOn.{GoesOn};
-ghost use Rattle.zk_laws.specs.Served.{ArePayloads, Entry, is_going, items_in, line_of, IsServing, Served};
+ghost use Rattle.zk_laws.specs.Served.{ArePayloads, Entry, is_going, items_in, line_of, requests, IsServing, Served};
 ghost use Rattle.zk_serving.specs.Steps.{Step, used_by, Moves, ended_by, sent_by, processed_by};
-ghost use Rattle.zk_serving.specs.Shown.{Shown, Apart, Open, Over, AllTaken, connected, with_output, Hears, Takes, Processes};
+ghost use Rattle.zk_serving.specs.Shown.{Shown, Apart, Open, Over, AllTaken, connected, with_output, more_requests, Hears, Takes, Processes};
 ghost use Rattle.zk_serving.specs.Lines.{IsServedBy, IsPathCall, StandsFirst, IsCutAt, WasServed, item_of, is_up};
 
 /// A schedule stays one when the history goes on, its servers end where they did, and each stands at a place of the history.
@@ -115,6 +116,15 @@ pub fn client_goes_on()
     ensures halts { (start : Start) (items : List Client_item) (old new : Shown) → IsServedBy start items old → new.history ≡ old.history → IsServedBy start (Halts ∷ items) new }
 {}
 
+/// The servers hear outputs one after the other: the bytes of one that sends come behind those that wait, one that neither sends nor
+/// ends the connection leaves all as it is, and with one that ends it nothing is meant but that the history stays.
+pub fn hearing()
+    ensures nothing { (shown : Shown) → Hears [] shown shown }
+    ensures bytes { (bytes : List ℕ) (outputs : List Output) (old new : Shown) → Hears outputs (record old { requests = more_requests old.phase old.requests bytes }) new → Hears (Send bytes ∷ outputs) old new }
+    ensures other { (output : Output) (outputs : List Output) (old new : Shown) → ((bytes : List ℕ) → output ≢ Send bytes) → Hears outputs old new → Hears (output ∷ outputs) old new }
+    ensures end { (output : Output) (outputs : List Output) (old new : Shown) → ends_connection output ≡ true → new.history ≡ old.history → Hears (output ∷ outputs) old new }
+{}
+
 /// What the servers do: the connected one takes transactions, or processes the first request that waits, which is the one that was
 /// asked; and where the client has no connection, or the server has ended it and sends nothing, the history may go on.
 pub fn servers_go_on()
@@ -185,4 +195,13 @@ pub fn longer_schedule()
     ensures quiet { IsQuietAt three_changes new_client until_written }
     ensures written { last_of new_client (past_of new_client (items_in until_written)) ≡ pos 7 }
     ensures expired { state_of (past_of new_client (items_in until_expired)) ≡ Expired }
+{}
+
+/// And by one whose client sets its watches again in two parts, since its paths are too long for one, and ends quiet.
+pub fn two_parts()
+    ensures serving { IsServing two_changes new_client until_both_set }
+    ensures stands { Stands new_client (items_in until_both_set) (view_at new_client (past_of new_client (items_in until_both_set))) }
+    ensures typed { AllAskOf IsTyped (items_in until_both_set) }
+    ensures parts { map (λ sent. sent.request) (requests new_client (past_of new_client (items_in until_both_set))) ≡ Connect 5 ∷ Restore false 5 (just first_path) ∷ Restore true 5 (just second_path) ∷ [] }
+    ensures quiet { IsQuietAt two_changes new_client until_both_set }
 {}
