@@ -1,20 +1,31 @@
 -- Steps of a server that takes transactions.
-use Rattle.std.proofs.Common.{ℕ, suc, pos, ◌≡◌, ◌≢◌, ◌<◌, ◌≤◌, ◌+◌, refl, ap, sym, ◌∙◌, subst, arith, List, [], ◌∷◌, ◌++◌, map, length, append_assoc}
+use Rattle.std.proofs.Common.{ℕ, zero, suc, pos, ◌≡◌, ◌≢◌, ◌<◌, ◌≤◌, ◌+◌, refl, ap, sym, ◌∙◌, subst, arith, List, [], ◌∷◌, ◌++◌, map, length, append_assoc, Bool, true, false, ◌&&◌, if◌then◌else◌}
+use mathlib.Core.Path.{fun_ext}
+use Rattle.std.specs.Prelude.{slice_index, slice_set}
 use Rattle.std.proofs.lemmas.List.{append-nil}
 use Rattle.std.specs.List.{flat_map}
 use Rattle.zk_frames.specs.Frame.{frame}
 use Rattle.zk_history.specs.History.{History, Change}
-use Rattle.zk_laws.specs.Server.{Watches, Notice, AreSent, fires_all, leaves_set_all}
+use Rattle.zk_history.specs.History.{NodePath, path_eq, Creates, Sets, Deletes}
+use Rattle.zk_history.specs.Kept.{history_of}
+use Rattle.zk_history.specs.declared.side.Side.{Side}
+use Rattle.zk_history.specs.declared.side.Side.TheVariants.{Data, Child}
+use Rattle.zk_laws.specs.GoingOn.{GoesOn}
+use Rattle.zk_laws.specs.Server.{Watches, Notice, AreSent, fires, leaves_set, fires_all, leaves_set_all, no_watches, without, same_side}
 use Rattle.zk_laws.specs.Messages.{Notifies}
 use Rattle.zk_laws.specs.Served.{ArePayloads}
-use Rattle.zk_laws.specs.ServerSteps.{ServerEnd, Stage, Serving, Ended as Silent, Advances, MayDo, messages_by, end_after, changes_next}
+use Rattle.zk_laws.specs.ServerSteps.{ServerEnd, Stage, Waiting, Serving, Ended as Silent, Advances, MayDo, messages_by, end_after, changes_next}
 use Rattle.zk_serving.specs.Steps.{Step, Moves, ended_by, sent_by, processed_by}
 use Rattle.zk_serving.proofs.Stepping.{last_moves, last_ended, last_sent}
 use Rattle.zk_bench.specs.declared.connection.Connection.{Connection}
 use Rattle.zk_bench.specs.declared.phase.Phase.{Phase}
-use Rattle.zk_bench.specs.declared.phase.Phase.TheVariants.{Accepted}
+use Rattle.zk_bench.specs.declared.phase.Phase.TheVariants.{Apart, Opening, Accepted, Ended}
 use Rattle.zk_bench.specs.Serving.{watched, Tells}
-use Rattle.zk_bench.specs.Stepping.{stage_of, end_at, Catches, CatchesUp}
+use Rattle.zk_serving.specs.Shown as shows
+use Rattle.zk_serving.proofs.Later.{taken_set}
+use Rattle.zk_bench.specs.Served.{Served, Linked, is_open}
+use Rattle.zk_bench.specs.Linked.{linked_of}
+use Rattle.zk_bench.specs.Stepping.{stage_of, end_at, Catches, CatchesUp, shown_watches, phase_of, end_of, shown_of, IsReady, TakesSome}
 
 -- no transaction is taken
 pub stays_there : {A : Type 0} (h : History) (place : ℕ) (old : Connection A) → place ≤ length h.transactions → CatchesUp h place old place old
@@ -57,3 +68,160 @@ takes_one h before old at mid new changes g accepted room next left t phase =
   where
     end_of : ℕ → Watches → Stage → ServerEnd
     end_of place watches stage = record { place = place; watches = watches; stage = stage }
+
+-- A client that was not admitted
+
+none_fired : (change : Change) → fires change no_watches ≡ []
+none_fired (Creates [] content owner) = refl
+none_fired (Creates (name ∷ path) content owner) = refl
+none_fired (Sets path content) = refl
+none_fired (Deletes []) = refl
+none_fired (Deletes (name ∷ path)) = refl
+
+never : (b : Bool) → (if b then false else false) ≡ false
+never true = refl
+never false = refl
+
+without_none : (gone : Side) (at : NodePath) → without gone at no_watches ≡ no_watches
+without_none gone at = fun_ext (λ side. fun_ext (λ path. never (same_side side gone && path_eq path at)))
+
+none_left : (change : Change) → leaves_set change no_watches ≡ no_watches
+none_left (Creates [] content owner) = refl
+none_left (Creates (name ∷ path) content owner) = ap (without Child path) (without_none Data (name ∷ path)) ∙ without_none Child path
+none_left (Sets path content) = without_none Data path
+none_left (Deletes []) = refl
+none_left (Deletes (name ∷ path)) =
+    ap (λ (w : Watches). without Child path (without Child (name ∷ path) w)) (without_none Data (name ∷ path))
+    ∙ ap (without Child path) (without_none Child (name ∷ path)) ∙ without_none Child path
+
+none_fired_all : (changes : List Change) → fires_all changes no_watches ≡ []
+none_fired_all [] = refl
+none_fired_all (change ∷ changes) =
+    ap (λ (ns : List Notice). ns ++ fires_all changes (leaves_set change no_watches)) (none_fired change)
+    ∙ ap (fires_all changes) (none_left change) ∙ none_fired_all changes
+
+none_left_all : (changes : List Change) → leaves_set_all changes no_watches ≡ no_watches
+none_left_all [] = refl
+none_left_all (change ∷ changes) = ap (leaves_set_all changes) (none_left change) ∙ none_left_all changes
+
+waits : (phase : Phase) → phase ≡ Opening → stage_of phase ≢ Silent
+waits phase e over = let at : Waiting ≡ Silent = sym (ap stage_of e) ∙ over in absurd cc
+
+none_sent : AreSent [] []
+none_sent n = (omega arith, λ h. h)
+
+-- a transaction more, of which nobody is told
+pub takes_silently : {A : Type 0} (h : History) (at : ℕ) (old : Connection A) → old.phase ≡ Opening → watched old.watches ≡ no_watches → at < length h.transactions → CatchesUp h at old (at + 1) old
+takes_silently h at old opening unwatched room =
+    let changes : List Change = changes_next h at in
+    let one : at + 1 ≡ suc at = omega arith in
+    let fired : fires_all changes (watched old.watches) ≡ [] = ap (fires_all changes) unwatched ∙ none_fired_all changes in
+    let left : leaves_set_all changes (watched old.watches) ≡ watched old.watches = ap (leaves_set_all changes) unwatched ∙ none_left_all changes ∙ sym unwatched in
+    record {
+      steps = record { step = Advances []; payloads = [] } ∷ [];
+      moves = ((waits old.phase opening, room, subst (λ (ns : List Notice). AreSent ns []) (sym fired) none_sent), tt, tt);
+      sent = sym (append-nil old.output.items);
+      low = omega (arith, room);
+      ended = ap (λ (w : Watches). end_with (suc at) w (stage_of old.phase)) left ∙ ap (λ (n : ℕ). end_with n (watched old.watches) (stage_of old.phase)) (sym one);
+    }
+  where
+    end_with : ℕ → Watches → Stage → ServerEnd
+    end_with place watches stage = record { place = place; watches = watches; stage = stage }
+
+-- What a bench shows
+
+set_there : (xs : List ℕ) (i n : ℕ) → i < length xs → slice_index (slice_set xs i n) i ≡ n
+set_there [] i n low = absurd (omega (arith, low))
+set_there (x ∷ xs) zero n low = refl
+set_there (x ∷ xs) (suc i) n low = set_there xs i n (omega (arith, low))
+
+length_set : (xs : List ℕ) (i n : ℕ) → length (slice_set xs i n) ≡ length xs
+length_set [] i n = refl
+length_set (x ∷ xs) zero n = refl
+length_set (x ∷ xs) (suc i) n = ap suc (length_set xs i n)
+
+is_going_on : (phase : Phase) → is_open phase ≡ true → phase_of phase ≢ shows.Apart
+is_going_on Apart e f = absurd cc
+is_going_on Opening e f = absurd cc
+is_going_on Accepted e f = absurd cc
+is_going_on Ended e f = absurd cc
+
+pub same_history : (h : History) → GoesOn h h
+same_history h = record { first = refl; more = []; transactions = sym (append-nil h.transactions) }
+
+-- a server that has taken a transaction is shown so
+pub shows_taken : {A : Type 0} (b : Served) (old new : Connection A) → b.connection ≡ linked_of old → IsReady b → is_open old.phase ≡ true
+    → new ≡ record old { watches = new.watches; output = new.output }
+    → CatchesUp (history_of b.history) (slice_index b.taken b.server) old (slice_index b.taken b.server + 1) new
+    → TakesSome (shown_of b) (shown_of (record b { taken = slice_set b.taken b.server (slice_index b.taken b.server + 1); connection = linked_of new }))
+shows_taken b old new is ready up rest g =
+    let h : History = history_of b.history in
+    let place : ℕ = slice_index b.taken b.server in
+    let phase : new.phase ≡ old.phase = ap (λ k. k.phase) rest in
+    let from : end_of b ≡ end_at place old = ap (λ (c : Linked). end_linked place c) is in
+    let put : slice_index (slice_set b.taken b.server (place + 1)) b.server ≡ place + 1 = set_there b.taken b.server (place + 1) ready.there in
+    record {
+      steps = g.steps;
+      takes = record {
+        goes = record {
+          history = same_history h;
+          moves = subst (λ (server : ServerEnd). Moves h (pos 0) [] g.steps server) (sym from) g.moves;
+          sent = g.sent ∙ ap (λ (c : Linked). c.output ++ sent_by g.steps) (sym is);
+          there = λ e. is_going_on new.phase (ap is_open phase ∙ up) e;
+          ended = λ open. ap (λ (n : ℕ). end_linked n (linked_of new)) put ∙ sym g.ended ∙ ap (ended_by h g.steps) (sym from);
+        };
+        requests = λ open. ap (λ k. k.requests.items) rest ∙ ap (λ (c : Linked). c.requests) (sym is);
+      };
+    }
+  where
+    end_linked : ℕ → Linked → ServerEnd
+    end_linked place c = record { place = place; watches = shown_watches c; stage = stage_of c.phase }
+
+-- each server still holds a beginning
+pub ready_taken : (b : Served) (server : ℕ) (connection : Linked) → IsReady b → slice_index b.taken server < length b.history.transactions
+    → (connection.phase ≡ Opening → shown_watches connection ≡ no_watches) → IsReady (record b { taken = slice_set b.taken server (slice_index b.taken server + 1); connection = connection })
+ready_taken b server connection ready room unwatched = record {
+  taken = taken_set (history_of b.history) b.taken server (slice_index b.taken server + 1) ready.taken (omega (arith, room));
+  there = subst (λ (n : ℕ). b.server < n) (sym (length_set b.taken server (slice_index b.taken server + 1))) ready.there;
+  unwatched = unwatched;
+}
+
+-- nothing is watched yet, where nothing was told
+pub still_unwatched : {A : Type 0} (old new : Connection A) → (old.phase ≢ Accepted → new ≡ old) → new ≡ record old { watches = new.watches; output = new.output }
+    → (old.phase ≡ Opening → shown_watches (linked_of old) ≡ no_watches) → new.phase ≡ Opening → shown_watches (linked_of new) ≡ no_watches
+still_unwatched {A} old new idle rest before opening =
+    let at : old.phase ≡ Opening = sym (ap (λ k. k.phase) rest) ∙ opening in
+    let same : new ≡ old = idle (λ e. let f : Opening ≡ Accepted = sym at ∙ e in absurd cc) in
+    ap {A = Connection A} {B = Watches} (λ k. shown_watches (linked_of k)) same ∙ before at
+
+-- an end, where nothing was sent, is no step
+pub shows_ended : (old new : Served) → GoesOn (history_of old.history) (history_of new.history) → new.connection.phase ≡ Ended → new.connection.output ≡ old.connection.output → TakesSome (shown_of old) (shown_of new)
+shows_ended old new goes over same = record {
+  steps = [];
+  takes = record {
+    goes = record {
+      history = goes;
+      moves = tt;
+      sent = same ∙ sym (append-nil old.connection.output);
+      there = λ e. let f : shows.Over ≡ shows.Apart = sym (ap phase_of over) ∙ e in absurd cc;
+      ended = λ e. let f : shows.Over ≡ shows.Open = sym (ap phase_of over) ∙ e in absurd cc;
+    };
+    requests = λ e. let f : shows.Over ≡ shows.Open = sym (ap phase_of over) ∙ e in absurd cc;
+  };
+}
+
+-- nothing happens
+pub shows_same : (b : Served) → is_open b.connection.phase ≡ true → TakesSome (shown_of b) (shown_of b)
+shows_same b up = record {
+  steps = [];
+  takes = record {
+    goes = record {
+      history = same_history (history_of b.history);
+      moves = tt;
+      sent = sym (append-nil b.connection.output);
+      there = λ e. is_going_on b.connection.phase up e;
+      ended = λ e. refl;
+    };
+    requests = λ e. refl;
+  };
+}

@@ -1,13 +1,19 @@
 -- Steps of a server on a connection, and what a bench shows in the words of the laws.
-use Rattle.std.specs.Prelude.{ℕ, pos, ◌≡◌, ◌≤◌, List, [], ◌++◌, length}
-use Rattle.std.specs.FinSet as set
+use Rattle.std.specs.Prelude.{ℕ, pos, ◌≡◌, ◌<◌, ◌≤◌, List, [], ◌++◌, length, slice_index}
 use Rattle.zk_history.specs.History.{History}
+use Rattle.zk_history.specs.Kept.{history_of}
+use Rattle.zk_laws.specs.Server.{Watches, no_watches}
 use Rattle.zk_laws.specs.ServerSteps.{ServerEnd, Stage, Waiting, Serving, Ended as Silent}
 use Rattle.zk_serving.specs.Steps.{Step, Moves, ended_by, sent_by}
+use Rattle.zk_serving.specs.Shown.{Shown, AllTaken, Takes}
+use Rattle.zk_serving.specs.Shown.{Phase as Going}
+use Rattle.zk_serving.specs.Shown as shows
 use Rattle.zk_bench.specs.declared.connection.Connection.{Connection}
 use Rattle.zk_bench.specs.declared.phase.Phase.{Phase}
 use Rattle.zk_bench.specs.declared.phase.Phase.TheVariants.{Apart, Opening, Accepted, Ended}
-use Rattle.zk_bench.specs.Serving.{watched}
+use Rattle.zk_bench.specs.Serving.{watched, watches_of}
+use Rattle.zk_bench.specs.Answering.{name_set}
+use Rattle.zk_bench.specs.Served.{Served, Linked}
 
 -- how far a server is
 abbrev pub stage_of : Phase → Stage
@@ -35,3 +41,39 @@ pub record CatchesUp {A : Type 0} (h : History) (before : ℕ) (old : Connection
   pub sent : new.output.items ≡ old.output.items ++ sent_by steps
   pub low : after ≤ length h.transactions
   pub ended : ended_by h steps (end_at before old) ≡ end_at after new
+
+-- the watches that are shown
+abbrev pub shown_watches : Linked → Watches
+shown_watches connection = watches_of (name_set connection.data_watches) (name_set connection.child_watches)
+
+-- how far the connection is, as what happens to a client asks
+abbrev pub phase_of : Phase → Going
+phase_of Apart = shows.Apart
+phase_of Opening = shows.Open
+phase_of Accepted = shows.Open
+phase_of Ended = shows.Over
+
+-- the connected server's end
+abbrev pub end_of : Served → ServerEnd
+end_of served = record { place = slice_index served.taken served.server; watches = shown_watches served.connection; stage = stage_of served.connection.phase }
+
+-- what a bench shows
+abbrev pub shown_of : Served → Shown
+shown_of served = record {
+  history = history_of served.history;
+  server = end_of served;
+  phase = phase_of served.connection.phase;
+  requests = served.connection.requests;
+  output = served.connection.output;
+}
+
+-- Each server holds a beginning of the history, and on a connection whose client was not admitted nothing is watched.
+pub record IsReady (served : Served) : Type 0 where
+  pub taken : AllTaken (history_of served.history) served.taken
+  pub there : served.server < length served.taken
+  pub unwatched : served.connection.phase ≡ Opening → shown_watches served.connection ≡ no_watches
+
+-- The connected server takes transactions.
+pub record TakesSome (old new : Shown) : Type 0 where
+  pub steps : List Step
+  pub takes : Takes steps old new
