@@ -1,12 +1,14 @@
 -- Steps of a server that takes transactions.
 use Rattle.std.proofs.Common.{ℕ, zero, suc, pos, ◌≡◌, ◌≢◌, ◌<◌, ◌≤◌, ◌+◌, refl, ap, sym, ◌∙◌, subst, arith, List, [], ◌∷◌, ◌++◌, map, length, append_assoc, Bool, true, false, ◌&&◌, if◌then◌else◌}
 use mathlib.Core.Path.{fun_ext}
-use Rattle.std.specs.Prelude.{slice_index, slice_set}
+use Rattle.std.specs.Prelude.{slice_index, slice_set, slice_get, Option, Some, None, Ok, Err, OnOk, OnErr, IsErrOf}
+use Rattle.std.specs.Prelude.{Result as Outcome}
+use Rattle.std.specs.declared.alloc.AllocError.{AllocError}
 use Rattle.std.proofs.lemmas.List.{append-nil}
 use Rattle.std.specs.List.{flat_map}
 use Rattle.zk_frames.specs.Frame.{frame}
 use Rattle.zk_history.specs.History.{History, Change}
-use Rattle.zk_history.specs.History.{NodePath, path_eq, Creates, Sets, Deletes}
+use Rattle.zk_history.specs.History.{Transaction, NodePath, path_eq, Creates, Sets, Deletes}
 use Rattle.zk_history.specs.Kept.{history_of}
 use Rattle.zk_history.specs.declared.side.Side.{Side}
 use Rattle.zk_history.specs.declared.side.Side.TheVariants.{Data, Child}
@@ -23,7 +25,10 @@ use Rattle.zk_bench.specs.declared.phase.Phase.TheVariants.{Apart, Opening, Acce
 use Rattle.zk_bench.specs.Serving.{watched, Tells}
 use Rattle.zk_serving.specs.Shown as shows
 use Rattle.zk_serving.proofs.Later.{taken_set}
-use Rattle.zk_bench.specs.Served.{Served, Linked, is_open}
+use Rattle.zk_bench.specs.Served.{Served, Linked, is_open, advanced, advanced_by, ended, disconnected}
+use Rattle.zk_bench.specs.declared.stop.Stop.{Stop}
+use Rattle.zk_bench.specs.declared.stop.Stop.TheVariants as stops
+use Rattle.zk_bench.proofs.Placed.{no_room}
 use Rattle.zk_bench.specs.Linked.{linked_of}
 use Rattle.zk_bench.specs.Stepping.{stage_of, end_at, Catches, CatchesUp, shown_watches, phase_of, end_of, shown_of, IsReady, TakesSome}
 
@@ -168,9 +173,9 @@ shows_taken b old new is ready up rest g =
           moves = subst (λ (server : ServerEnd). Moves h (pos 0) [] g.steps server) (sym from) g.moves;
           sent = g.sent ∙ ap (λ (c : Linked). c.output ++ sent_by g.steps) (sym is);
           there = λ e. is_going_on new.phase (ap is_open phase ∙ up) e;
-          ended = λ open. ap (λ (n : ℕ). end_linked n (linked_of new)) put ∙ sym g.ended ∙ ap (ended_by h g.steps) (sym from);
+          ended = λ still. ap (λ (n : ℕ). end_linked n (linked_of new)) put ∙ sym g.ended ∙ ap (ended_by h g.steps) (sym from);
         };
-        requests = λ open. ap (λ k. k.requests.items) rest ∙ ap (λ (c : Linked). c.requests) (sym is);
+        requests = λ still. ap (λ k. k.requests.items) rest ∙ ap (λ (c : Linked). c.requests) (sym is);
       };
     }
   where
@@ -225,3 +230,59 @@ shows_same b up = record {
     requests = λ e. refl;
   };
 }
+
+-- a transaction that is told where the client was admitted, and not told where it was not
+pub told_or_silent : {A : Type 0} (h : History) (at : ℕ) (old new : Connection A) (changes : List Change) → is_open old.phase ≡ true → (old.phase ≡ Opening → watched old.watches ≡ no_watches)
+    → at < length h.transactions → changes_next h at ≡ changes
+    → (old.phase ≡ Accepted → watched new.watches ≡ leaves_set_all changes (watched old.watches)) → (old.phase ≡ Accepted → Tells (fires_all changes (watched old.watches)) old.output.items new.output.items)
+    → (old.phase ≢ Accepted → new ≡ old) → new ≡ record old { watches = new.watches; output = new.output } → CatchesUp h at old (at + 1) new
+told_or_silent {A} h at old new changes up unwatched room next left tells idle rest = go old.phase refl
+  where
+    go : (phase : Phase) → old.phase ≡ phase → CatchesUp h at old (at + 1) new
+    go Apart e = let f : is_open Apart ≡ true = ap is_open (sym e) ∙ up in absurd cc
+    go Opening e =
+        subst (λ (k : Connection A). CatchesUp h at old (at + 1) k) (sym (idle (λ a. let f : Opening ≡ Accepted = sym e ∙ a in absurd cc))) (takes_silently h at old e (unwatched e) room)
+    go Accepted e = takes_one h at old at old new changes (stays_there h at old (omega (arith, room))) e room next (left e) (tells e) (ap (λ k. k.phase) rest)
+    go Ended e = let f : is_open Ended ≡ true = ap is_open (sym e) ∙ up in absurd cc
+
+-- how many each server has taken, where there was a transaction
+pub advanced_is : (b : Served) (server : ℕ) → slice_index b.taken server < length b.history.transactions → slice_set b.taken server (slice_index b.taken server + 1) ≡ advanced b server
+advanced_is b server room = go (slice_get b.history.transactions (slice_index b.taken server)) refl
+  where
+    go : (o : Option Transaction) → slice_get b.history.transactions (slice_index b.taken server) ≡ o → slice_set b.taken server (slice_index b.taken server + 1) ≡ advanced_by o b.taken server
+    go (Some one) e = refl
+    go None e = let low : length b.history.transactions ≤ slice_index b.taken server = no_room b.history.transactions (slice_index b.taken server) e in absurd (omega (arith, room, low))
+
+-- What becomes of the outcome
+
+pub ready_ended : (b : Served) → IsReady b → IsReady (ended b)
+ready_ended b ready = record { taken = ready.taken; there = ready.there; unwatched = λ e. absurd cc }
+
+pub ready_disconnected : (b : Served) → IsReady b → IsReady (disconnected b)
+ready_disconnected b ready = record { taken = ready.taken; there = ready.there; unwatched = λ e. absurd cc }
+
+pub settled : (P : Served → Type 0) (outcome : Outcome (Unit {0}) Stop) (mid new : Served) → OnOk outcome (new ≡ mid) → (IsErrOf outcome stops.End → new ≡ ended mid) → (IsErrOf outcome stops.Memory → new ≡ disconnected mid)
+    → P mid → P (ended mid) → P (disconnected mid) → P new
+settled P (Ok u) mid new a b c p q r = subst P (sym a) p
+settled P (Err stops.End) mid new a b c p q r = subst P (sym (b refl)) q
+settled P (Err stops.Memory) mid new a b c p q r = subst P (sym (c refl)) r
+
+nothing_so : {T E : Type 0} (r : Outcome T E) (P : Type 0) → P → OnOk r P
+nothing_so (Ok x) P p = p
+nothing_so (Err e) P p = tt
+
+never_so : {T E : Type 0} (r : Outcome T E) (P : Type 0) → OnOk r ⊥ → OnOk r P
+never_so (Ok x) P p = absurd p
+never_so (Err e) P p = tt
+
+-- what holds where the connection goes on, or has ended
+pub settled_so : (P : Served → Type 0) (outcome : Outcome (Unit {0}) Stop) (result : Outcome (Unit {0}) AllocError) (mid new : Served) → OnOk outcome (new ≡ mid) → (IsErrOf outcome stops.End → new ≡ ended mid)
+    → (IsErrOf outcome stops.Memory → OnOk result ⊥) → OnOk outcome (P mid) → (IsErrOf outcome stops.End → P (ended mid)) → OnOk result (P new)
+settled_so P (Ok u) result mid new a b c p q = nothing_so result (P new) (subst P (sym a) p)
+settled_so P (Err stops.End) result mid new a b c p q = nothing_so result (P new) (subst P (sym (b refl)) (q refl))
+settled_so P (Err stops.Memory) result mid new a b c p q = never_so result (P new) (c refl)
+
+-- what is said of errors holds of this one
+pub this_error : {T E : Type 0} (r : Outcome T E) (e : E) (P : Type 0) → OnErr r P → IsErrOf r e → P
+this_error (Ok x) e P h is = absurd cc
+this_error (Err f) e P h is = h

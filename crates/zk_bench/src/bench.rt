@@ -5,6 +5,7 @@ ghost use Rattle.zk_frames.specs.Frame.{IsNegative};
 ghost use Rattle.zk_bench.specs.declared.phase.Phase.TheVariants.{Apart};
 ghost use Rattle.zk_bench.specs.declared.stop.Stop.TheVariants as stops;
 ghost use Rattle.zk_bench.specs.Front.{IsShort, IsWhole};
+ghost use Rattle.zk_bench.specs.Stepping.{IsReady, TakesSome, shown_of};
 ghost use Rattle.zk_bench.specs.Served.{started, linked, connected, disconnected, ended, is_open, advanced, with_requests, without_output, Continues};
 
 use crate::connection::Connection;
@@ -149,6 +150,9 @@ impl<A: Allocator + Copy> Bench<A> {
         requires high { n ≤ 8 }
         ensures taken { self.new.taken ≡ advanced self.old (n - 1) }
         ensures elsewhere { n - 1 ≢ self.old.server → self.new.connection ≡ self.old.connection }
+        // The connected server advances as a server of the laws does.
+        ensures ready { IsReady self.old → IsReady self.new }
+        ensures advances { IsReady self.old → n - 1 ≡ self.old.server → is_open self.old.connection.phase ≡ true → OnOk result (TakesSome (shown_of self.old) (shown_of self.new)) }
         ensures lost { OnErr result (self.new.connection ≡ linked Apart) }
         ensures rest { self.new ≡ record self.old { taken = self.new.taken; connection = self.new.connection } }
     {
@@ -202,6 +206,7 @@ impl<A: Allocator + Copy> Bench<A> {
         ensures ok { OnOk outcome (self.new ≡ self.old) }
         ensures ended { IsErrOf outcome stops.End → self.new ≡ ended self.old }
         ensures lost { IsErrOf outcome stops.Memory → self.new ≡ disconnected self.old }
+        ensures gives_up { IsErrOf outcome stops.Memory → OnOk result ⊥ }
         ensures requests { OnOk result (self.new.connection.requests ≡ self.old.connection.requests) }
         ensures err { OnErr result (self.new ≡ disconnected self.old) }
     {
@@ -222,6 +227,9 @@ impl<A: Allocator + Copy> Bench<A> {
         requires { server < 8 }
         ensures taken { self.new.taken ≡ advanced self.old server }
         ensures elsewhere { server ≢ self.old.server → (self.new.connection ≡ self.old.connection) × IsOk result }
+        ensures ready { IsReady self.old → IsReady self.new }
+        ensures advances { IsReady self.old → server ≡ self.old.server → is_open self.old.connection.phase ≡ true → OnOk result (TakesSome (shown_of self.old) (shown_of self.new)) }
+        ensures sent { OnErr result (self.new.connection.output ≡ self.old.connection.output) }
         ensures rest { self.new ≡ record self.old { taken = self.new.taken; connection = self.new.connection } }
     {
         let place = self.taken[server];
