@@ -1,7 +1,8 @@
 -- Steps of a server that takes transactions.
-use Rattle.std.proofs.Common.{ℕ, zero, suc, pos, ◌≡◌, ◌≢◌, ◌<◌, ◌≤◌, ◌+◌, refl, ap, sym, ◌∙◌, subst, arith, List, [], ◌∷◌, ◌++◌, map, length, append_assoc, Bool, true, false, ◌&&◌, if◌then◌else◌}
+use Rattle.std.proofs.Common.{ℕ, zero, suc, ℤ, pos, ◌≡◌, ◌≢◌, ◌<◌, ◌≤◌, ◌+◌, refl, ap, sym, ◌∙◌, subst, arith, List, [], ◌∷◌, ◌++◌, map, length, append_assoc, Bool, true, false, ◌&&◌, if◌then◌else◌}
 use mathlib.Core.Path.{fun_ext}
-use Rattle.std.specs.Prelude.{slice_index, slice_set, slice_get, Option, Some, None, Ok, Err, OnOk, OnErr, IsErrOf}
+use Rattle.std.specs.Prelude.{slice_index, slice_set, slice_get, Option, Some, None, Ok, Err, OnOk, OnErr, IsErrOf, int_lt}
+use Rattle.std.proofs.lemmas.Bool.Decides.{nat_tests}
 use Rattle.std.specs.Prelude.{Result as Outcome}
 use Rattle.std.specs.declared.alloc.AllocError.{AllocError}
 use Rattle.std.proofs.lemmas.List.{append-nil}
@@ -13,24 +14,26 @@ use Rattle.zk_history.specs.Kept.{history_of}
 use Rattle.zk_history.specs.declared.side.Side.{Side}
 use Rattle.zk_history.specs.declared.side.Side.TheVariants.{Data, Child}
 use Rattle.zk_laws.specs.GoingOn.{GoesOn}
-use Rattle.zk_laws.specs.Server.{Watches, Notice, AreSent, fires, leaves_set, fires_all, leaves_set_all, no_watches, without, same_side}
-use Rattle.zk_laws.specs.Messages.{Notifies}
+use Rattle.zk_laws.specs.Server.{Watches, Notice, AreSent, fires, leaves_set, fires_all, leaves_set_all, no_watches, without, same_side, zxid_held}
+use Rattle.zk_laws.specs.Messages.{Notifies, Connect, Request}
+use Rattle.zk_laws.specs.Messages as message
 use Rattle.zk_laws.specs.Served.{ArePayloads}
-use Rattle.zk_laws.specs.ServerSteps.{ServerEnd, Stage, Waiting, Serving, Ended as Silent, Advances, MayDo, messages_by, end_after, changes_next}
+use Rattle.zk_laws.specs.ServerSteps.{ServerEnd, Stage, Waiting, Serving, Ended as Silent, Advances, Admits, Refuses, MayDo, messages_by, end_after, changes_next}
 use Rattle.zk_serving.specs.Steps.{Step, Moves, ended_by, sent_by, processed_by}
 use Rattle.zk_serving.proofs.Stepping.{last_moves, last_ended, last_sent}
 use Rattle.zk_bench.specs.declared.connection.Connection.{Connection}
 use Rattle.zk_bench.specs.declared.phase.Phase.{Phase}
 use Rattle.zk_bench.specs.declared.phase.Phase.TheVariants.{Apart, Opening, Accepted, Ended}
-use Rattle.zk_bench.specs.Serving.{watched, Tells}
+use Rattle.zk_bench.specs.Serving.{watched, Tells, SendsMessage}
 use Rattle.zk_serving.specs.Shown as shows
+use Rattle.zk_serving.specs.Shown.{Shown}
 use Rattle.zk_serving.proofs.Later.{taken_set}
 use Rattle.zk_bench.specs.Served.{Served, Linked, is_open, advanced, advanced_by, ended, disconnected}
 use Rattle.zk_bench.specs.declared.stop.Stop.{Stop}
 use Rattle.zk_bench.specs.declared.stop.Stop.TheVariants as stops
 use Rattle.zk_bench.proofs.Placed.{no_room}
 use Rattle.zk_bench.specs.Linked.{linked_of}
-use Rattle.zk_bench.specs.Stepping.{stage_of, end_at, Catches, CatchesUp, shown_watches, phase_of, end_of, shown_of, IsReady, TakesSome}
+use Rattle.zk_bench.specs.Stepping.{stage_of, end_at, Catches, CatchesUp, shown_watches, phase_of, end_of, shown_of, IsReady, TakesSome, ProcessesOne}
 
 -- no transaction is taken
 pub stays_there : {A : Type 0} (h : History) (place : ℕ) (old : Connection A) → place ≤ length h.transactions → CatchesUp h place old place old
@@ -286,3 +289,72 @@ settled_so P (Err stops.Memory) result mid new a b c p q = never_so result (P ne
 pub this_error : {T E : Type 0} (r : Outcome T E) (e : E) (P : Type 0) → OnErr r P → IsErrOf r e → P
 this_error (Ok x) e P h is = absurd cc
 this_error (Err f) e P h is = h
+
+-- The answers to a ConnectRequest
+
+pub admits_so : (b : Served) (new : Linked) (seen : ℕ) (xid : ℤ) → b.connection.phase ≡ Opening → seen ≤ zxid_held (history_of b.history) (slice_index b.taken b.server)
+    → SendsMessage message.Accepted b.connection.output new.output → new ≡ record b.connection { phase = Accepted; output = new.output }
+    → ProcessesOne (Connect seen) xid (shown_of b) (shown_of (record b { connection = new }))
+admits_so b new seen xid opening low s rest =
+    let h : History = history_of b.history in
+    let at : new.phase ≡ Accepted = ap (λ (c : Linked). c.phase) rest in
+    record {
+      steps = record { step = Admits seen; payloads = s.payload ∷ [] } ∷ [];
+      goes = record {
+        history = same_history h;
+        moves = ((ap stage_of opening, refl, low), (s.small, s.spelled xid, tt), tt);
+        sent = s.output ∙ ap (λ (bs : List ℕ). b.connection.output ++ bs) (twice (frame s.payload));
+        there = λ e. let f : shows.Open ≡ shows.Apart = sym (ap phase_of at) ∙ e in absurd cc;
+        ended = λ still. ap (λ (c : Linked). end_linked (slice_index b.taken b.server) c) rest;
+      };
+      done = λ still. refl;
+    }
+  where
+    end_linked : ℕ → Linked → ServerEnd
+    end_linked place c = record { place = place; watches = shown_watches c; stage = stage_of c.phase }
+
+    twice : (bs : List ℕ) → bs ≡ (bs ++ []) ++ []
+    twice bs = sym (append-nil (bs ++ []) ∙ append-nil bs)
+
+pub expires_so : (b : Served) (new : Linked) (seen : ℕ) (xid : ℤ) → b.connection.phase ≡ Opening → seen ≤ zxid_held (history_of b.history) (slice_index b.taken b.server)
+    → SendsMessage message.Expired b.connection.output new.output → new.phase ≡ Ended
+    → ProcessesOne (Connect seen) xid (shown_of b) (shown_of (record b { connection = new }))
+expires_so b new seen xid opening low s over =
+    let h : History = history_of b.history in
+    record {
+      steps = record { step = Refuses seen; payloads = s.payload ∷ [] } ∷ [];
+      goes = record {
+        history = same_history h;
+        moves = ((ap stage_of opening, refl, low), (s.small, s.spelled xid, tt), tt);
+        sent = s.output ∙ ap (λ (bs : List ℕ). b.connection.output ++ bs) (twice (frame s.payload));
+        there = λ e. let f : shows.Over ≡ shows.Apart = sym (ap phase_of over) ∙ e in absurd cc;
+        ended = λ e. let f : shows.Over ≡ shows.Open = sym (ap phase_of over) ∙ e in absurd cc;
+      };
+      done = λ e. let f : shows.Over ≡ shows.Open = sym (ap phase_of over) ∙ e in absurd cc;
+    }
+  where
+    twice : (bs : List ℕ) → bs ≡ (bs ++ []) ++ []
+    twice bs = sym (append-nil (bs ++ []) ∙ append-nil bs)
+
+-- A client that has seen no more than the server has.
+pub not_ahead : (held seen : ℕ) → int_lt (pos held) (pos seen) ≡ false → seen ≤ held
+not_ahead held seen e = grind (arith, nat_tests)
+
+pub ready_admitted : (b : Served) (connection : Linked) → IsReady b → (connection.phase ≡ Opening → shown_watches connection ≡ no_watches) → IsReady (record b { connection = connection })
+ready_admitted b connection ready h = record { taken = ready.taken; there = ready.there; unwatched = h }
+
+-- the bytes of the request do not count
+pub front_gone : (b : Served) (requests : List ℕ) (request : Request) (xid : ℤ) (new : Shown) → ProcessesOne request xid (shown_of (record b { connection = record b.connection { requests = requests } })) new
+    → ProcessesOne request xid (shown_of b) new
+front_gone b requests request xid new p = record {
+  steps = p.steps;
+  goes = record { history = p.goes.history; moves = p.goes.moves; sent = p.goes.sent; there = p.goes.there; ended = p.goes.ended };
+  done = p.done;
+}
+
+pub ready_front : (b : Served) (requests : List ℕ) → IsReady b → IsReady (record b { connection = record b.connection { requests = requests } })
+ready_front b requests ready = record { taken = ready.taken; there = ready.there; unwatched = ready.unwatched }
+
+pub ok_so : {T E : Type 0} (r : Outcome T E) (P Q : Type 0) → OnOk r P → (P → Q) → OnOk r Q
+ok_so (Ok x) P Q h f = f h
+ok_so (Err e) P Q h f = tt

@@ -1,11 +1,16 @@
 //! The servers and the connection to one of them.
 
-ghost use Rattle.std.specs.Prelude.{◌≡◌, ◌≢◌, ◌≤◌, ◌<◌, ◌-◌, ◌+◌, ℕ, true, false, drop, take as first, length as bytes_of, vec_len, IfOk, OnOk, OnErr, IsOk, IsErrOf};
+ghost use Rattle.std.specs.Prelude.{◌≡◌, ◌≢◌, ◌≤◌, ◌<◌, ◌-◌, ◌+◌, ℕ, ℤ, pos, List, Some, true, false, int_lt, slice_index, drop, take as first, length as bytes_of, vec_len, IfOk, OnOk, OnErr, IsOk, IsErrOf};
 ghost use Rattle.zk_frames.specs.Frame.{IsNegative};
-ghost use Rattle.zk_bench.specs.declared.phase.Phase.TheVariants.{Apart};
+ghost use Rattle.zk_bench.specs.declared.phase.Phase.TheVariants.{Apart, Opening};
 ghost use Rattle.zk_bench.specs.declared.stop.Stop.TheVariants as stops;
 ghost use Rattle.zk_bench.specs.Front.{IsShort, IsWhole};
-ghost use Rattle.zk_bench.specs.Stepping.{IsReady, TakesSome, shown_of};
+ghost use Rattle.zk_history.specs.Kept.{history_of};
+ghost use Rattle.zk_laws.specs.Server.{zxid_held};
+ghost use Rattle.zk_laws.specs.Messages.{Connect};
+ghost use Rattle.zk_laws.specs.Parsed.{IsRecord};
+ghost use Rattle.zk_records.specs.Layouts.{connect_request};
+ghost use Rattle.zk_bench.specs.Stepping.{IsReady, TakesSome, ProcessesOne, shown_of};
 ghost use Rattle.zk_bench.specs.Served.{started, linked, connected, disconnected, ended, is_open, advanced, with_requests, without_output, Continues};
 
 use crate::connection::Connection;
@@ -244,7 +249,9 @@ impl<A: Allocator + Copy> Bench<A> {
     }
 
     // The zxid of the connected server.
-    fn zxid(&self) -> i64 {
+    fn zxid(&self) -> i64
+        ensures { IsReady self.now → result ≡ pos (zxid_held (history_of self.now.history) (slice_index self.now.taken self.now.server)) }
+    {
         zxid_after(&self.history, self.taken[self.server])
     }
 
@@ -272,6 +279,11 @@ impl<A: Allocator + Copy> Bench<A> {
     // The same for the first frame of a connection.
     fn process_first(&mut self, length: usize) -> Result<(), Stop>
         requires { 4 + length ≤ bytes_of self.old.connection.requests }
+        ensures ready { IsReady self.old → IsReady self.new }
+        ensures connects { (seen : ℕ) (timeout session : ℤ) (password : List ℕ) (xid : ℤ) → IsReady self.old → self.old.connection.phase ≡ Opening
+            → IsRecord connect_request (pos 0, (pos seen, (timeout, (session, (Some password, false))))) (first length (drop 4 self.old.connection.requests)) → int_lt (pos 0) timeout ≡ true
+            → OnOk result (ProcessesOne (Connect seen) xid (shown_of self.old) (shown_of self.new)) }
+        ensures sent { IsErrOf result stops.End → self.new.connection.output ≡ self.old.connection.output }
         ensures processed { self.new.connection.requests ≡ drop (4 + length) self.old.connection.requests }
         ensures rest { self.new ≡ record self.old { taken = self.new.taken; connection = self.new.connection } }
     {
@@ -291,6 +303,10 @@ impl<A: Allocator + Copy> Bench<A> {
 
     // Answers the first request of a connection.
     fn admit(&mut self, request: &ConnectRequest<A>) -> Result<(), Stop>
+        ensures ready { IsReady self.old → IsReady self.new }
+        ensures admits { (seen : ℕ) (xid : ℤ) → IsReady self.old → self.old.connection.phase ≡ Opening → request.now.last_zxid_seen ≡ pos seen → int_lt (pos 0) request.now.time_out ≡ true
+            → OnOk result (ProcessesOne (Connect seen) xid (shown_of self.old) (shown_of self.new)) }
+        ensures sent { IsErrOf result stops.End → self.new.connection.output ≡ self.old.connection.output }
         ensures requests { self.new.connection.requests ≡ self.old.connection.requests }
         ensures rest { self.new ≡ record self.old { taken = self.new.taken; connection = self.new.connection } }
     {
@@ -300,10 +316,11 @@ impl<A: Allocator + Copy> Bench<A> {
         if self.expired {
             send_expired(self.alloc, &mut self.connection.output)?;
             self.connection.phase = Phase::Ended;
-        } else {
-            send_accepted(self.alloc, request.time_out, &mut self.connection.output)?;
-            self.connection.phase = Phase::Accepted;
+            return Ok(());
         }
+        let out = &mut self.connection.output;
+        send_accepted(self.alloc, request.time_out, out)?;
+        self.connection.phase = Phase::Accepted;
         Ok(())
     }
 
