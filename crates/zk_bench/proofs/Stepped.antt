@@ -1,5 +1,5 @@
 -- Steps of a server that takes transactions.
-use Rattle.std.proofs.Common.{ℕ, zero, suc, ℤ, pos, ◌≡◌, ◌≢◌, ◌<◌, ◌≤◌, ◌+◌, refl, ap, sym, ◌∙◌, subst, arith, List, [], ◌∷◌, ◌++◌, map, length, append_assoc, Bool, true, false, ◌&&◌, if◌then◌else◌}
+use Rattle.std.proofs.Common.{ℕ, zero, suc, ℤ, pos, ◌≡◌, ◌≢◌, ◌<◌, ◌≤◌, ◌+◌, refl, ap, sym, ◌∙◌, subst, arith, List, [], ◌∷◌, ◌++◌, map, length, take, drop, ◌^◌, append_assoc, Bool, true, false, ◌&&◌, if◌then◌else◌}
 use mathlib.Core.Path.{fun_ext}
 use Rattle.std.specs.Prelude.{slice_index, slice_set, slice_get, Option, Some, None, Ok, Err, OnOk, OnErr, IsErrOf, int_lt}
 use Rattle.std.proofs.lemmas.Bool.Decides.{nat_tests}
@@ -9,8 +9,8 @@ use Rattle.std.proofs.lemmas.List.{append-nil}
 use Rattle.std.specs.List.{flat_map}
 use Rattle.zk_frames.specs.Frame.{frame}
 use Rattle.zk_history.specs.History.{History, Change}
-use Rattle.zk_history.specs.History.{Transaction, NodePath, path_eq, Creates, Sets, Deletes}
-use Rattle.zk_history.specs.Kept.{history_of}
+use Rattle.zk_history.specs.History.{Transaction, after, NodePath, path_eq, Creates, Sets, Deletes}
+use Rattle.zk_history.specs.Kept.{Kept, history_of, root_tree}
 use Rattle.zk_history.specs.declared.side.Side.{Side}
 use Rattle.zk_history.specs.declared.side.Side.TheVariants.{Data, Child}
 use Rattle.zk_laws.specs.GoingOn.{GoesOn}
@@ -28,12 +28,14 @@ use Rattle.zk_bench.specs.Serving.{watched, Tells, SendsMessage}
 use Rattle.zk_serving.specs.Shown as shows
 use Rattle.zk_serving.specs.Shown.{Shown}
 use Rattle.zk_serving.proofs.Later.{taken_set}
-use Rattle.zk_bench.specs.Served.{Served, Linked, is_open, advanced, advanced_by, ended, disconnected}
+use Rattle.zk_bench.specs.Served.{Served, Linked, is_open, advanced, advanced_by, ended, disconnected, Continues}
 use Rattle.zk_bench.specs.declared.stop.Stop.{Stop}
 use Rattle.zk_bench.specs.declared.stop.Stop.TheVariants as stops
 use Rattle.zk_bench.proofs.Placed.{no_room}
 use Rattle.zk_bench.specs.Linked.{linked_of}
-use Rattle.zk_bench.specs.Stepping.{stage_of, end_at, Catches, CatchesUp, shown_watches, phase_of, end_of, shown_of, IsReady, TakesSome, ProcessesOne}
+use Rattle.zk_bench.specs.Stepping.{stage_of, end_at, Catches, CatchesUp, shown_watches, phase_of, end_of, shown_of, IsReady, TakesSome, ProcessesOne, ProcessesFirst}
+use Rattle.zk_bench.specs.Front.{IsShort, IsWhole}
+use Rattle.zk_serving.proofs.Fronts.{front_there, front_field, front_behind, front_payload}
 
 -- no transaction is taken
 pub stays_there : {A : Type 0} (h : History) (place : ℕ) (old : Connection A) → place ≤ length h.transactions → CatchesUp h place old place old
@@ -358,3 +360,52 @@ ready_front b requests ready = record { taken = ready.taken; there = ready.there
 pub ok_so : {T E : Type 0} (r : Outcome T E) (P Q : Type 0) → OnOk r P → (P → Q) → OnOk r Q
 ok_so (Ok x) P Q h f = f h
 ok_so (Err e) P Q h f = tt
+
+-- What stands first
+
+pub not_short : (payload rest bytes : List ℕ) → bytes ≡ frame payload ++ rest → length payload < 2 ^ 31 → IsShort bytes → ⊥
+not_short payload rest bytes is small short =
+    let there = front_there payload rest bytes is in
+    let field = front_field payload rest bytes is small in
+    let low = short.short (omega (arith, there)) in
+    omega (arith, there, field, low)
+
+pub whole_count : (payload rest bytes : List ℕ) (count : ℕ) → bytes ≡ frame payload ++ rest → length payload < 2 ^ 31 → IsWhole bytes count → count ≡ length payload
+whole_count payload rest bytes count is small whole = sym whole.is ∙ front_field payload rest bytes is small
+
+pub whole_payload : (payload rest bytes : List ℕ) (count : ℕ) → bytes ≡ frame payload ++ rest → length payload < 2 ^ 31 → IsWhole bytes count → payload ≡ take count (drop 4 bytes)
+whole_payload payload rest bytes count is small whole =
+    sym (front_payload payload rest bytes is) ∙ ap (λ (n : ℕ). take n (drop 4 bytes)) (sym (whole_count payload rest bytes count is small whole))
+
+-- a request that was processed, with its frame
+pub first_processed : (old new : Served) (request : Request) (xid : ℤ) (payload rest : List ℕ) → old.connection.requests ≡ frame payload ++ rest → new.connection.requests ≡ drop (4 + length payload) old.connection.requests
+    → ProcessesOne request xid (shown_of old) (shown_of new) → ProcessesFirst request xid payload (shown_of old) (shown_of new)
+first_processed old new request xid payload rest is gone p = record {
+  steps = p.steps;
+  processes = record {
+    goes = p.goes;
+    done = p.done;
+    requests = λ still. is ∙ ap (λ (bs : List ℕ). frame payload ++ bs) (sym (gone ∙ front_behind payload rest old.connection.requests is));
+  };
+}
+
+-- a connection that ends with nothing sent
+pub ends_first : (old new : Served) (request : Request) (xid : ℤ) (payload : List ℕ) → GoesOn (history_of old.history) (history_of new.history) → new.connection.phase ≡ Ended → new.connection.output ≡ old.connection.output
+    → ProcessesFirst request xid payload (shown_of old) (shown_of new)
+ends_first old new request xid payload goes over same = record {
+  steps = [];
+  processes = record {
+    goes = record {
+      history = goes;
+      moves = tt;
+      sent = same ∙ sym (append-nil old.connection.output);
+      there = λ e. let f : shows.Over ≡ shows.Apart = sym (ap phase_of over) ∙ e in absurd cc;
+      ended = λ e. let f : shows.Over ≡ shows.Open = sym (ap phase_of over) ∙ e in absurd cc;
+    };
+    done = λ e. let f : shows.Over ≡ shows.Open = sym (ap phase_of over) ∙ e in absurd cc;
+    requests = λ e. let f : shows.Over ≡ shows.Open = sym (ap phase_of over) ∙ e in absurd cc;
+  };
+}
+
+pub continues_so : (old new : Kept) → Continues old new → GoesOn (history_of old) (history_of new)
+continues_so old new c = record { first = ap (λ (ts : List Transaction). after ts root_tree) c.nodes; more = c.more; transactions = c.transactions }

@@ -5,7 +5,7 @@ use Rattle.zk_history.specs.Kept.{history_of}
 use Rattle.zk_laws.specs.Server.{Watches, no_watches}
 use Rattle.zk_laws.specs.ServerSteps.{ServerEnd, Stage, Waiting, Serving, Ended as Silent}
 use Rattle.zk_serving.specs.Steps.{Step, Moves, ended_by, sent_by, processed_by}
-use Rattle.zk_serving.specs.Shown.{Shown, AllTaken, Takes, GoesBy}
+use Rattle.zk_serving.specs.Shown.{Shown, AllTaken, Takes, GoesBy, Processes}
 use Rattle.zk_laws.specs.Messages.{Request}
 use Rattle.zk_serving.specs.Shown.{Phase as Going}
 use Rattle.zk_serving.specs.Shown as shows
@@ -84,3 +84,8 @@ pub record ProcessesOne (request : Request) (xid : ℤ) (old new : Shown) : Type
 pub record TakesSome (old new : Shown) : Type 0 where
   pub steps : List Step
   pub takes : Takes steps old new
+
+-- It processes the request whose frame stands first, unless it ends the connection.
+pub record ProcessesFirst (request : Request) (xid : ℤ) (payload : List ℕ) (old new : Shown) : Type 0 where
+  pub steps : List Step
+  pub processes : Processes request xid payload steps old new

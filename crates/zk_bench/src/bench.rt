@@ -1,7 +1,7 @@
 //! The servers and the connection to one of them.
 
-ghost use Rattle.std.specs.Prelude.{◌≡◌, ◌≢◌, ◌≤◌, ◌<◌, ◌-◌, ◌+◌, ℕ, ℤ, pos, List, Some, true, false, int_lt, slice_index, drop, take as first, length as bytes_of, vec_len, IfOk, OnOk, OnErr, IsOk, IsErrOf};
-ghost use Rattle.zk_frames.specs.Frame.{IsNegative};
+ghost use Rattle.std.specs.Prelude.{◌≡◌, ◌≢◌, ◌≤◌, ◌<◌, ◌-◌, ◌+◌, ◌^◌, ◌++◌, ℕ, ℤ, pos, List, Some, true, false, int_lt, slice_index, drop, take as first, length as bytes_of, vec_len, IfOk, OnOk, OnErr, IsOk, IsErrOf};
+ghost use Rattle.zk_frames.specs.Frame.{frame, IsNegative};
 ghost use Rattle.zk_bench.specs.declared.phase.Phase.TheVariants.{Apart, Opening};
 ghost use Rattle.zk_bench.specs.declared.stop.Stop.TheVariants as stops;
 ghost use Rattle.zk_bench.specs.Front.{IsShort, IsWhole};
@@ -10,7 +10,7 @@ ghost use Rattle.zk_laws.specs.Server.{zxid_held};
 ghost use Rattle.zk_laws.specs.Messages.{Connect};
 ghost use Rattle.zk_laws.specs.Parsed.{IsRecord};
 ghost use Rattle.zk_records.specs.Layouts.{connect_request};
-ghost use Rattle.zk_bench.specs.Stepping.{IsReady, TakesSome, ProcessesOne, shown_of};
+ghost use Rattle.zk_bench.specs.Stepping.{IsReady, TakesSome, ProcessesOne, ProcessesFirst, shown_of};
 ghost use Rattle.zk_bench.specs.Served.{started, linked, connected, disconnected, ended, is_open, advanced, with_requests, without_output, Continues};
 
 use crate::connection::Connection;
@@ -178,6 +178,12 @@ impl<A: Allocator + Copy> Bench<A> {
         ensures ends { is_open self.old.connection.phase ≡ true → IsNegative self.old.connection.requests → self.new ≡ ended self.old }
         ensures processed { (count : ℕ) → is_open self.old.connection.phase ≡ true → IsWhole self.old.connection.requests count
             → OnOk result (self.new.connection.requests ≡ drop (4 + count) self.old.connection.requests) }
+        // A ConnectRequest is processed as a server of the laws does.
+        ensures ready { self.old.connection.phase ≡ Opening → IsReady self.old → IsReady self.new }
+        ensures connects { (seen : ℕ) (timeout session : ℤ) (password payload rest : List ℕ) (xid : ℤ) → IsReady self.old → self.old.connection.phase ≡ Opening
+            → self.old.connection.requests ≡ frame payload ++ rest → bytes_of payload < 2 ^ 31
+            → IsRecord connect_request (pos 0, (pos seen, (timeout, (session, (Some password, false))))) payload → int_lt (pos 0) timeout ≡ true
+            → OnOk result (ProcessesFirst (Connect seen) xid payload (shown_of self.old) (shown_of self.new)) }
         ensures lost { OnErr result (self.new.connection ≡ linked Apart) }
         ensures history { Continues self.old.history self.new.history }
         ensures rest { self.new ≡ record self.old { history = self.new.history; taken = self.new.taken; connection = self.new.connection } }
@@ -196,6 +202,12 @@ impl<A: Allocator + Copy> Bench<A> {
         ensures ends { IsNegative self.old.connection.requests → (self.new ≡ self.old) × IsErrOf result stops.End }
         ensures processed { (count : ℕ) → IsWhole self.old.connection.requests count
             → self.new.connection.requests ≡ drop (4 + count) self.old.connection.requests }
+        ensures ready { self.old.connection.phase ≡ Opening → IsReady self.old → IsReady self.new }
+        ensures connects { (seen : ℕ) (timeout session : ℤ) (password payload rest : List ℕ) (xid : ℤ) → IsReady self.old → self.old.connection.phase ≡ Opening
+            → self.old.connection.requests ≡ frame payload ++ rest → bytes_of payload < 2 ^ 31
+            → IsRecord connect_request (pos 0, (pos seen, (timeout, (session, (Some password, false))))) payload → int_lt (pos 0) timeout ≡ true
+            → OnOk result (ProcessesOne (Connect seen) xid (shown_of self.old) (shown_of self.new)) }
+        ensures sent { self.old.connection.phase ≡ Opening → IsErrOf result stops.End → self.new.connection.output ≡ self.old.connection.output }
         ensures history { Continues self.old.history self.new.history }
         ensures rest { self.new ≡ record self.old { history = self.new.history; taken = self.new.taken; connection = self.new.connection } }
     {
@@ -262,10 +274,26 @@ impl<A: Allocator + Copy> Bench<A> {
         ensures processed { self.new.connection.requests ≡ drop (4 + length) self.old.connection.requests }
         ensures history { Continues self.old.history self.new.history }
         ensures rest { self.new ≡ record self.old { history = self.new.history; taken = self.new.taken; connection = self.new.connection } }
+        ensures ready { self.old.connection.phase ≡ Opening → IsReady self.old → IsReady self.new }
+        ensures connects { (seen : ℕ) (timeout session : ℤ) (password : List ℕ) (xid : ℤ) → IsReady self.old → self.old.connection.phase ≡ Opening
+            → IsRecord connect_request (pos 0, (pos seen, (timeout, (session, (Some password, false))))) (first length (drop 4 self.old.connection.requests)) → int_lt (pos 0) timeout ≡ true
+            → OnOk result (ProcessesOne (Connect seen) xid (shown_of self.old) (shown_of self.new)) }
+        ensures sent { self.old.connection.phase ≡ Opening → IsErrOf result stops.End → self.new.connection.output ≡ self.old.connection.output }
     {
         if self.connection.phase == Phase::Opening {
             return self.process_first(length);
         }
+        self.process_later(length)
+    }
+
+    // The same for a later frame.
+    #[tactic(auto, using(crate::proofs::Continuing::same_goes_on))]
+    fn process_later(&mut self, length: usize) -> Result<(), Stop>
+        requires { 4 + length ≤ bytes_of self.old.connection.requests }
+        ensures processed { self.new.connection.requests ≡ drop (4 + length) self.old.connection.requests }
+        ensures history { Continues self.old.history self.new.history }
+        ensures rest { self.new ≡ record self.old { history = self.new.history; taken = self.new.taken; connection = self.new.connection } }
+    {
         let next = next_request(self.alloc, &self.connection.requests, length);
         remove_front(&mut self.connection.requests, 4 + length);
         let (xid, request) = next?;
