@@ -1,5 +1,5 @@
 -- Steps of a server that takes transactions.
-use Rattle.std.proofs.Common.{ℕ, zero, suc, ℤ, pos, ◌≡◌, ◌≢◌, ◌<◌, ◌≤◌, ◌+◌, refl, ap, sym, ◌∙◌, subst, arith, List, [], ◌∷◌, ◌++◌, map, length, take, drop, ◌^◌, append_assoc, Bool, true, false, ◌&&◌, if◌then◌else◌}
+use Rattle.std.proofs.Common.{ℕ, zero, suc, ℤ, pos, ◌≡◌, ◌≢◌, ◌<◌, ◌≤◌, ◌+◌, refl, ap, sym, ◌∙◌, subst, arith, List, [], ◌∷◌, ◌++◌, length, take, drop, ◌^◌, append_assoc, Bool, true, false, ◌&&◌, if◌then◌else◌}
 use mathlib.Core.Path.{fun_ext}
 use Rattle.std.specs.Prelude.{slice_index, slice_set, slice_get, Option, Some, None, Ok, Err, OnOk, OnErr, IsErrOf, int_lt}
 use Rattle.std.proofs.lemmas.Bool.Decides.{nat_tests}
@@ -17,9 +17,8 @@ use Rattle.zk_laws.specs.GoingOn.{GoesOn}
 use Rattle.zk_laws.specs.Server.{Watches, Notice, AreSent, fires, leaves_set, fires_all, leaves_set_all, no_watches, without, same_side, zxid_held}
 use Rattle.zk_laws.specs.Messages.{Notifies, Connect, Request}
 use Rattle.zk_laws.specs.Messages as message
-use Rattle.zk_laws.specs.Served.{ArePayloads}
-use Rattle.zk_laws.specs.ServerSteps.{ServerEnd, Stage, Waiting, Serving, Ended as Silent, Advances, Admits, Refuses, MayDo, messages_by, end_after, changes_next}
-use Rattle.zk_serving.specs.Steps.{Step, Moves, ended_by, sent_by, processed_by}
+use Rattle.zk_laws.specs.ServerSteps.{ServerEnd, Stage, Waiting, Serving, Ended as Silent, Advances, Admits, Refuses, MayDo, end_after, changes_next}
+use Rattle.zk_serving.specs.Steps.{Step, Moves, ended_by, sent_by}
 use Rattle.zk_serving.proofs.Stepping.{last_moves, last_ended, last_sent}
 use Rattle.zk_bench.specs.declared.connection.Connection.{Connection}
 use Rattle.zk_bench.specs.declared.phase.Phase.{Phase}

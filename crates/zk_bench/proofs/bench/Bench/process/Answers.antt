@@ -1,4 +1,4 @@
-use Rattle.std.proofs.Common.{◌≡◌, refl, length}
+use Rattle.std.proofs.Common.{refl, length}
 use Rattle.zk_laws.specs.Messages.{Connect}
 use Rattle.zk_serving.proofs.Fronts.{front_there, front_field}
 use Rattle.zk_bench.specs.Served.{Served, ended}

@@ -1,4 +1,4 @@
-use Rattle.std.proofs.Common.{◌≡◌, ap, ◌∙◌, subst, pos, Some, false}
+use Rattle.std.proofs.Common.{ap, ◌∙◌, subst, pos, Some, false}
 use Rattle.zk_records.specs.Layouts.{connect_request}
 use Rattle.zk_laws.specs.Parsed.{IsRecord}
 use Rattle.zk_bench.specs.Front.{IsWhole}

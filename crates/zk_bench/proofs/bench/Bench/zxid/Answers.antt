@@ -9,7 +9,7 @@ use Rattle.zk_bench.specs.Stepping.{IsReady}
 use Rattle.zk_bench.proofs.bench.Bench.zxid.Goals as goal
 
 pub returns : goal.returns
-returns g c = 
+returns g c =
     let b : Served = record {
       history = c.self.inside.history;
       taken = c.self.inside.taken;
