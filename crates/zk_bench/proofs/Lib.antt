@@ -5,3 +5,4 @@ pub mod Answered
 pub mod Admitted
 pub mod Restored
 pub mod Stepped
+pub mod Asked

@@ -1,5 +1,5 @@
 -- What is told and watched where watches are set anew.
-use Rattle.std.proofs.Common.{ℕ, zero, suc, ℤ, pos, negsuc, ◌≡◌, ◌<◌, ◌≤◌, ◌+◌, Bool, true, false, not, ◌&&◌, ◌||◌, if◌then◌else◌, List, [], ◌∷◌, ◌++◌, refl, ap, sym, ◌∙◌, subst, arith, map, append_assoc, length, take, inl, inr, ◌⊎◌, Option, Some, None}
+use Rattle.std.proofs.Common.{ℕ, zero, suc, ℤ, pos, negsuc, ◌≡◌, ◌<◌, ◌≤◌, ◌+◌, Bool, true, false, not, ◌&&◌, ◌||◌, List, [], ◌∷◌, ◌++◌, refl, ap, sym, ◌∙◌, subst, arith, map, append_assoc, length, take, inl, inr, ◌⊎◌, Option, Some, None}
 use Rattle.std.proofs.lemmas.List.{append-nil}
 use mathlib.Core.Path.{fun_ext}
 use Rattle.std.specs.Prelude.{is_some, option_map}
@@ -20,16 +20,15 @@ use Rattle.zk_records.specs.declared.event.Event.{Event}
 use Rattle.zk_records.specs.Events.{event_number}
 use Rattle.zk_records.specs.Layouts.{watcher_event, reply_header}
 use Rattle.zk_watches.specs.Lists.{Lists}
-use Rattle.zk_laws.specs.Server.{Watches, Notice, same_side, tells, both, part_tells, part_sets, times, AreSent}
-use Rattle.zk_laws.specs.Messages.{Message, Notifies, Watches_set}
-use Rattle.zk_laws.specs.Served.{ArePayloads}
+use Rattle.zk_laws.specs.Server.{Watches, Notice, same_side, tells, both, part_tells, part_sets, AreSent}
+use Rattle.zk_laws.specs.Messages.{Notifies, Watches_set}
 use Rattle.zk_laws.proofs.Basics.{path_eq-true}
 use Rattle.zk_bench.specs.declared.connection.Connection.{Connection}
 use Rattle.zk_bench.specs.declared.rewatch.Watched.{Watched}
 use Rattle.zk_bench.specs.declared.rewatch.Watched.TheVariants.{Data, Exist, Child}
 use Rattle.zk_bench.specs.Serving.{is_named, watches_of, watched, Sends, SendsHeader, Tells}
 use Rattle.zk_bench.specs.Restoring.{missed_of, check_of, side_of, with_watch, watched_unless, told_of, left_of, texts_in, Rewatches, RestoresPart}
-use Rattle.zk_bench.proofs.Watched.{tells_both, map-append, payloads-append, joined-append}
+use Rattle.zk_bench.proofs.Watched.{tells_both, payloads-append, joined-append}
 use Rattle.zk_bench.proofs.Answered.{added, or-false}
 
 -- One path

@@ -1,31 +1,40 @@
 -- Steps of a server that takes transactions.
-use Rattle.std.proofs.Common.{ℕ, zero, suc, pos, ◌≡◌, ◌≢◌, ◌<◌, ◌≤◌, ◌+◌, refl, ap, sym, ◌∙◌, subst, arith, List, [], ◌∷◌, ◌++◌, map, length, append_assoc, Bool, true, false, ◌&&◌, if◌then◌else◌}
+use Rattle.std.proofs.Common.{ℕ, zero, suc, ℤ, pos, ◌≡◌, ◌≢◌, ◌<◌, ◌≤◌, ◌+◌, refl, ap, sym, ◌∙◌, subst, arith, List, [], ◌∷◌, ◌++◌, length, take, drop, ◌^◌, append_assoc, Bool, true, false, ◌&&◌, if◌then◌else◌}
 use mathlib.Core.Path.{fun_ext}
-use Rattle.std.specs.Prelude.{slice_index, slice_set}
+use Rattle.std.specs.Prelude.{slice_index, slice_set, slice_get, Option, Some, None, Ok, Err, OnOk, OnErr, IsErrOf, int_lt}
+use Rattle.std.proofs.lemmas.Bool.Decides.{nat_tests}
+use Rattle.std.specs.Prelude.{Result as Outcome}
+use Rattle.std.specs.declared.alloc.AllocError.{AllocError}
 use Rattle.std.proofs.lemmas.List.{append-nil}
 use Rattle.std.specs.List.{flat_map}
 use Rattle.zk_frames.specs.Frame.{frame}
 use Rattle.zk_history.specs.History.{History, Change}
-use Rattle.zk_history.specs.History.{NodePath, path_eq, Creates, Sets, Deletes}
-use Rattle.zk_history.specs.Kept.{history_of}
+use Rattle.zk_history.specs.History.{Transaction, after, NodePath, path_eq, Creates, Sets, Deletes}
+use Rattle.zk_history.specs.Kept.{Kept, history_of, root_tree}
 use Rattle.zk_history.specs.declared.side.Side.{Side}
 use Rattle.zk_history.specs.declared.side.Side.TheVariants.{Data, Child}
 use Rattle.zk_serving.specs.GoingOn.{GoesOn}
-use Rattle.zk_laws.specs.Server.{Watches, Notice, AreSent, fires, leaves_set, fires_all, leaves_set_all, no_watches, without, same_side}
-use Rattle.zk_laws.specs.Messages.{Notifies}
-use Rattle.zk_laws.specs.Served.{ArePayloads}
-use Rattle.zk_laws.specs.ServerSteps.{ServerEnd, Stage, Waiting, Serving, Ended as Silent, Advances, MayDo, messages_by, end_after, changes_next}
-use Rattle.zk_serving.specs.Steps.{Step, Moves, ended_by, sent_by, processed_by}
+use Rattle.zk_laws.specs.Server.{Watches, Notice, AreSent, fires, leaves_set, fires_all, leaves_set_all, no_watches, without, same_side, zxid_held}
+use Rattle.zk_laws.specs.Messages.{Notifies, Connect, Request}
+use Rattle.zk_laws.specs.Messages as message
+use Rattle.zk_laws.specs.ServerSteps.{ServerEnd, Stage, Waiting, Serving, Ended as Silent, Advances, Admits, Refuses, MayDo, end_after, changes_next}
+use Rattle.zk_serving.specs.Steps.{Step, Moves, ended_by, sent_by}
 use Rattle.zk_serving.proofs.Stepping.{last_moves, last_ended, last_sent}
 use Rattle.zk_bench.specs.declared.connection.Connection.{Connection}
 use Rattle.zk_bench.specs.declared.phase.Phase.{Phase}
 use Rattle.zk_bench.specs.declared.phase.Phase.TheVariants.{Apart, Opening, Accepted, Ended}
-use Rattle.zk_bench.specs.Serving.{watched, Tells}
+use Rattle.zk_bench.specs.Serving.{watched, Tells, SendsMessage}
 use Rattle.zk_serving.specs.Shown as shows
+use Rattle.zk_serving.specs.Shown.{Shown}
 use Rattle.zk_serving.proofs.Later.{taken_set}
-use Rattle.zk_bench.specs.Served.{Served, Linked, is_open}
+use Rattle.zk_bench.specs.Served.{Served, Linked, is_open, advanced, advanced_by, ended, disconnected, Continues}
+use Rattle.zk_bench.specs.declared.stop.Stop.{Stop}
+use Rattle.zk_bench.specs.declared.stop.Stop.TheVariants as stops
+use Rattle.zk_bench.proofs.Placed.{no_room}
 use Rattle.zk_bench.specs.Linked.{linked_of}
-use Rattle.zk_bench.specs.Stepping.{stage_of, end_at, Catches, CatchesUp, shown_watches, phase_of, end_of, shown_of, IsReady, TakesSome}
+use Rattle.zk_bench.specs.Stepping.{stage_of, end_at, Catches, CatchesUp, shown_watches, phase_of, end_of, shown_of, IsReady, TakesSome, ProcessesOne, ProcessesFirst}
+use Rattle.zk_bench.specs.Front.{IsShort, IsWhole}
+use Rattle.zk_serving.proofs.Fronts.{front_there, front_field, front_behind, front_payload}
 
 -- no transaction is taken
 pub stays_there : {A : Type 0} (h : History) (place : ℕ) (old : Connection A) → place ≤ length h.transactions → CatchesUp h place old place old
@@ -168,9 +177,9 @@ shows_taken b old new is ready up rest g =
           moves = subst (λ (server : ServerEnd). Moves h (pos 0) [] g.steps server) (sym from) g.moves;
           sent = g.sent ∙ ap (λ (c : Linked). c.output ++ sent_by g.steps) (sym is);
           there = λ e. is_going_on new.phase (ap is_open phase ∙ up) e;
-          ended = λ open. ap (λ (n : ℕ). end_linked n (linked_of new)) put ∙ sym g.ended ∙ ap (ended_by h g.steps) (sym from);
+          ended = λ still. ap (λ (n : ℕ). end_linked n (linked_of new)) put ∙ sym g.ended ∙ ap (ended_by h g.steps) (sym from);
         };
-        requests = λ open. ap (λ k. k.requests.items) rest ∙ ap (λ (c : Linked). c.requests) (sym is);
+        requests = λ still. ap (λ k. k.requests.items) rest ∙ ap (λ (c : Linked). c.requests) (sym is);
       };
     }
   where
@@ -225,3 +234,177 @@ shows_same b up = record {
     requests = λ e. refl;
   };
 }
+
+-- a transaction that is told where the client was admitted, and not told where it was not
+pub told_or_silent : {A : Type 0} (h : History) (at : ℕ) (old new : Connection A) (changes : List Change) → is_open old.phase ≡ true → (old.phase ≡ Opening → watched old.watches ≡ no_watches)
+    → at < length h.transactions → changes_next h at ≡ changes
+    → (old.phase ≡ Accepted → watched new.watches ≡ leaves_set_all changes (watched old.watches)) → (old.phase ≡ Accepted → Tells (fires_all changes (watched old.watches)) old.output.items new.output.items)
+    → (old.phase ≢ Accepted → new ≡ old) → new ≡ record old { watches = new.watches; output = new.output } → CatchesUp h at old (at + 1) new
+told_or_silent {A} h at old new changes up unwatched room next left tells idle rest = go old.phase refl
+  where
+    go : (phase : Phase) → old.phase ≡ phase → CatchesUp h at old (at + 1) new
+    go Apart e = let f : is_open Apart ≡ true = ap is_open (sym e) ∙ up in absurd cc
+    go Opening e =
+        subst (λ (k : Connection A). CatchesUp h at old (at + 1) k) (sym (idle (λ a. let f : Opening ≡ Accepted = sym e ∙ a in absurd cc))) (takes_silently h at old e (unwatched e) room)
+    go Accepted e = takes_one h at old at old new changes (stays_there h at old (omega (arith, room))) e room next (left e) (tells e) (ap (λ k. k.phase) rest)
+    go Ended e = let f : is_open Ended ≡ true = ap is_open (sym e) ∙ up in absurd cc
+
+-- how many each server has taken, where there was a transaction
+pub advanced_is : (b : Served) (server : ℕ) → slice_index b.taken server < length b.history.transactions → slice_set b.taken server (slice_index b.taken server + 1) ≡ advanced b server
+advanced_is b server room = go (slice_get b.history.transactions (slice_index b.taken server)) refl
+  where
+    go : (o : Option Transaction) → slice_get b.history.transactions (slice_index b.taken server) ≡ o → slice_set b.taken server (slice_index b.taken server + 1) ≡ advanced_by o b.taken server
+    go (Some one) e = refl
+    go None e = let low : length b.history.transactions ≤ slice_index b.taken server = no_room b.history.transactions (slice_index b.taken server) e in absurd (omega (arith, room, low))
+
+-- What becomes of the outcome
+
+pub ready_ended : (b : Served) → IsReady b → IsReady (ended b)
+ready_ended b ready = record { taken = ready.taken; there = ready.there; unwatched = λ e. absurd cc }
+
+pub ready_disconnected : (b : Served) → IsReady b → IsReady (disconnected b)
+ready_disconnected b ready = record { taken = ready.taken; there = ready.there; unwatched = λ e. absurd cc }
+
+pub settled : (P : Served → Type 0) (outcome : Outcome (Unit {0}) Stop) (mid new : Served) → OnOk outcome (new ≡ mid) → (IsErrOf outcome stops.End → new ≡ ended mid) → (IsErrOf outcome stops.Memory → new ≡ disconnected mid)
+    → P mid → P (ended mid) → P (disconnected mid) → P new
+settled P (Ok u) mid new a b c p q r = subst P (sym a) p
+settled P (Err stops.End) mid new a b c p q r = subst P (sym (b refl)) q
+settled P (Err stops.Memory) mid new a b c p q r = subst P (sym (c refl)) r
+
+nothing_so : {T E : Type 0} (r : Outcome T E) (P : Type 0) → P → OnOk r P
+nothing_so (Ok x) P p = p
+nothing_so (Err e) P p = tt
+
+never_so : {T E : Type 0} (r : Outcome T E) (P : Type 0) → OnOk r ⊥ → OnOk r P
+never_so (Ok x) P p = absurd p
+never_so (Err e) P p = tt
+
+-- what holds where the connection goes on, or has ended
+pub settled_so : (P : Served → Type 0) (outcome : Outcome (Unit {0}) Stop) (result : Outcome (Unit {0}) AllocError) (mid new : Served) → OnOk outcome (new ≡ mid) → (IsErrOf outcome stops.End → new ≡ ended mid)
+    → (IsErrOf outcome stops.Memory → OnOk result ⊥) → OnOk outcome (P mid) → (IsErrOf outcome stops.End → P (ended mid)) → OnOk result (P new)
+settled_so P (Ok u) result mid new a b c p q = nothing_so result (P new) (subst P (sym a) p)
+settled_so P (Err stops.End) result mid new a b c p q = nothing_so result (P new) (subst P (sym (b refl)) (q refl))
+settled_so P (Err stops.Memory) result mid new a b c p q = never_so result (P new) (c refl)
+
+-- what is said of errors holds of this one
+pub this_error : {T E : Type 0} (r : Outcome T E) (e : E) (P : Type 0) → OnErr r P → IsErrOf r e → P
+this_error (Ok x) e P h is = absurd cc
+this_error (Err f) e P h is = h
+
+-- The answers to a ConnectRequest
+
+pub admits_so : (b : Served) (new : Linked) (seen : ℕ) (xid : ℤ) → b.connection.phase ≡ Opening → seen ≤ zxid_held (history_of b.history) (slice_index b.taken b.server)
+    → SendsMessage message.Accepted b.connection.output new.output → new ≡ record b.connection { phase = Accepted; output = new.output }
+    → ProcessesOne (Connect seen) xid (shown_of b) (shown_of (record b { connection = new }))
+admits_so b new seen xid opening low s rest =
+    let h : History = history_of b.history in
+    let at : new.phase ≡ Accepted = ap (λ (c : Linked). c.phase) rest in
+    record {
+      steps = record { step = Admits seen; payloads = s.payload ∷ [] } ∷ [];
+      goes = record {
+        history = same_history h;
+        moves = ((ap stage_of opening, refl, low), (s.small, s.spelled xid, tt), tt);
+        sent = s.output ∙ ap (λ (bs : List ℕ). b.connection.output ++ bs) (twice (frame s.payload));
+        there = λ e. let f : shows.Open ≡ shows.Apart = sym (ap phase_of at) ∙ e in absurd cc;
+        ended = λ still. ap (λ (c : Linked). end_linked (slice_index b.taken b.server) c) rest;
+      };
+      done = λ still. refl;
+    }
+  where
+    end_linked : ℕ → Linked → ServerEnd
+    end_linked place c = record { place = place; watches = shown_watches c; stage = stage_of c.phase }
+
+    twice : (bs : List ℕ) → bs ≡ (bs ++ []) ++ []
+    twice bs = sym (append-nil (bs ++ []) ∙ append-nil bs)
+
+pub expires_so : (b : Served) (new : Linked) (seen : ℕ) (xid : ℤ) → b.connection.phase ≡ Opening → seen ≤ zxid_held (history_of b.history) (slice_index b.taken b.server)
+    → SendsMessage message.Expired b.connection.output new.output → new.phase ≡ Ended
+    → ProcessesOne (Connect seen) xid (shown_of b) (shown_of (record b { connection = new }))
+expires_so b new seen xid opening low s over =
+    let h : History = history_of b.history in
+    record {
+      steps = record { step = Refuses seen; payloads = s.payload ∷ [] } ∷ [];
+      goes = record {
+        history = same_history h;
+        moves = ((ap stage_of opening, refl, low), (s.small, s.spelled xid, tt), tt);
+        sent = s.output ∙ ap (λ (bs : List ℕ). b.connection.output ++ bs) (twice (frame s.payload));
+        there = λ e. let f : shows.Over ≡ shows.Apart = sym (ap phase_of over) ∙ e in absurd cc;
+        ended = λ e. let f : shows.Over ≡ shows.Open = sym (ap phase_of over) ∙ e in absurd cc;
+      };
+      done = λ e. let f : shows.Over ≡ shows.Open = sym (ap phase_of over) ∙ e in absurd cc;
+    }
+  where
+    twice : (bs : List ℕ) → bs ≡ (bs ++ []) ++ []
+    twice bs = sym (append-nil (bs ++ []) ∙ append-nil bs)
+
+-- A client that has seen no more than the server has.
+pub not_ahead : (held seen : ℕ) → int_lt (pos held) (pos seen) ≡ false → seen ≤ held
+not_ahead held seen e = grind (arith, nat_tests)
+
+pub ready_admitted : (b : Served) (connection : Linked) → IsReady b → (connection.phase ≡ Opening → shown_watches connection ≡ no_watches) → IsReady (record b { connection = connection })
+ready_admitted b connection ready h = record { taken = ready.taken; there = ready.there; unwatched = h }
+
+-- the bytes of the request do not count
+pub front_gone : (b : Served) (requests : List ℕ) (request : Request) (xid : ℤ) (new : Shown) → ProcessesOne request xid (shown_of (record b { connection = record b.connection { requests = requests } })) new
+    → ProcessesOne request xid (shown_of b) new
+front_gone b requests request xid new p = record {
+  steps = p.steps;
+  goes = record { history = p.goes.history; moves = p.goes.moves; sent = p.goes.sent; there = p.goes.there; ended = p.goes.ended };
+  done = p.done;
+}
+
+pub ready_front : (b : Served) (requests : List ℕ) → IsReady b → IsReady (record b { connection = record b.connection { requests = requests } })
+ready_front b requests ready = record { taken = ready.taken; there = ready.there; unwatched = ready.unwatched }
+
+pub ok_so : {T E : Type 0} (r : Outcome T E) (P Q : Type 0) → OnOk r P → (P → Q) → OnOk r Q
+ok_so (Ok x) P Q h f = f h
+ok_so (Err e) P Q h f = tt
+
+-- What stands first
+
+pub not_short : (payload rest bytes : List ℕ) → bytes ≡ frame payload ++ rest → length payload < 2 ^ 31 → IsShort bytes → ⊥
+not_short payload rest bytes is small short =
+    let there = front_there payload rest bytes is in
+    let field = front_field payload rest bytes is small in
+    let low = short.short (omega (arith, there)) in
+    omega (arith, there, field, low)
+
+pub whole_count : (payload rest bytes : List ℕ) (count : ℕ) → bytes ≡ frame payload ++ rest → length payload < 2 ^ 31 → IsWhole bytes count → count ≡ length payload
+whole_count payload rest bytes count is small whole = sym whole.is ∙ front_field payload rest bytes is small
+
+pub whole_payload : (payload rest bytes : List ℕ) (count : ℕ) → bytes ≡ frame payload ++ rest → length payload < 2 ^ 31 → IsWhole bytes count → payload ≡ take count (drop 4 bytes)
+whole_payload payload rest bytes count is small whole =
+    sym (front_payload payload rest bytes is) ∙ ap (λ (n : ℕ). take n (drop 4 bytes)) (sym (whole_count payload rest bytes count is small whole))
+
+-- a request that was processed, with its frame
+pub first_processed : (old new : Served) (request : Request) (xid : ℤ) (payload rest : List ℕ) → old.connection.requests ≡ frame payload ++ rest → new.connection.requests ≡ drop (4 + length payload) old.connection.requests
+    → ProcessesOne request xid (shown_of old) (shown_of new) → ProcessesFirst request xid payload (shown_of old) (shown_of new)
+first_processed old new request xid payload rest is gone p = record {
+  steps = p.steps;
+  processes = record {
+    goes = p.goes;
+    done = p.done;
+    requests = λ still. is ∙ ap (λ (bs : List ℕ). frame payload ++ bs) (sym (gone ∙ front_behind payload rest old.connection.requests is));
+  };
+}
+
+-- a connection that ends with nothing sent
+pub ends_first : (old new : Served) (request : Request) (xid : ℤ) (payload : List ℕ) → GoesOn (history_of old.history) (history_of new.history) → new.connection.phase ≡ Ended → new.connection.output ≡ old.connection.output
+    → ProcessesFirst request xid payload (shown_of old) (shown_of new)
+ends_first old new request xid payload goes over same = record {
+  steps = [];
+  processes = record {
+    goes = record {
+      history = goes;
+      moves = tt;
+      sent = same ∙ sym (append-nil old.connection.output);
+      there = λ e. let f : shows.Over ≡ shows.Apart = sym (ap phase_of over) ∙ e in absurd cc;
+      ended = λ e. let f : shows.Over ≡ shows.Open = sym (ap phase_of over) ∙ e in absurd cc;
+    };
+    done = λ e. let f : shows.Over ≡ shows.Open = sym (ap phase_of over) ∙ e in absurd cc;
+    requests = λ e. let f : shows.Over ≡ shows.Open = sym (ap phase_of over) ∙ e in absurd cc;
+  };
+}
+
+pub continues_so : (old new : Kept) → Continues old new → GoesOn (history_of old) (history_of new)
+continues_so old new c = record { first = ap (λ (ts : List Transaction). after ts root_tree) c.nodes; more = c.more; transactions = c.transactions }

@@ -1,11 +1,12 @@
 -- Steps of a server on a connection, and what a bench shows in the words of the laws.
-use Rattle.std.specs.Prelude.{ℕ, pos, ◌≡◌, ◌<◌, ◌≤◌, List, [], ◌++◌, length, slice_index}
+use Rattle.std.specs.Prelude.{ℕ, pos, ◌≡◌, ◌<◌, ◌≤◌, ℤ, List, [], ◌∷◌, ◌++◌, length, slice_index}
 use Rattle.zk_history.specs.History.{History}
 use Rattle.zk_history.specs.Kept.{history_of}
 use Rattle.zk_laws.specs.Server.{Watches, no_watches}
 use Rattle.zk_laws.specs.ServerSteps.{ServerEnd, Stage, Waiting, Serving, Ended as Silent}
-use Rattle.zk_serving.specs.Steps.{Step, Moves, ended_by, sent_by}
-use Rattle.zk_serving.specs.Shown.{Shown, AllTaken, Takes}
+use Rattle.zk_serving.specs.Steps.{Step, Moves, ended_by, sent_by, processed_by}
+use Rattle.zk_serving.specs.Shown.{Shown, AllTaken, Takes, GoesBy, Processes}
+use Rattle.zk_laws.specs.Messages.{Request}
 use Rattle.zk_serving.specs.Shown.{Phase as Going}
 use Rattle.zk_serving.specs.Shown as shows
 use Rattle.zk_bench.specs.declared.connection.Connection.{Connection}
@@ -73,7 +74,18 @@ pub record IsReady (served : Served) : Type 0 where
   pub there : served.server < length served.taken
   pub unwatched : served.connection.phase ≡ Opening → shown_watches served.connection ≡ no_watches
 
+-- The connected server processes a request, in which this xid stands, or ends the connection.
+pub record ProcessesOne (request : Request) (xid : ℤ) (old new : Shown) : Type 0 where
+  pub steps : List Step
+  pub goes : GoesBy xid (request ∷ []) steps old new
+  pub done : new.phase ≡ shows.Open → processed_by steps ≡ 1
+
 -- The connected server takes transactions.
 pub record TakesSome (old new : Shown) : Type 0 where
   pub steps : List Step
   pub takes : Takes steps old new
+
+-- It processes the request whose frame stands first, unless it ends the connection.
+pub record ProcessesFirst (request : Request) (xid : ℤ) (payload : List ℕ) (old new : Shown) : Type 0 where
+  pub steps : List Step
+  pub processes : Processes request xid payload steps old new

@@ -1,10 +1,16 @@
 //! The servers and the connection to one of them.
 
-ghost use Rattle.std.specs.Prelude.{◌≡◌, ◌≢◌, ◌≤◌, ◌<◌, ◌-◌, ◌+◌, ℕ, true, false, drop, take as first, length as bytes_of, vec_len, IfOk, OnOk, OnErr, IsOk, IsErrOf};
-ghost use Rattle.zk_frames.specs.Frame.{IsNegative};
-ghost use Rattle.zk_bench.specs.declared.phase.Phase.TheVariants.{Apart};
+ghost use Rattle.std.specs.Prelude.{◌≡◌, ◌≢◌, ◌≤◌, ◌<◌, ◌-◌, ◌+◌, ◌^◌, ◌++◌, ℕ, ℤ, pos, List, Some, true, false, int_lt, slice_index, drop, take as first, length as bytes_of, vec_len, IfOk, OnOk, OnErr, IsOk, IsErrOf};
+ghost use Rattle.zk_frames.specs.Frame.{frame, IsNegative};
+ghost use Rattle.zk_bench.specs.declared.phase.Phase.TheVariants.{Apart, Opening};
 ghost use Rattle.zk_bench.specs.declared.stop.Stop.TheVariants as stops;
 ghost use Rattle.zk_bench.specs.Front.{IsShort, IsWhole};
+ghost use Rattle.zk_history.specs.Kept.{history_of};
+ghost use Rattle.zk_laws.specs.Server.{zxid_held};
+ghost use Rattle.zk_laws.specs.Messages.{Connect};
+ghost use Rattle.zk_laws.specs.Parsed.{IsRecord};
+ghost use Rattle.zk_records.specs.Layouts.{connect_request};
+ghost use Rattle.zk_bench.specs.Stepping.{IsReady, TakesSome, ProcessesOne, ProcessesFirst, shown_of};
 ghost use Rattle.zk_bench.specs.Served.{started, linked, connected, disconnected, ended, is_open, advanced, with_requests, without_output, Continues};
 
 use crate::connection::Connection;
@@ -149,6 +155,9 @@ impl<A: Allocator + Copy> Bench<A> {
         requires high { n ≤ 8 }
         ensures taken { self.new.taken ≡ advanced self.old (n - 1) }
         ensures elsewhere { n - 1 ≢ self.old.server → self.new.connection ≡ self.old.connection }
+        // The connected server advances as a server of the laws does.
+        ensures ready { IsReady self.old → IsReady self.new }
+        ensures advances { IsReady self.old → n - 1 ≡ self.old.server → is_open self.old.connection.phase ≡ true → OnOk result (TakesSome (shown_of self.old) (shown_of self.new)) }
         ensures lost { OnErr result (self.new.connection ≡ linked Apart) }
         ensures rest { self.new ≡ record self.old { taken = self.new.taken; connection = self.new.connection } }
     {
@@ -169,6 +178,12 @@ impl<A: Allocator + Copy> Bench<A> {
         ensures ends { is_open self.old.connection.phase ≡ true → IsNegative self.old.connection.requests → self.new ≡ ended self.old }
         ensures processed { (count : ℕ) → is_open self.old.connection.phase ≡ true → IsWhole self.old.connection.requests count
             → OnOk result (self.new.connection.requests ≡ drop (4 + count) self.old.connection.requests) }
+        // A ConnectRequest is processed as a server of the laws does.
+        ensures ready { self.old.connection.phase ≡ Opening → IsReady self.old → IsReady self.new }
+        ensures connects { (seen : ℕ) (timeout session : ℤ) (password payload rest : List ℕ) (xid : ℤ) → IsReady self.old → self.old.connection.phase ≡ Opening
+            → self.old.connection.requests ≡ frame payload ++ rest → bytes_of payload < 2 ^ 31
+            → IsRecord connect_request (pos 0, (pos seen, (timeout, (session, (Some password, false))))) payload → int_lt (pos 0) timeout ≡ true
+            → OnOk result (ProcessesFirst (Connect seen) xid payload (shown_of self.old) (shown_of self.new)) }
         ensures lost { OnErr result (self.new.connection ≡ linked Apart) }
         ensures history { Continues self.old.history self.new.history }
         ensures rest { self.new ≡ record self.old { history = self.new.history; taken = self.new.taken; connection = self.new.connection } }
@@ -187,6 +202,12 @@ impl<A: Allocator + Copy> Bench<A> {
         ensures ends { IsNegative self.old.connection.requests → (self.new ≡ self.old) × IsErrOf result stops.End }
         ensures processed { (count : ℕ) → IsWhole self.old.connection.requests count
             → self.new.connection.requests ≡ drop (4 + count) self.old.connection.requests }
+        ensures ready { self.old.connection.phase ≡ Opening → IsReady self.old → IsReady self.new }
+        ensures connects { (seen : ℕ) (timeout session : ℤ) (password payload rest : List ℕ) (xid : ℤ) → IsReady self.old → self.old.connection.phase ≡ Opening
+            → self.old.connection.requests ≡ frame payload ++ rest → bytes_of payload < 2 ^ 31
+            → IsRecord connect_request (pos 0, (pos seen, (timeout, (session, (Some password, false))))) payload → int_lt (pos 0) timeout ≡ true
+            → OnOk result (ProcessesOne (Connect seen) xid (shown_of self.old) (shown_of self.new)) }
+        ensures sent { self.old.connection.phase ≡ Opening → IsErrOf result stops.End → self.new.connection.output ≡ self.old.connection.output }
         ensures history { Continues self.old.history self.new.history }
         ensures rest { self.new ≡ record self.old { history = self.new.history; taken = self.new.taken; connection = self.new.connection } }
     {
@@ -202,6 +223,7 @@ impl<A: Allocator + Copy> Bench<A> {
         ensures ok { OnOk outcome (self.new ≡ self.old) }
         ensures ended { IsErrOf outcome stops.End → self.new ≡ ended self.old }
         ensures lost { IsErrOf outcome stops.Memory → self.new ≡ disconnected self.old }
+        ensures gives_up { IsErrOf outcome stops.Memory → OnOk result ⊥ }
         ensures requests { OnOk result (self.new.connection.requests ≡ self.old.connection.requests) }
         ensures err { OnErr result (self.new ≡ disconnected self.old) }
     {
@@ -222,6 +244,9 @@ impl<A: Allocator + Copy> Bench<A> {
         requires { server < 8 }
         ensures taken { self.new.taken ≡ advanced self.old server }
         ensures elsewhere { server ≢ self.old.server → (self.new.connection ≡ self.old.connection) × IsOk result }
+        ensures ready { IsReady self.old → IsReady self.new }
+        ensures advances { IsReady self.old → server ≡ self.old.server → is_open self.old.connection.phase ≡ true → OnOk result (TakesSome (shown_of self.old) (shown_of self.new)) }
+        ensures sent { OnErr result (self.new.connection.output ≡ self.old.connection.output) }
         ensures rest { self.new ≡ record self.old { taken = self.new.taken; connection = self.new.connection } }
     {
         let place = self.taken[server];
@@ -236,7 +261,9 @@ impl<A: Allocator + Copy> Bench<A> {
     }
 
     // The zxid of the connected server.
-    fn zxid(&self) -> i64 {
+    fn zxid(&self) -> i64
+        ensures { IsReady self.now → result ≡ pos (zxid_held (history_of self.now.history) (slice_index self.now.taken self.now.server)) }
+    {
         zxid_after(&self.history, self.taken[self.server])
     }
 
@@ -247,10 +274,26 @@ impl<A: Allocator + Copy> Bench<A> {
         ensures processed { self.new.connection.requests ≡ drop (4 + length) self.old.connection.requests }
         ensures history { Continues self.old.history self.new.history }
         ensures rest { self.new ≡ record self.old { history = self.new.history; taken = self.new.taken; connection = self.new.connection } }
+        ensures ready { self.old.connection.phase ≡ Opening → IsReady self.old → IsReady self.new }
+        ensures connects { (seen : ℕ) (timeout session : ℤ) (password : List ℕ) (xid : ℤ) → IsReady self.old → self.old.connection.phase ≡ Opening
+            → IsRecord connect_request (pos 0, (pos seen, (timeout, (session, (Some password, false))))) (first length (drop 4 self.old.connection.requests)) → int_lt (pos 0) timeout ≡ true
+            → OnOk result (ProcessesOne (Connect seen) xid (shown_of self.old) (shown_of self.new)) }
+        ensures sent { self.old.connection.phase ≡ Opening → IsErrOf result stops.End → self.new.connection.output ≡ self.old.connection.output }
     {
         if self.connection.phase == Phase::Opening {
             return self.process_first(length);
         }
+        self.process_later(length)
+    }
+
+    // The same for a later frame.
+    #[tactic(auto, using(crate::proofs::Continuing::same_goes_on))]
+    fn process_later(&mut self, length: usize) -> Result<(), Stop>
+        requires { 4 + length ≤ bytes_of self.old.connection.requests }
+        ensures processed { self.new.connection.requests ≡ drop (4 + length) self.old.connection.requests }
+        ensures history { Continues self.old.history self.new.history }
+        ensures rest { self.new ≡ record self.old { history = self.new.history; taken = self.new.taken; connection = self.new.connection } }
+    {
         let next = next_request(self.alloc, &self.connection.requests, length);
         remove_front(&mut self.connection.requests, 4 + length);
         let (xid, request) = next?;
@@ -264,6 +307,11 @@ impl<A: Allocator + Copy> Bench<A> {
     // The same for the first frame of a connection.
     fn process_first(&mut self, length: usize) -> Result<(), Stop>
         requires { 4 + length ≤ bytes_of self.old.connection.requests }
+        ensures ready { IsReady self.old → IsReady self.new }
+        ensures connects { (seen : ℕ) (timeout session : ℤ) (password : List ℕ) (xid : ℤ) → IsReady self.old → self.old.connection.phase ≡ Opening
+            → IsRecord connect_request (pos 0, (pos seen, (timeout, (session, (Some password, false))))) (first length (drop 4 self.old.connection.requests)) → int_lt (pos 0) timeout ≡ true
+            → OnOk result (ProcessesOne (Connect seen) xid (shown_of self.old) (shown_of self.new)) }
+        ensures sent { IsErrOf result stops.End → self.new.connection.output ≡ self.old.connection.output }
         ensures processed { self.new.connection.requests ≡ drop (4 + length) self.old.connection.requests }
         ensures rest { self.new ≡ record self.old { taken = self.new.taken; connection = self.new.connection } }
     {
@@ -283,6 +331,10 @@ impl<A: Allocator + Copy> Bench<A> {
 
     // Answers the first request of a connection.
     fn admit(&mut self, request: &ConnectRequest<A>) -> Result<(), Stop>
+        ensures ready { IsReady self.old → IsReady self.new }
+        ensures admits { (seen : ℕ) (xid : ℤ) → IsReady self.old → self.old.connection.phase ≡ Opening → request.now.last_zxid_seen ≡ pos seen → int_lt (pos 0) request.now.time_out ≡ true
+            → OnOk result (ProcessesOne (Connect seen) xid (shown_of self.old) (shown_of self.new)) }
+        ensures sent { IsErrOf result stops.End → self.new.connection.output ≡ self.old.connection.output }
         ensures requests { self.new.connection.requests ≡ self.old.connection.requests }
         ensures rest { self.new ≡ record self.old { taken = self.new.taken; connection = self.new.connection } }
     {
@@ -292,10 +344,11 @@ impl<A: Allocator + Copy> Bench<A> {
         if self.expired {
             send_expired(self.alloc, &mut self.connection.output)?;
             self.connection.phase = Phase::Ended;
-        } else {
-            send_accepted(self.alloc, request.time_out, &mut self.connection.output)?;
-            self.connection.phase = Phase::Accepted;
+            return Ok(());
         }
+        let out = &mut self.connection.output;
+        send_accepted(self.alloc, request.time_out, out)?;
+        self.connection.phase = Phase::Accepted;
         Ok(())
     }
 

@@ -1,6 +1,13 @@
 //! Requests as they arrive.
 
-ghost use Rattle.std.specs.Prelude.{◌≤◌, ◌+◌, length as bytes_of};
+ghost use Rattle.std.specs.Prelude.{◌≡◌, ◌≤◌, ◌+◌, drop, take as first, length as bytes_of, MatchResult};
+ghost use Rattle.zk_jute.specs.Layout.{Value};
+ghost use Rattle.zk_records.specs.Layouts.{connect_request};
+ghost use Rattle.zk_records.specs.Operations.{request_layout};
+ghost use Rattle.zk_records.specs.Asked.{Asked, asked_of, asked_value};
+ghost use Rattle.zk_records.specs.Views.{request_of};
+ghost use Rattle.zk_laws.specs.Parsed.{IsRecord};
+ghost use Rattle.zk_bench.specs.declared.stop.Stop.TheVariants as stops;
 
 use crate::stop::Stop;
 use std::alloc::Allocator;
@@ -14,6 +21,8 @@ pub(crate) fn first_request<A: Allocator + Copy>(
     length: usize,
 ) -> Result<ConnectRequest<A>, Stop>
     requires { 4 + length ≤ bytes_of bytes.now }
+    ensures { (value : Value connect_request) → IsRecord connect_request value (first length (drop 4 bytes.now))
+        → MatchResult result (λ request. request_of request ≡ value) (λ stop. stop ≡ stops.Memory) }
 {
     let request = take(alloc, &mut Cursor::new(&bytes[4..4 + length]))?;
     Ok(request)
@@ -26,6 +35,8 @@ pub(crate) fn next_request<A: Allocator + Copy>(
     length: usize,
 ) -> Result<(i32, Request<A>), Stop>
     requires { 4 + length ≤ bytes_of bytes.now }
+    ensures { (asked : Asked) → IsRecord (request_layout asked.operation) (asked_value asked) (first length (drop 4 bytes.now))
+        → MatchResult result (λ request. asked_of request.0 request.1 ≡ asked) (λ stop. stop ≡ stops.Memory) }
 {
     let request = Request::take(alloc, &mut Cursor::new(&bytes[4..4 + length]))?;
     Ok(request)

@@ -1,4 +1,4 @@
-use Rattle.std.proofs.Common.{◌≡◌, refl, sym, ap, ◌∙◌}
+use Rattle.std.proofs.Common.{refl, sym, ap, ◌∙◌}
 use Rattle.zk_history.specs.History.{path_of, tree_at}
 use Rattle.zk_history.specs.Kept.{history_of, natural}
 use Rattle.zk_history.specs.Shown.{names_told}

@@ -4,13 +4,12 @@ use Rattle.std.specs.FinSet as set
 use Rattle.zk_jute.specs.Lenient.{or_empty}
 use Rattle.zk_jute.specs.Layout.{Value}
 use Rattle.zk_jute.specs.Spelling.{spelling}
-use Rattle.zk_history.specs.History.{path_of, tree_at, view, Absence}
+use Rattle.zk_history.specs.History.{path_of, tree_at}
 use Rattle.zk_history.specs.Kept.{history_of, natural}
 use Rattle.zk_history.specs.NamesKept.{names_of}
 use Rattle.zk_history.specs.PathFault.{IsPath}
 use Rattle.zk_history.specs.Shown.{IsStat}
 use Rattle.zk_history.specs.StatLayout.{stat}
-use Rattle.zk_history.specs.declared.side.Side.TheVariants as sides
 use Rattle.zk_history.proofs.PathLemmas.{IsPath-absolute}
 use Rattle.zk_records.specs.Layouts.{reply_header, get_children2_response}
 use Rattle.zk_conversation.specs.Results.{Listing, texts_of}

@@ -1,4 +1,4 @@
-use Rattle.std.proofs.Common.{◌≡◌, ◌∙◌, ap, subst, pos, rules, to_z, of_z, w32, w64}
+use Rattle.std.proofs.Common.{◌≡◌, ◌∙◌, subst, pos, rules, to_z, of_z, w32, w64}
 use Rattle.zk_history.specs.History.{tree_at}
 use Rattle.zk_history.specs.Kept.{history_of, natural}
 use Rattle.zk_laws.specs.Server.{part_tells, part_sets, both}

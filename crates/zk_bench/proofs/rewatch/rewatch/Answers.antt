@@ -1,4 +1,4 @@
-use Rattle.std.proofs.Common.{◌≡◌, refl, ap, sym, ◌∙◌, Some, None, pos, rules, to_z, of_z, w64}
+use Rattle.std.proofs.Common.{◌≡◌, refl, ap, sym, ◌∙◌, Some, None, rules, to_z, of_z, w64}
 use Rattle.zk_history.specs.History.{path_of, tree_at}
 use Rattle.zk_history.specs.Kept.{history_of, natural}
 use Rattle.zk_history.proofs.PathLemmas.{IsPath-absolute}

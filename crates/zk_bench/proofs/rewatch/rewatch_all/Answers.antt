@@ -1,4 +1,4 @@
-use Rattle.std.proofs.Common.{rules, ◌≡◌, ◌<◌, length, ◌++◌, refl, ap, sym, subst, ◌∙◌, [], ◌∷◌, take, arith, to_z, of_z, w64}
+use Rattle.std.proofs.Common.{rules, ◌≡◌, ◌<◌, length, refl, sym, subst, ◌∙◌, [], ◌∷◌, take, arith, to_z, of_z, w64}
 use Rattle.std.proofs.Math.Seq.{take-length}
 use Rattle.zk_jute.specs.Lenient.{or_empty}
 use Rattle.zk_history.specs.History.{tree_at}

@@ -1,4 +1,4 @@
-use Rattle.std.proofs.Common.{◌≡◌, refl, ap, sym, subst, ◌∙◌, pos, ℕ, List, rules, to_z, of_z, w64}
+use Rattle.std.proofs.Common.{◌≡◌, ap, sym, subst, ◌∙◌, rules, to_z, of_z, w64}
 use Rattle.std.specs.List.{AllByRecursion}
 use Rattle.zk_jute.specs.Lenient.{or_empty}
 use Rattle.zk_history.specs.History.{tree_at}

@@ -1,4 +1,4 @@
-use Rattle.std.proofs.Common.{◌≡◌, refl, ap, sym, ◌∙◌}
+use Rattle.std.proofs.Common.{ap, sym, ◌∙◌}
 use Rattle.zk_history.specs.History.{path_of}
 use Rattle.zk_history.specs.NamesKept.{names_of}
 use Rattle.zk_bench.specs.Serving.{watched, watches_of}

@@ -1,4 +1,4 @@
-use Rattle.std.proofs.Common.{◌≡◌, ap, ◌∙◌, map}
+use Rattle.std.proofs.Common.{ap, ◌∙◌, map}
 use Rattle.zk_history.specs.Kept.{history_of}
 use Rattle.zk_history.specs.Made.{change_of}
 use Rattle.zk_bench.proofs.Watched.{rest-more}

@@ -1,0 +1,24 @@
+use Rattle.std.proofs.Common.{◌≡◌, refl, sym, subst}
+use Rattle.zk_serving.specs.GoingOn.{GoesOn}
+use Rattle.zk_bench.specs.declared.stop.Stop.TheVariants as stops
+use Rattle.zk_history.specs.Kept.{history_of}
+use Rattle.zk_bench.specs.Served.{Served, ended}
+use Rattle.zk_bench.specs.Stepping.{IsReady, TakesSome, shown_of}
+use Rattle.zk_bench.proofs.Stepped.{this_error, settled, settled_so, ready_ended, ready_disconnected, shows_ended, same_history}
+use Rattle.zk_bench.proofs.bench.Bench.take.Goals as goal
+
+pub returns-clause-ready : goal.returns-clause-ready
+returns-clause-ready g c = λ ready.
+    let mid = c.take_next-outcome.new.self in
+    let now = c.take_next-outcome.ensures.ready ready in
+    settled IsReady c.take_next-outcome.result mid c.settle.new.self c.settle.ensures.ok c.settle.ensures.ended c.settle.ensures.lost now (ready_ended mid now) (ready_disconnected mid now)
+
+pub returns-clause-advances : goal.returns-clause-advances
+returns-clause-advances g c = λ ready same up.
+    let old = c.args.self.now in
+    let mid = c.take_next-outcome.new.self in
+    settled_so (λ (new : Served). TakesSome (shown_of old) (shown_of new)) c.take_next-outcome.result c.settle.result mid c.settle.new.self c.settle.ensures.ok c.settle.ensures.ended c.settle.ensures.gives_up
+    (c.take_next-outcome.ensures.advances ready same up)
+    (λ over. shows_ended old (ended mid)
+    (subst (λ (s : Served). GoesOn (history_of old.history) (history_of s.history)) (sym c.take_next-outcome.ensures.rest) (same_history (history_of old.history)))
+    refl (this_error c.take_next-outcome.result stops.End (mid.connection.output ≡ old.connection.output) c.take_next-outcome.ensures.sent over))
