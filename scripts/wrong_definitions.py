@@ -2,8 +2,9 @@
 """Wrong definitions, each of which breaks a law.
 
 Copies the repository, with what its checks keep in out/, into a temporary folder. There it makes one wrong edit of the
-definitions at a time, checks the crate, and says which functions, whose contracts are the laws, are no longer proved. An edit
-that breaks nothing is a hole in the laws: the exit status is then 1.
+definitions at a time, checks the crate, and says which functions, whose contracts are the laws, are no longer proved. Where they all
+are, the crate of laws above it is checked too: a definition that asks for more than it should still gives each law that rests on it, but
+no longer the schedules that meet it. An edit that breaks nothing is a hole in the laws: the exit status is then 1.
 
   scripts/wrong_definitions.py            all edits
   scripts/wrong_definitions.py WORD..     those whose names have one of the words
@@ -14,8 +15,10 @@ import sys
 import tempfile
 
 TURNS, LAWS = "zk_turns", "zk_laws"
+# the crate of laws above one
+ABOVE = {LAWS: "zk_serving"}
 KEPT, RULE, TAKEN, SENT = (f"specs/{name}.antt" for name in ("Kept", "Rule", "Taken", "Sent"))
-SERVER, SERVER_STEPS, SERVED = (f"specs/{name}.antt" for name in ("Server", "ServerSteps", "Served"))
+SERVER, SERVER_STEPS, SERVED, HEADLINE = (f"specs/{name}.antt" for name in ("Server", "ServerSteps", "Served", "Headline"))
 
 # name, crate, file, what stands there, what is to stand there
 EDITS = [
@@ -105,6 +108,29 @@ EDITS = [
      "Reads tree (Exists path watch) (Found stat) = ⊤"),
     ("a node that is there is told absent", LAWS, SERVER,
      "Reads tree (GetData path watch) NoNode = Fits Absent (view Data tree (path_of path))", "Reads tree (GetData path watch) NoNode = ⊤"),
+    # what servers may not do, though they should
+    ("nothing spells the reply to a part", LAWS, SERVED,
+     "IsPayload xid (Watches_set is_last zxid) payload = (behind : List ℕ) × IsHeaded xid (pos zxid) (pos 0) payload behind",
+     "IsPayload xid (Watches_set is_last zxid) payload = ⊥"),
+    ("nothing spells an expiry", LAWS, SERVED,
+     "(int_lt (pos 0) (response_timeout response) ≡ false)", "(int_lt (pos 0) (response_timeout response) ≡ false) × ⊥"),
+    ("watches are set again without notices alone", LAWS, SERVER_STEPS,
+     "AreSent (part_tells relative (tree_held h server.place) part) sent\nMayDo", "AreSent (part_tells relative (tree_held h server.place) part) sent × (sent ≡ [])\nMayDo"),
+    ("a connection begins at place 1 alone", LAWS, SERVED,
+     "Opening ↦ place ≤ length h.transactions", "Opening ↦ place ≡ 1"),
+    ("what was sent is received whole", LAWS, SERVED,
+     "(rest : List ℕ) × (line.coming ≡ bytes ++ rest)", "line.coming ≡ bytes"),
+    ("no server refuses a client", LAWS, SERVER_STEPS,
+     "MayDo h (Refuses seen) server requests = (server.stage ≡ Waiting) ×", "MayDo h (Refuses seen) server requests = (server.stage ≡ Ended) ×"),
+    ("a client is admitted where nothing is left to take alone", LAWS, SERVER_STEPS,
+     "MayDo h (Admits seen) server requests = (server.stage ≡ Waiting) × IsNext (Connect seen) requests × (seen ≤ zxid_held h server.place)",
+     "MayDo h (Admits seen) server requests = (server.stage ≡ Waiting) × IsNext (Connect seen) requests × (seen ≤ zxid_held h server.place) × (server.place ≡ length h.transactions)"),
+    ("a server that serves takes no transaction", LAWS, SERVER_STEPS,
+     "MayDo h (Advances sent) server requests = (server.stage ≢ Ended)", "MayDo h (Advances sent) server requests = (server.stage ≡ Waiting)"),
+    ("a write is accepted at the beginning of the history alone", LAWS, SERVER,
+     "Gives h place (call.SetData path content version) (Found stat) = LastHolds", "Gives h place (call.SetData path content version) (Found stat) = (place ≡ 0) × LastHolds"),
+    ("nothing is quiet", LAWS, HEADLINE,
+     "pub received : (line_of h entries).coming ≡ []", "pub received : length (line_of h entries).coming ≡ 1"),
 ]
 
 
@@ -136,6 +162,9 @@ def main():
                 continue
             open(path, "w", encoding="utf-8").write(whole.replace(old, new))
             proved, laws, errors = broken(folder, crate)
+            if proved and crate in ABOVE:
+                crate = ABOVE[crate]
+                proved, laws, errors = broken(folder, crate)
             open(path, "w", encoding="utf-8").write(whole)
             if proved or not errors:
                 print(f"{name}: NOTHING BROKE", flush=True)
