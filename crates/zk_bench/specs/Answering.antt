@@ -29,9 +29,17 @@ abbrev pub IsTold : Result → Type 0
 IsTold (Refused code) = ⊥
 IsTold result = ⊤
 
+-- the call is a read
+abbrev pub IsRead : Call → Type 0
+IsRead (call.Exists text watch) = ⊤
+IsRead (call.GetData text watch) = ⊤
+IsRead (call.GetChildren text watch) = ⊤
+IsRead asked = ⊥
+
 -- A read is answered from a tree: with what there is to see, under the xid and the zxid, and with the watches that this sets.
 pub record AnswersRead {A : Type 0} (tree : Tree) (zxid : ℕ) (xid : ℤ) (asked : Call) (old new : Connection A) : Type 0 where
   pub result : Result
+  pub read : IsRead asked
   pub told : IsTold result
   pub reads : Reads tree (question_of asked) result
   pub payload : List ℕ
