@@ -31,7 +31,12 @@ use Rattle.zk_laws.specs.Messages.{Replies}
 use Rattle.zk_laws.specs.Served.{IsPayload}
 use Rattle.zk_laws.proofs.Basics.{path_eq-true, text_eq_from, text_path}
 use Rattle.zk_bench.specs.Serving.{is_named, watches_of, Sends}
-use Rattle.zk_bench.specs.Answering.{name_set, ListsChildren}
+use Rattle.zk_bench.specs.Answering.{name_set, ListsChildren, IsReadOf}
+use Rattle.zk_conversation.specs.Calls.{Call}
+use Rattle.zk_conversation.specs.Calls as call
+use Rattle.zk_history.specs.PathFault.{IsPath}
+use Rattle.zk_records.specs.declared.ask.ReadRequest.{ReadRequest}
+use Rattle.zk_records.specs.declared.request.Request.TheVariants as requests
 use Rattle.zk_bench.proofs.Watched.{named, other_text}
 
 -- texts that are not null are those texts
@@ -321,3 +326,32 @@ no_copy (Some v) = ap Some (same_items v.items)
 pub errs_so : {T E : Type 0} (r : Outcome T E) (Q P : E → Type 0) → IsErrAnd r Q → ((e : E) → Q e → P e) → IfErr r P
 errs_so (Ok x) Q P h f = tt
 errs_so (Err e) Q P h f = f e h
+
+-- Which read a request is
+
+pub read_exists : {A : Type 0} (P : Call → Type 0) (r : ReadRequest A) (asked : Call) → IsReadOf (requests.Exists r) asked → ((text : Text) → IsPath text → r.path ≡ Some text → P (call.Exists text r.watch)) → P asked
+read_exists P r (call.Exists text watch) is f = subst (λ (w : Bool). P (call.Exists text w)) is.2 (f text is.0 is.1)
+read_exists P r (call.GetData text watch) is f = absurd is
+read_exists P r (call.GetChildren text watch) is f = absurd is
+read_exists P r (call.SetData text content version) is f = absurd is
+read_exists P r (call.Create text content mode) is f = absurd is
+read_exists P r (call.Delete text version) is f = absurd is
+read_exists P r call.Close is f = absurd is
+
+pub read_data : {A : Type 0} (P : Call → Type 0) (r : ReadRequest A) (asked : Call) → IsReadOf (requests.GetData r) asked → ((text : Text) → IsPath text → r.path ≡ Some text → P (call.GetData text r.watch)) → P asked
+read_data P r (call.Exists text watch) is f = absurd is
+read_data P r (call.GetData text watch) is f = subst (λ (w : Bool). P (call.GetData text w)) is.2 (f text is.0 is.1)
+read_data P r (call.GetChildren text watch) is f = absurd is
+read_data P r (call.SetData text content version) is f = absurd is
+read_data P r (call.Create text content mode) is f = absurd is
+read_data P r (call.Delete text version) is f = absurd is
+read_data P r call.Close is f = absurd is
+
+pub read_children : {A : Type 0} (P : Call → Type 0) (r : ReadRequest A) (asked : Call) → IsReadOf (requests.GetChildren2 r) asked → ((text : Text) → IsPath text → r.path ≡ Some text → P (call.GetChildren text r.watch)) → P asked
+read_children P r (call.Exists text watch) is f = absurd is
+read_children P r (call.GetData text watch) is f = absurd is
+read_children P r (call.GetChildren text watch) is f = subst (λ (w : Bool). P (call.GetChildren text w)) is.2 (f text is.0 is.1)
+read_children P r (call.SetData text content version) is f = absurd is
+read_children P r (call.Create text content mode) is f = absurd is
+read_children P r (call.Delete text version) is f = absurd is
+read_children P r call.Close is f = absurd is

@@ -4,7 +4,9 @@ use Rattle.std.specs.Prelude.{unwrap_or, slice_get, FitsSigned}
 use Rattle.std.specs.Int.{w64}
 use Rattle.zk_bench.proofs.Continuing.{above}
 use Rattle.std.proofs.lemmas.Option.{none-some}
-use Rattle.zk_history.specs.History.{Transaction, AreRising, newest, History}
+use Rattle.zk_history.specs.History.{Transaction, AreRising, newest, History, after, tree_at}
+use Rattle.zk_laws.specs.Server.{zxid_held, tree_held}
+use Rattle.zk_laws.proofs.Stamps.{up_to_newest}
 use Rattle.zk_laws.specs.ServerSteps.{changes_next}
 use Rattle.zk_history.specs.Kept.{natural}
 
@@ -69,3 +71,7 @@ zxid_fits ts taken zxid t rising some is e =
     let same : zxid ≡ pos t.zxid = whole zxid t.zxid (sym e) low in
     let fits : FitsSigned w64 (pos t.zxid) = omega (arith, high) in
     subst (λ (z : ℤ). FitsSigned w64 z) (sym same) fits
+
+-- the tree at the zxid of a server is that of the transactions that it has taken
+pub held_tree : (h : History) (taken : ℕ) → AreRising 0 h.transactions → tree_at h (zxid_held h taken) ≡ tree_held h taken
+held_tree h taken rising = ap (λ (ts : List Transaction). after ts h.first) (up_to_newest 0 taken h.transactions rising)

@@ -14,10 +14,16 @@ use Rattle.zk_history.specs.Kept.{Kept, history_of, root_tree}
 use Rattle.zk_history.specs.declared.side.Side.{Side}
 use Rattle.zk_history.specs.declared.side.Side.TheVariants.{Data, Child}
 use Rattle.zk_serving.specs.GoingOn.{GoesOn}
-use Rattle.zk_laws.specs.Server.{Watches, Notice, AreSent, fires, leaves_set, fires_all, leaves_set_all, no_watches, without, same_side, zxid_held}
-use Rattle.zk_laws.specs.Messages.{Notifies, Connect, Request}
+use Rattle.zk_laws.specs.Server.{Watches, Notice, AreSent, fires, leaves_set, fires_all, leaves_set_all, no_watches, without, same_side, zxid_held, tree_held, Reads, Gives, both, sets}
+use Rattle.zk_laws.specs.Messages.{Notifies, Connect, Request, Ask}
+use Rattle.zk_conversation.specs.Calls.{Call}
+use Rattle.zk_conversation.specs.Calls as call
+use Rattle.zk_conversation.specs.Questions.{question_of}
+use Rattle.zk_conversation.specs.Pending.{closes}
+use Rattle.zk_conversation.specs.Results.{Result, NoNode, Done, Refused, Found, Read, Listing, Made}
+use Rattle.zk_bench.specs.Answering.{IsRead, IsTold, AnswersRead}
 use Rattle.zk_laws.specs.Messages as message
-use Rattle.zk_laws.specs.ServerSteps.{ServerEnd, Stage, Waiting, Serving, Ended as Silent, Advances, Admits, Refuses, MayDo, end_after, changes_next}
+use Rattle.zk_laws.specs.ServerSteps.{ServerEnd, Stage, Waiting, Serving, Ended as Silent, Advances, Admits, Refuses, Answers, MayDo, end_after, changes_next}
 use Rattle.zk_serving.specs.Steps.{Step, Moves, ended_by, sent_by}
 use Rattle.zk_serving.proofs.Stepping.{last_moves, last_ended, last_sent}
 use Rattle.zk_bench.specs.declared.connection.Connection.{Connection}
@@ -408,3 +414,76 @@ ends_first old new request xid payload goes over same = record {
 
 pub continues_so : (old new : Kept) → Continues old new → GoesOn (history_of old) (history_of new)
 continues_so old new c = record { first = ap (λ (ts : List Transaction). after ts root_tree) c.nodes; more = c.more; transactions = c.transactions }
+
+-- A read that is answered
+
+goes_on : (asked : Call) → IsRead asked → closes (question_of asked) ≡ false
+goes_on (call.Exists text watch) is = refl
+goes_on (call.GetData text watch) is = refl
+goes_on (call.GetChildren text watch) is = refl
+goes_on (call.SetData text content version) is = absurd is
+goes_on (call.Create text content mode) is = absurd is
+goes_on (call.Delete text version) is = absurd is
+goes_on call.Close is = absurd is
+
+gives_read : (h : History) (place : ℕ) (asked : Call) (result : Result) → IsRead asked → IsTold result → Reads (tree_held h place) (question_of asked) result → Gives h place asked result
+gives_read h place (call.Exists text watch) NoNode is told reads = reads
+gives_read h place (call.Exists text watch) Done is told reads = reads
+gives_read h place (call.Exists text watch) (Refused code) is told reads = absurd told
+gives_read h place (call.Exists text watch) (Found stat) is told reads = reads
+gives_read h place (call.Exists text watch) (Read bytes stat) is told reads = reads
+gives_read h place (call.Exists text watch) (Listing names stat) is told reads = reads
+gives_read h place (call.Exists text watch) (Made at) is told reads = reads
+gives_read h place (call.GetData text watch) NoNode is told reads = reads
+gives_read h place (call.GetData text watch) Done is told reads = reads
+gives_read h place (call.GetData text watch) (Refused code) is told reads = absurd told
+gives_read h place (call.GetData text watch) (Found stat) is told reads = reads
+gives_read h place (call.GetData text watch) (Read bytes stat) is told reads = reads
+gives_read h place (call.GetData text watch) (Listing names stat) is told reads = reads
+gives_read h place (call.GetData text watch) (Made at) is told reads = reads
+gives_read h place (call.GetChildren text watch) NoNode is told reads = reads
+gives_read h place (call.GetChildren text watch) Done is told reads = reads
+gives_read h place (call.GetChildren text watch) (Refused code) is told reads = absurd told
+gives_read h place (call.GetChildren text watch) (Found stat) is told reads = reads
+gives_read h place (call.GetChildren text watch) (Read bytes stat) is told reads = reads
+gives_read h place (call.GetChildren text watch) (Listing names stat) is told reads = reads
+gives_read h place (call.GetChildren text watch) (Made at) is told reads = reads
+gives_read h place (call.SetData text content version) result is told reads = absurd is
+gives_read h place (call.Create text content mode) result is told reads = absurd is
+gives_read h place (call.Delete text version) result is told reads = absurd is
+gives_read h place call.Close result is told reads = absurd is
+
+-- so a server that serves answers
+pub reads_so : {A : Type 0} (b : Served) (old new : Connection A) (asked : Call) (xid : ℤ) → b.connection ≡ linked_of old → old.phase ≡ Accepted
+    → AnswersRead (tree_held (history_of b.history) (slice_index b.taken b.server)) (zxid_held (history_of b.history) (slice_index b.taken b.server)) xid asked old new
+    → ProcessesOne (Ask asked) xid (shown_of b) (shown_of (record b { connection = linked_of new }))
+reads_so b old new asked xid is accepted a =
+    let h : History = history_of b.history in
+    let place : ℕ = slice_index b.taken b.server in
+    let phase : new.phase ≡ Accepted = ap (λ k. k.phase) a.rest ∙ accepted in
+    let from : end_of b ≡ end_at place old = ap (λ (c : Linked). end_linked place c) is in
+    let serving : (end_of b).stage ≡ Serving = ap (λ (s : ServerEnd). s.stage) from ∙ ap stage_of accepted in
+    record {
+      steps = record { step = Answers asked a.result; payloads = a.payload ∷ [] } ∷ [];
+      goes = record {
+        history = same_history h;
+        moves = ((serving, refl, gives_read h place asked a.result a.read a.told a.reads), (a.small, a.spelled, tt), tt);
+        sent = a.output ∙ ap (λ (c : Linked). c.output ++ frame a.payload) (sym is) ∙ ap (λ (bs : List ℕ). b.connection.output ++ bs) (twice (frame a.payload));
+        there = λ e. let f : shows.Open ≡ shows.Apart = sym (ap phase_of phase) ∙ e in absurd cc;
+        ended = λ still.
+            ap (λ (w : Watches). end_with place w (stage_of new.phase)) a.left
+            ∙ ap (λ (c : Linked). end_with place (both (shown_watches c) (sets (question_of asked) a.result)) (stage_of new.phase)) (sym is)
+            ∙ ap (λ (p : Phase). end_with place (both (shown_watches b.connection) (sets (question_of asked) a.result)) (stage_of p)) phase
+            ∙ ap (λ (over : Bool). end_with place (both (shown_watches b.connection) (sets (question_of asked) a.result)) (if over then Silent else Serving)) (sym (goes_on asked a.read));
+      };
+      done = λ still. refl;
+    }
+  where
+    end_linked : ℕ → Linked → ServerEnd
+    end_linked place c = record { place = place; watches = shown_watches c; stage = stage_of c.phase }
+
+    end_with : ℕ → Watches → Stage → ServerEnd
+    end_with place watches stage = record { place = place; watches = watches; stage = stage }
+
+    twice : (bs : List ℕ) → bs ≡ (bs ++ []) ++ []
+    twice bs = sym (append-nil (bs ++ []) ∙ append-nil bs)

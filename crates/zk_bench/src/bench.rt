@@ -2,12 +2,14 @@
 
 ghost use Rattle.std.specs.Prelude.{◌≡◌, ◌≢◌, ◌≤◌, ◌<◌, ◌-◌, ◌+◌, ◌^◌, ◌++◌, ℕ, ℤ, pos, List, Some, true, false, int_lt, slice_index, drop, take as first, length as bytes_of, vec_len, IfOk, OnOk, OnErr, IsOk, IsErrOf};
 ghost use Rattle.zk_frames.specs.Frame.{frame, IsNegative};
-ghost use Rattle.zk_bench.specs.declared.phase.Phase.TheVariants.{Apart, Opening};
+ghost use Rattle.zk_bench.specs.declared.phase.Phase.TheVariants.{Apart, Opening, Accepted};
 ghost use Rattle.zk_bench.specs.declared.stop.Stop.TheVariants as stops;
 ghost use Rattle.zk_bench.specs.Front.{IsShort, IsWhole};
 ghost use Rattle.zk_history.specs.Kept.{history_of};
 ghost use Rattle.zk_laws.specs.Server.{zxid_held};
-ghost use Rattle.zk_laws.specs.Messages.{Connect};
+ghost use Rattle.zk_laws.specs.Messages.{Connect, Ask};
+ghost use Rattle.zk_conversation.specs.Calls.{Call};
+ghost use Rattle.zk_bench.specs.Answering.{IsReadOf};
 ghost use Rattle.zk_laws.specs.Parsed.{IsRecord};
 ghost use Rattle.zk_records.specs.Layouts.{connect_request};
 ghost use Rattle.zk_bench.specs.Stepping.{IsReady, TakesSome, ProcessesOne, ProcessesFirst, shown_of};
@@ -379,6 +381,8 @@ impl<A: Allocator + Copy> Bench<A> {
 
     // Answers a request that leaves the history as it is.
     fn read(&mut self, xid: i32, request: &Request<A>) -> Result<(), Refusal>
+        ensures reads { (asked : Call) → IsReady self.old → self.old.connection.phase ≡ Accepted → IsReadOf request.now asked
+            → OnOk result (ProcessesOne (Ask asked) xid (shown_of self.old) (shown_of self.new)) }
         ensures requests { self.new.connection.requests ≡ self.old.connection.requests }
         ensures rest { self.new ≡ record self.old { taken = self.new.taken; connection = self.new.connection } }
     {

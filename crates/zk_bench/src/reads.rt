@@ -12,8 +12,10 @@ ghost use Rattle.zk_history.specs.Kept.{history_of, natural};
 ghost use Rattle.zk_history.specs.NamesKept.{names_of};
 ghost use Rattle.zk_history.specs.PathFault.{IsPath};
 ghost use Rattle.zk_history.specs.Shown.{IsStat};
-ghost use Rattle.zk_conversation.specs.Calls.{Exists, GetData, GetChildren};
-ghost use Rattle.zk_bench.specs.Answering.{AnswersRead, RefusesRead, MissesNode, ListsChildren, FindsNoNode};
+ghost use Rattle.zk_conversation.specs.Calls.{Call, Exists, GetData, GetChildren};
+ghost use Rattle.zk_watches.specs.Lists.{Lists};
+ghost use Rattle.zk_bench.specs.Restoring.{RestoresPart};
+ghost use Rattle.zk_bench.specs.Answering.{AnswersRead, RefusesRead, MissesNode, ListsChildren, FindsNoNode, IsReadOf, IsRestoring};
 
 use crate::connection::Connection;
 use crate::replies::send_result;
@@ -35,14 +37,23 @@ pub(crate) fn read<A: Allocator + Copy>(
     request: &Request<A>,
     connection: &mut Connection<A>,
 ) -> Result<(), Refusal>
-    ensures { connection.new.requests ≡ connection.old.requests }
+    ensures requests { connection.new.requests ≡ connection.old.requests }
+    ensures answers { (asked : Call) (zxid : ℕ) → IsReadOf request.now asked → tree.now.zxid ≡ pos zxid
+        → OnOk result (AnswersRead (tree_at (history_of tree.now.history.now) zxid) zxid xid asked connection.old connection.new) }
+    ensures refuses { (asked : Call) (zxid : ℕ) → IsReadOf request.now asked → tree.now.zxid ≡ pos zxid
+        → IfErr result (RefusesRead (tree_at (history_of tree.now.history.now) zxid) asked connection.old connection.new) }
+    ensures restores { (since zxid : ℕ) (part : Lists) → IsRestoring request.now since part → tree.now.zxid ≡ pos zxid
+        → OnOk result (RestoresPart (tree_at (history_of tree.now.history.now) zxid) zxid xid since part connection.old connection.new) }
 {
     match request {
         Request::Exists(r) => exists(tree, xid, r, connection),
         Request::GetData(r) => get_data(tree, xid, r, connection),
         Request::GetChildren(r) => get_children(tree, xid, r, connection),
         Request::GetChildren2(r) => get_children_2(tree, xid, r, connection),
-        Request::SetWatches(r) => set_watches(tree, xid, r, connection).map_err(Refusal::from),
+        Request::SetWatches(r) => {
+            set_watches(tree, xid, r, connection)?;
+            Ok(())
+        }
         _ => Ok(()),
     }
 }

@@ -3,7 +3,8 @@
 ghost use Rattle.std.specs.Prelude.{◌≡◌, ◌<◌, ◌≤◌, ◌^◌, IfSome, OnOk, is_some, false, slice_get, map, length, pos};
 ghost use Rattle.zk_history.specs.Kept.{history_of};
 ghost use Rattle.zk_history.specs.Made.{change_of};
-ghost use Rattle.zk_laws.specs.Server.{zxid_held};
+ghost use Rattle.zk_laws.specs.Server.{zxid_held, tree_held};
+ghost use Rattle.zk_history.specs.History.{tree_at};
 ghost use Rattle.zk_laws.specs.ServerSteps.{changes_next};
 ghost use Rattle.zk_bench.specs.declared.phase.Phase.TheVariants.{Accepted};
 ghost use Rattle.zk_bench.specs.Stepping.{Catches, CatchesUp};
@@ -16,13 +17,14 @@ use zk_history::{Change, History};
 
 /// The zxid of a server that has taken so many transactions: that of the last of them, and 0 before the first.
 pub(crate) fn zxid_after<A: Allocator + Copy>(history: &History<A>, taken: usize) -> i64
-    ensures { taken ≤ length history.now.transactions → result ≡ pos (zxid_held (history_of history.now) taken) }
+    ensures zxid { taken ≤ length history.now.transactions → result ≡ pos (zxid_held (history_of history.now) taken) }
+    ensures held { tree_at (history_of history.now) (zxid_held (history_of history.now) taken) ≡ tree_held (history_of history.now) taken }
 {
+    // Zxids rise from 1 on.
+    let _last = history.last_zxid();
     if taken == 0 {
         return 0;
     }
-    // Zxids rise from 1 on.
-    let _last = history.last_zxid();
     match history.transaction(taken - 1) {
         Some((zxid, _, _)) => zxid,
         None => 0,

@@ -58,6 +58,8 @@ returns-clause-answers g c = λ text zxid is path at.
     (subst (λ z. Sends (to_z w32 (of_z w32 c.args.xid), (z, pos 0)) stat value old new) (ranged ∙ at) c.in_ok-send_result.ensures.sends) in
     record {
       result = Found told;
+      read = tt;
+      told = tt;
       reads = stat_read tree (path_of text) told counted;
       payload = spelling reply_header (c.args.xid, (pos zxid, pos 0)) ++ spelling stat value;
       small = sends.small;

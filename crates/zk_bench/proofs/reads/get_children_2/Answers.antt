@@ -65,6 +65,8 @@ returns-clause-answers g c = λ text zxid is path at.
     (subst (λ ts. Sends (to_z w32 (of_z w32 c.args.xid), (to_z w64 (of_z w64 c.args.tree.now.zxid), pos 0)) get_children2_response (ts, value) old new) (no_copy c.in_ok-children.children.elements) c.in_ok-send_result.ensures.sends)) in
     record {
       result = Listing (texts_of texts) told;
+      read = tt;
+      told = tt;
       reads = children_read tree (path_of text) (texts_of texts) told counted listed;
       payload = spelling reply_header (c.args.xid, (pos zxid, pos 0)) ++ spelling get_children2_response (texts, value);
       small = sends.small;

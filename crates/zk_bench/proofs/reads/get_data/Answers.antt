@@ -66,6 +66,8 @@ returns-clause-answers g c = λ text zxid is path at.
     (subst (λ b. Sends (to_z w32 (of_z w32 c.args.xid), (to_z w64 (of_z w64 c.args.tree.now.zxid), pos 0)) get_data_response (b, value) old new) c.new-bytes.ensures c.in_ok-send_result.ensures.sends)) in
     record {
       result = Read bytes told;
+      read = tt;
+      told = tt;
       reads = data_read tree (path_of text) bytes c.in-Some.«data».stat told seen counted;
       payload = spelling reply_header (c.args.xid, (pos zxid, pos 0)) ++ spelling get_data_response (bytes, value);
       small = sends.small;

@@ -1,0 +1,41 @@
+use Rattle.std.proofs.Common.{rules, ◌≡◌, subst, to_z, of_z, w32}
+use Rattle.std.specs.Prelude.{OnOk}
+use Rattle.zk_history.specs.History.{tree_at}
+use Rattle.zk_history.specs.Kept.{history_of}
+use Rattle.zk_conversation.specs.Calls as call
+use Rattle.zk_bench.specs.Answering.{AnswersRead, IsReadOf, IsRestoring}
+use Rattle.zk_bench.specs.Restoring.{IsPart, ArePaths, RestoresPart}
+use Rattle.zk_bench.proofs.Answered.{read_exists, read_data, read_children}
+use Rattle.zk_bench.proofs.reads.read.Goals as goal
+
+pub returns-in-Exists-clause-answers : goal.returns-in-Exists-clause-answers
+returns-in-Exists-clause-answers g c = λ asked zxid is at.
+    let tree = tree_at (history_of c.args.tree.now.history.now) zxid in
+    let xid : to_z w32 (of_z w32 c.args.xid) ≡ c.args.xid = search rules in
+    let r = c.in-Exists.r in
+    read_exists (λ a. OnOk c.exists.result (AnswersRead tree zxid c.args.xid a c.args.connection.now c.exists.new.connection)) r asked (subst (λ q. IsReadOf q asked) c.in-Exists.is is)
+    (λ text path e. subst (λ x. OnOk c.exists.result (AnswersRead tree zxid x (call.Exists text r.watch) c.args.connection.now c.exists.new.connection)) xid (c.exists.ensures.answers text zxid path e at))
+
+pub returns-in-GetData-clause-answers : goal.returns-in-GetData-clause-answers
+returns-in-GetData-clause-answers g c = λ asked zxid is at.
+    let tree = tree_at (history_of c.args.tree.now.history.now) zxid in
+    let xid : to_z w32 (of_z w32 c.args.xid) ≡ c.args.xid = search rules in
+    let r = c.in-GetData.r in
+    read_data (λ a. OnOk c.get_data.result (AnswersRead tree zxid c.args.xid a c.args.connection.now c.get_data.new.connection)) r asked (subst (λ q. IsReadOf q asked) c.in-GetData.is is)
+    (λ text path e. subst (λ x. OnOk c.get_data.result (AnswersRead tree zxid x (call.GetData text r.watch) c.args.connection.now c.get_data.new.connection)) xid (c.get_data.ensures.answers text zxid path e at))
+
+pub returns-in-GetChildren2-clause-answers : goal.returns-in-GetChildren2-clause-answers
+returns-in-GetChildren2-clause-answers g c = λ asked zxid is at.
+    let tree = tree_at (history_of c.args.tree.now.history.now) zxid in
+    let xid : to_z w32 (of_z w32 c.args.xid) ≡ c.args.xid = search rules in
+    let r = c.in-GetChildren2.r in
+    read_children (λ a. OnOk c.get_children_2.result (AnswersRead tree zxid c.args.xid a c.args.connection.now c.get_children_2.new.connection)) r asked (subst (λ q. IsReadOf q asked) c.in-GetChildren2.is is)
+    (λ text path e. subst (λ x. OnOk c.get_children_2.result (AnswersRead tree zxid x (call.GetChildren text r.watch) c.args.connection.now c.get_children_2.new.connection)) xid (c.get_children_2.ensures.answers text zxid path e at))
+
+pub returns-in_ok-set_watches-in-SetWatches-clause-restores :
+    goal.returns-in_ok-set_watches-in-SetWatches-clause-restores
+returns-in_ok-set_watches-in-SetWatches-clause-restores g c = λ since zxid part is at.
+    let tree = tree_at (history_of c.args.tree.now.history.now) zxid in
+    let xid : to_z w32 (of_z w32 c.args.xid) ≡ c.args.xid = search rules in
+    let asked : IsPart c.in-SetWatches.r since part × ArePaths part = subst (λ q. IsRestoring q since part) c.in-SetWatches.is is in
+    subst (λ x. RestoresPart tree zxid x since part c.args.connection.now c.set_watches.new.connection) xid (c.in_ok-set_watches-in-SetWatches.ensures.restores since zxid part asked.0 asked.1 at)
