@@ -1,0 +1,45 @@
+//! What is a word in a print.
+
+use anyhow::Result;
+use std::alloc::Global;
+use std::io::Write;
+use zk_client::{DataAnswer, Mark, Side, State};
+use zk_replay::outputs::{side_to_word, state_to_word};
+use zk_replay::peeks::data_line;
+
+static STATES: [State; 5] = [
+    State::Idle,
+    State::Connecting,
+    State::Connected,
+    State::Expired,
+    State::Closed,
+];
+
+static SIDES: [Side; 2] = [Side::Data, Side::Child];
+
+static MARKS: [Mark; 2] = [Mark::Good, Mark::Stale];
+
+/// The word for each state.
+pub fn tell_states<W: Write>(out: &mut W) -> Result<()> {
+    for state in &STATES {
+        writeln!(out, "State {state:?} {}", state_to_word(*state))?;
+    }
+    Ok(())
+}
+
+/// The word for each side.
+pub fn tell_sides<W: Write>(out: &mut W) -> Result<()> {
+    for side in &SIDES {
+        writeln!(out, "Side {side:?} {}", side_to_word(*side))?;
+    }
+    Ok(())
+}
+
+/// The line of a node that is absent, kept with each mark.
+pub fn tell_marks<W: Write>(alloc: Global, out: &mut W) -> Result<()> {
+    for mark in &MARKS {
+        let line = data_line(alloc, Some((&DataAnswer::Absent, *mark)))?;
+        write!(out, "Mark {mark:?} {line}")?;
+    }
+    Ok(())
+}
