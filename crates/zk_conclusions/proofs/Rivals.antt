@@ -1,0 +1,93 @@
+-- None of some names is before another, as a test and as a set says it.
+use Rattle.std.proofs.Common.{◌≡◌, ◌↔◌, Bool, true, false, ◌||◌, not, List, [], ◌∷◌, map, refl, sym, ap, ap₂, ◌∙◌, subst, drop, length}
+use Rattle.std.proofs.lemmas.Bool.Decides.{Decides-eqb}
+use Rattle.std.specs.Prelude.{bytes_eq, nat_eq}
+use Rattle.std.specs.Cmp.Lexicographic.{slice_cmp}
+use Rattle.std.specs.List.{list_any, starts_with}
+use Rattle.std.specs.Ordering.{is_eq, nat_cmp}
+use Rattle.std.specs.FinSet as set
+use Rattle.std.proofs.lemmas.Cmp.{nat_list_cmp_total}
+use Rattle.std.proofs.lemmas.Map.Text.{is_eq-slice_cmp}
+use Rattle.std.proofs.lemmas.Slice.Eq.{starts_is}
+use Rattle.zk_turns.proofs.Lists.{same_text, bytes_eq-refl}
+use Rattle.zk_history.specs.History.{Name}
+use Rattle.zk_conclusions.specs.Holders.{HasPrefix, is_before, is_rival, IsFirstOf}
+
+-- the test of a prefix
+pub begins : (prefix name : Name) → starts_with nat_eq name prefix ≡ true → HasPrefix prefix name
+begins prefix name e = (drop (length prefix) name, (starts_is Decides-eqb name prefix (starts_with nat_eq name prefix) refl).0 e)
+
+pub tells_prefix : (prefix name : Name) → HasPrefix prefix name → starts_with nat_eq name prefix ≡ true
+tells_prefix prefix name h = (starts_is Decides-eqb name prefix (starts_with nat_eq name prefix) refl).1 h.0 h.1
+
+-- a name that does not begin with the prefix, or is not before the own one, is no rival
+no_rival : (prefix own name : Name) → (HasPrefix prefix name → is_before name own ≡ false) → is_rival prefix own name ≡ false
+no_rival prefix own name h = go (starts_with nat_eq name prefix) refl
+  where
+    go : (b : Bool) → starts_with nat_eq name prefix ≡ b → is_rival prefix own name ≡ false
+    go true e = rw e (h (begins prefix name e))
+    go false e = rw e refl
+
+not_before : (prefix own name : Name) → is_rival prefix own name ≡ false → HasPrefix prefix name → is_before name own ≡ false
+not_before prefix own name e h = let k = tells_prefix prefix name h in (rw k at e)
+
+or_false : (a b : Bool) → (a || b) ≡ false → (a ≡ false) × (b ≡ false)
+or_false false false e = (refl, refl)
+or_false false true e = absurd cc
+or_false true b e = absurd cc
+
+-- none of these is a rival, and this is one of them
+one_of : (prefix own name : Name) (names : List Name) → list_any (is_rival prefix own) names ≡ false → list_any (bytes_eq name) names ≡ true → is_rival prefix own name ≡ false
+one_of prefix own name [] none there = absurd cc
+one_of prefix own name (one ∷ more) none there = go (bytes_eq name one) refl (λ k. one_of prefix own name more parts.1 k)
+  where
+    parts : (is_rival prefix own one ≡ false) × (list_any (is_rival prefix own) more ≡ false)
+    parts = or_false (is_rival prefix own one) (list_any (is_rival prefix own) more) none
+
+    go : (b : Bool) → bytes_eq name one ≡ b → (list_any (bytes_eq name) more ≡ true → is_rival prefix own name ≡ false) → is_rival prefix own name ≡ false
+    go true e rest = subst (λ (n : Name). is_rival prefix own n ≡ false) (sym (same_text name one e)) parts.0
+    go false e rest = rest (rw e at there)
+
+none_of : (prefix own : Name) (names : List Name) → ((name : Name) → list_any (bytes_eq name) names ≡ true → is_rival prefix own name ≡ false) → list_any (is_rival prefix own) names ≡ false
+none_of prefix own [] each = refl
+none_of prefix own (one ∷ more) each =
+    let here : is_rival prefix own one ≡ false = each one (rw (bytes_eq-refl one) refl) in
+    rw here (none_of prefix own more (λ name there. each name (later name there)))
+  where
+    later : (name : Name) → list_any (bytes_eq name) more ≡ true → (bytes_eq name one || list_any (bytes_eq name) more) ≡ true
+    later name there = go (bytes_eq name one)
+      where
+        go : (b : Bool) → (b || list_any (bytes_eq name) more) ≡ true
+        go true = refl
+        go false = there
+
+same_test : (names : List Name) (name : Name) → list_any (bytes_eq name) names ≡ list_any (λ other. is_eq (slice_cmp nat_cmp name other)) names
+same_test [] name = refl
+same_test (other ∷ names) name = ap₂ (λ (a b : Bool). a || b) (sym (is_eq-slice_cmp name other)) (same_test names name)
+
+members : (names : List Name) (name : Name) → list_any (bytes_eq name) names ≡ set.contains (set.from_list {R = slice_cmp nat_cmp} names) name
+members names name = same_test names name ∙ sym (set.contains-from_list nat_list_cmp_total names name)
+
+any_mapped : {X : Type 0} (test : Name → Bool) (f : X → Name) (xs : List X) → list_any test (map f xs) ≡ list_any (λ x. test (f x)) xs
+any_mapped test f [] = refl
+any_mapped test f (x ∷ xs) = ap (λ b. test (f x) || b) (any_mapped test f xs)
+
+not_true : (result b : Bool) → result ≡ not b → result ≡ true → b ≡ false
+not_true result false e t = refl
+not_true result true e t = absurd cc
+
+-- no rival is among the texts exactly where the name is first of their set
+pub is_first_of : {X : Type 0} (prefix own : Name) (f : X → Name) (texts : List X) (result : Bool) → result ≡ not (list_any (λ text. is_rival prefix own (f text)) texts)
+    → (result ≡ true) ↔ IsFirstOf (set.from_list (map f texts)) prefix own
+is_first_of {X} prefix own f texts result e = (to, from)
+  where
+    to : result ≡ true → IsFirstOf (set.from_list (map f texts)) prefix own
+    to t name there starts =
+        let none : list_any (λ text. is_rival prefix own (f text)) texts ≡ false = not_true result (list_any (λ text. is_rival prefix own (f text)) texts) e t in
+        not_before prefix own name (one_of prefix own name (map f texts) (any_mapped (is_rival prefix own) f texts ∙ none) (members (map f texts) name ∙ there)) starts
+
+    from : IsFirstOf (set.from_list (map f texts)) prefix own → result ≡ true
+    from first =
+        let none : list_any (is_rival prefix own) (map f texts) ≡ false =
+        none_of prefix own (map f texts) (λ name there. no_rival prefix own name (first name (sym (members (map f texts) name) ∙ there))) in
+        e ∙ ap not (sym (any_mapped (is_rival prefix own) f texts) ∙ none)

@@ -1,0 +1,8 @@
+use Rattle.zk_conclusions.proofs.Holding.{tokens_rise, later_tokens}
+use Rattle.zk_conclusions.proofs.laws.later_tokens.Goals as goal
+
+pub returns-clause-tree : goal.returns-clause-tree
+returns-clause-tree c = tokens_rise
+
+pub returns-clause-clients : goal.returns-clause-clients
+returns-clause-clients c = later_tokens

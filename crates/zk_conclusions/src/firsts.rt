@@ -1,0 +1,94 @@
+//! Whether a name is the first of those below a path.
+
+ghost use Rattle.std.specs.Prelude.{◌≡◌, ◌↔◌, ◌∷◌, nat_eq, IsTrue, IfSome, None, string_bytes};
+ghost use Rattle.std.specs.List.{list_any, starts_with};
+ghost use Rattle.zk_cache.specs.Contents.{names_in};
+ghost use Rattle.zk_client.specs.Clients.{view_of};
+ghost use Rattle.zk_history.specs.History.{Name, path_of};
+ghost use Rattle.zk_history.specs.Path.{is_below};
+ghost use Rattle.zk_conclusions.specs.Holders.{is_before, is_rival, HasPrefix, IsFirstOf, IsShownFirst};
+
+use std::alloc::Allocator;
+use std::collections::BTreeSet;
+use zk_client::{Client, Mark, Names, Path};
+
+fn has_prefix(name: &str, prefix: &str) -> bool
+    ensures { IsTrue result ↔ HasPrefix prefix.now name.now }
+{
+    name.starts_with(prefix)
+}
+
+fn starts_with(name: &str, prefix: &str) -> bool
+    ensures { result ≡ starts_with nat_eq name.now prefix.now }
+{
+    name.starts_with(prefix)
+}
+
+fn is_before(one: &str, other: &str) -> bool
+    ensures { result ≡ is_before one.now other.now }
+{
+    one < other
+}
+
+/// Whether the name begins with the prefix and is before the own one.
+fn is_rival(name: &str, prefix: &str, own: &str) -> bool
+    ensures { result ≡ is_rival prefix.now own.now name.now }
+{
+    starts_with(name, prefix) && is_before(name, own)
+}
+
+fn has_rival<A: Allocator>(names: &BTreeSet<String<A>, A>, prefix: &str, own: &str) -> bool
+    ensures { result ≡ list_any (λ key. is_rival prefix.now own.now (string_bytes key)) names.now.keys }
+{
+    names.iter().any(|name| is_rival(name, prefix, own))
+}
+
+fn is_first<A: Allocator>(names: &Names<A>, prefix: &str, own: &str) -> bool
+    ensures { IsTrue result ↔ IsFirstOf (names_in names.now).names prefix.now own.now }
+{
+    !has_rival(&names.names, prefix, own)
+}
+
+/// Whether the names below the directory are kept and good, and none of them that begins with the prefix is before the own one.
+pub(crate) fn is_shown_first<A: Allocator + Copy>(
+    client: &Client<A>,
+    directory: &Path<A>,
+    prefix: &str,
+    own: &str,
+) -> bool
+    ensures { IsTrue result ↔ IsShownFirst (view_of client.now) directory.now prefix.now own.now }
+{
+    match client.peek_children(directory) {
+        Some((names, Mark::Good)) => is_first(names, prefix, own),
+        _ => false,
+    }
+}
+
+fn is_below<A: Allocator>(directory: &Path<A>, path: &Path<A>) -> bool
+    ensures { result ≡ is_below (path_of directory.now) (path_of path.now) }
+{
+    let directory = directory.as_str();
+    match path.parent() {
+        Some(parent) => parent == directory,
+        None => false,
+    }
+}
+
+/// The last name of the path, where it lies right below the directory and the name begins with the prefix.
+pub(crate) fn name_below<'a, A: Allocator>(
+    directory: &Path<A>,
+    prefix: &str,
+    path: &'a Path<A>,
+) -> Option<&'a str>
+    ensures some { IfSome result (λ name. (path_of path.now ≡ name.now ∷ path_of directory.now) × HasPrefix prefix.now name.now) }
+    ensures none { result ≡ None → (name : Name) → path_of path.now ≡ name ∷ path_of directory.now → ¬ (HasPrefix prefix.now name) }
+{
+    let name = path.name()?;
+    if !is_below(directory, path) {
+        return None;
+    }
+    if !has_prefix(name, prefix) {
+        return None;
+    }
+    Some(name)
+}
