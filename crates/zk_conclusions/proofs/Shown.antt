@@ -21,10 +21,10 @@ token_good session token (Some kept) e = go kept.answer kept.mark e
     go answer Stale f = absurd cc
 
 pub shows_holder : (view : View) (dir : Text) (prefix : Name) (path : Text) (own : Name) (token : ℤ)
-    → (path_of path ≡ own ∷ path_of dir) × HasPrefix prefix own → IsShownFirst view dir prefix own → token_kept view.saved.session.session (view.cache.nodes path) ≡ Some token
+    → (path_of path ≡ own ∷ path_of dir) × HasPrefix prefix own → IsShownFirst view dir prefix own → Some token ≡ token_kept view.saved.session.session (view.cache.nodes path)
     → ShowsHolder view dir prefix path token
 shows_holder view dir prefix path own token place first made =
-    let k = token_good view.saved.session.session token (view.cache.nodes path) made in
+    let k = token_good view.saved.session.session token (view.cache.nodes path) (sym made) in
     record { own = own; below = place.0; begins = place.1; names = first.0; children = first.1; first = first.2; answer = k.0; nodes = k.1; made = k.2 }
 
 first_name : (dir path : NodePath) (one other : Name) → path ≡ one ∷ dir → path ≡ other ∷ dir → one ≡ other

@@ -13,13 +13,8 @@ use std::collections::BTreeSet;
 use zk_client::{Client, Mark, Names, Path};
 
 fn has_prefix(name: &str, prefix: &str) -> bool
-    ensures { IsTrue result ↔ HasPrefix prefix.now name.now }
-{
-    name.starts_with(prefix)
-}
-
-fn starts_with(name: &str, prefix: &str) -> bool
-    ensures { result ≡ starts_with nat_eq name.now prefix.now }
+    ensures test { result ≡ starts_with nat_eq name.now prefix.now }
+    ensures rest { IsTrue result ↔ HasPrefix prefix.now name.now }
 {
     name.starts_with(prefix)
 }
@@ -34,7 +29,7 @@ fn is_before(one: &str, other: &str) -> bool
 fn is_rival(name: &str, prefix: &str, own: &str) -> bool
     ensures { result ≡ is_rival prefix.now own.now name.now }
 {
-    starts_with(name, prefix) && is_before(name, own)
+    has_prefix(name, prefix) && is_before(name, own)
 }
 
 fn has_rival<A: Allocator>(names: &BTreeSet<String<A>, A>, prefix: &str, own: &str) -> bool

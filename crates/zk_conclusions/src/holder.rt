@@ -32,9 +32,9 @@ impl<'a, A: Allocator + Copy> Holder<'a, A> {
     /// the client's last seen zxid (`holds`).
     pub fn of(
         client: &'a Client<A>,
-        directory: &'a Path<A>,
-        prefix: &'a str,
-        path: &'a Path<A>,
+        directory: &Path<A>,
+        prefix: &str,
+        path: &Path<A>,
     ) -> Option<Holder<'a, A>>
         ensures shows { IfSome result (λ holder. ShowsHolder (view_of client.now) directory.now prefix.now path.now holder.token) }
         ensures holds { IfSome result (λ holder. (h : History) → IsServedFrom h (view_of client.now)

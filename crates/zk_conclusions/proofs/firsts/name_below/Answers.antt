@@ -8,4 +8,4 @@ returns-then-not-is_below-clause-none g c e name place starts = not_below (path_
 
 pub returns-clause-some : goal.returns-clause-some
 returns-clause-some g c =
-    (below_by (path_of c.args.directory.now) (path_of c.args.path.now) c.in_ok-name.name.now (sym c.in_ok-name.ensures) (sym c.is_below.ensures ∙ c.if-not-is_below.false), c.has_prefix.ensures.0 c.if-not-has_prefix.false)
+    (below_by (path_of c.args.directory.now) (path_of c.args.path.now) c.in_ok-name.name.now (sym c.in_ok-name.ensures) (sym c.is_below.ensures ∙ c.if-not-is_below.false), c.has_prefix.ensures.rest.0 c.if-not-has_prefix.false)

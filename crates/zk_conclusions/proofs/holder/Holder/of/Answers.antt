@@ -1,4 +1,4 @@
-use Rattle.std.proofs.Common.{◌≡◌, sym, arith, w64}
+use Rattle.std.proofs.Common.{◌≡◌, arith, w64}
 use Rattle.std.proofs.lemmas.Int.{ints}
 use mir.Val.{to_z, of_z}
 use Rattle.zk_client.specs.Clients.{view_of}
@@ -15,7 +15,7 @@ pub returns-clause-shows : goal.returns-clause-shows
 returns-clause-shows g c =
     let same : to_z w64 (of_z w64 c.in_ok-token.token) ≡ c.in_ok-token.token = omega (arith, ints) in
     rw same (shows_holder (view_of c.args.client.now) c.args.directory.now c.args.prefix.now c.args.path.now c.in_ok-own.own.now c.in_ok-token.token c.in_ok-own.ensures.some
-    (c.is_shown_first.ensures.0 c.if-not-is_shown_first.false) (sym c.in_ok-token.ensures))
+    (c.is_shown_first.ensures.0 c.if-not-is_shown_first.false) c.in_ok-token.ensures)
 
 pub returns-clause-holds : goal.returns-clause-holds
 returns-clause-holds g c h served = held_here h (view_of c.args.client.now) c.args.directory.now c.args.prefix.now c.args.path.now (to_z w64 (of_z w64 c.in_ok-token.token)) served (returns-clause-shows g c)
