@@ -10,7 +10,7 @@ mod world;
 use anyhow::Result;
 use played::{Row, play};
 use std::io;
-use swept::{close_at_each_byte, refuse_each_request};
+use swept::{close_at_each_byte, dial_nobody, refuse_each_request};
 use world::{Flaw, Plan, STEADY};
 
 /// The rows: what a partner does, and until which moment a link goes on.
@@ -103,5 +103,6 @@ fn main(rt: HostRuntime) -> Result<()> {
         play(rt.alloc(), row, &mut out)?;
     }
     close_at_each_byte(rt.alloc(), &mut out)?;
-    refuse_each_request(rt.alloc(), &mut out)
+    refuse_each_request(rt.alloc(), &mut out)?;
+    dial_nobody(rt.alloc(), &mut out)
 }

@@ -26,6 +26,9 @@ const REQUESTS: u32 = 300;
 /// What is dialled, in turn.
 static ADDRESSES: [&str; 2] = ["a", "b"];
 
+/// Nobody to dial.
+static NOBODY: [&str; 0] = [];
+
 /// Whether a call has its reply by one of these.
 fn is_replied<A: Allocator>(outputs: &[Output<A>]) -> bool {
     outputs.iter().any(|output| {
@@ -82,11 +85,16 @@ fn is_served<A: Allocator + Copy>(alloc: A, link: &mut Played<'_, A>) -> Result<
     Ok(is_served)
 }
 
-/// Whether a call has its reply over a world of this plan.
-fn play<A: Allocator + Copy>(heap: Global, alloc: A, plan: Plan) -> Result<Result<bool, Stop>> {
+/// Whether a call has its reply over a world of this plan, at one of the addresses.
+fn play<A: Allocator + Copy>(
+    heap: Global,
+    alloc: A,
+    plan: Plan,
+    addresses: &'static [&'static str],
+) -> Result<Result<bool, Stop>> {
     let world = RefCell::new(World::new(heap, plan)?);
     let (dial, clock) = (Shared::new(heap, &world), Shared::new(heap, &world));
-    let mut link = Link::new(alloc, Client::new(alloc, 9_000), dial, clock, &ADDRESSES);
+    let mut link = Link::new(alloc, Client::new(alloc, 9_000), dial, clock, addresses);
     let served = is_served(alloc, &mut link);
     drop(link);
     Ok(served)
@@ -104,7 +112,7 @@ fn plan(passes: usize) -> Plan {
 /// A first connection that is closed behind each number of bytes, written and read, in turn: the next one serves.
 pub fn close_at_each_byte<W: Write>(alloc: Global, out: &mut W) -> Result<()> {
     for passes in 0..BYTES {
-        if !matches!(play(alloc, alloc, plan(passes))?, Ok(true)) {
+        if !matches!(play(alloc, alloc, plan(passes), &ADDRESSES)?, Ok(true)) {
             writeln!(out, "closed behind {passes} bytes: not served")?;
         }
     }
@@ -115,7 +123,7 @@ pub fn close_at_each_byte<W: Write>(alloc: Global, out: &mut W) -> Result<()> {
 pub fn refuse_each_request<W: Write>(alloc: Global, out: &mut W) -> Result<()> {
     for passed in 0..REQUESTS {
         let refusing = Refusing::after(passed, alloc);
-        let served = play(alloc, &refusing, plan(usize::MAX))?;
+        let served = play(alloc, &refusing, plan(usize::MAX), &ADDRESSES)?;
         if !refusing.has_refused() {
             return Ok(writeln!(out, "refused each request for memory")?);
         }
@@ -124,4 +132,13 @@ pub fn refuse_each_request<W: Write>(alloc: Global, out: &mut W) -> Result<()> {
         }
     }
     Ok(())
+}
+
+/// Without an address nobody is dialled: nothing is given, and the link goes on to the moment that it is to.
+pub fn dial_nobody<W: Write>(alloc: Global, out: &mut W) -> Result<()> {
+    let word = match play(alloc, alloc, STEADY, &NOBODY)? {
+        Ok(false) => "dialled nobody",
+        _ => "without an address: something was given",
+    };
+    Ok(writeln!(out, "{word}")?)
 }
