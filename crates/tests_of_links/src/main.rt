@@ -4,17 +4,19 @@
 
 mod partner;
 mod played;
+mod reads;
 mod swept;
 mod world;
 
 use anyhow::Result;
 use played::{Row, play};
+use reads::read_each;
 use std::io;
 use swept::{close_at_each_byte, dial_nobody, refuse_each_request};
 use world::{Flaw, Plan, STEADY};
 
 /// The rows: what a partner does, and until which moment a link goes on.
-static ROWS: [Row; 11] = [
+static ROWS: [Row; 12] = [
     Row {
         name: "answers",
         plan: STEADY,
@@ -37,6 +39,14 @@ static ROWS: [Row; 11] = [
             ..STEADY
         },
         until: 7_000,
+    },
+    Row {
+        name: "takes no more",
+        plan: Plan {
+            flaw: Flaw::Shut,
+            ..STEADY
+        },
+        until: 1_000,
     },
     Row {
         name: "is interrupted",
@@ -104,5 +114,6 @@ fn main(rt: HostRuntime) -> Result<()> {
     }
     close_at_each_byte(rt.alloc(), &mut out)?;
     refuse_each_request(rt.alloc(), &mut out)?;
-    dial_nobody(rt.alloc(), &mut out)
+    dial_nobody(rt.alloc(), &mut out)?;
+    read_each(rt.alloc(), &mut out)
 }

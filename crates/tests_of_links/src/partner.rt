@@ -47,6 +47,9 @@ impl<'a> Write for Partner<'a> {
         if world.is_closed() {
             return Err(ErrorKind::BrokenPipe.into());
         }
+        if world.has(Flaw::Shut) {
+            return Ok(0);
+        }
         if world.has(Flaw::Full) {
             world.wait(1);
             return Err(ErrorKind::WouldBlock.into());

@@ -19,6 +19,8 @@ pub enum Flaw {
     Interrupted,
     /// It takes no byte for now.
     Full,
+    /// Each write takes 0 bytes: it takes none any more.
+    Shut,
 }
 
 /// What happens to connections: how many are refused at first, whether only once the attempt has lasted as long as it may, how many then

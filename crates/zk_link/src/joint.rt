@@ -1,6 +1,6 @@
 //! A client and the connection that it has: one input at a time.
 
-ghost use Rattle.std.specs.Prelude.{◌≡◌, ◌≤◌, ◌<◌, ◌+◌, ◌++◌, [], ℕ, false, true, is_some, IfErr, OnOk};
+ghost use Rattle.std.specs.Prelude.{◌≡◌, ◌≢◌, ◌≤◌, ◌<◌, ◌+◌, ◌++◌, [], ℕ, false, true, is_some, IfErr, OnOk};
 ghost use Rattle.std.specs.List.{filter};
 ghost use Rattle.zk_conversation.specs.Views.{call_view};
 ghost use Rattle.zk_turns.specs.Turns.{Call as Calls, Cut};
@@ -97,14 +97,18 @@ impl<A: Allocator + Copy, S: Stream> Joint<A, S> {
     }
 
     /// Whether bytes are left to be written: the connection took less than there was for it.
-    pub fn is_pressed(&self) -> bool {
+    pub fn is_pressed(&self) -> bool
+        ensures yes { result ≡ true → self.now.unsent.items ≢ [] }
+        ensures no { result ≡ false → self.now.unsent.items ≡ [] }
+    {
         !self.unsent.is_empty()
     }
 
     /// Writes what is left to be written, as much as the connection takes for now, and reads once: for so many milliseconds, but for 10
     /// at most while bytes are left.
     pub(crate) fn exchange(&mut self, ms: u64) -> Result<Brought<A>, AllocError>
-        ensures { bare_of self.new ≡ bare_of self.old }
+        ensures trail { bare_of self.new ≡ bare_of self.old }
+        ensures unsent { IsLeftOf self.old.unsent.items self.new.unsent.items }
     {
         make_room(&mut self.room)?;
         let Some(stream) = &mut self.stream else {
@@ -121,10 +125,11 @@ impl<A: Allocator + Copy, S: Stream> Joint<A, S> {
         bring(self.alloc, stream, &mut self.room, wait)
     }
 
-    /// What the connection brings within so many milliseconds, at least 1, and a tenth longer where it takes nothing of what is left to be
-    /// written. Where there is none, it is over.
+    /// What the connection brings within so many milliseconds, at least 1, and a tenth longer and 2 where it takes nothing of what is left
+    /// to be written. Where there is none, it is over. Of what is left to be written the first bytes alone may be gone behind it.
     pub fn read(&mut self, ms: u64) -> Result<Brought<A>, AllocError>
-        ensures { bare_of self.new ≡ bare_of self.old }
+        ensures trail { bare_of self.new ≡ bare_of self.old }
+        ensures unsent { IsLeftOf self.old.unsent.items self.new.unsent.items }
     {
         let mut left = ms;
         for _ in 0..ms / PRESSED_WAIT {

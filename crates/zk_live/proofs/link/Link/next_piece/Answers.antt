@@ -3,4 +3,4 @@ use Rattle.zk_link.specs.Trails.{Trail}
 use Rattle.zk_live.proofs.link.Link.next_piece.Goals as goal
 
 pub returns : goal.returns
-returns g c = ap (λ (t : Trail). t.view) c.read-brought.ensures
+returns g c = ap (λ (t : Trail). t.view) c.read-brought.ensures.trail
