@@ -1,4 +1,5 @@
 pub mod Basics
+pub mod Tables
 pub mod Firing
 pub mod Stamps
 pub mod Ahead

@@ -188,7 +188,7 @@ given_read h is n (Exists p w) (Found f) g = subst (λ (t : Tree). Suits (Known 
 given_read h is n (GetData p w) NoNode g = subst (λ (t : Tree). Suits Absent (view Data t (path_of p))) (sym (tree_at_held h n is)) g
 given_read h is n (GetData p w) (Read b f) g = subst (λ (t : Tree). Suits (Full b (data_stat_of f)) (view Data t (path_of p))) (sym (tree_at_held h n is)) g
 given_read h is n (GetChildren p w) NoNode g = subst (λ (t : Tree). Suits Absent (view Child t (path_of p))) (sym (tree_at_held h n is)) g
-given_read h is n (GetChildren p w) (Listing ns z) g = subst (λ (t : Tree). FitsNames (names_of ns z) (view Child t (path_of p))) (sym (tree_at_held h n is)) g
+given_read h is n (GetChildren p w) (Listing ns z) g = subst (λ (t : Tree). FitsNames (names_of ns z) (view Child t (path_of p)) × Suits (Known (data_stat_of z)) (view Data t (path_of p))) (sym (tree_at_held h n is)) g
 given_read h is n _ _ g = tt
 
 last_at : (low : ℕ) (earlier : List Transaction) (one : Transaction) → Among one (earlier ++ one ∷ []) × (one.zxid ≡ newest low (earlier ++ one ∷ []))

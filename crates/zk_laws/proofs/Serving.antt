@@ -21,7 +21,9 @@ use Rattle.zk_conversation.specs.Results.{Result, NoNode, Found, Read, Listing}
 use Rattle.std.specs.Prelude.{bytes_eq, not}
 use Rattle.std.specs.List.{list_any}
 use Rattle.zk_turns.specs.Meaning.{Among}
-use Rattle.zk_laws.specs.Server.{sets_at, Notice, Watches, fires_all, leaves_set_all, AreSent, sets, tree_held, zxid_held, Gives, part_tells, part_sets, both, known_check, missing_check, parent_check, tells, same_side}
+use Rattle.zk_laws.specs.Server.{Notice, Watches, fires_all, leaves_set_all, AreSent, sets, tree_held, zxid_held, Gives, part_tells, part_sets, both, known_check, missing_check, parent_check, tells, same_side}
+use Rattle.zk_laws.specs.Laws.{sets_at}
+use Rattle.zk_laws.proofs.Tables.{data_table, child_table}
 use Rattle.zk_turns.specs.Turns.{IsAskable}
 use Rattle.zk_laws.specs.Messages.{Message, Replies, Watches_set, Notifies, Pong, Request, Restore, Ask, Ping}
 use Rattle.zk_laws.specs.Log.{place_left, Item, Took, last, good, zxid_in, refreshed, answer_of, tells_of, left_by, is_place, leaves, is_listed, Answer, Absent, Known, Full, Names, Suits}
@@ -101,7 +103,7 @@ fits_left h place Child path (GetData at true) (Read bytes stat) g e = absurd cc
 fits_left h place Data path (GetChildren at true) (Listing names stat) g e = absurd cc
 fits_left h place Child path (GetChildren at true) (Listing names stat) g e =
     let p = text_eq-true path at e in
-    let f : Suits (Names (set.from_list names) stat.pzxid) (view Child (tree_held h place) (path_of path)) = subst (λ (q : Text). Suits (Names (set.from_list names) stat.pzxid) (view Child (tree_held h place) (path_of q))) (sym p) g in
+    let f : Suits (Names (set.from_list names) stat.pzxid) (view Child (tree_held h place) (path_of path)) = subst (λ (q : Text). Suits (Names (set.from_list names) stat.pzxid) (view Child (tree_held h place) (path_of q))) (sym p) g.0 in
     (f, seen (view Child (tree_held h place) (path_of path)) f)
   where
     seen : (v : View) → Suits (Names (set.from_list names) stat.pzxid) v → is_seen v ≡ true
@@ -130,8 +132,8 @@ sets_child None (Some left) path e = path_eq_from (path_of path) (path_of left.p
 sets_child None None path e = absurd cc
 
 sets_left : (question : Question) (result : Result) (side : Side) (path : Text) → leaves question result side path ≡ true → sets question result side (path_of path) ≡ true
-sets_left question result Data path e = sets_data (leaves_data question result) (leaves_child question result) path e
-sets_left question result Child path e = sets_child (leaves_data question result) (leaves_child question result) path e
+sets_left question result Data path e = data_table question result (path_of path) ∙ sets_data (leaves_data question result) (leaves_child question result) path e
+sets_left question result Child path e = child_table question result (path_of path) ∙ sets_child (leaves_data question result) (leaves_child question result) path e
 
 pub fields_eq-refl : (a : DataStat) → same_fields a a ≡ true
 fields_eq-refl a =

@@ -1,9 +1,10 @@
 -- What is true of a write, and when no watches are still to be set again.
 use Rattle.zk_conversation.specs.Calls as call
 use Rattle.zk_conversation.specs.Calls.{Call}
-use Rattle.zk_history.specs.History.{path_of, Change, Creates, Sets, Deletes, Transaction, History}
-use Rattle.std.specs.Prelude.{ℕ, ℤ, ◌≡◌, List, [], ◌∷◌, ⊤}
+use Rattle.zk_history.specs.History.{NodePath, path_eq, path_of, Change, Creates, Sets, Deletes, Transaction, History}
+use Rattle.std.specs.Prelude.{ℕ, ℤ, ◌≡◌, Bool, false, List, [], ◌∷◌, Option, Some, None, ⊤}
 use Rattle.zk_conversation.specs.Results.{Result, Found, Made, Done}
+use Rattle.zk_turns.specs.Kept.{Left}
 use Rattle.zk_turns.specs.Meaning.{Among}
 use Rattle.zk_laws.specs.Server.{IsMadeOf, is_sequential}
 use Rattle.zk_laws.specs.Messages.{Request, Restore}
@@ -24,3 +25,8 @@ abbrev pub AreRestored : List Request → Type 0
 AreRestored [] = ⊤
 AreRestored (Restore is_last relative part ∷ requests) = ⊥
 AreRestored (_ ∷ requests) = AreRestored requests
+
+-- the path is the one at which the client counts a watch as left
+abbrev pub sets_at : {A : Type 0} → Option (Left A) → NodePath → Bool
+sets_at None path = false
+sets_at (Some left) path = path_eq path (path_of left.path)

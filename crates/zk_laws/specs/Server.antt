@@ -1,5 +1,5 @@
 -- A server on one connection: what its watches fire, what it answers, and what a setWatches request does.
-use Rattle.zk_turns.specs.Kept.{Left, leaves_data, leaves_child, names_of}
+use Rattle.zk_turns.specs.Kept.{names_of}
 use Rattle.zk_cache.specs.Kept.{Answer, Absent, Known, Full, Names}
 use Rattle.std.specs.FinSet as set
 use Rattle.zk_turns.specs.Meaning.{Among}
@@ -85,15 +85,13 @@ AreSent fired sent = (notice : Notice) → (times notice sent ≤ times notice f
 
 -- Questions and results
 
--- the path is the one at which something is left
-abbrev pub sets_at : {A : Type 0} → Option (Left A) → NodePath → Bool
-sets_at None path = false
-sets_at (Some left) path = path_eq path (path_of left.path)
-
 -- The watches that a reply sets (Guide, "ZooKeeper Watches"): exists in any case, getData and getChildren where the node is there.
 abbrev pub sets : Question → Result → Watches
-sets question result Data path = sets_at (leaves_data question result) path
-sets question result Child path = sets_at (leaves_child question result) path
+sets (Exists asked true) NoNode Data path = path_eq path (path_of asked)
+sets (Exists asked true) (Found stat) Data path = path_eq path (path_of asked)
+sets (GetData asked true) (Read bytes stat) Data path = path_eq path (path_of asked)
+sets (GetChildren asked true) (Listing names stat) Child path = path_eq path (path_of asked)
+sets _ _ _ _ = false
 
 -- The answer about a node is what there is to see: Known says the seven fields alone.
 abbrev pub Fits : Answer → View → Type 0
@@ -114,7 +112,7 @@ Reads tree (Exists path watch) (Found stat) = Fits (Known (data_stat_of stat)) (
 Reads tree (GetData path watch) NoNode = Fits Absent (view Data tree (path_of path))
 Reads tree (GetData path watch) (Read bytes stat) = Fits (Full bytes (data_stat_of stat)) (view Data tree (path_of path))
 Reads tree (GetChildren path watch) NoNode = Fits Absent (view Child tree (path_of path))
-Reads tree (GetChildren path watch) (Listing names stat) = FitsNames (names_of names stat) (view Child tree (path_of path))
+Reads tree (GetChildren path watch) (Listing names stat) = FitsNames (names_of names stat) (view Child tree (path_of path)) × Fits (Known (data_stat_of stat)) (view Data tree (path_of path))
 Reads tree _ _ = ⊤
 
 -- a code that is neither 0 nor -101

@@ -7,14 +7,14 @@ ghost use Rattle.zk_session.specs.declared.states.State.TheVariants.{Connecting,
 ghost use Rattle.zk_conversation.specs.Calls.{part_xid, connect_payload, Call};
 ghost use Rattle.zk_records.specs.Layouts.{connect_request};
 ghost use Rattle.zk_conversation.specs.Pending.{Pending, Call_waits, part_waits};
-ghost use Rattle.zk_turns.specs.Kept.{held_of, awaited, For_call, Asking, Accepted as Takes_acceptance, Expiry, Notifies as Takes_notice, Pong as Takes_pong, Watches_set as Takes_part, kept_data, kept_names, names_of, last_of, session_of, Began, Happening, Past, lists_of, Dropped, Took as Takes_in, Replies as Answers_call};
+ghost use Rattle.zk_turns.specs.Kept.{held_of, awaited, For_call, Asking, Accepted as Takes_acceptance, Expiry, Notifies as Takes_notice, Pong as Takes_pong, Watches_set as Takes_part, kept_data, kept_names, leaves_data, leaves_child, names_of, last_of, session_of, Began, Happening, Past, lists_of, Dropped, Took as Takes_in, Replies as Answers_call};
 ghost use Rattle.zk_turns.specs.Taken.{cut, Payload, reading, past_of};
-ghost use Rattle.zk_laws.specs.Server.{Reads, Notice, zxid_held};
+ghost use Rattle.zk_laws.specs.Server.{Reads, Notice, zxid_held, sets};
 ghost use Rattle.zk_laws.specs.Messages.{Accepted, Expired as Expired_session, Notifies, Pong, Watches_set, Replies, from_zero};
 ghost use Rattle.zk_laws.specs.Served.{IsPayload, WasSent, Served, Entry, items_in, requests, IsServing, MayEnter, Line, no_line, line_of};
 ghost use Rattle.zk_laws.specs.Flight.{HasCode, Matches};
 ghost use Rattle.zk_history.specs.declared.side.Side.TheVariants.{Child, Data};
-ghost use Rattle.zk_history.specs.History.{Text, Name, Node, Tree, History, IsHistory, path_of, tree_at, view, node_fields};
+ghost use Rattle.zk_history.specs.History.{Text, Name, Node, Tree, NodePath, History, IsHistory, path_of, tree_at, view, node_fields};
 ghost use Rattle.zk_history.specs.DataStats.{data_stat_of};
 ghost use Rattle.zk_history.specs.declared.stat.Stat.{Stat};
 ghost use Rattle.std.specs.FinSet as set;
@@ -22,7 +22,7 @@ ghost use Rattle.zk_conversation.specs.Questions.{question_of, Question, Exists,
 ghost use Rattle.zk_conversation.specs.Results.{Result, NoNode, Found, Read, Listing};
 ghost use Rattle.zk_turns.specs.Turns.{Framed, Silent, Start, Fault, Drop, Replied, Answer as Given_answer, Item as Client_item};
 ghost use Rattle.zk_laws.specs.Invariant.{IsKept};
-ghost use Rattle.zk_laws.specs.Laws.{IsTrueWrite};
+ghost use Rattle.zk_laws.specs.Laws.{IsTrueWrite, sets_at};
 ghost use Rattle.zk_laws.specs.Example.{at_a, at_b, fields_at_five, two_changes, two_nodes, until_first_part, until_restored, until_told};
 ghost use Rattle.zk_laws.specs.Log.{good, IsCoherent, last, Took, listed, Of_data, Of_absence, Of_children, Item, left_by, Suits, Full};
 ghost use Rattle.zk_laws.specs.Run.{IsSchedule, May, Move, moved, run, start, AgreesWhenQuiet, NoneBehind};
@@ -47,7 +47,7 @@ ghost use Rattle.zk_laws.specs.Seen.{seen, node_answer, names_answer, if_good};
 ghost use Rattle.zk_laws.specs.Headline.{Headline, IsCoherentWith, IsQuietAt, IsTrueOf, tree_of};
 
 /// What a read is answered: code -101 exactly where no node is there; the seven fields of the node that is there, with its data
-/// where they were read; and with the names of its children, as a set, its pzxid.
+/// where they were read, and with the names of its children, as a set, its pzxid too.
 pub fn read_answers()
     ensures absent { (tree : Tree) (path : Text) (watch : Bool) → Reads tree (Exists path watch) NoNode ↔ (tree (path_of path) ≡ None) }
     ensures absent_data { (tree : Tree) (path : Text) (watch : Bool) → Reads tree (GetData path watch) NoNode ↔ (tree (path_of path) ≡ None) }
@@ -57,7 +57,15 @@ pub fn read_answers()
     ensures data { (tree : Tree) (path : Text) (watch : Bool) (bytes : Option (List ℕ)) (stat : Stat) →
         Reads tree (GetData path watch) (Read bytes stat) ↔ ((node : Node) × (tree (path_of path) ≡ Some node) × (bytes ≡ node.content) × (data_stat_of stat ≡ node_fields node)) }
     ensures children { (tree : Tree) (path : Text) (watch : Bool) (names : List Text) (stat : Stat) →
-        Reads tree (GetChildren path watch) (Listing names stat) ↔ ((node : Node) × (tree (path_of path) ≡ Some node) × (stat.pzxid ≡ pos node.pzxid) × ((name : Name) → set.contains (names_of names stat).names name ≡ is_some (tree (name ∷ path_of path)))) }
+        Reads tree (GetChildren path watch) (Listing names stat) ↔ ((node : Node) × (tree (path_of path) ≡ Some node) × (stat.pzxid ≡ pos node.pzxid) × (data_stat_of stat ≡ node_fields node) × ((name : Name) → set.contains (names_of names stat).names name ≡ is_some (tree (name ∷ path_of path)))) }
+{}
+
+/// A server sets a watch with a reply exactly where the client counts one as left. Each has a table of its own, from the Programmer's
+/// Guide, "ZooKeeper Watches".
+#[tactic(auto, using(crate::proofs::Tables::data_table, crate::proofs::Tables::child_table))]
+pub fn one_table()
+    ensures data { (question : Question) (result : Result) (path : NodePath) → sets question result Data path ≡ sets_at (leaves_data question result) path }
+    ensures child { (question : Question) (result : Result) (path : NodePath) → sets question result Child path ≡ sets_at (leaves_child question result) path }
 {}
 
 /// The headline: a client that stands at its items and was served keeps good answers that are the history's at its last

@@ -16,7 +16,7 @@ use Rattle.zk_conversation.specs.Results.{Listing, texts_of}
 use Rattle.zk_bench.specs.Refusals.{IsCode}
 use Rattle.zk_bench.specs.Serving.{watches_of, Sends}
 use Rattle.zk_bench.specs.Answering.{ListsChildren}
-use Rattle.zk_bench.proofs.Answered.{errs_so, numbers_of, children_left, no_children_left, none_to_list_told, both_told, children_read, names_payload, no_copy}
+use Rattle.zk_bench.proofs.Answered.{errs_so, numbers_of, children_left, no_children_left, none_to_list_told, both_told, children_read, stat_read, names_payload, no_copy}
 use Rattle.zk_bench.proofs.reads.get_children_2.Goals as goal
 
 pub returns-in_err-stat-clause-refuses : goal.returns-in_err-stat-clause-refuses
@@ -67,7 +67,7 @@ returns-clause-answers g c = λ text zxid is path at.
       result = Listing (texts_of texts) told;
       read = tt;
       told = tt;
-      reads = children_read tree (path_of text) (texts_of texts) told counted listed;
+      reads = (children_read tree (path_of text) (texts_of texts) told counted listed, stat_read tree (path_of text) told counted);
       payload = spelling reply_header (c.args.xid, (pos zxid, pos 0)) ++ spelling get_children2_response (texts, value);
       small = sends.small;
       spelled = names_payload c.args.xid zxid text c.args.request.now.watch texts told value old new sends refl;
