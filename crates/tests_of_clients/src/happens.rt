@@ -11,6 +11,12 @@ pub(crate) const ACCEPTED: &[u8] = &[
     2, 3, 4, 5, 6, 7, 8, 9, 10, 11, 12, 13, 14, 15,
 ];
 
+// The frame of a response that says that the session has expired.
+pub(crate) const EXPIRED: &[u8] = &[
+    0, 0, 0, 0x24, 0, 0, 0, 0, 0, 0, 0, 0, 0, 0, 0, 0, 0, 0, 0, 0, 0, 0, 0, 0x10, 0, 0, 0, 0, 0, 0,
+    0, 0, 0, 0, 0, 0, 0, 0, 0, 0,
+];
+
 // The notice that `/b` was made.
 pub(crate) const MADE: &[u8] = &[
     0, 0, 0, 0x1e, 0xff, 0xff, 0xff, 0xff, 0xff, 0xff, 0xff, 0xff, 0xff, 0xff, 0xff, 0xff, 0, 0, 0,
@@ -34,6 +40,9 @@ type Reply = (u8, &'static [u8]);
 
 // Zxid 5: there is no such node.
 pub(crate) const ABSENT: Reply = (16, &[0, 0, 0, 0, 0, 0, 0, 5, 0xff, 0xff, 0xff, 0x9b]);
+
+// Zxid 5: the server says that it lost its own connection.
+pub(crate) const LOST: Reply = (16, &[0, 0, 0, 0, 0, 0, 0, 5, 0xff, 0xff, 0xff, 0xfc]);
 
 // Zxid 5, no data, and a Stat of zeros.
 pub(crate) const NULL: Reply = (
@@ -71,6 +80,8 @@ pub(crate) enum Happens {
     Seeks,
     /// A caller asks that the data of `/a` are so many zeros.
     Sets(usize),
+    /// A caller asks that the session ends.
+    Closes,
     /// The reply comes whose xid is this number, or that of the round.
     Replies(Option<u32>, Reply),
 }
@@ -88,6 +99,7 @@ pub(crate) fn input<A: Allocator + Copy>(
         Happens::Calls(text, asks) => call(alloc, text, asks),
         Happens::Seeks => seek(alloc, round),
         Happens::Sets(length) => set(alloc, length),
+        Happens::Closes => Ok(Input::Call(7, Call::Close)),
         Happens::Replies(xid, told) => reply(alloc, xid.unwrap_or(round), told),
     }
 }
