@@ -1,0 +1,43 @@
+-- Rules of a client in words of their own.
+use Rattle.std.specs.Prelude.{ℕ, ◌≡◌, ◌≢◌, ◌≤◌, ◌<◌, ◌*◌, ◌-◌, ◌⊎◌, false, List, ◌∷◌, ◌++◌, Option, Some}
+use Rattle.std.specs.List.{AllByRecursion}
+use Rattle.zk_session.specs.declared.states.State.TheVariants.{Connected}
+use Rattle.zk_cache.specs.Kept.{good}
+use Rattle.zk_cache.specs.declared.held.Kept.{Kept}
+use Rattle.zk_cache.specs.declared.held.Mark.TheVariants.{Stale}
+use Rattle.zk_turns.specs.Kept.{Happening, Forgot, Past, Word, Ends, Nothing}
+use Rattle.zk_turns.specs.View.{View}
+use Rattle.zk_turns.specs.Taken.{timeout_of}
+use Rattle.zk_turns.specs.Rule.{IsOpen}
+
+-- On a connection on which the session was accepted a third of the timeout has passed with nothing sent, and two thirds have not
+-- passed with nothing heard.
+pub record IsPingDue (view : View) (now : ℕ) : Type 0 where
+  pub goes_on : view.standing.halted ≡ false
+  pub accepted : view.standing.state ≡ Connected
+  pub third : timeout_of view ≤ 3 * (now - view.moments.sent)
+  pub heard : 3 * (now - view.moments.heard) < 2 * timeout_of view
+
+-- On a connection two thirds of the timeout have passed with nothing heard.
+pub record IsSilent (view : View) (now : ℕ) : Type 0 where
+  pub goes_on : view.standing.halted ≡ false
+  pub up : IsOpen view.standing.state
+  pub thirds : 2 * timeout_of view ≤ 3 * (now - view.moments.heard)
+
+-- the answer, marked stale
+abbrev pub as_stale : {A : Type 0} → A → Option (Kept A)
+as_stale answer = Some (record { answer = answer; mark = Stale })
+
+-- A further notice, or what says nothing of that side of the path, but for forgetting.
+abbrev pub LeavesStale : {A : Type 0} → (Happening → Word A) → Happening → Type 0
+LeavesStale word happening = (word happening ≡ Ends) ⊎ ((word happening ≡ Nothing) × (happening ≢ Forgot))
+
+-- The answer was good when a notice ended that, and since then nothing was read there and nothing was taken out.
+pub record IsStaleSince {A : Type 0} (word : Happening → Word A) (kept : Past → Option (Kept A)) (past : Past) (answer : A) : Type 0 where
+  pub since : List Happening
+  pub notice : Happening
+  pub before : Past
+  pub whole : past ≡ since ++ notice ∷ before
+  pub ended : word notice ≡ Ends
+  pub was_good : kept before ≡ good answer
+  pub stays : AllByRecursion (LeavesStale word) since
