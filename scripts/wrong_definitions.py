@@ -16,12 +16,17 @@ import tempfile
 
 TURNS, LAWS = "zk_turns", "zk_laws"
 # the crate of laws above one
-ABOVE = {LAWS: "zk_serving"}
+ABOVE = {TURNS: "zk_rules", LAWS: "zk_serving"}
 KEPT, RULE, TAKEN, SENT = (f"specs/{name}.antt" for name in ("Kept", "Rule", "Taken", "Sent"))
 SERVER, SERVER_STEPS, SERVED, HEADLINE = (f"specs/{name}.antt" for name in ("Server", "ServerSteps", "Served", "Headline"))
 
 # name, crate, file, what stands there, what is to stand there
 EDITS = [
+    # what falls due
+    ("a ping is due where half of the timeout has passed", TURNS, TAKEN,
+     "nat_le (timeout_of view) (3 * (now - view.moments.sent))", "nat_le (timeout_of view) (2 * (now - view.moments.sent))"),
+    ("a ping goes where the session is not yet accepted", TURNS, TAKEN,
+     "is_talking view.standing.state && nat_le", "is_open view.standing.state && nat_le"),
     # what one turn changes
     ("a notice moves the last seen zxid", TURNS, RULE,
      "next_message view (Notifies event path) = record view { held = [];",

@@ -1,6 +1,5 @@
 -- The xids of calls run on.
-use Rattle.std.proofs.Common.{◌≡◌, ◌≢◌, ℕ, suc, ◌+◌, ◌%◌, ◌≤◌, Bool, true, false, cond, eqb, ◌∷◌, ap, ◌∙◌, arith}
-use Rattle.std.proofs.lemmas.Bool.Decides.{Decides-eqb}
+use Rattle.std.proofs.Common.{◌≡◌, ◌≢◌, ℕ, suc, ◌+◌, ◌%◌, ◌≤◌, ◌∷◌, arith}
 use Rattle.zk_conversation.specs.Calls.{Call}
 use Rattle.zk_turns.specs.Kept.{Past, Asked, calls_sent, xid_of}
 
