@@ -1,11 +1,14 @@
 -- Rules of a client in words of their own.
-use Rattle.std.specs.Prelude.{ℕ, ◌≡◌, ◌≢◌, ◌≤◌, ◌<◌, ◌*◌, ◌-◌, ◌⊎◌, false, List, ◌∷◌, ◌++◌, Option, Some}
-use Rattle.std.specs.List.{AllByRecursion}
-use Rattle.zk_session.specs.declared.states.State.TheVariants.{Connected}
+use Rattle.std.specs.Prelude.{ℕ, ◌≡◌, ◌≢◌, ◌≤◌, ◌<◌, ◌*◌, ◌-◌, ◌⊎◌, false, List, [], ◌∷◌, ◌++◌, Option, Some}
+use Rattle.std.specs.List.{AllByRecursion, flat_map}
+use Rattle.zk_session.specs.declared.states.State.{State}
+use Rattle.zk_session.specs.declared.states.State.TheVariants.{Idle, Connecting, Connected, Expired, Closed}
+use Rattle.zk_conversation.specs.Questions.{Close}
+use Rattle.zk_turns.specs.Turns.{Output, Enters}
 use Rattle.zk_cache.specs.Kept.{good}
 use Rattle.zk_cache.specs.declared.held.Kept.{Kept}
 use Rattle.zk_cache.specs.declared.held.Mark.TheVariants.{Stale}
-use Rattle.zk_turns.specs.Kept.{Happening, Forgot, Past, Word, Ends, Nothing}
+use Rattle.zk_turns.specs.Kept.{Happening, Began, Lost, Forgot, Took, Dropped, Accepted, Expiry, Replies, Past, Word, Ends, Nothing}
 use Rattle.zk_turns.specs.View.{View}
 use Rattle.zk_turns.specs.Taken.{timeout_of}
 use Rattle.zk_turns.specs.Rule.{IsOpen}
@@ -41,3 +44,27 @@ pub record IsStaleSince {A : Type 0} (word : Happening → Word A) (kept : Past 
   pub ended : word notice ≡ Ends
   pub was_good : kept before ≡ good answer
   pub stays : AllByRecursion (LeavesStale word) since
+
+-- the states that are told, in order
+abbrev pub entered : Output → List State
+entered (Enters state) = state ∷ []
+entered _ = []
+
+abbrev pub states_in : List Output → List State
+states_in outputs = flat_map entered outputs
+
+-- The state that a happening brings, if it brings one: a connection begins, and is accepted; the session expires, and is closed; a
+-- connection is given up, and is lost.
+abbrev pub brings : Happening → List State
+brings Began = Connecting ∷ []
+brings (Took (Accepted welcome)) = Connected ∷ []
+brings (Took Expiry) = Expired ∷ []
+brings (Took (Replies ticket Close zxid result)) = Closed ∷ []
+brings (Dropped fault) = Idle ∷ []
+brings Lost = Idle ∷ []
+brings _ = []
+
+-- the state behind one that brings these
+abbrev pub brought : List State → State → State
+brought [] before = before
+brought (state ∷ more) before = state

@@ -2,7 +2,8 @@
 //! a wrong edit of that definition breaks a law. The functions have empty bodies: their contracts are the laws.
 #![tactic(auto)]
 
-ghost use Rattle.std.specs.Prelude.{◌≡◌, ◌≢◌, ◌≤◌, ◌≤ℤ◌, ◌+◌, ◌⊎◌, ◌↔◌, max, ℕ, ℤ, [], ◌∷◌, None, false};
+ghost use Rattle.std.specs.Prelude.{◌≡◌, ◌≢◌, ◌≤◌, ◌≤ℤ◌, ◌+◌, ◌⊎◌, ◌↔◌, max, ℕ, ℤ, List, [], ◌∷◌, None, false};
+ghost use Rattle.std.specs.List.{flat_map};
 ghost use Rattle.zk_history.specs.History.{Text};
 ghost use Rattle.zk_session.specs.declared.states.State.TheVariants as states;
 ghost use Rattle.zk_conversation.specs.Calls.{Call};
@@ -14,9 +15,9 @@ ghost use Rattle.zk_turns.specs.Kept.{Happening, Past, Began, Lost, Pinged, Forg
 ghost use Rattle.zk_session.specs.Kept.{Welcome};
 ghost use Rattle.zk_turns.specs.View.{View};
 ghost use Rattle.zk_turns.specs.Taken.{due_at, happenings};
-ghost use Rattle.zk_turns.specs.Rule.{says};
+ghost use Rattle.zk_turns.specs.Rule.{next, says, says_all};
 ghost use Rattle.zk_turns.specs.Meaning.{Among};
-ghost use Rattle.zk_rules.specs.Rules.{IsPingDue, IsSilent, IsStaleSince, as_stale};
+ghost use Rattle.zk_rules.specs.Rules.{states_in, brings, brought, IsPingDue, IsSilent, IsStaleSince, as_stale};
 
 /// Each reply to a call counts for the last seen zxid: a write's, a close's and an error's too. It is the reply's own zxid, unless a later
 /// one was seen.
@@ -35,6 +36,16 @@ pub fn close_ends()
         says view (Took (Replies ticket Close zxid result)) ≡ Answer ticket (Replied zxid result) ∷ Enters states.Closed ∷ [] }
     ensures nodes { (path : Text) (past : Past) (ticket : ℕ) (zxid : ℤ) (result : Result) → kept_data path (Took (Replies ticket Close zxid result) ∷ past) ≡ None }
     ensures children { (path : Text) (past : Past) (ticket : ℕ) (zxid : ℤ) (result : Result) → kept_names path (Took (Replies ticket Close zxid result) ∷ past) ≡ None }
+{}
+
+/// What is told of states is each state that comes, once and in the order in which they come: what happens to a client tells the state that
+/// it brings, and where it brings none the state stays.
+#[tactic(auto, using(crate::proofs::States::told, crate::proofs::States::all_told, crate::proofs::States::state, crate::proofs::States::next_state))]
+pub fn states_are_told()
+    ensures told { (view : View) (happening : Happening) → states_in (says view happening) ≡ brings happening }
+    ensures all { (view : View) (happenings : List Happening) → states_in (says_all view happenings) ≡ flat_map brings happenings }
+    ensures state { (happening : Happening) (past : Past) → state_of (happening ∷ past) ≡ brought (brings happening) (state_of past) }
+    ensures next { (view : View) (happening : Happening) → (next view happening).standing.state ≡ brought (brings happening) view.standing.state }
 {}
 
 /// A moment makes a client send a ping exactly where, on a connection of its session, a third of the timeout has passed with nothing
