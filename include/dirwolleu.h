@@ -245,6 +245,9 @@ typedef struct dw_kept_names {
   int64_t pzxid;
 } dw_kept_names;
 
+/* Look-ups change nothing. So answers that are all marked good, looked up with no step between them, are of one moment of the servers'
+ * history: that of dw_last_zxid. */
+
 /* Writes what is kept about the data of a path, and copies the data, as much as there is room for. DW_OK, DW_NO_MEMORY, DW_CLOSED,
  * DW_NOT_TEXT, DW_NOT_PATH; but for DW_OK nothing is written. */
 int32_t dw_peek_data(dw_client *handle, const uint8_t *path, size_t path_length, dw_kept_data *kept, uint8_t *out, size_t room);
