@@ -1,0 +1,38 @@
+-- What may happen to a client in a schedule.
+use Rattle.std.proofs.Common.{ℕ, ◌≡◌, ◌≤◌, List, ◌∷◌, ◌++◌, drop, length, refl, ap, sym, ◌∙◌}
+use Rattle.std.proofs.Math.Seq.{drop-append_seam}
+use Rattle.zk_history.specs.History.{History}
+use Rattle.zk_conversation.specs.Calls.{Call}
+use Rattle.zk_turns.specs.Turns.{Start, Output, Forgets, Halts, Bytes, Cut, Now, Call as Calling, Opened as Opening}
+use Rattle.zk_laws.specs.Served.{Entry, Goes_on, line_of, new_line, IsServing}
+use Rattle.zk_serving.specs.Lines.{item_of}
+
+pub opens : (h : History) (start : Start) (entries : List Entry) (place : ℕ) (outputs : List Output) → IsServing h start entries → place ≤ length h.transactions
+    → IsServing h start (Goes_on place (item_of Opening outputs) ∷ entries)
+opens h start entries place outputs s low = (low, s)
+
+pub opened_line : (h : History) (entries : List Entry) (place : ℕ) (outputs : List Output) → line_of h (Goes_on place (item_of Opening outputs) ∷ entries) ≡ new_line place
+opened_line h entries place outputs = refl
+
+pub receives : (h : History) (start : Start) (entries : List Entry) (place : ℕ) (bytes rest : List ℕ) (outputs : List Output) → IsServing h start entries → (line_of h entries).coming ≡ bytes ++ rest
+    → IsServing h start (Goes_on place (item_of (Bytes bytes) outputs) ∷ entries)
+receives h start entries place bytes rest outputs s e = (λ on. (rest, e), s)
+
+pub received_rest : (h : History) (entries : List Entry) (place : ℕ) (bytes rest : List ℕ) (outputs : List Output) → (line_of h entries).coming ≡ bytes ++ rest
+    → (line_of h (Goes_on place (item_of (Bytes bytes) outputs) ∷ entries)).coming ≡ rest
+received_rest h entries place bytes rest outputs e = ap (λ (all : List ℕ). drop (length bytes) all) e ∙ drop-append_seam bytes rest
+
+pub cuts : (h : History) (start : Start) (entries : List Entry) (place : ℕ) (outputs : List Output) → IsServing h start entries → IsServing h start (Goes_on place (item_of Cut outputs) ∷ entries)
+cuts h start entries place outputs s = (tt, s)
+
+pub ticks : (h : History) (start : Start) (entries : List Entry) (place moment : ℕ) (outputs : List Output) → IsServing h start entries → IsServing h start (Goes_on place (item_of (Now moment) outputs) ∷ entries)
+ticks h start entries place moment outputs s = (tt, s)
+
+pub asks : (h : History) (start : Start) (entries : List Entry) (place ticket : ℕ) (call : Call) (outputs : List Output) → IsServing h start entries → IsServing h start (Goes_on place (item_of (Calling ticket call) outputs) ∷ entries)
+asks h start entries place ticket call outputs s = (tt, s)
+
+pub forgets : (h : History) (start : Start) (entries : List Entry) (place : ℕ) → IsServing h start entries → IsServing h start (Goes_on place Forgets ∷ entries)
+forgets h start entries place s = (tt, s)
+
+pub halts : (h : History) (start : Start) (entries : List Entry) (place : ℕ) → IsServing h start entries → IsServing h start (Goes_on place Halts ∷ entries)
+halts h start entries place s = (tt, s)

@@ -1,0 +1,4 @@
+pub mod Client
+pub mod Spelled
+pub mod Taking
+pub mod Answering

@@ -1,0 +1,168 @@
+//! The premise on servers is nowhere too narrow: from each place that a schedule reaches it goes on with whatever a server may have
+//! to do and a network may bring. The functions have empty bodies: their contracts are the laws.
+#![tactic(auto)]
+
+ghost use Rattle.std.specs.List.{AllByRecursion};
+ghost use Rattle.std.specs.Prelude.{ℕ, ◌≡◌, ◌≤◌, List, ◌∷◌, ◌++◌, length, ℤ, negsuc, ◌<◌, [], map, Some, pos, true, false, ◌^◌, int_lt, ◌≢◌, Bool, Option, None, is_some};
+ghost use Rattle.zk_conversation.specs.Calls.{Call, ping_xid, Exists, GetData, GetChildren, SetData, Create, Delete, Close};
+ghost use Rattle.zk_conversation.specs.Results.{stat_of, response_timeout, NoNode, Refused, Found, Read, Listing, Made, Done, texts_of};
+ghost use Rattle.zk_history.specs.DataStats.{data_stat_of};
+ghost use Rattle.zk_history.specs.History.{History, Node, node_fields, Text, Name, Sets, Creates, Deletes, Transaction, path_of};
+ghost use Rattle.zk_history.specs.StatLayout.{stat};
+ghost use Rattle.zk_jute.specs.Layout.{Value, ustring};
+ghost use Rattle.zk_jute.specs.Spelling.{spelling, Fits};
+ghost use Rattle.zk_laws.specs.Messages.{Connect, Restore, Ping, Ask};
+ghost use Rattle.zk_laws.specs.Served.{Entry, Goes_on, line_of, new_line, IsServing};
+ghost use Rattle.zk_laws.specs.Server.{Notice, AreSent, fires_all, part_tells, tree_held, zxid_held, IsOther, held, is_sequential};
+ghost use Rattle.zk_laws.specs.ServerSteps.{Stage, Waiting, Serving, Ended, Advances, Admits, Refuses, Restores, Pongs, changes_next, Answers};
+ghost use Rattle.zk_receptive.specs.Next.{headed, notice_payload, IsTellable, stat_value, end_of, Reaches, Awaits, CanTake, IsSendable, zxid_of};
+ghost use Rattle.zk_records.specs.Layouts.{get_data_response, get_children2_response};
+ghost use Rattle.zk_records.specs.Response.{Response, ResponseFits, EndsPayload, response_spelling};
+ghost use Rattle.zk_serving.specs.Lines.{item_of};
+ghost use Rattle.zk_turns.specs.Kept.{names_of};
+ghost use Rattle.zk_turns.specs.Meaning.{Among};
+ghost use Rattle.zk_turns.specs.Turns.{Start, Output, Forgets, Halts, Bytes, Cut, Now, Call as Calling, Opened as Opening};
+ghost use Rattle.zk_watches.specs.Lists.{Lists};
+ghost use Rattle.std.specs.FinSet as set;
+
+/// A connection may begin to a server at each place of the history, and the server stands there.
+#[tactic(auto, using(crate::proofs::Client::opens, crate::proofs::Client::opened_line))]
+pub fn connections_begin()
+    ensures opens { (h : History) (start : Start) (entries : List Entry) (place : ℕ) (outputs : List Output) → IsServing h start entries → place ≤ length h.transactions
+        → IsServing h start (Goes_on place (item_of Opening outputs) ∷ entries) }
+    ensures opened_line { (h : History) (entries : List Entry) (place : ℕ) (outputs : List Output) → line_of h (Goes_on place (item_of Opening outputs) ∷ entries) ≡ new_line place }
+{}
+
+/// What waits may be received in any pieces: any beginning of it, behind which the rest waits.
+#[tactic(auto, using(crate::proofs::Client::receives, crate::proofs::Client::received_rest))]
+pub fn bytes_come()
+    ensures receives { (h : History) (start : Start) (entries : List Entry) (place : ℕ) (bytes rest : List ℕ) (outputs : List Output) → IsServing h start entries → (line_of h entries).coming ≡ bytes ++ rest
+        → IsServing h start (Goes_on place (item_of (Bytes bytes) outputs) ∷ entries) }
+    ensures received_rest { (h : History) (entries : List Entry) (place : ℕ) (bytes rest : List ℕ) (outputs : List Output) → (line_of h entries).coming ≡ bytes ++ rest
+        → (line_of h (Goes_on place (item_of (Bytes bytes) outputs) ∷ entries)).coming ≡ rest }
+{}
+
+/// At each moment the connection may be cut, the time may be told, a caller may ask, stale answers may be forgotten, and the client may halt.
+#[tactic(auto, using(crate::proofs::Client::cuts, crate::proofs::Client::ticks, crate::proofs::Client::asks, crate::proofs::Client::forgets, crate::proofs::Client::halts))]
+pub fn clients_go_on()
+    ensures cuts { (h : History) (start : Start) (entries : List Entry) (place : ℕ) (outputs : List Output) → IsServing h start entries → IsServing h start (Goes_on place (item_of Cut outputs) ∷ entries) }
+    ensures ticks { (h : History) (start : Start) (entries : List Entry) (place moment : ℕ) (outputs : List Output) → IsServing h start entries → IsServing h start (Goes_on place (item_of (Now moment) outputs) ∷ entries) }
+    ensures asks { (h : History) (start : Start) (entries : List Entry) (place ticket : ℕ) (call : Call) (outputs : List Output) → IsServing h start entries → IsServing h start (Goes_on place (item_of (Calling ticket call) outputs) ∷ entries) }
+    ensures forgets { (h : History) (start : Start) (entries : List Entry) (place : ℕ) → IsServing h start entries → IsServing h start (Goes_on place Forgets ∷ entries) }
+    ensures halts { (h : History) (start : Start) (entries : List Entry) (place : ℕ) → IsServing h start entries → IsServing h start (Goes_on place Halts ∷ entries) }
+{}
+
+/// A server that serves may answer the ping that stands next, with any zxid and code, and any bytes behind.
+#[tactic(auto, using(crate::proofs::Taking::pongs))]
+pub fn pings()
+    ensures pongs { (h : History) (start : Start) (entries : List Entry) (xid zxid err : ℤ) (behind : List ℕ) → Awaits h start entries Serving Ping xid → IsSendable ping_xid zxid err behind
+        → CanTake h start entries Pongs (headed ping_xid zxid err behind ∷ []) }
+{}
+
+/// Each transaction behind the place of a server can be taken, before the client is admitted and while it is served, with notices
+/// in each order in which they may be sent, each with any zxid and code.
+#[tactic(auto, using(crate::proofs::Taking::advances))]
+pub fn transactions()
+    ensures advances { (h : History) (start : Start) (entries : List Entry) (stage : Stage) (sent : List Notice) (zxid err : ℤ) → Reaches h start entries stage → stage ≢ Ended
+        → (end_of h entries).place < length h.transactions → AreSent (fires_all (changes_next h (end_of h entries).place) (end_of h entries).watches) sent
+        → AllByRecursion (IsTellable zxid err) sent → CanTake h start entries (Advances sent) (map (notice_payload zxid err) sent) }
+{}
+
+/// Notices may be sent in the order in which they are fired, with two parts of them changed about, part by part, and once where two
+/// are the same.
+#[tactic(auto, using(crate::proofs::Spelled::all_sent, crate::proofs::Spelled::swapped_sent, crate::proofs::Spelled::joined_sent, crate::proofs::Spelled::once_sent))]
+pub fn orders()
+    ensures all_sent { (fired : List Notice) → AreSent fired fired }
+    ensures swapped_sent { (first second : List Notice) → AreSent (first ++ second) (second ++ first) }
+    ensures joined_sent { (fired sent more others : List Notice) → AreSent fired sent → AreSent more others → AreSent (fired ++ more) (sent ++ others) }
+    ensures once_sent { (notice : Notice) → AreSent (notice ∷ notice ∷ []) (notice ∷ []) }
+{}
+
+/// The part of watches that stands next can be set again: its notices come, and then the reply to it.
+#[tactic(auto, using(crate::proofs::Taking::restores))]
+pub fn parts_are_set()
+    ensures restores { (h : History) (start : Start) (entries : List Entry) (is_last : Bool) (relative : ℕ) (part : Lists) (xid : ℤ) (sent : List Notice) (zxid err : ℤ) (behind : List ℕ)
+        → Awaits h start entries Serving (Restore is_last relative part) xid → AreSent (part_tells relative (tree_held h (end_of h entries).place) part) sent
+        → AllByRecursion (IsTellable zxid err) sent → IsSendable xid (zxid_of h entries) (pos 0) behind
+        → CanTake h start entries (Restores is_last relative part sent) (map (notice_payload zxid err) sent ++ headed xid (zxid_of h entries) (pos 0) behind ∷ []) }
+{}
+
+/// A server that has all that the client has seen may admit it, with any response whose timeout is above 0, and may refuse it, with
+/// any response whose timeout is not.
+#[tactic(auto, using(crate::proofs::Taking::admits, crate::proofs::Taking::refuses))]
+pub fn clients_come()
+    ensures admits { (h : History) (start : Start) (entries : List Entry) (seen : ℕ) (xid : ℤ) (response : Response) (ignored : List ℕ) → Awaits h start entries Waiting (Connect seen) xid
+        → seen ≤ zxid_held h (end_of h entries).place → ResponseFits response → EndsPayload response.read_only ignored → length (response_spelling response ++ ignored) < 2 ^ 31
+        → int_lt (pos 0) (response_timeout response) ≡ true → CanTake h start entries (Admits seen) ((response_spelling response ++ ignored) ∷ []) }
+    ensures refuses { (h : History) (start : Start) (entries : List Entry) (seen : ℕ) (xid : ℤ) (response : Response) (ignored : List ℕ) → Awaits h start entries Waiting (Connect seen) xid
+        → seen ≤ zxid_held h (end_of h entries).place → ResponseFits response → EndsPayload response.read_only ignored → length (response_spelling response ++ ignored) < 2 ^ 31
+        → int_lt (pos 0) (response_timeout response) ≡ false → CanTake h start entries (Refuses seen) ((response_spelling response ++ ignored) ∷ []) }
+{}
+
+/// Each call that stands next may be refused, with each code that is neither 0 nor -101; a close is answered.
+#[tactic(auto, using(crate::proofs::Answering::refuses, crate::proofs::Answering::closes))]
+pub fn calls_are_refused()
+    ensures refuses { (h : History) (start : Start) (entries : List Entry) (call : Call) (xid code : ℤ) (behind : List ℕ) → Awaits h start entries Serving (Ask call) xid → IsOther code
+        → IsSendable xid (zxid_of h entries) code behind → CanTake h start entries (Answers call (Refused code)) (headed xid (zxid_of h entries) code behind ∷ []) }
+    ensures closes { (h : History) (start : Start) (entries : List Entry) (xid : ℤ) (behind : List ℕ) → Awaits h start entries Serving (Ask Close) xid → IsSendable xid (zxid_of h entries) (pos 0) behind
+        → CanTake h start entries (Answers Close Done) (headed xid (zxid_of h entries) (pos 0) behind ∷ []) }
+{}
+
+/// A read that stands next may be answered that there is no node, where none is there.
+#[tactic(auto, using(crate::proofs::Answering::absent_node, crate::proofs::Answering::absent_data, crate::proofs::Answering::absent_children))]
+pub fn absent_nodes()
+    ensures absent_node { (h : History) (start : Start) (entries : List Entry) (path : Text) (watch : Bool) (xid : ℤ) (behind : List ℕ) → Awaits h start entries Serving (Ask (Exists path watch)) xid
+        → tree_held h (end_of h entries).place (path_of path) ≡ None → IsSendable xid (zxid_of h entries) (negsuc 100) behind
+        → CanTake h start entries (Answers (Exists path watch) NoNode) (headed xid (zxid_of h entries) (negsuc 100) behind ∷ []) }
+    ensures absent_data { (h : History) (start : Start) (entries : List Entry) (path : Text) (watch : Bool) (xid : ℤ) (behind : List ℕ) → Awaits h start entries Serving (Ask (GetData path watch)) xid
+        → tree_held h (end_of h entries).place (path_of path) ≡ None → IsSendable xid (zxid_of h entries) (negsuc 100) behind
+        → CanTake h start entries (Answers (GetData path watch) NoNode) (headed xid (zxid_of h entries) (negsuc 100) behind ∷ []) }
+    ensures absent_children { (h : History) (start : Start) (entries : List Entry) (path : Text) (watch : Bool) (xid : ℤ) (behind : List ℕ) → Awaits h start entries Serving (Ask (GetChildren path watch)) xid
+        → tree_held h (end_of h entries).place (path_of path) ≡ None → IsSendable xid (zxid_of h entries) (negsuc 100) behind
+        → CanTake h start entries (Answers (GetChildren path watch) NoNode) (headed xid (zxid_of h entries) (negsuc 100) behind ∷ []) }
+{}
+
+/// A read that stands next may be answered what is there, where a node is: with any Stat that has its fields, with its data, and with
+/// any list that names its children.
+#[tactic(auto, using(crate::proofs::Answering::found_node, crate::proofs::Answering::found_data, crate::proofs::Answering::found_children))]
+pub fn found_nodes()
+    ensures found_node { (h : History) (start : Start) (entries : List Entry) (path : Text) (watch : Bool) (xid : ℤ) (node : Node) (value : Value stat) (ignored : List ℕ) → Awaits h start entries Serving (Ask (Exists path watch)) xid
+        → tree_held h (end_of h entries).place (path_of path) ≡ Some node → Fits stat value → data_stat_of (stat_of value) ≡ node_fields node
+        → IsSendable xid (zxid_of h entries) (pos 0) (spelling stat value ++ ignored)
+        → CanTake h start entries (Answers (Exists path watch) (Found (stat_of value))) (headed xid (zxid_of h entries) (pos 0) (spelling stat value ++ ignored) ∷ []) }
+    ensures found_data { (h : History) (start : Start) (entries : List Entry) (path : Text) (watch : Bool) (xid : ℤ) (node : Node) (value : Value stat) (ignored : List ℕ) → Awaits h start entries Serving (Ask (GetData path watch)) xid
+        → tree_held h (end_of h entries).place (path_of path) ≡ Some node → Fits get_data_response (node.content, value) → data_stat_of (stat_of value) ≡ node_fields node
+        → IsSendable xid (zxid_of h entries) (pos 0) (spelling get_data_response (node.content, value) ++ ignored)
+        → CanTake h start entries (Answers (GetData path watch) (Read node.content (stat_of value))) (headed xid (zxid_of h entries) (pos 0) (spelling get_data_response (node.content, value) ++ ignored) ∷ []) }
+    ensures found_children { (h : History) (start : Start) (entries : List Entry) (path : Text) (watch : Bool) (xid : ℤ) (node : Node) (names : Option (List (Option (List ℕ)))) (value : Value stat) (ignored : List ℕ)
+        → Awaits h start entries Serving (Ask (GetChildren path watch)) xid → tree_held h (end_of h entries).place (path_of path) ≡ Some node
+        → Fits get_children2_response (names, value) → data_stat_of (stat_of value) ≡ node_fields node → (stat_of value).pzxid ≡ pos node.pzxid
+        → ((name : Name) → set.contains (names_of (texts_of names) (stat_of value)).names name ≡ is_some (tree_held h (end_of h entries).place (name ∷ path_of path)))
+        → IsSendable xid (zxid_of h entries) (pos 0) (spelling get_children2_response (names, value) ++ ignored)
+        → CanTake h start entries (Answers (GetChildren path watch) (Listing (texts_of names) (stat_of value))) (headed xid (zxid_of h entries) (pos 0) (spelling get_children2_response (names, value) ++ ignored) ∷ []) }
+{}
+
+/// A node has a Stat with any counts.
+#[tactic(auto, using(crate::proofs::Spelled::stat_fields, crate::proofs::Spelled::stat_pzxid))]
+pub fn nodes_have_stats()
+    ensures stat_fields { (node : Node) (cversion acl_version children : ℤ) → data_stat_of (stat_of (stat_value node cversion acl_version children)) ≡ node_fields node }
+    ensures stat_pzxid { (node : Node) (cversion acl_version children : ℤ) → (stat_of (stat_value node cversion acl_version children)).pzxid ≡ pos node.pzxid }
+{}
+
+/// A write that stands next may be answered as done, where the last transaction that the server holds has its change.
+#[tactic(auto, using(crate::proofs::Answering::written, crate::proofs::Answering::made, crate::proofs::Answering::deleted))]
+pub fn writes_are_accepted()
+    ensures written { (h : History) (start : Start) (entries : List Entry) (path : Text) (content : Option (List ℕ)) (version xid : ℤ) (earlier : List Transaction) (last : Transaction) (node : Node) (value : Value stat) (ignored : List ℕ)
+        → Awaits h start entries Serving (Ask (SetData path content version)) xid → held h (end_of h entries).place ≡ earlier ++ last ∷ [] → Among (Sets (path_of path) content) last.changes
+        → tree_held h (end_of h entries).place (path_of path) ≡ Some node → Fits stat value → data_stat_of (stat_of value) ≡ node_fields node
+        → IsSendable xid (zxid_of h entries) (pos 0) (spelling stat value ++ ignored)
+        → CanTake h start entries (Answers (SetData path content version) (Found (stat_of value))) (headed xid (zxid_of h entries) (pos 0) (spelling stat value ++ ignored) ∷ []) }
+    ensures made { (h : History) (start : Start) (entries : List Entry) (path : Text) (content : Option (List ℕ)) (mode : ℕ) (xid owner : ℤ) (earlier : List Transaction) (last : Transaction) (ignored : List ℕ)
+        → Awaits h start entries Serving (Ask (Create path content mode)) xid → is_sequential mode ≡ false
+        → held h (end_of h entries).place ≡ earlier ++ last ∷ [] → Among (Creates (path_of path) content owner) last.changes
+        → Fits ustring (Some path) → IsSendable xid (zxid_of h entries) (pos 0) (spelling ustring (Some path) ++ ignored)
+        → CanTake h start entries (Answers (Create path content mode) (Made path)) (headed xid (zxid_of h entries) (pos 0) (spelling ustring (Some path) ++ ignored) ∷ []) }
+    ensures deleted { (h : History) (start : Start) (entries : List Entry) (path : Text) (version xid : ℤ) (earlier : List Transaction) (last : Transaction) (behind : List ℕ)
+        → Awaits h start entries Serving (Ask (Delete path version)) xid → held h (end_of h entries).place ≡ earlier ++ last ∷ [] → Among (Deletes (path_of path)) last.changes
+        → IsSendable xid (zxid_of h entries) (pos 0) behind → CanTake h start entries (Answers (Delete path version) Done) (headed xid (zxid_of h entries) (pos 0) behind ∷ []) }
+{}
