@@ -1,5 +1,6 @@
-pub mod Zxids
+pub mod Seen
+pub mod Closed
 pub mod States
-pub mod Moments
-pub mod Xids
+pub mod Ticked
+pub mod Numbered
 pub mod Looking_back

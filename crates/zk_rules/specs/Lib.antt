@@ -1,1 +1,5 @@
+pub mod Seeing
+pub mod Closing
+pub mod Ticking
+pub mod Xids
 pub mod Rules

@@ -1,5 +1,5 @@
 -- Rules of a client in words of their own.
-use Rattle.std.specs.Prelude.{ℕ, ◌≡◌, ◌≢◌, ◌≤◌, ◌<◌, ◌*◌, ◌-◌, ◌⊎◌, false, List, [], ◌∷◌, ◌++◌, Option, Some}
+use Rattle.std.specs.Prelude.{◌≡◌, ◌≢◌, ◌⊎◌, List, [], ◌∷◌, ◌++◌, Option, Some}
 use Rattle.std.specs.List.{AllByRecursion, flat_map}
 use Rattle.zk_session.specs.declared.states.State.{State}
 use Rattle.zk_session.specs.declared.states.State.TheVariants.{Idle, Connecting, Connected, Expired, Closed}
@@ -9,23 +9,6 @@ use Rattle.zk_cache.specs.Kept.{good}
 use Rattle.zk_cache.specs.declared.held.Kept.{Kept}
 use Rattle.zk_cache.specs.declared.held.Mark.TheVariants.{Stale}
 use Rattle.zk_turns.specs.Kept.{Happening, Began, Lost, Forgot, Took, Dropped, Accepted, Expiry, Replies, Past, Word, Ends, Nothing}
-use Rattle.zk_turns.specs.View.{View}
-use Rattle.zk_turns.specs.Taken.{timeout_of}
-use Rattle.zk_turns.specs.Rule.{IsOpen}
-
--- On a connection on which the session was accepted a third of the timeout has passed with nothing sent, and two thirds have not
--- passed with nothing heard.
-pub record IsPingDue (view : View) (now : ℕ) : Type 0 where
-  pub goes_on : view.standing.halted ≡ false
-  pub accepted : view.standing.state ≡ Connected
-  pub third : timeout_of view ≤ 3 * (now - view.moments.sent)
-  pub heard : 3 * (now - view.moments.heard) < 2 * timeout_of view
-
--- On a connection two thirds of the timeout have passed with nothing heard.
-pub record IsSilent (view : View) (now : ℕ) : Type 0 where
-  pub goes_on : view.standing.halted ≡ false
-  pub up : IsOpen view.standing.state
-  pub thirds : 2 * timeout_of view ≤ 3 * (now - view.moments.heard)
 
 -- the answer, marked stale
 abbrev pub as_stale : {A : Type 0} → A → Option (Kept A)

@@ -1,41 +1,61 @@
-//! Rules of a client, in words of their own: what else stands in one definition alone is said here once more from another side, so that
-//! a wrong edit of that definition breaks a law. The functions have empty bodies: their contracts are the laws.
+//! Rules that a reader of the guide would ask for by name, each as a law over the turns of a client. The functions do nothing:
+//! their contracts are the laws.
 #![tactic(auto)]
 
-ghost use Rattle.std.specs.Prelude.{◌≡◌, ◌≢◌, ◌≤◌, ◌≤ℤ◌, ◌+◌, ◌⊎◌, ◌↔◌, max, ℕ, ℤ, List, [], ◌∷◌, None, false};
+ghost use Rattle.zk_rules.specs.Seeing.{LaterMoves, EarlierLeaves, TurnsRaise, RepliesAreSeen};
+ghost use Rattle.zk_rules.specs.Ticking.{PingIsSent, ConnectionIsGivenUp, NothingIsSent, NothingWhileConnecting, NothingElsewhere};
+ghost use Rattle.zk_rules.specs.Xids.{FirstIsOne, AreInRange, RunOn, BeginAgain, CallsAloneMove, GoesOut, IsShown, AreApart};
+ghost use Rattle.zk_rules.specs.Closing.{CloseSays, CloseStays, CodeIsNoMatter};
+ghost use Rattle.std.specs.Prelude.{◌≡◌, ◌↔◌, List, ◌∷◌};
 ghost use Rattle.std.specs.List.{flat_map};
 ghost use Rattle.zk_history.specs.History.{Text};
-ghost use Rattle.zk_session.specs.declared.states.State.TheVariants as states;
-ghost use Rattle.zk_conversation.specs.Calls.{Call};
-ghost use Rattle.zk_conversation.specs.Questions.{Question, Close};
-ghost use Rattle.zk_conversation.specs.Results.{Result};
-ghost use Rattle.zk_cache.specs.Kept.{Answer as Kept_answer, Names, without_stale};
-ghost use Rattle.zk_turns.specs.Turns.{Start, Fault, Silent, Ticks, Answer, Replied, Enters};
-ghost use Rattle.zk_turns.specs.Kept.{Happening, Past, Began, Lost, Pinged, Forgot, Took, Dropped, Asked, Ticked, Accepted, Replies, state_of, last_of, xid_of, kept_data, kept_names, word_data, word_child};
 ghost use Rattle.zk_session.specs.Kept.{Welcome};
+ghost use Rattle.zk_cache.specs.Kept.{Answer as Kept_answer, Names, without_stale};
+ghost use Rattle.zk_turns.specs.Turns.{Fault};
+ghost use Rattle.zk_turns.specs.Kept.{Happening, Past, Began, Lost, Forgot, Took, Dropped, Accepted, state_of, kept_data, kept_names, word_data, word_child};
 ghost use Rattle.zk_turns.specs.View.{View};
-ghost use Rattle.zk_turns.specs.Taken.{due_at, happenings};
 ghost use Rattle.zk_turns.specs.Rule.{next, says, says_all};
-ghost use Rattle.zk_turns.specs.Meaning.{Among};
-ghost use Rattle.zk_rules.specs.Rules.{states_in, brings, brought, IsPingDue, IsSilent, IsStaleSince, as_stale};
+ghost use Rattle.zk_rules.specs.Rules.{states_in, brings, brought, IsStaleSince, as_stale};
 
-/// Each reply to a call counts for the last seen zxid: a write's, a close's and an error's too. It is the reply's own zxid, unless a later
-/// one was seen.
-#[tactic(auto, using(crate::proofs::Zxids::later_moves, crate::proofs::Zxids::earlier_stays))]
-pub fn each_reply_counts()
-    ensures moves { (start : Start) (past : Past) (ticket : ℕ) (question : Question) (zxid : ℤ) (result : Result) →
-        last_of start past ≤ℤ zxid → last_of start (Took (Replies ticket question zxid result) ∷ past) ≡ zxid }
-    ensures stays { (start : Start) (past : Past) (ticket : ℕ) (question : Question) (zxid : ℤ) (result : Result) →
-        zxid ≤ℤ last_of start past → last_of start (Took (Replies ticket question zxid result) ∷ past) ≡ last_of start past }
+/// Each reply to a call moves the last seen zxid to its own where that is later (`moves`), whatever was asked, and leaves it where it is
+/// not (`leaves`). No turn lowers it (`rises`), and behind a turn it is at least that of each reply that the turn told (`seen`).
+pub fn replies_count()
+    ensures moves { LaterMoves }
+    ensures leaves { EarlierLeaves }
+    ensures rises { TurnsRaise }
+    ensures seen { RepliesAreSeen }
 {}
 
-/// The reply to a close ends the session, whatever it says: the caller has it, the client tells that it is closed, and keeps nothing.
-pub fn close_ends()
-    ensures state { (past : Past) (ticket : ℕ) (zxid : ℤ) (result : Result) → state_of (Took (Replies ticket Close zxid result) ∷ past) ≡ states.Closed }
-    ensures says { (view : View) (ticket : ℕ) (zxid : ℤ) (result : Result) →
-        says view (Took (Replies ticket Close zxid result)) ≡ Answer ticket (Replied zxid result) ∷ Enters states.Closed ∷ [] }
-    ensures nodes { (path : Text) (past : Past) (ticket : ℕ) (zxid : ℤ) (result : Result) → kept_data path (Took (Replies ticket Close zxid result) ∷ past) ≡ None }
-    ensures children { (path : Text) (past : Past) (ticket : ℕ) (zxid : ℤ) (result : Result) → kept_names path (Took (Replies ticket Close zxid result) ∷ past) ≡ None }
+/// A moment makes a client send a ping exactly where it is connected, a third of the timeout has passed since it last sent and two
+/// thirds have not since it last heard (`ping`), and give its connection up exactly from two thirds on (`silence`). Before that
+/// it says nothing (`nothing`, `connecting`), nor where there is no connection (`elsewhere`).
+pub fn pings()
+    ensures ping { PingIsSent }
+    ensures silence { ConnectionIsGivenUp }
+    ensures nothing { NothingIsSent }
+    ensures connecting { NothingWhileConnecting }
+    ensures elsewhere { NothingElsewhere }
+{}
+
+/// The first call has the xid 1, and each call the one after the last call's, over all connections, up to 2,147,483,647, after which
+/// it is 1 again. So no call has the xid 0 or a negative one, which are kept for pings and what else a client asks by itself.
+pub fn xids()
+    ensures first { FirstIsOne }
+    ensures range { AreInRange }
+    ensures next { RunOn }
+    ensures again { BeginAgain }
+    ensures calls { CallsAloneMove }
+    ensures sent { GoesOut }
+    ensures shown { IsShown }
+    ensures apart { AreApart }
+{}
+
+/// The reply to a close is told, and then that the session is closed, whatever the reply says (`says`), and a reply with any error
+/// code is such a reply (`code`). From then on the client is closed for good: no connection, no lists and no answers (`stays`).
+pub fn closes()
+    ensures says { CloseSays }
+    ensures code { CodeIsNoMatter }
+    ensures stays { CloseStays }
 {}
 
 /// What is told of states is each state that comes, once and in the order in which they come: what happens to a client tells the state that
@@ -46,28 +66,6 @@ pub fn states_are_told()
     ensures all { (view : View) (happenings : List Happening) → states_in (says_all view happenings) ≡ flat_map brings happenings }
     ensures state { (happening : Happening) (past : Past) → state_of (happening ∷ past) ≡ brought (brings happening) (state_of past) }
     ensures next { (view : View) (happening : Happening) → (next view happening).standing.state ≡ brought (brings happening) view.standing.state }
-{}
-
-/// A moment makes a client send a ping exactly where, on a connection of its session, a third of the timeout has passed with nothing
-/// sent, and two thirds have not with nothing heard; it gives the connection up exactly where these have. Nothing else falls due.
-#[tactic(auto, using(crate::proofs::Moments::ping, crate::proofs::Moments::silence, crate::proofs::Moments::nothing_else, crate::proofs::Moments::told))]
-pub fn pings_are_due()
-    ensures ping { (view : View) (moment : ℕ) → Among Pinged (due_at view moment) ↔ IsPingDue view (max moment view.moments.now) }
-    ensures silent { (view : View) (moment : ℕ) → Among (Dropped Silent) (due_at view moment) ↔ IsSilent view (max moment view.moments.now) }
-    ensures nothing_else { (view : View) (moment : ℕ) (happening : Happening) → Among happening (due_at view moment) → (happening ≡ Pinged) ⊎ (happening ≡ Dropped Silent) }
-    ensures told { (view : View) (moment : ℕ) → view.standing.halted ≡ false → happenings view (Ticks moment) ≡ Ticked moment ∷ due_at view moment }
-{}
-
-/// The first call has xid 1, and each call behind it the next number, over all connections; behind 2,147,483,647 comes 1.
-#[tactic(auto, using(crate::proofs::Xids::again, crate::proofs::Xids::next, crate::proofs::Xids::least, crate::proofs::Xids::most))]
-pub fn xids_run_on()
-    ensures first { xid_of [] ≡ 1 }
-    ensures next { (ticket : ℕ) (call : Call) (past : Past) → xid_of past ≢ 2147483647 → xid_of (Asked ticket call ∷ past) ≡ xid_of past + 1 }
-    ensures again { (ticket : ℕ) (call : Call) (past : Past) → xid_of past ≡ 2147483647 → xid_of (Asked ticket call ∷ past) ≡ 1 }
-    ensures least { (past : Past) → 1 ≤ xid_of past }
-    ensures most { (past : Past) → xid_of past ≤ 2147483647 }
-    ensures over_connections { (past : Past) (welcome : Welcome) (fault : Fault) → (xid_of (Began ∷ past) ≡ xid_of past) × (xid_of (Took (Accepted welcome) ∷ past) ≡ xid_of past)
-        × (xid_of (Lost ∷ past) ≡ xid_of past) × (xid_of (Dropped fault ∷ past) ≡ xid_of past) }
 {}
 
 /// A stale answer is the one that was good when a notice ended that, and it stays until it is read again, forgotten, or the session is
