@@ -3,8 +3,8 @@
 
 Copies the repository, with what its checks keep in out/, into a temporary folder. There it makes one wrong edit of the
 definitions at a time, checks the crate, and says which functions, whose contracts are the laws, are no longer proved. Where they all
-are, the crate of laws above it is checked too: a definition that asks for more than it should still gives each law that rests on it, but
-no longer the schedules that meet it. An edit that breaks nothing is a hole in the laws: the exit status is then 1.
+are, the crates of laws above it are checked too: a definition that asks for more than it should still gives each law that rests on it, but
+no longer the schedules that meet it, nor that a schedule goes on with whatever a server may do. An edit that breaks nothing is a hole in the laws: the exit status is then 1.
 
   scripts/wrong_definitions.py            all edits
   scripts/wrong_definitions.py WORD..     those whose names have one of the words
@@ -15,8 +15,8 @@ import sys
 import tempfile
 
 TURNS, LAWS = "zk_turns", "zk_laws"
-# the crate of laws above one
-ABOVE = {TURNS: "zk_rules", LAWS: "zk_serving"}
+# the crates of laws above one
+ABOVE = {TURNS: ["zk_rules"], LAWS: ["zk_serving", "zk_receptive"]}
 KEPT, RULE, TAKEN, SENT = (f"specs/{name}.antt" for name in ("Kept", "Rule", "Taken", "Sent"))
 SERVER, SERVER_STEPS, SERVED, HEADLINE = (f"specs/{name}.antt" for name in ("Server", "ServerSteps", "Served", "Headline"))
 
@@ -174,10 +174,10 @@ def main():
                 unseen += 1
                 continue
             open(path, "w", encoding="utf-8").write(whole.replace(old, new))
-            proved, laws, errors = broken(folder, crate)
-            if proved and crate in ABOVE:
-                crate = ABOVE[crate]
+            for crate in [crate, *ABOVE[crate]]:
                 proved, laws, errors = broken(folder, crate)
+                if not proved:
+                    break
             open(path, "w", encoding="utf-8").write(whole)
             if proved or not errors:
                 print(f"{name}: NOTHING BROKE", flush=True)
