@@ -9,7 +9,7 @@ mod swept;
 mod world;
 
 use anyhow::Result;
-use played::{Row, play};
+use played::{Row, play, play_late};
 use reads::read_each;
 use std::io;
 use swept::{close_at_each_byte, dial_nobody, refuse_each_request};
@@ -112,6 +112,7 @@ fn main(rt: HostRuntime) -> Result<()> {
     for row in &ROWS {
         play(rt.alloc(), row, &mut out)?;
     }
+    play_late(rt.alloc(), &mut out)?;
     close_at_each_byte(rt.alloc(), &mut out)?;
     refuse_each_request(rt.alloc(), &mut out)?;
     dial_nobody(rt.alloc(), &mut out)?;

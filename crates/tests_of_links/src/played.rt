@@ -1,7 +1,7 @@
 //! A link, played.
 
 use crate::partner::Shared;
-use crate::world::{Plan, World};
+use crate::world::{Plan, STEADY, World};
 use anyhow::Result;
 use std::alloc::{Allocator, Global};
 use std::cell::RefCell;
@@ -132,4 +132,34 @@ pub fn play<W: Write>(alloc: Global, row: &Row, out: &mut W) -> Result<()> {
     let played = play_link(alloc, row.until, &world, &mut link, out);
     drop(link);
     played
+}
+
+/// Goes on for a tenth of a second where the caller has taken two seconds for itself, three times: it is back when it said.
+fn play_pauses<W: Write>(
+    alloc: Global,
+    world: &RefCell<World>,
+    link: &mut Played<'_>,
+    out: &mut W,
+) -> Result<()> {
+    for _ in 0..3 {
+        if let Ok(mut world) = world.try_borrow_mut() {
+            world.wait(2_000);
+        }
+        let until = link.now().saturating_add(100);
+        go_on(alloc, until, world, link, out)?;
+    }
+    Ok(())
+}
+
+/// Plays a link whose caller takes its time between its calls.
+pub fn play_late<W: Write>(alloc: Global, out: &mut W) -> Result<()> {
+    writeln!(out, "== a caller that takes its time")?;
+    let world = RefCell::new(World::new(alloc, STEADY)?);
+    let (dial, clock) = (Shared::new(alloc, &world), Shared::new(alloc, &world));
+    let mut link = Link::new(alloc, Client::new(alloc, 9_000), dial, clock, &ADDRESSES);
+    let played = play_link(alloc, 1_000, &world, &mut link, out);
+    let paused = play_pauses(alloc, &world, &mut link, out);
+    drop(link);
+    played?;
+    paused
 }

@@ -1,11 +1,12 @@
 //! The servers and the connection to one of them.
 
-ghost use Rattle.std.specs.Prelude.{◌≡◌, ◌≢◌, ◌≤◌, ◌<◌, ◌-◌, ◌+◌, ◌^◌, ◌++◌, ℕ, ℤ, pos, List, Some, true, false, int_lt, slice_index, drop, take as first, length as bytes_of, vec_len, IfOk, OnOk, OnErr, IsOk, IsErrOf};
+ghost use Rattle.std.specs.Prelude.{◌≡◌, ◌≢◌, ◌≤◌, ◌<◌, ◌-◌, ◌+◌, ◌^◌, ◌++◌, ℕ, ℤ, pos, List, Some, true, false, int_lt, slice_index, drop, take as first, length as bytes_of, vec_len, IfOk, OnOk, OnErr, IsOk, IsErrOf, IfErr};
 ghost use Rattle.zk_frames.specs.Frame.{frame, IsNegative};
 ghost use Rattle.zk_bench.specs.declared.phase.Phase.TheVariants.{Apart, Opening, Accepted};
 ghost use Rattle.zk_bench.specs.declared.stop.Stop.TheVariants as stops;
 ghost use Rattle.zk_bench.specs.Front.{IsShort, IsWhole};
 ghost use Rattle.zk_history.specs.Kept.{history_of};
+ghost use Rattle.zk_history.specs.declared.history_fault.HistoryFault.TheVariants as faults;
 ghost use Rattle.zk_laws.specs.Server.{zxid_held};
 ghost use Rattle.zk_laws.specs.Messages.{Connect, Ask};
 ghost use Rattle.zk_conversation.specs.Calls.{Call};
@@ -26,10 +27,10 @@ use crate::replies::{send_header, send_result};
 use crate::servers::{next_changes, take_all, zxid_after};
 use crate::stop::{Refusal, Stop};
 use crate::tree::{Tree, text_of};
-use crate::writes::{Mode, append, creation, deleted_path, mode_of, written_path};
+use crate::writes::{Mode, append, append_write, creation, deleted_path, mode_of, written_path};
 use std::alloc::{AllocError, Allocator};
 use std::marker::Model;
-use zk_history::{Change, History};
+use zk_history::{Change, History, HistoryFault};
 use zk_jute::{Buffer, TextRef};
 use zk_records::{
     Code, ConnectRequest, CreateRef, CreateRequest, DeleteRequest, ReplyHeader, Request,
@@ -116,6 +117,25 @@ impl<A: Allocator + Copy> Bench<A> {
         ensures { self.new ≡ record self.old { expired = true } }
     {
         self.expired = true;
+    }
+
+    /// From now on clients are admitted again: one whose session has expired begins a new one.
+    pub fn renew(&mut self)
+        ensures { self.new ≡ record self.old { expired = false } }
+    {
+        self.expired = false;
+    }
+
+    /// One more transaction, of another session, with this change alone: it stands at the end of the history, one zxid above the last, at
+    /// the time of [`now`](Bench::now), and no server has taken it yet. So others may change what the client watches whenever the test
+    /// says. Where the history does not allow the change (`Illegal`), a transaction with no change stands there; so it may where memory
+    /// is refused (`Memory`). `Order` says that the zxid or the time would be past 2^63 - 1: then nothing has changed.
+    pub fn append(&mut self, change: Change<A>) -> Result<(), HistoryFault>
+        ensures goes_on { Continues self.old.history self.new.history }
+        ensures order { IfErr result (λ fault. fault ≡ faults.Order → self.new ≡ self.old) }
+        ensures rest { self.new ≡ record self.old { history = self.new.history } }
+    {
+        append(&mut self.history, self.time, change)
     }
 
     /// Sets the time of the writes that are accepted from now on, in milliseconds since the epoch. It may go back.
@@ -444,7 +464,7 @@ impl<A: Allocator + Copy> Bench<A> {
         ensures history { Continues self.old.history self.new.history }
         ensures rest { self.new ≡ record self.old { history = self.new.history; taken = self.new.taken; connection = self.new.connection } }
     {
-        append(&mut self.history, self.time, change)?;
+        append_write(&mut self.history, self.time, change)?;
         self.catch_up().map_err(Refusal::from)
     }
 

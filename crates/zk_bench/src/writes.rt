@@ -2,13 +2,14 @@
 
 ghost use Rattle.std.specs.Prelude.{◌≡◌, IfErr};
 ghost use Rattle.zk_bench.specs.Served.{Continues};
+ghost use Rattle.zk_history.specs.declared.history_fault.HistoryFault.TheVariants as faults;
 ghost use Rattle.zk_bench.specs.Refusals.{IsCode};
 
 use crate::sequence::numbered;
 use crate::stop::{Refusal, Stop};
 use crate::tree::{Tree, path_of, text_of};
 use std::alloc::Allocator;
-use zk_history::{Change, History, Path, Stat};
+use zk_history::{Change, History, HistoryFault, Path, Stat};
 use zk_jute::Buffer;
 use zk_records::{Code, DeleteRequest};
 
@@ -210,10 +211,32 @@ pub(crate) fn deleted_path<A: Allocator + Copy>(
     }
 }
 
-/// Appends a change as a transaction of its own, one zxid above the last. A zxid or a time past 2^63 - 1 is refused with
-/// -8. Where memory is refused, a transaction with no change may have been appended.
+/// Appends a change as a transaction of its own, one zxid above the last. `Order` where the zxid or the time would be past 2^63 - 1, and
+/// then the history is as it was. Behind another fault a transaction with no change may have been appended.
 #[tactic(auto, using(crate::proofs::Continuing::same_goes_on, crate::proofs::Continuing::begun_goes_on, crate::proofs::Continuing::changed_goes_on))]
 pub(crate) fn append<A: Allocator + Copy>(
+    history: &mut History<A>,
+    time: u64,
+    change: Change<A>,
+) -> Result<(), HistoryFault>
+    ensures goes_on { Continues history.old history.new }
+    ensures order { IfErr result (λ fault. fault ≡ faults.Order → history.new ≡ history.old) }
+{
+    let last = history.last_zxid();
+    if last == i64::MAX || time > i64::MAX as u64 {
+        drop(change);
+        return Err(HistoryFault::Order);
+    }
+    if let Err(fault) = history.begin(last + 1, time as i64) {
+        drop(change);
+        return Err(fault);
+    }
+    history.change(change)
+}
+
+/// The same for a write of the client, which is refused with -8 where the zxid or the time would be past 2^63 - 1.
+#[tactic(auto)]
+pub(crate) fn append_write<A: Allocator + Copy>(
     history: &mut History<A>,
     time: u64,
     change: Change<A>,
@@ -221,17 +244,9 @@ pub(crate) fn append<A: Allocator + Copy>(
     ensures goes_on { Continues history.old history.new }
     ensures refused { IfErr result (λ refusal. IsCode refusal → history.new ≡ history.old) }
 {
-    let last = history.last_zxid();
-    if last == i64::MAX || time > i64::MAX as u64 {
-        drop(change);
-        return Err(Refusal::Code(Code::BadArguments));
-    }
-    if let Err(fault) = history.begin(last + 1, time as i64) {
-        drop(change);
-        return Err(Refusal::from(fault));
-    }
-    match history.change(change) {
+    match append(history, time, change) {
         Ok(()) => Ok(()),
+        Err(HistoryFault::Order) => Err(Refusal::Code(Code::BadArguments)),
         Err(fault) => Err(Refusal::from(fault)),
     }
 }

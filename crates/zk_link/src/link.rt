@@ -142,12 +142,14 @@ impl<'a, A: Allocator + Copy, D: Dial + Drop, C: Clock + Drop> Link<'a, A, D, C>
         }
     }
 
-    /// What the connection brings until something is due.
+    /// What the connection brings until something is due. Of the wait that the client's moment allows, what has gone by on the clock since
+    /// that moment was told is over: a caller may have taken its time.
     fn next_brought(&mut self, until: u64) -> Result<Brought<A>, AllocError>
         ensures { bare_of self.new.joint ≡ bare_of self.old.joint }
     {
-        let wait = self.joint.longest_wait(until);
-        self.joint.exchange(wait)
+        let gone = self.clock.now().saturating_sub(self.joint.latest);
+        let wait = self.joint.longest_wait(until).saturating_sub(gone);
+        self.joint.exchange(wait.max(1))
     }
 
     /// A client that is connected has reached its server: no attempt has failed since.

@@ -1,0 +1,15 @@
+//! A world in memory for the examples: a server over a history, a connection to it that can be cut, and moments that go by where
+//! somebody waits.
+//!
+//! [`Shared`] is what a link of `zk_link` dials, and its clock. The server answers each request as it comes, so a program over such
+//! a link runs as it would over a network, and prints the same each time.
+#![tactic(auto)]
+
+mod moments;
+mod partner;
+mod world;
+
+pub use moments::Moments;
+pub use partner::{Partner, Shared};
+pub use world::World;
+pub use zk_bench::{Change, History};

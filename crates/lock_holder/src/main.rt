@@ -1,0 +1,67 @@
+//! A lock between sessions: each makes a node that goes with it, and the one with the first of them holds. Who holds acts with a token,
+//! the zxid at which its node was made, and what the lock protects refuses a token below one that it has seen. So a session that has lost
+//! the lock and does not know it yet does no harm.
+#![tactic(auto)]
+
+mod contender;
+mod memory;
+mod store;
+
+use anyhow::Result;
+use contender::Contender;
+use std::io::Write;
+use std::process::ExitCode;
+use store::Store;
+use zk_link::{SystemClock, Tcp};
+
+/// What the words are to be.
+const USAGE: &str = "usage: lock_holder [NAME DIRECTORY SECONDS IP:PORT..]";
+
+/// How long it may take until the node is deleted at the end, in milliseconds.
+const LEAVE_MS: u64 = 2_000;
+
+/// Wants the lock of a directory of real servers for so many seconds.
+fn run<W: Write>(
+    rt: &HostRuntime,
+    name: &str,
+    directory: &str,
+    seconds: u64,
+    addresses: &[&str],
+    out: &mut W,
+) -> Result<()> {
+    let (dial, clock) = (Tcp::new(rt), SystemClock::new(rt));
+    let mut session = Contender::new(rt.alloc(), name, directory, dial, clock, addresses)?;
+    let mut store = Store::new();
+    let until = session.now().saturating_add(seconds.saturating_mul(1_000));
+    session.act(until, &mut store, out)?;
+    session.leave();
+    session.act(until.saturating_add(LEAVE_MS), &mut store, out)
+}
+
+/// Does what the words ask for. The first word is the program's name.
+fn run_words(rt: &HostRuntime, words: &[&str]) -> Result<u8> {
+    let mut out = rt.stdout();
+    if words.len() < 2 {
+        memory::run(rt.alloc(), &mut out)?;
+        return Ok(0);
+    }
+    let [_, name, directory, seconds, addresses @ ..] = words else {
+        writeln!(out, "{USAGE}")?;
+        return Ok(2);
+    };
+    let Ok(seconds) = seconds.parse::<u64>() else {
+        writeln!(out, "{USAGE}")?;
+        return Ok(2);
+    };
+    run(rt, name, directory, seconds, addresses, &mut out)?;
+    Ok(0)
+}
+
+fn main(rt: HostRuntime) -> Result<ExitCode> {
+    let words: Vec<String> = std::env::args(&rt)?.collect(rt.alloc())?;
+    let mut texts = Vec::new(rt.alloc());
+    for word in words.iter() {
+        texts.push(word.as_str())?;
+    }
+    Ok(ExitCode::from(run_words(&rt, texts.as_slice())?))
+}

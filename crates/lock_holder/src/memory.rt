@@ -1,0 +1,146 @@
+//! Two sessions and a lock, over servers in memory. Each session has a server of its own, and what one writes is told to the other.
+
+use crate::contender::Contender;
+use crate::store::Store;
+use anyhow::Result;
+use example_world::{Change, History, Moments, Shared, World};
+use std::alloc::Global;
+use std::cell::RefCell;
+use std::io::Write;
+use zk_client::Path;
+
+/// The directory of the lock.
+const DIRECTORY: &str = "/lock";
+
+/// A server calls its own client's session 1, and the other one's so.
+const OTHER: i64 = 2;
+
+/// What is dialled.
+static ADDRESSES: [&str; 1] = ["memory"];
+
+/// The sessions act in turns of so many milliseconds.
+const TURN_MS: u64 = 100;
+
+/// What happens to the sessions.
+#[derive(Clone, Copy)]
+enum Event {
+    /// The first one's connection is cut, and it makes no other.
+    Parts,
+    /// The first one's session expires: its node goes.
+    Expires,
+    /// The first one can connect again.
+    Joins,
+    /// The second one wants the lock no more.
+    Leaves,
+    /// Nothing.
+    Ends,
+}
+
+/// What happens, and when, in milliseconds.
+static PLAN: [(u64, Event); 5] = [
+    (2_000, Event::Parts),
+    (4_000, Event::Expires),
+    (6_000, Event::Joins),
+    (20_000, Event::Leaves),
+    (22_000, Event::Ends),
+];
+
+/// A session in memory.
+type Session<'a> = Contender<'a, Shared<'a>, Shared<'a>>;
+
+/// A server of one session.
+fn world(alloc: Global) -> Result<World> {
+    let mut history = History::new(alloc);
+    history.node(Path::new(alloc, DIRECTORY)?, None, 0)?;
+    Ok(World::new(alloc, history, usize::MAX))
+}
+
+/// The change as the other session's server has it.
+fn told(alloc: Global, change: &Change<Global>) -> Result<Change<Global>> {
+    Ok(match change {
+        Change::Create(path, _, owner) => {
+            let owner = if *owner == 0 { 0 } else { OTHER };
+            Change::Create(Path::new(alloc, path.as_str())?, None, owner)
+        }
+        Change::Set(path, _) => Change::Set(Path::new(alloc, path.as_str())?, None),
+        Change::Delete(path) => Change::Delete(Path::new(alloc, path.as_str())?),
+    })
+}
+
+/// How many transactions there are.
+fn count(history: &History<Global>) -> usize {
+    (0..usize::MAX)
+        .find(|n| history.transaction(*n).is_none())
+        .unwrap_or(usize::MAX)
+}
+
+/// Tells one server what is written at the other.
+fn pass(alloc: Global, from: &RefCell<World>, to: &RefCell<World>) -> Result<()> {
+    let (Ok(from), Ok(mut to)) = (from.try_borrow(), to.try_borrow_mut()) else {
+        return Ok(());
+    };
+    for n in count(to.history())..usize::MAX {
+        let Some((_, _, changes)) = from.history().transaction(n) else {
+            return Ok(());
+        };
+        for change in changes {
+            to.change(told(alloc, change)?)?;
+        }
+    }
+    Ok(())
+}
+
+/// Lets an event happen.
+fn happen(
+    alloc: Global,
+    event: Event,
+    world: &RefCell<World>,
+    first: &Session<'_>,
+    second: &mut Session<'_>,
+) -> Result<()> {
+    let Ok(mut world) = world.try_borrow_mut() else {
+        return Ok(());
+    };
+    match event {
+        Event::Parts => world.part(),
+        Event::Expires => {
+            world.expire();
+            if let Some(own) = first.own() {
+                world.change(Change::Delete(Path::new(alloc, own.as_str())?))?;
+            }
+        }
+        Event::Joins => world.join(),
+        Event::Leaves => second.leave(),
+        Event::Ends => {}
+    }
+    Ok(())
+}
+
+/// The two sessions, until the plan is at its end.
+pub fn run<W: Write>(alloc: Global, out: &mut W) -> Result<()> {
+    let (one, other) = (RefCell::new(world(alloc)?), RefCell::new(world(alloc)?));
+    let moments = Moments::new();
+    let begin = |name, world| {
+        let (dial, clock) = (Shared::new(world, &moments), Shared::new(world, &moments));
+        Contender::new(alloc, name, DIRECTORY, dial, clock, &ADDRESSES)
+    };
+    let (mut first, mut second) = (begin("first", &one)?, begin("second", &other)?);
+    let mut store = Store::new();
+    let mut now = 0u64;
+    for (moment, event) in &PLAN {
+        for _ in 0..u64::MAX {
+            if *moment <= now {
+                break;
+            }
+            now = moments.now().saturating_add(TURN_MS);
+            first.act(now, &mut store, out)?;
+            pass(alloc, &one, &other)?;
+            now = moments.now().saturating_add(TURN_MS);
+            second.act(now, &mut store, out)?;
+            pass(alloc, &other, &one)?;
+        }
+        happen(alloc, *event, &one, &first, &mut second)?;
+        pass(alloc, &one, &other)?;
+    }
+    Ok(())
+}
