@@ -1,9 +1,9 @@
 #!/usr/bin/env bash
-# Runs `zk_shell live`, `zk_shell watch` and the example `config_follower` against real ZooKeeper servers: one alone, and ensembles of
-# three of which one stops. What is printed is checked line by line. All traffic stays on 127.0.0.1; servers and folders are gone at the
-# end, however it ends.
+# Runs `zk_shell live`, `zk_shell watch` and the examples `config_follower`, `config_snapshot` and `lock_holder` against real ZooKeeper
+# servers: one alone, and ensembles of three of which one stops. What is printed is checked line by line. All traffic stays on 127.0.0.1;
+# servers and folders are gone at the end, however it ends.
 #
-# usage: scripts/real_server.sh [ZK_SHELL CONFIG_FOLLOWER]     the two programs; without them, they are built first.
+# usage: scripts/real_server.sh [ZK_SHELL CONFIG_FOLLOWER CONFIG_SNAPSHOT LOCK_HOLDER]     the programs; without them, they are built first.
 # The last line is `passed`, or `skipped: ..` where there is no server to be had. Else the exit status is 1.
 set -euo pipefail
 top=$(cd "$(dirname "$0")/.." && pwd)
@@ -11,11 +11,16 @@ source "$top/scripts/servers.sh"
 declare -A known=() seen=()
 
 build() {
+    local example
     (cd "$top/crates/zk_shell" && rt run -- --help) >"$folder/build.log" 2>&1 || fail "zk_shell is not built"
-    (cd "$top/crates/config_follower" && rt run) >"$folder/build.log" 2>&1 || true
+    for example in config_follower config_snapshot lock_holder; do
+        (cd "$top/crates/$example" && rt run) >"$folder/build.log" 2>&1 || true
+        [[ -x $top/crates/$example/out/$example ]] || fail "$example is not built"
+    done
     program=$top/crates/zk_shell/out/zk_shell
     follower=$top/crates/config_follower/out/config_follower
-    [[ -x $follower ]] || fail "config_follower is not built"
+    snapshot=$top/crates/config_snapshot/out/config_snapshot
+    lock=$top/crates/lock_holder/out/lock_holder
 }
 
 # A listener that holds the one connection that comes, until the file NAME.go is there, and then is gone. Its port is in NAME.port;
@@ -302,6 +307,8 @@ run_alone() {
     run_idle "$port"
     run_expired "$port"
     run_closed "$port"
+    run_snapshot "$port"
+    run_lock "$port"
     run_follower "$port"
     stop_server one
 }
@@ -465,6 +472,69 @@ run_follower() {
     end_by_force follow
 }
 
+# Sets three nodes below /together to the same number in one transaction, each number from the first to the last, by another client.
+set_together() {
+    /usr/bin/python3 - "$@" <<'EOF' >>"$folder/outside.log" 2>&1 || fail "another client's transactions"
+import sys, time
+from kazoo.client import KazooClient
+
+port, first, last = map(int, sys.argv[1:])
+client = KazooClient(hosts=f"127.0.0.1:{port}")
+client.start(timeout=20)
+paths = [f"/together/{name}" for name in "abc"]
+for path in paths:
+    client.ensure_path(path)
+for number in range(first, last + 1):
+    transaction = client.transaction()
+    for path in paths:
+        transaction.set_data(path, str(number).encode())
+    if not all(hasattr(one, "version") for one in transaction.commit()):
+        sys.exit(1)
+    time.sleep(0.002)
+client.stop()
+EOF
+}
+
+# A configuration of three nodes while another client changes all of them in one transaction, 500 times: each line is of one transaction,
+# and later than the line before.
+run_snapshot() {
+    set_together "$1" 0 0
+    begin together "$snapshot" 60 /together/a /together/b /together/c "127.0.0.1:$1"
+    sees together <<<'at @together 0 0 0'
+    set_together "$1" 1 500
+    within 20 grep -q '^at .* 500 500 500$' "$folder/together.out" || fail "the last change is not told"
+    awk 'BEGIN { value = -1 }
+        /^changing$/ { next }
+        $1 != "at" || NF != 5 || $3 != $4 || $4 != $5 || $2 <= last || $3 <= value { wrong = 1; exit }
+        { last = $2; value = $3; count++ }
+        END { exit wrong || count < 10 }' "$folder/together.out" ||
+        fail "not each line is of one transaction, and later: $(cat "$folder/together.out")"
+    seen[together]=$(wc -l <"$folder/together.out")
+    end_by_force together
+}
+
+# Two sessions that want one lock. The first is stopped until its session has expired and the second holds; it goes on, finds that out and
+# waits; and holds again once the second has left. The tokens rise.
+run_lock() {
+    local at=127.0.0.1:$1
+    outside "$1" create /lock x
+    begin first "$lock" first /lock 90 "$at"
+    sees first <<<'first holds @token-1'
+    begin second "$lock" second /lock 35 "$at"
+    sees second <<<'second waits'
+    kill -STOP "${begun[first]}"
+    sees second <<<'second holds @token-2'
+    kill -CONT "${begun[first]}"
+    sees first <<'EOF'
+first has lost its session
+first waits
+first holds @token-3
+EOF
+    ends second
+    end_by_force first
+    rises @token-1 @token-2 @token-3
+}
+
 # An ensemble of three: the server of the session stops, and the session goes on at the next address that connects.
 script_ensemble() {
     cat <<'EOF'
@@ -623,8 +693,8 @@ install_server || {
     echo "skipped: the package zookeeper cannot be had"
     exit 0
 }
-program=${1-} follower=${2-}
-[[ -n $program && -n $follower ]] || build
+program=${1-} follower=${2-} snapshot=${3-} lock=${4-}
+[[ -n $program && -n $follower && -n $snapshot && -n $lock ]] || build
 run_alone
 run_ensemble follower
 run_ensemble leader

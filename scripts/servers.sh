@@ -37,7 +37,7 @@ within() {
 }
 
 has_server() {
-    command -v java >/dev/null && [[ -e /usr/share/java/zookeeper.jar ]]
+    command -v java >/dev/null && [[ -e /usr/share/java/zookeeper.jar ]] && /usr/bin/python3 -c "import kazoo" 2>/dev/null
 }
 
 install_server() {
@@ -45,7 +45,7 @@ install_server() {
     command -v apt-get >/dev/null || return 1
     export DEBIAN_FRONTEND=noninteractive
     timeout 300 apt-get update >"$folder/apt.log" 2>&1 || true
-    timeout 900 apt-get install -y --no-install-recommends zookeeper default-jre-headless >>"$folder/apt.log" 2>&1 || true
+    timeout 900 apt-get install -y --no-install-recommends zookeeper default-jre-headless python3-kazoo >>"$folder/apt.log" 2>&1 || true
     has_server
 }
 

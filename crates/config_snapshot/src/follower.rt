@@ -195,7 +195,7 @@ impl<'a, D: Dial + Drop, C: Clock + Drop> Follower<'a, D, C> {
 
     fn tell_line<W: Write>(&mut self, zxid: i64, line: Vec<u8>, out: &mut W) -> Result<()> {
         if !self.is_whole || line.as_slice() != self.line.as_slice() {
-            write!(out, "at {zxid}: ")?;
+            write!(out, "at {zxid} ")?;
             out.write_all(line.as_slice())?;
             out.write_all(b"\n")?;
             out.flush()?;
