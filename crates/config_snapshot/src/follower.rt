@@ -1,5 +1,7 @@
 //! A program that acts on several nodes at once, and never on what was read of them at two moments.
 
+ghost use Rattle.std.specs.Prelude.{◌≤◌, length};
+
 use anyhow::Result;
 use std::alloc::Global;
 use std::io::Write;
@@ -59,10 +61,12 @@ fn put(alloc: Global, answer: &DataAnswer, line: &mut Vec<u8>) -> Result<()> {
     Ok(())
 }
 
-/// What a snapshot has of so many nodes.
-fn line_of(alloc: Global, snapshot: &Snapshot<'_>, nodes: &[Path]) -> Result<Vec<u8>> {
+/// What a snapshot has of its nodes, of which there are so many.
+fn line_of(alloc: Global, snapshot: &Snapshot<'_>, count: usize) -> Result<Vec<u8>>
+    requires { count ≤ length snapshot.now.nodes.now }
+{
     let mut line = Vec::new(alloc);
-    for place in 0..nodes.len() {
+    for place in 0..count {
         put(alloc, snapshot.data(place), &mut line)?;
     }
     Ok(line)
@@ -181,7 +185,7 @@ impl<'a, D: Dial + Drop, C: Clock + Drop> Follower<'a, D, C> {
         let Some(snapshot) = Snapshot::of(client, self.nodes.as_slice(), &[]) else {
             return Ok(None);
         };
-        let line = line_of(self.alloc, &snapshot, self.nodes.as_slice())?;
+        let line = line_of(self.alloc, &snapshot, self.nodes.len())?;
         Ok(Some((snapshot.last_zxid(), line)))
     }
 

@@ -11,8 +11,11 @@ use zk_client::Path;
 /// The nodes of the configuration.
 static NODES: [&str; 3] = ["/config/host", "/config/port", "/config/mode"];
 
-/// What they hold at first, and behind each transaction. The zxid of each is above the one before.
-static VALUES: [&str; 7] = ["one", "two", "three", "four", "five", "six", "seven"];
+/// What they hold at first.
+static FIRST: &str = "one";
+
+/// What they hold behind each transaction. The zxid of each is one above the one before.
+static LATER: [&str; 6] = ["two", "three", "four", "five", "six", "seven"];
 
 /// The zxid before the first transaction.
 const FIRST_ZXID: i64 = 4;
@@ -51,15 +54,14 @@ static PLAN: [(u64, Event); 9] = [
 /// The moment at which the program ends.
 const END_MS: u64 = 10_000;
 
-/// The three nodes are made, or set in one transaction.
+/// The three nodes are there, and are set in one transaction each time.
 fn fill(alloc: Global, history: &mut History<Global>) -> Result<()> {
-    let [first, later @ ..] = &VALUES;
     history.node(Path::new(alloc, "/config")?, None, 0)?;
     for node in &NODES {
-        let bytes = Vec::from_slice(alloc, first.as_bytes())?;
+        let bytes = Vec::from_slice(alloc, FIRST.as_bytes())?;
         history.node(Path::new(alloc, node)?, Some(bytes), 0)?;
     }
-    for value in later {
+    for value in &LATER {
         set_all(alloc, value, history)?;
     }
     Ok(())

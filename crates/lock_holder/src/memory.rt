@@ -116,29 +116,69 @@ fn happen(
     Ok(())
 }
 
+/// A session over a server in memory.
+fn begin<'a>(
+    alloc: Global,
+    name: &'a str,
+    world: &'a RefCell<World>,
+    moments: &'a Moments,
+) -> Result<Session<'a>> {
+    let (dial, clock) = (Shared::new(world, moments), Shared::new(world, moments));
+    Contender::new(alloc, name, DIRECTORY, dial, clock, &ADDRESSES)
+}
+
+/// A session acts for a turn, and what it writes is told to the other's server.
+fn act<W: Write>(
+    alloc: Global,
+    session: &mut Session<'_>,
+    worlds: [&RefCell<World>; 2],
+    store: &mut Store,
+    out: &mut W,
+) -> Result<()> {
+    let until = session.now().saturating_add(TURN_MS);
+    session.act(until, store, out)?;
+    let [own, other] = worlds;
+    pass(alloc, own, other)
+}
+
+/// The two sessions act in turns until this moment.
+fn play<W: Write>(
+    alloc: Global,
+    until: u64,
+    first: &mut Session<'_>,
+    second: &mut Session<'_>,
+    worlds: [&RefCell<World>; 2],
+    store: &mut Store,
+    out: &mut W,
+) -> Result<()> {
+    let [one, other] = worlds;
+    for _ in 0..until / TURN_MS {
+        if until <= first.now() {
+            break;
+        }
+        act(alloc, first, [one, other], store, out)?;
+        act(alloc, second, [other, one], store, out)?;
+    }
+    Ok(())
+}
+
 /// The two sessions, until the plan is at its end.
 pub fn run<W: Write>(alloc: Global, out: &mut W) -> Result<()> {
     let (one, other) = (RefCell::new(world(alloc)?), RefCell::new(world(alloc)?));
     let moments = Moments::new();
-    let begin = |name, world| {
-        let (dial, clock) = (Shared::new(world, &moments), Shared::new(world, &moments));
-        Contender::new(alloc, name, DIRECTORY, dial, clock, &ADDRESSES)
-    };
-    let (mut first, mut second) = (begin("first", &one)?, begin("second", &other)?);
-    let mut store = Store::new();
-    let mut now = 0u64;
+    let mut first = begin(alloc, "first", &one, &moments)?;
+    let mut second = begin(alloc, "second", &other, &moments)?;
+    let (mut store, worlds) = (Store::new(), [&one, &other]);
     for (moment, event) in &PLAN {
-        for _ in 0..u64::MAX {
-            if *moment <= now {
-                break;
-            }
-            now = moments.now().saturating_add(TURN_MS);
-            first.act(now, &mut store, out)?;
-            pass(alloc, &one, &other)?;
-            now = moments.now().saturating_add(TURN_MS);
-            second.act(now, &mut store, out)?;
-            pass(alloc, &other, &one)?;
-        }
+        play(
+            alloc,
+            *moment,
+            &mut first,
+            &mut second,
+            worlds,
+            &mut store,
+            out,
+        )?;
         happen(alloc, *event, &one, &first, &mut second)?;
         pass(alloc, &one, &other)?;
     }
