@@ -2,3 +2,4 @@ pub mod Client
 pub mod Spelled
 pub mod Taking
 pub mod Answering
+pub mod Telling

@@ -7,17 +7,19 @@ ghost use Rattle.std.specs.Prelude.{ℕ, ◌≡◌, ◌≤◌, List, ◌∷◌, 
 ghost use Rattle.zk_conversation.specs.Calls.{Call, ping_xid, Exists, GetData, GetChildren, SetData, Create, Delete, Close};
 ghost use Rattle.zk_conversation.specs.Results.{stat_of, response_timeout, NoNode, Refused, Found, Read, Listing, Made, Done, texts_of};
 ghost use Rattle.zk_history.specs.DataStats.{data_stat_of};
-ghost use Rattle.zk_history.specs.History.{History, Node, node_fields, Text, Name, Sets, Creates, Deletes, Transaction, path_of};
+ghost use Rattle.zk_history.specs.History.{History, Node, node_fields, Text, Name, Sets, Creates, Deletes, Transaction, Change, Tree, NodePath, path_of};
 ghost use Rattle.zk_history.specs.StatLayout.{stat};
+ghost use Rattle.zk_history.specs.declared.side.Side.{Side};
 ghost use Rattle.zk_jute.specs.Layout.{Value, ustring};
 ghost use Rattle.zk_jute.specs.Spelling.{spelling, Fits};
 ghost use Rattle.zk_laws.specs.Messages.{Connect, Restore, Ping, Ask};
 ghost use Rattle.zk_laws.specs.Served.{Entry, Goes_on, line_of, new_line, IsServing};
-ghost use Rattle.zk_laws.specs.Server.{Notice, AreSent, fires_all, part_tells, tree_held, zxid_held, IsOther, held, is_sequential};
+ghost use Rattle.zk_laws.specs.Server.{Notice, AreSent, Watches, fires, leaves_set, fires_all, part_tells, part_sets, tree_held, zxid_held, IsOther, held, is_sequential};
 ghost use Rattle.zk_laws.specs.ServerSteps.{Stage, Waiting, Serving, Ended, Advances, Admits, Refuses, Restores, Pongs, changes_next, Answers};
 ghost use Rattle.zk_receptive.specs.Next.{headed, notice_payload, IsTellable, stat_value, end_of, Reaches, Awaits, CanTake, IsSendable, zxid_of};
 ghost use Rattle.zk_records.specs.Layouts.{get_data_response, get_children2_response};
 ghost use Rattle.zk_records.specs.Response.{Response, ResponseFits, EndsPayload, response_spelling};
+ghost use Rattle.zk_receptive.specs.Told.{fired_by, notices_of, Fires, IsDue, IsSetAgain};
 ghost use Rattle.zk_serving.specs.Lines.{item_of};
 ghost use Rattle.zk_turns.specs.Kept.{names_of};
 ghost use Rattle.zk_turns.specs.Meaning.{Among};
@@ -165,4 +167,21 @@ pub fn writes_are_accepted()
     ensures deleted { (h : History) (start : Start) (entries : List Entry) (path : Text) (version xid : ℤ) (earlier : List Transaction) (last : Transaction) (behind : List ℕ)
         → Awaits h start entries Serving (Ask (Delete path version)) xid → held h (end_of h entries).place ≡ earlier ++ last ∷ [] → Among (Deletes (path_of path)) last.changes
         → IsSendable xid (zxid_of h entries) (pos 0) behind → CanTake h start entries (Answers (Delete path version) Done) (headed xid (zxid_of h entries) (pos 0) behind ∷ []) }
+{}
+
+/// Each change fires the watches of its table that are set, in order, and leaves all others.
+#[tactic(auto, using(crate::proofs::Telling::change_tells, crate::proofs::Telling::change_kept, crate::proofs::Telling::change_keeps))]
+pub fn changes_fire()
+    ensures told { (change : Change) (watches : Watches) → fires change watches ≡ notices_of watches (fired_by change) }
+    ensures kept { (change : Change) (watches : Watches) (side : Side) (path : NodePath) → leaves_set change watches side path ≡ true → (watches side path ≡ true) × (Fires (fired_by change) side path → ⊥) }
+    ensures stays { (change : Change) (watches : Watches) (side : Side) (path : NodePath) → watches side path ≡ true → (Fires (fired_by change) side path → ⊥) → leaves_set change watches side path ≡ true }
+{}
+
+/// Path by path, a part tells what is due for it and nothing else, and sets again the watches of which nothing is told, and no others.
+#[tactic(auto, using(crate::proofs::Telling::due_told, crate::proofs::Telling::told_due, crate::proofs::Telling::set_again, crate::proofs::Telling::only_again))]
+pub fn parts_tell()
+    ensures told { (relative : ℕ) (tree : Tree) (part : Lists) (notice : Notice) → IsDue relative tree part notice.event notice.path → Among notice (part_tells relative tree part) }
+    ensures only { (relative : ℕ) (tree : Tree) (part : Lists) (notice : Notice) → Among notice (part_tells relative tree part) → IsDue relative tree part notice.event notice.path }
+    ensures again { (relative : ℕ) (tree : Tree) (part : Lists) (side : Side) (path : Text) → IsSetAgain relative tree part side path → part_sets relative tree part side (path_of path) ≡ true }
+    ensures none_else { (relative : ℕ) (tree : Tree) (part : Lists) (side : Side) (path : NodePath) → part_sets relative tree part side path ≡ true → (text : Text) × (path_of text ≡ path) × IsSetAgain relative tree part side text }
 {}

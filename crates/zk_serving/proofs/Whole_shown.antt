@@ -1,5 +1,5 @@
 -- The whole schedule is one, and what it leads to is computed.
-use Rattle.std.proofs.Common.{◌≡◌, ℕ, ℤ, pos, negsuc, true, false, map, List, [], ◌∷◌, ◌++◌, refl, arith, Some, None, inl, inr}
+use Rattle.std.proofs.Common.{◌≡◌, ℕ, pos, negsuc, true, false, map, List, [], ◌∷◌, refl, arith, Some, None, inl}
 use Rattle.std.proofs.lemmas.Int.{ints}
 use Rattle.std.specs.Str.{is_utf8, chars}
 use lib.Utf8.{encode}
