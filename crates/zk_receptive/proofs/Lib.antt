@@ -3,3 +3,4 @@ pub mod Spelled
 pub mod Taking
 pub mod Answering
 pub mod Telling
+pub mod Leading

@@ -1,18 +1,17 @@
 -- What changes and parts of watches tell, and which watches stay.
-use Rattle.std.proofs.Common.{ℕ, ◌≡◌, ◌≤◌, ◌<◌, ◌+◌, suc, Bool, true, false, ◌&&◌, ◌||◌, List, [], ◌∷◌, ◌++◌, map, flat_map, refl, ap, sym, ◌∙◌, subst, inl, inr, ◌⊎◌, arith, Option, Some, None, is_some, append_assoc}
-use Rattle.std.specs.Prelude.{not, nat_lt, bytes_eq, if◌then◌else◌}
-use Rattle.std.specs.Ordering.{int_eq}
+use Rattle.std.proofs.Common.{ℕ, ◌≡◌, ◌≤◌, Bool, true, false, ◌&&◌, ◌||◌, List, [], ◌∷◌, ◌++◌, map, flat_map, refl, ap, sym, ◌∙◌, subst, inl, inr, ◌⊎◌, arith, Option, Some, None, is_some, append_assoc}
+use Rattle.std.specs.Prelude.{not, nat_lt, if◌then◌else◌}
 use Rattle.std.specs.List.{list_any}
 use Rattle.std.proofs.lemmas.Bool.{and_parts, and_from, ltb-true, ltb-false, lt-ltb}
-use Rattle.zk_history.specs.History.{Text, NodePath, path_eq, text_of, path_of, Node, Tree, Change, Creates, Sets, Deletes}
+use Rattle.zk_history.specs.History.{Text, NodePath, path_eq, path_of, Node, Tree, Change, Creates, Sets, Deletes}
 use Rattle.zk_history.specs.declared.side.Side.{Side}
 use Rattle.zk_history.specs.declared.side.Side.TheVariants.{Data, Child}
 use Rattle.zk_records.specs.declared.event.Event.{Event}
 use Rattle.zk_records.specs.declared.event.Event.TheVariants.{Created, Deleted, DataChanged, ChildrenChanged}
 use Rattle.zk_watches.specs.Lists.{Lists}
 use Rattle.zk_turns.specs.Meaning.{Among}
-use Rattle.zk_laws.specs.Server.{Notice, Watches, told, fires, leaves_set, without, same_side, times, known_check, missing_check, parent_check, tells, part_tells, part_sets}
-use Rattle.zk_laws.proofs.Basics.{path_eq-true, path_eq-refl, path_eq_from, Among-left, Among-right}
+use Rattle.zk_laws.specs.Server.{Notice, Watches, told, fires, leaves_set, without, same_side, known_check, missing_check, parent_check, tells, part_tells, part_sets}
+use Rattle.zk_laws.proofs.Basics.{path_eq-true, path_eq_from, Among-left, Among-right}
 use Rattle.zk_laws.proofs.Outputs.{among_split}
 use Rattle.zk_receptive.specs.Told.{Fired, fired_by, notices_of, Fires, IsDue, IsSetAgain}
 

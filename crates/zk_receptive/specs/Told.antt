@@ -1,8 +1,8 @@
 -- What changes and parts of watches tell, in words of their own.
-use Rattle.std.specs.Prelude.{ℕ, ℤ, negsuc, ◌≡◌, ◌≢◌, ◌<◌, ◌≤◌, ◌^◌, Bool, true, false, ◌&&◌, List, [], ◌∷◌, ◌++◌, length, Option, Some, None, ⊤, ◌⊎◌, if◌then◌else◌}
+use Rattle.std.specs.Prelude.{ℕ, ℤ, negsuc, ◌≡◌, ◌<◌, ◌≤◌, ◌^◌, List, [], ◌∷◌, ◌++◌, length, Option, Some, None, ⊤, ◌⊎◌, if◌then◌else◌}
 use Rattle.zk_jute.specs.Lenient.{or_empty}
 use Rattle.zk_jute.specs.Spelling.{spelling, Fits}
-use Rattle.zk_history.specs.History.{Text, NodePath, path_eq, text_of, path_of, Node, Tree, Change, Creates, Sets, Deletes}
+use Rattle.zk_history.specs.History.{Text, NodePath, text_of, path_of, Node, Tree, Change, Creates, Sets, Deletes}
 use Rattle.zk_history.specs.declared.side.Side.{Side}
 use Rattle.zk_history.specs.declared.side.Side.TheVariants.{Data, Child}
 use Rattle.zk_records.specs.declared.event.Event.{Event}
