@@ -1,7 +1,8 @@
 -- Where a step leads, and what stands next behind it.
-use Rattle.std.proofs.Common.{ℕ, zero, suc, ◌≡◌, ◌≤◌, ◌<◌, ◌+◌, Bool, true, false, ◌||◌, List, [], ◌∷◌, ◌++◌, drop, length, map, flat_map, refl, ap, subst, inl, inr, arith}
+use Rattle.std.proofs.Common.{◌^◌, ℕ, zero, suc, ◌≡◌, ◌≤◌, ◌<◌, ◌+◌, Bool, true, false, ◌||◌, List, [], ◌∷◌, ◌++◌, drop, length, map, flat_map, refl, ap, subst, inl, inr, arith}
 use Rattle.std.specs.Prelude.{◌≢◌, not}
 use Rattle.std.proofs.lemmas.Bool.{and_from}
+use Rattle.std.specs.List.{AllByRecursion}
 use Rattle.zk_frames.specs.Frame.{frame, joined, length_field}
 use Rattle.zk_history.specs.History.{Change, History}
 use Rattle.zk_watches.specs.Lists.{Lists}
@@ -18,7 +19,7 @@ use Rattle.zk_laws.specs.Messages.{Request, Connect, Restore, Ask, Ping}
 use Rattle.zk_laws.specs.ServerSteps.{Serving, Ended, ServerStep, Advances, Admits, Refuses, Answers, Restores, Pongs, changes_next}
 use Rattle.zk_laws.specs.Served.{Sent, Entry, Goes_on, Serves, line_of, items_in, is_going, IsServing, Served}
 use Rattle.zk_laws.specs.Headline.{IsQuietAt}
-use Rattle.zk_laws.specs.Parsed.{AreTold, IsCutInto}
+use Rattle.zk_laws.specs.Parsed.{IsCutInto}
 use Rattle.zk_serving.specs.Lines.{item_of}
 use Rattle.zk_receptive.specs.Next.{end_of}
 use Rattle.zk_receptive.specs.Leads.{IsBehind, awaited}
@@ -137,5 +138,5 @@ none_tells watches = refl
 
 -- ---- frames
 
-pub cut_so : (payloads : List (List ℕ)) (rest : List ℕ) → AreTold payloads → (4 ≤ length rest → length rest < 4 + length_field rest) → IsCutInto payloads rest (joined payloads ++ rest)
+pub cut_so : (payloads : List (List ℕ)) (rest : List ℕ) → AllByRecursion (λ payload. length payload < 2 ^ 31) payloads → (4 ≤ length rest → length rest < 4 + length_field rest) → IsCutInto payloads rest (joined payloads ++ rest)
 cut_so payloads rest told short = record { whole = refl; told = told; short = short }

@@ -4,3 +4,4 @@ pub mod Taking
 pub mod Answering
 pub mod Telling
 pub mod Leading
+pub mod Holding

@@ -9,7 +9,7 @@ ghost use Rattle.zk_conversation.specs.Questions.{question_of};
 ghost use Rattle.zk_conversation.specs.Results.{Result, stat_of, response_timeout, NoNode, Refused, Found, Read, Listing, Made, Done, texts_of};
 ghost use Rattle.zk_frames.specs.Frame.{joined, length_field};
 ghost use Rattle.zk_history.specs.DataStats.{data_stat_of};
-ghost use Rattle.zk_history.specs.History.{History, Node, node_fields, Text, Name, Sets, Creates, Deletes, Transaction, Change, Tree, NodePath, path_of};
+ghost use Rattle.zk_history.specs.History.{History, Node, node_fields, Text, Name, Sets, Creates, Deletes, Transaction, Change, Tree, NodePath, path_of, after, apply_all};
 ghost use Rattle.zk_history.specs.StatLayout.{stat};
 ghost use Rattle.zk_history.specs.declared.side.Side.{Side};
 ghost use Rattle.zk_jute.specs.Layout.{Value, ustring};
@@ -19,7 +19,7 @@ ghost use Rattle.zk_laws.specs.Served.{Entry, Goes_on, Serves, items_in, line_of
 ghost use Rattle.zk_laws.specs.Server.{Notice, AreSent, times, Watches, fires, leaves_set, leaves_set_all, sets, fires_all, part_tells, part_sets, tree_held, zxid_held, held};
 ghost use Rattle.zk_laws.specs.ServerSteps.{ServerStep, Stage, Waiting, Serving, Ended, Advances, Admits, Refuses, Restores, Pongs, changes_next, Answers};
 ghost use Rattle.zk_laws.specs.Headline.{IsQuietAt};
-ghost use Rattle.zk_laws.specs.Parsed.{AreTold, IsCutInto};
+ghost use Rattle.zk_laws.specs.Parsed.{IsCutInto};
 ghost use Rattle.zk_receptive.specs.Leads.{IsBehind, awaited};
 ghost use Rattle.zk_receptive.specs.Next.{headed, notice_payload, IsTellable, stat_value, end_of, Reaches, Awaits, CanTake, IsSendable, zxid_of};
 ghost use Rattle.zk_records.specs.Layouts.{get_data_response, get_children2_response};
@@ -285,5 +285,17 @@ pub fn any_notices()
 /// Bytes that end in less than a whole frame are cut into the frames before it.
 #[tactic(auto, using(crate::proofs::Leading::cut_so))]
 pub fn frames_are_cut()
-    ensures cut_so { (payloads : List (List ℕ)) (rest : List ℕ) → AreTold payloads → (4 ≤ length rest → length rest < 4 + length_field rest) → IsCutInto payloads rest (joined payloads ++ rest) }
+    ensures cut_so { (payloads : List (List ℕ)) (rest : List ℕ) → AllByRecursion (λ payload. length payload < 2 ^ 31) payloads → (4 ≤ length rest → length rest < 4 + length_field rest) → IsCutInto payloads rest (joined payloads ++ rest) }
+{}
+
+/// A server holds so many transactions as its place says, the first ones: the tree is what the last of them left, its zxid that of the
+/// last; and before any, the first tree and 0.
+#[tactic(auto, using(crate::proofs::Holding::none_tree, crate::proofs::Holding::none_zxid, crate::proofs::Holding::first_held, crate::proofs::Holding::last_zxid, crate::proofs::Holding::last_tree))]
+pub fn servers_hold()
+    ensures none_tree { (h : History) → tree_held h 0 ≡ h.first }
+    ensures none_zxid { (h : History) → zxid_held h 0 ≡ 0 }
+    ensures first_held { (h : History) (first more : List Transaction) → h.transactions ≡ first ++ more → held h (length first) ≡ first }
+    ensures last_zxid { (h : History) (place : ℕ) (earlier : List Transaction) (last : Transaction) → held h place ≡ earlier ++ last ∷ [] → zxid_held h place ≡ last.zxid }
+    ensures last_tree { (h : History) (place : ℕ) (earlier : List Transaction) (last : Transaction) → held h place ≡ earlier ++ last ∷ []
+        → tree_held h place ≡ apply_all last.zxid last.time last.changes (after earlier h.first) }
 {}
