@@ -373,7 +373,7 @@ WEAKER = [
     ("a step need not lead on", CLIENT, "src/client.rt", "Stands start items (view_of self.old) → Stands start (Turned (turn_of input outputs.items) ∷ items) (view_of self.new)) }\n", "Stands start items (view_of self.old) → Stands start items (view_of self.old)) }\n"),
     ("a step at a moment need not keep the rule", CLIENT, "src/client.rt", "        ensures rule { IfOk result (λ outputs. RuleAt now (view_of self.old) (turn_of input outputs.items) (view_of self.new)) }\n", ""),
     ("a deadline may be too late", CLIENT, "src/client.rt", "        ensures before { IfSome result (λ first. (moment : ℕ) → moment < first → NothingIsDue (view_of self.now) moment) }\n", ""),
-    ("a client may be made in range alone that has halted", CLIENT, "src/client.rt", "        requires timeout { pos 0 <ℤ timeout_ms }\n", "        requires timeout { pos 30000 <ℤ timeout_ms }\n"),
+    ("only a timeout above 30 seconds is taken", CLIENT, "src/client.rt", "        requires timeout { pos 0 <ℤ timeout_ms }\n", "        requires timeout { pos 30000 <ℤ timeout_ms }\n"),
     ("who stands may hold nothing", CLIENT, "src/laws.rt", "→ Stands start items view → Holds start items view }", "→ Stands start items view → Stands start items view }"),
 ]
 
@@ -491,7 +491,8 @@ class Copy:
             if unread or not errors:
                 return None if not errors else f"CANNOT BE READ: {unread[0]}", crates[: at + 1]
             where, what = errors[0]
-            return f"{crate}: {', '.join(laws) if laws else where}: {what}", crates[: at + 1]
+            named = ", ".join(laws[:3]) + (f" and {len(laws) - 3} more" if len(laws) > 3 else "")
+            return f"{crate}: {named or where}: {what}", crates[: at + 1]
         return None, crates
 
     def tried(self, edit):
@@ -533,8 +534,11 @@ def try_edits(folder, edits, jobs):
         print(f"{edit.kind}: {edit.name} ({edit.definition}): {refusal or 'NOTHING REFUSED IT'}", flush=True)
         return not refusal or refusal.startswith("CANNOT BE READ")
 
-    with ThreadPoolExecutor(jobs) as pool:
+    pool = ThreadPoolExecutor(jobs)
+    try:
         return sum(pool.map(try_one, edits))
+    finally:
+        pool.shutdown(cancel_futures=True)
 
 
 def main():
