@@ -1,12 +1,13 @@
 -- A server that answers the call that stands next.
-use Rattle.std.proofs.Common.{ℕ, ℤ, pos, negsuc, true, false, ◌≡◌, List, [], ◌∷◌, ◌++◌, refl, sym, subst, Option, Some, None}
-use Rattle.std.specs.Prelude.{Bool, is_some}
+use Rattle.std.proofs.Common.{ℕ, ℤ, pos, negsuc, ◌≡◌, ◌≤◌, ◌<◌, List, [], ◌∷◌, ◌++◌, refl, sym, subst, Option, Some, None}
+use Rattle.std.specs.Prelude.{Bool, is_some, ◌≢◌}
 use Rattle.std.specs.FinSet as set
+use Rattle.std.proofs.lemmas.Bool.{lt-ltb, le-ltb}
 use Rattle.zk_jute.specs.Layout.{ustring, Value}
 use Rattle.zk_jute.specs.Spelling.{spelling, Fits}
 use Rattle.zk_history.specs.StatLayout.{stat}
 use Rattle.zk_history.specs.DataStats.{data_stat_of}
-use Rattle.zk_history.specs.History.{Text, Name, Node, History, Change, Sets, Creates, Deletes, Transaction, path_of, node_fields, contents_of, children_of}
+use Rattle.zk_history.specs.History.{Text, Name, Node, History, Sets, Creates, Deletes, Transaction, path_of, node_fields, contents_of, children_of}
 use Rattle.zk_cache.specs.Kept.{Absent, Known, Full}
 use Rattle.zk_records.specs.Layouts.{get_data_response, get_children2_response}
 use Rattle.zk_conversation.specs.Calls.{Call, Exists, GetData, GetChildren, SetData, Create, Delete, Close}
@@ -16,7 +17,7 @@ use Rattle.zk_turns.specs.Turns.{Start}
 use Rattle.zk_turns.specs.Kept.{names_of}
 use Rattle.zk_turns.specs.Meaning.{Among}
 use Rattle.zk_turns.specs.Spelled.{HasResult}
-use Rattle.zk_laws.specs.Server.{Gives, IsOther, held, tree_held, is_sequential, Fits as FitsView, FitsNames, IsMadeOf}
+use Rattle.zk_laws.specs.Server.{Gives, IsOther, held, tree_held, Fits as FitsView, FitsNames, IsMadeOf}
 use Rattle.zk_laws.specs.Messages.{Ask}
 use Rattle.zk_laws.specs.ServerSteps.{Serving, Answers}
 use Rattle.zk_laws.specs.Served.{Entry, code_of}
@@ -44,9 +45,23 @@ gives_refused h place (Create path content mode) code other = other
 gives_refused h place (Delete path version) code other = other
 gives_refused h place Close code other = other
 
-pub refuses : (h : History) (start : Start) (entries : List Entry) (call : Call) (xid code : ℤ) (behind : List ℕ) → Awaits h start entries Serving (Ask call) xid → IsOther code
+pub refuses : (h : History) (start : Start) (entries : List Entry) (call : Call) (xid code : ℤ) (behind : List ℕ) → Awaits h start entries Serving (Ask call) xid → code ≢ pos 0 → code ≢ negsuc 100
     → IsSendable xid (zxid_of h entries) code behind → CanTake h start entries (Answers call (Refused code)) (headed xid (zxid_of h entries) code behind ∷ [])
-refuses h start entries call xid code behind a other can = answers h start entries call xid (Refused code) behind a (gives_refused h (end_of h entries).place call code other) tt can
+refuses h start entries call xid code behind a some there can = answers h start entries call xid (Refused code) behind a (gives_refused h (end_of h entries).place call code (some, there)) tt can
+
+-- ---- a write of a node that is not there
+
+pub unwritten : (h : History) (start : Start) (entries : List Entry) (path : Text) (content : Option (List ℕ)) (version xid : ℤ) (behind : List ℕ) → Awaits h start entries Serving (Ask (SetData path content version)) xid
+    → IsSendable xid (zxid_of h entries) (negsuc 100) behind → CanTake h start entries (Answers (SetData path content version) NoNode) (headed xid (zxid_of h entries) (negsuc 100) behind ∷ [])
+unwritten h start entries path content version xid behind a can = answers h start entries (SetData path content version) xid NoNode behind a tt tt can
+
+pub unmade : (h : History) (start : Start) (entries : List Entry) (path : Text) (content : Option (List ℕ)) (mode : ℕ) (xid : ℤ) (behind : List ℕ) → Awaits h start entries Serving (Ask (Create path content mode)) xid
+    → IsSendable xid (zxid_of h entries) (negsuc 100) behind → CanTake h start entries (Answers (Create path content mode) NoNode) (headed xid (zxid_of h entries) (negsuc 100) behind ∷ [])
+unmade h start entries path content mode xid behind a can = answers h start entries (Create path content mode) xid NoNode behind a tt tt can
+
+pub undeleted : (h : History) (start : Start) (entries : List Entry) (path : Text) (version xid : ℤ) (behind : List ℕ) → Awaits h start entries Serving (Ask (Delete path version)) xid
+    → IsSendable xid (zxid_of h entries) (negsuc 100) behind → CanTake h start entries (Answers (Delete path version) NoNode) (headed xid (zxid_of h entries) (negsuc 100) behind ∷ [])
+undeleted h start entries path version xid behind a can = answers h start entries (Delete path version) xid NoNode behind a tt tt can
 
 absent : (found : Option Node) → found ≡ None → FitsView Absent (contents_of found)
 absent None e = tt
@@ -121,13 +136,22 @@ written h start entries path content version xid earlier last node value ignored
     ((earlier, last, holds, among), subst (λ (found : Option Node). FitsView (Known (data_stat_of (stat_of value))) (contents_of found)) (sym there) same) (value, recorded_so stat value ignored fits, refl) can
 
 pub made : (h : History) (start : Start) (entries : List Entry) (path : Text) (content : Option (List ℕ)) (mode : ℕ) (xid owner : ℤ) (earlier : List Transaction) (last : Transaction) (ignored : List ℕ)
-    → Awaits h start entries Serving (Ask (Create path content mode)) xid → is_sequential mode ≡ false
+    → Awaits h start entries Serving (Ask (Create path content mode)) xid → mode ≤ 1
     → held h (end_of h entries).place ≡ earlier ++ last ∷ [] → Among (Creates (path_of path) content owner) last.changes
     → Fits ustring (Some path) → IsSendable xid (zxid_of h entries) (pos 0) (spelling ustring (Some path) ++ ignored)
     → CanTake h start entries (Answers (Create path content mode) (Made path)) (headed xid (zxid_of h entries) (pos 0) (spelling ustring (Some path) ++ ignored) ∷ [])
 made h start entries path content mode xid owner earlier last ignored a plain holds among fits can =
     answers h start entries (Create path content mode) xid (Made path) (spelling ustring (Some path) ++ ignored) a
-    (owner, subst (λ (many : Bool). IsMadeOf path many path) (sym plain) refl, (earlier, last, holds, among)) (Some path, recorded_so ustring (Some path) ignored fits, refl) can
+    (owner, subst (λ (many : Bool). IsMadeOf path many path) (sym (le-ltb 1 mode plain)) refl, (earlier, last, holds, among)) (Some path, recorded_so ustring (Some path) ignored fits, refl) can
+
+pub numbered : (h : History) (start : Start) (entries : List Entry) (path : Text) (content : Option (List ℕ)) (mode : ℕ) (number : List ℕ) (xid owner : ℤ) (earlier : List Transaction) (last : Transaction) (ignored : List ℕ)
+    → Awaits h start entries Serving (Ask (Create path content mode)) xid → 1 < mode
+    → held h (end_of h entries).place ≡ earlier ++ last ∷ [] → Among (Creates (path_of (path ++ number)) content owner) last.changes
+    → Fits ustring (Some (path ++ number)) → IsSendable xid (zxid_of h entries) (pos 0) (spelling ustring (Some (path ++ number)) ++ ignored)
+    → CanTake h start entries (Answers (Create path content mode) (Made (path ++ number))) (headed xid (zxid_of h entries) (pos 0) (spelling ustring (Some (path ++ number)) ++ ignored) ∷ [])
+numbered h start entries path content mode number xid owner earlier last ignored a many holds among fits can =
+    answers h start entries (Create path content mode) xid (Made (path ++ number)) (spelling ustring (Some (path ++ number)) ++ ignored) a
+    (owner, subst (λ (several : Bool). IsMadeOf path several (path ++ number)) (sym (lt-ltb 1 mode many)) (number, refl), (earlier, last, holds, among)) (Some (path ++ number), recorded_so ustring (Some (path ++ number)) ignored fits, refl) can
 
 pub deleted : (h : History) (start : Start) (entries : List Entry) (path : Text) (version xid : ℤ) (earlier : List Transaction) (last : Transaction) (behind : List ℕ)
     → Awaits h start entries Serving (Ask (Delete path version)) xid → held h (end_of h entries).place ≡ earlier ++ last ∷ [] → Among (Deletes (path_of path)) last.changes

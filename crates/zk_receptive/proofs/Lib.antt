@@ -2,3 +2,6 @@ pub mod Client
 pub mod Spelled
 pub mod Taking
 pub mod Answering
+pub mod Telling
+pub mod Leading
+pub mod Holding

@@ -1,5 +1,5 @@
 -- Payloads that spell the messages of a server, and the orders in which notices may be sent.
-use Rattle.std.proofs.Common.{ℕ, zero, suc, ℤ, negsuc, ◌≡◌, ◌≤◌, ◌<◌, ◌+◌, List, [], ◌∷◌, ◌++◌, map, refl, sym, arith, Some}
+use Rattle.std.proofs.Common.{ℕ, zero, suc, ℤ, negsuc, ◌≡◌, ◌<◌, ◌+◌, List, [], ◌∷◌, ◌++◌, map, refl, sym, arith, Some}
 use Rattle.std.specs.List.{AllByRecursion}
 use Rattle.std.specs.Prelude.{pos}
 use Rattle.std.proofs.lemmas.Int.{ints}
@@ -17,6 +17,7 @@ use Rattle.zk_turns.specs.Spelled.{IsHeaded, HasRecord}
 use Rattle.zk_laws.specs.Server.{Notice, times, AreSent}
 use Rattle.zk_laws.specs.Messages.{Message, Notifies}
 use Rattle.zk_laws.specs.Served.{IsPayload, ArePayloads}
+use Rattle.zk_receptive.specs.Told.{Tells, AllTell}
 use Rattle.zk_receptive.specs.Next.{headed, notice_payload, IsTellable, stat_value}
 
 pub headed_so : (xid zxid err : ℤ) (behind : List ℕ) → Fits reply_header (xid, (zxid, err)) → IsHeaded xid zxid err (headed xid zxid err behind) behind
@@ -49,6 +50,25 @@ notices_spelled xid zxid err (notice ∷ sent) messages payloads all told =
 pub notices_alone : (xid zxid err : ℤ) (sent : List Notice) → AllByRecursion (IsTellable zxid err) sent → ArePayloads xid (map Notifies sent) (map (notice_payload zxid err) sent)
 notices_alone xid zxid err [] all = tt
 notices_alone xid zxid err (notice ∷ sent) all = (all.0.small, notice_spelled xid zxid err notice all.0, notices_alone xid zxid err sent all.1)
+
+tells_so : (xid : ℤ) (notice : Notice) (payload : List ℕ) → Tells notice payload → IsPayload xid (Notifies notice) payload
+tells_so xid notice payload t =
+    let value : Value watcher_event = (event_number notice.event, (t.state, t.path)) in
+    let behind : List ℕ = spelling watcher_event value ++ t.ignored in
+    (t.zxid, t.err, behind, record { fits = t.header; whole = t.whole }, t.state, t.path, record { ignored = t.ignored; fits = t.event; whole = refl }, t.named)
+
+pub all_tell_more : (xid : ℤ) (sent : List Notice) (payloads : List (List ℕ)) (messages : List Message) (more : List (List ℕ)) → AllTell sent payloads → ArePayloads xid messages more
+    → ArePayloads xid (map Notifies sent ++ messages) (payloads ++ more)
+all_tell_more xid [] [] messages more all told = told
+all_tell_more xid [] (payload ∷ payloads) messages more all told = absurd all
+all_tell_more xid (notice ∷ sent) [] messages more all told = absurd all
+all_tell_more xid (notice ∷ sent) (payload ∷ payloads) messages more all told = (all.0.small, tells_so xid notice payload all.0, all_tell_more xid sent payloads messages more all.1 told)
+
+pub all_tell_alone : (xid : ℤ) (sent : List Notice) (payloads : List (List ℕ)) → AllTell sent payloads → ArePayloads xid (map Notifies sent) payloads
+all_tell_alone xid [] [] all = tt
+all_tell_alone xid [] (payload ∷ payloads) all = absurd all
+all_tell_alone xid (notice ∷ sent) [] all = absurd all
+all_tell_alone xid (notice ∷ sent) (payload ∷ payloads) all = (all.0.small, tells_so xid notice payload all.0, all_tell_alone xid sent payloads all.1)
 
 -- ---- the orders of notices
 

@@ -1,5 +1,5 @@
 -- A server that takes a transaction, or processes the request that stands next.
-use Rattle.std.proofs.Common.{ℕ, ℤ, pos, negsuc, true, false, ◌≡◌, ◌≤◌, ◌<◌, ◌^◌, List, [], ◌∷◌, ◌++◌, map, length, refl, sym, subst, ◌∙◌}
+use Rattle.std.proofs.Common.{ℕ, ℤ, pos, true, false, ◌≡◌, ◌≤◌, ◌<◌, ◌^◌, List, [], ◌∷◌, ◌++◌, map, length, refl, sym, subst, ◌∙◌}
 use Rattle.std.specs.Prelude.{int_lt, ◌≢◌, Bool}
 use Rattle.std.specs.List.{AllByRecursion}
 use Rattle.zk_history.specs.History.{History}
@@ -14,7 +14,8 @@ use Rattle.zk_laws.specs.Messages.{Request, Connect, Restore, Ping, Watches_set}
 use Rattle.zk_laws.specs.ServerSteps.{Stage, Waiting, Serving, Ended, ServerStep, Advances, Admits, Refuses, Restores, Pongs, MayDo, messages_by, changes_next}
 use Rattle.zk_laws.specs.Served.{Sent, Entry, ArePayloads, first_xid, items_in, unread, line_of}
 use Rattle.zk_receptive.specs.Next.{end_of, Reaches, Awaits, CanTake, headed, IsSendable, zxid_of, notice_payload, IsTellable}
-use Rattle.zk_receptive.proofs.Spelled.{headed_so, notices_spelled, notices_alone}
+use Rattle.zk_receptive.specs.Told.{AllTell}
+use Rattle.zk_receptive.proofs.Spelled.{headed_so, notices_spelled, notices_alone, all_tell_more, all_tell_alone}
 
 -- the request that stands next is processed
 pub serves : (h : History) (start : Start) (entries : List Entry) (stage : Stage) (request : Request) (xid : ℤ) (step : ServerStep) (payloads : List (List ℕ)) → Awaits h start entries stage request xid
@@ -71,3 +72,26 @@ pub refuses : (h : History) (start : Start) (entries : List Entry) (seen : ℕ) 
 refuses h start entries seen xid response ignored a low fits ends small above =
     serves h start entries Waiting (Connect seen) xid (Refuses seen) ((response_spelling response ++ ignored) ∷ []) a (λ others. (a.reaches.there, refl, low))
     (small, (response, ignored, response_so response ignored fits ends, above), tt)
+
+-- ---- notices with any numbers, and any bytes behind
+
+pub tells_of_changes : (h : History) (start : Start) (entries : List Entry) (stage : Stage) (sent : List Notice) (payloads : List (List ℕ)) → Reaches h start entries stage → stage ≢ Ended
+    → (end_of h entries).place < length h.transactions → AreSent (fires_all (changes_next h (end_of h entries).place) (end_of h entries).watches) sent → AllTell sent payloads → CanTake h start entries (Advances sent) payloads
+tells_of_changes h start entries stage sent payloads r on low all tells = (
+  record {
+    going = r.going;
+    may = (λ ended. on (sym r.there ∙ ended), low, all);
+    told = all_tell_alone (first_xid (unread start (past_of start (items_in entries)) (line_of h entries))) sent payloads tells;
+  },
+  r.serving,
+)
+
+pub tells_of_parts : (h : History) (start : Start) (entries : List Entry) (is_last : Bool) (relative : ℕ) (part : Lists) (xid : ℤ) (sent : List Notice) (payloads : List (List ℕ)) (behind : List ℕ)
+    → Awaits h start entries Serving (Restore is_last relative part) xid → AreSent (part_tells relative (tree_held h (end_of h entries).place) part) sent
+    → AllTell sent payloads → IsSendable xid (zxid_of h entries) (pos 0) behind
+    → CanTake h start entries (Restores is_last relative part sent) (payloads ++ headed xid (zxid_of h entries) (pos 0) behind ∷ [])
+tells_of_parts h start entries is_last relative part xid sent payloads behind a all tells can =
+    serves h start entries Serving (Restore is_last relative part) xid (Restores is_last relative part sent) (payloads ++ headed xid (zxid_of h entries) (pos 0) behind ∷ []) a
+    (λ others. (a.reaches.there, refl, all))
+    (all_tell_more xid sent payloads (Watches_set is_last (zxid_held h (end_of h entries).place) ∷ []) (headed xid (zxid_of h entries) (pos 0) behind ∷ []) tells
+    (can.small, (behind, headed_so xid (zxid_of h entries) (pos 0) behind can.fits), tt))

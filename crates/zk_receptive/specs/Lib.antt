@@ -1,1 +1,3 @@
 pub mod Next
+pub mod Told
+pub mod Leads

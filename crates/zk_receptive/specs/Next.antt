@@ -1,5 +1,5 @@
 -- What stands next in a schedule, and the payloads that spell a server's messages.
-use Rattle.std.specs.Prelude.{ℕ, ℤ, pos, negsuc, ◌≡◌, ◌<◌, ◌^◌, true, List, [], ◌∷◌, ◌++◌, length, Some}
+use Rattle.std.specs.Prelude.{ℕ, ℤ, pos, negsuc, ◌≡◌, ◌<◌, ◌^◌, true, List, ◌∷◌, ◌++◌, length, Some}
 use Rattle.zk_jute.specs.Layout.{ustring, Value}
 use Rattle.zk_jute.specs.Spelling.{spelling, Fits}
 use Rattle.zk_history.specs.StatLayout.{stat}

@@ -1,5 +1,5 @@
 -- A client that was served goes on to be.
-use Rattle.std.proofs.Common.{ℕ, ℤ, ◌≡◌, ◌≢◌, ◌≤◌, ◌<◌, true, List, [], ◌∷◌, ◌++◌, map, drop, length, refl, ap, sym, ◌∙◌, subst, inl, inr, ◌⊎◌}
+use Rattle.std.proofs.Common.{ℕ, ℤ, ◌≡◌, ◌≢◌, ◌≤◌, ◌<◌, true, List, [], ◌∷◌, ◌++◌, map, length, refl, ap, sym, ◌∙◌, subst, inl, inr, ◌⊎◌}
 use Rattle.zk_history.specs.History.{IsHistory}
 use Rattle.zk_conversation.specs.Calls.{Call}
 use Rattle.zk_turns.specs.Turns.{Start, Output, Item, Turned, Forgets, Halts, Bytes, Cut, Now, Call as Calling, Opened as Opening, Opens, Comes, Ticks, Calls}

@@ -14,7 +14,7 @@ use Rattle.zk_turns.specs.Taken.{past_of}
 use Rattle.zk_laws.specs.Server.{held, tree_held, zxid_held, Gives, AreSent, fires_all, leaves_set_all}
 use Rattle.zk_laws.specs.Messages.{Message, Request}
 use Rattle.zk_laws.specs.ServerSteps.{ServerEnd, ServerStep, Advances, Admits, Refuses, Answers, Restores, Pongs, changes_next, MayDo, messages_by, end_after}
-use Rattle.zk_laws.specs.Served.{Entry, Goes_on, Serves, Line, no_line, new_line, line_of, line_on, line_past, items_in, MayEnter, MayServe, IsServing, Served, ArePayloads, first_xid, unread, is_going}
+use Rattle.zk_laws.specs.Served.{Entry, Goes_on, Serves, Line, new_line, line_of, line_on, line_past, items_in, MayServe, IsServing, Served, ArePayloads, first_xid, unread, is_going}
 use Rattle.zk_serving.specs.GoingOn.{GoesOn}
 
 -- these transactions more

@@ -1,13 +1,13 @@
 -- Each entry of a schedule keeps the relation to what is shown.
-use Rattle.std.proofs.Common.{ℕ, zero, suc, ℤ, pos, ◌≡◌, ◌≢◌, ◌≤◌, ◌<◌, ◌+◌, true, List, [], ◌∷◌, ◌++◌, map, drop, length, refl, ap, sym, ◌∙◌, subst, arith, append_assoc}
+use Rattle.std.proofs.Common.{ℕ, zero, suc, ℤ, pos, ◌≡◌, ◌≤◌, ◌<◌, ◌+◌, true, List, [], ◌∷◌, ◌++◌, map, drop, length, refl, ap, sym, ◌∙◌, subst, arith}
 use Rattle.std.specs.List.{AllByRecursion}
-use Rattle.std.proofs.lemmas.List.{append-nil, length-append, drop-append-le, append_cancel_left}
+use Rattle.std.proofs.lemmas.List.{length-append, drop-append-le, append_cancel_left}
 use Rattle.std.proofs.Math.Seq.{drop-append_seam}
 use Rattle.zk_frames.specs.Frame.{frame}
 use Rattle.zk_history.specs.History.{History}
 use Rattle.zk_conversation.specs.Calls.{Call}
-use Rattle.zk_turns.specs.Turns.{Start, Output, Turn, Item, Turned, Forgets, Halts, Input, Bytes, Cut, Now, Call as Calling, Opened as Opening, Signal, Opens, Comes, Cuts, Ticks, Calls, signals}
-use Rattle.zk_turns.specs.Kept.{Past, Forgot, Halted}
+use Rattle.zk_turns.specs.Turns.{Start, Output, Item, Turned, Forgets, Halts, Bytes, Cut, Now, Call as Calling, Opened as Opening, Opens, Comes, Ticks, Calls, signals}
+use Rattle.zk_turns.specs.Kept.{Past}
 use Rattle.zk_turns.specs.Taken.{past_of, past_after}
 use Rattle.zk_turns.specs.Rule.{due_signals}
 use Rattle.zk_laws.specs.Messages.{Request}

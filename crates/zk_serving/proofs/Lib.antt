@@ -6,7 +6,6 @@ pub mod Keeping
 pub mod Waiting
 pub mod Entries
 pub mod Fronts
-pub mod Longer_shown
 pub mod Views
 pub mod Heard
-pub mod Two_parts_shown
+pub mod Whole_shown

@@ -1,15 +1,15 @@
 -- Steps, one list behind another, and as entries of a schedule.
-use Rattle.std.proofs.Common.{ℕ, zero, suc, ℤ, ◌≡◌, ◌≤◌, ◌<◌, ◌+◌, true, List, [], ◌∷◌, ◌++◌, map, drop, length, refl, ap, sym, ◌∙◌, subst, arith, append_assoc}
+use Rattle.std.proofs.Common.{ℕ, zero, suc, ℤ, ◌≡◌, ◌≤◌, ◌+◌, true, List, [], ◌∷◌, ◌++◌, map, drop, length, refl, ap, sym, ◌∙◌, subst, arith, append_assoc}
 use Rattle.std.proofs.lemmas.List.{append-nil}
 use Rattle.std.specs.Bool.{⊤}
 use Rattle.zk_frames.specs.Frame.{joined}
 use Rattle.zk_history.specs.History.{History}
-use Rattle.zk_turns.specs.Turns.{Start, Item}
+use Rattle.zk_turns.specs.Turns.{Start}
 use Rattle.zk_turns.specs.Taken.{past_of}
 use Rattle.zk_laws.specs.Server.{Notice}
-use Rattle.zk_laws.specs.Messages.{Message, Request, Notifies}
+use Rattle.zk_laws.specs.Messages.{Request, Notifies}
 use Rattle.zk_laws.specs.ServerSteps.{ServerEnd, ServerStep, Advances, Admits, Refuses, Answers, Restores, Pongs, IsNext, MayDo, messages_by, end_after}
-use Rattle.zk_laws.specs.Served.{Sent, Entry, Serves, items_in, Line, line_on, line_of, is_going, unread, first_xid, requests, ArePayloads, MayServe, IsServing}
+use Rattle.zk_laws.specs.Served.{Sent, Entry, Serves, items_in, Line, line_of, is_going, unread, first_xid, requests, ArePayloads, IsServing}
 use Rattle.zk_serving.specs.Steps.{Step, used_by, Moves, ended_by, sent_by, processed_by, behind}
 
 -- ---- lists

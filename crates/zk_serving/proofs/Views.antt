@@ -1,14 +1,14 @@
 -- A client with a view, and servers in memory.
-use Rattle.std.proofs.Common.{ℕ, ℤ, length, ◌≡◌, ◌≢◌, ◌≤◌, ◌<◌, Bool, true, List, [], ◌∷◌, ◌++◌, refl, ap, sym, ◌∙◌, subst, ◌⊎◌}
+use Rattle.std.proofs.Common.{ℕ, ℤ, length, ◌≡◌, ◌≢◌, ◌≤◌, ◌<◌, true, List, [], ◌∷◌, ◌++◌, ap, sym, ◌∙◌, ◌⊎◌}
 use Rattle.std.specs.Prelude.{◌&&◌, not}
 use Rattle.zk_history.specs.History.{IsHistory}
 use Rattle.zk_conversation.specs.Calls.{Call}
-use Rattle.zk_turns.specs.Turns.{Start, Output, Input, Item, Turn, Turned, Forgets, Halts, Bytes, Cut, Now, Call as Calling, Opened as Opening}
-use Rattle.zk_turns.specs.View.{View, Standing, view_at}
+use Rattle.zk_turns.specs.Turns.{Start, Output, Input, Item, Forgets, Bytes, Cut, Now, Call as Calling, Opened as Opening}
+use Rattle.zk_turns.specs.View.{View, Standing}
 use Rattle.zk_turns.specs.Kept.{is_open}
 use Rattle.zk_turns.specs.Taken.{past_of}
-use Rattle.zk_turns.specs.Rule.{Rule, Stands, forgotten}
-use Rattle.zk_turns.specs.Ranges.{IsResumable, IsTyped, AsksOf, AllAskOf}
+use Rattle.zk_turns.specs.Rule.{Rule, Stands}
+use Rattle.zk_turns.specs.Ranges.{IsResumable, IsTyped, AsksOf}
 use Rattle.zk_turns.proofs.Stepped.{one_turn}
 use Rattle.zk_laws.specs.Messages.{Request}
 use Rattle.zk_serving.specs.GoingOn.{GoesOn}

@@ -1,11 +1,10 @@
 -- What stands first in the bytes that wait.
-use Rattle.std.proofs.Common.{ℕ, zero, suc, ℤ, pos, negsuc, ◌≡◌, ◌<◌, ◌≤◌, ◌≤ℤ◌, ◌^◌, Bool, true, false, List, [], ◌∷◌, ◌++◌, map, drop, take, length, Some, refl, ap, sym, ◌∙◌, subst, arith, append_assoc, inl, inr, ◌⊎◌}
-use Rattle.std.specs.Bool.{⊤}
+use Rattle.std.proofs.Common.{ℕ, zero, suc, ℤ, pos, negsuc, ◌≡◌, ◌<◌, ◌≤◌, ◌≤ℤ◌, ◌^◌, Bool, true, false, List, [], ◌∷◌, ◌++◌, map, drop, take, length, Some, refl, ap, sym, ◌∙◌, subst, arith, append_assoc}
 use Rattle.std.specs.Prelude.{◌&&◌}
 use Rattle.std.specs.List.{AllByRecursion}
 use Rattle.std.proofs.lemmas.List.{append-nil, take-append-drop}
 use Rattle.std.proofs.lemmas.Int.{ints}
-use Rattle.zk_frames.specs.Frame.{frame, joined}
+use Rattle.zk_frames.specs.Frame.{joined}
 use Rattle.zk_records.specs.Layouts.{connect_request}
 use Rattle.zk_history.specs.History.{Text}
 use Rattle.zk_history.specs.PathFault.{IsPath}
@@ -16,19 +15,19 @@ use Rattle.zk_watches.specs.Lists.{Lists}
 use Rattle.zk_watches.specs.Parts.{parts}
 use Rattle.zk_turns.specs.Turns.{Start, Item}
 use Rattle.zk_turns.specs.View.{View}
-use Rattle.zk_turns.specs.Kept.{Past, Happening, Began, Asked, Pinged, Took as Takes_in, Accepted as Accepts, Expiry, Replies as Answers_call, Watches_set as Sets_watches, Notifies as Tells, Pong as Echo, Skipped, is_open, state_of, has_halted, last_of, session_of, lists_of, in_known, in_missing, in_parents, path_of_read}
+use Rattle.zk_turns.specs.Kept.{Past, Happening, Began, Asked, Pinged, Took as Takes_in, Accepted as Accepts, Expiry, Replies as Answers_call, Watches_set as Sets_watches, Notifies as Tells, Pong as Echo, Skipped, is_open, state_of, last_of, session_of, lists_of, in_known, in_missing, in_parents, path_of_read}
 use Rattle.zk_turns.specs.Taken.{past_of}
 use Rattle.zk_turns.specs.Rule.{Stands, IsOpen}
 use Rattle.zk_turns.specs.Ranges.{IsResumable, IsTyped, AllAskOf}
 use Rattle.zk_turns.proofs.Ranged.{all_append, AreRanged, items_ranged, listed_short}
 use Rattle.zk_turns.proofs.Fitting.{IsShort, IsSmall, parts_small}
 use Rattle.zk_turns.proofs.Meant.{is_last_seen}
-use Rattle.zk_laws.specs.Messages.{Request, Connect, from_zero}
+use Rattle.zk_laws.specs.Messages.{Connect, from_zero}
 use Rattle.zk_laws.specs.Served.{Sent, Entry, items_in, Line, line_of, is_going, unread, requests, part_requests}
 use Rattle.zk_laws.specs.Parsed.{AreTold, IsRecord, IsReadAs, AreReadAs, stream_of, payloads_of}
 use Rattle.zk_laws.proofs.Found.{all_told, first_found, each_read, connect_found}
 use Rattle.zk_serving.specs.Shown.{Shown, Open}
-use Rattle.zk_serving.specs.Lines.{IsLine, Shows, IsPathCall, IsFit, StandsFirst, IsCutAt}
+use Rattle.zk_serving.specs.Lines.{Shows, IsPathCall, IsFit, StandsFirst, IsCutAt}
 use Rattle.zk_serving.proofs.Turning.{framed, framed_more}
 
 -- ---- what is known of each request

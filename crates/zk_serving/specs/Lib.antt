@@ -2,5 +2,4 @@ pub mod GoingOn
 pub mod Steps
 pub mod Shown
 pub mod Lines
-pub mod Longer_example
-pub mod Two_parts_example
+pub mod Whole_example

@@ -10,21 +10,20 @@ ghost use Rattle.zk_turns.specs.Turns.{Start, Output, Send, ends_connection, Ite
 ghost use Rattle.zk_turns.specs.View.{View, view_at};
 ghost use Rattle.zk_turns.specs.Kept.{kept_data, last_of, state_of};
 ghost use Rattle.zk_cache.specs.Kept.{Full};
-ghost use Rattle.zk_cache.specs.declared.held.Mark.TheVariants.{Stale};
+ghost use Rattle.zk_cache.specs.declared.held.Mark.TheVariants.{Good, Stale};
 ghost use Rattle.zk_session.specs.declared.states.State.TheVariants.{Expired};
-ghost use Rattle.zk_laws.specs.Example.{at_a, fields_at_five, two_changes};
+ghost use Rattle.zk_laws.specs.Example.{at_a, fields_at_five, just_a};
 ghost use Rattle.zk_laws.specs.Meeting_example.{new_client};
-ghost use Rattle.zk_serving.specs.Two_parts_example.{just, first_path, second_path, until_both_set};
-ghost use Rattle.zk_serving.specs.Longer_example.{three_changes, until_told, until_written, until_expired};
+ghost use Rattle.zk_serving.specs.Whole_example.{three_changes, just_long, write_a, until_lost, until_back, until_told, until_written, until_expired};
 ghost use Rattle.zk_turns.specs.Taken.{past_of};
 ghost use Rattle.zk_turns.specs.Rule.{Rule, Stands};
 ghost use Rattle.zk_turns.specs.Ranges.{IsResumable, IsTyped, AllAskOf};
-ghost use Rattle.zk_laws.specs.Messages.{Request, Connect, Restore};
+ghost use Rattle.zk_laws.specs.Messages.{Request, Connect, Restore, Ask, Ping};
 ghost use Rattle.zk_laws.specs.ServerSteps.{ServerEnd, MayDo, messages_by, end_after};
 ghost use Rattle.zk_frames.specs.Frame.{frame, joined as frames, length_field};
 ghost use Rattle.zk_laws.specs.Headline.{IsCoherentWith, IsQuietAt};
 ghost use Rattle.zk_serving.specs.GoingOn.{GoesOn};
-ghost use Rattle.zk_laws.specs.Served.{ArePayloads, Entry, is_going, items_in, line_of, requests, IsServing, Served};
+ghost use Rattle.zk_laws.specs.Served.{ArePayloads, Entry, is_going, items_in, line_of, requests, unread, IsServing, Served};
 ghost use Rattle.zk_serving.specs.Steps.{Step, used_by, Moves, ended_by, sent_by, processed_by};
 ghost use Rattle.zk_serving.specs.Shown.{Shown, Apart, Open, Over, AllTaken, connected, with_output, more_requests, Hears, Takes, Processes};
 ghost use Rattle.zk_serving.specs.Lines.{IsServedBy, IsPathCall, StandsFirst, IsCutAt, WasServed, item_of, is_up};
@@ -182,26 +181,22 @@ pub fn sessions()
     ensures good { (view : View) (shown : Shown) → IsHistory shown.history → WasServed view shown → IsCoherentWith shown.history view }
 {}
 
-/// The premises can be met by a schedule in bytes with three connections to three servers: one that is cut in the middle of a
-/// notice; one to a server that is behind, and tells of the change that was missed as the watch is set again, and which takes a
-/// write and ends quiet; and one over which the session expires.
-pub fn longer_schedule()
+/// The premises can be met by one schedule in bytes with all that can befall a watch, over three connections: the first is cut in the
+/// middle of a notice, and the answer is still good; on the second, to a server that is behind, the watches are set again in two
+/// parts, of which the first tells of the change that was missed, a ping and a write are answered, and all is quiet; over the third
+/// the session expires.
+pub fn whole_schedule()
     ensures history { IsHistory three_changes }
     ensures serving { IsServing three_changes new_client until_expired }
     ensures stands { Stands new_client (items_in until_expired) (view_at new_client (past_of new_client (items_in until_expired))) }
     ensures resumable { IsResumable new_client }
     ensures typed { AllAskOf IsTyped (items_in until_expired) }
+    ensures kept { kept_data at_a (past_of new_client (items_in until_lost)) ≡ Some (record { answer = Full (Some (104 ∷ 105 ∷ [])) fields_at_five; mark = Good }) }
+    ensures behind { (line_of three_changes until_back).server.place ≡ 1 }
     ensures stale { kept_data at_a (past_of new_client (items_in until_told)) ≡ Some (record { answer = Full (Some (104 ∷ 105 ∷ [])) fields_at_five; mark = Stale }) }
+    ensures asked { map (λ sent. sent.request) (requests new_client (past_of new_client (items_in until_written))) ≡ Connect 5 ∷ Restore false 5 just_a ∷ Restore true 5 just_long ∷ Ping ∷ Ask write_a ∷ [] }
+    ensures answered { unread new_client (past_of new_client (items_in until_written)) (line_of three_changes until_written) ≡ [] }
     ensures quiet { IsQuietAt three_changes new_client until_written }
     ensures written { last_of new_client (past_of new_client (items_in until_written)) ≡ pos 7 }
     ensures expired { state_of (past_of new_client (items_in until_expired)) ≡ Expired }
-{}
-
-/// And by one whose client sets its watches again in two parts, since its paths are too long for one, and ends quiet.
-pub fn two_parts()
-    ensures serving { IsServing two_changes new_client until_both_set }
-    ensures stands { Stands new_client (items_in until_both_set) (view_at new_client (past_of new_client (items_in until_both_set))) }
-    ensures typed { AllAskOf IsTyped (items_in until_both_set) }
-    ensures parts { map (λ sent. sent.request) (requests new_client (past_of new_client (items_in until_both_set))) ≡ Connect 5 ∷ Restore false 5 (just first_path) ∷ Restore true 5 (just second_path) ∷ [] }
-    ensures quiet { IsQuietAt two_changes new_client until_both_set }
 {}
