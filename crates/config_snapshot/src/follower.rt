@@ -14,7 +14,7 @@ const TIMEOUT_MS: i32 = 9_000;
 
 /// The read of a node: whether one is on its way, and whether the last one found no node.
 #[derive(Clone, Copy)]
-struct Reading {
+pub struct Reading {
     is_asked: bool,
     is_absent: bool,
 }
@@ -72,28 +72,38 @@ fn line_of(alloc: Global, snapshot: &Snapshot<'_>, count: usize) -> Result<Vec<u
     Ok(line)
 }
 
+/// The paths of these nodes, and as many reads that are not asked yet.
+pub fn nodes_of(alloc: Global, names: &[&str]) -> Result<(Vec<Path>, Vec<Reading>)> {
+    let (mut nodes, mut readings) = (Vec::new(alloc), Vec::new(alloc));
+    for name in names {
+        nodes.push(Path::new(alloc, name)?)?;
+        readings.push(Reading {
+            is_asked: false,
+            is_absent: false,
+        })?;
+    }
+    Ok((nodes, readings))
+}
+
 impl<'a, D: Dial + Drop, C: Clock + Drop> Follower<'a, D, C> {
-    /// A program over these addresses, with no node yet.
-    pub fn new(alloc: Global, dial: D, clock: C, addresses: &'a [&'a str]) -> Follower<'a, D, C> {
+    /// A program that follows these nodes over these addresses.
+    pub fn new(
+        alloc: Global,
+        nodes: Vec<Path>,
+        readings: Vec<Reading>,
+        dial: D,
+        clock: C,
+        addresses: &'a [&'a str],
+    ) -> Follower<'a, D, C> {
         let client = Client::new(alloc, TIMEOUT_MS);
         Follower {
             alloc,
             link: Link::new(alloc, client, dial, clock, addresses),
-            nodes: Vec::new(alloc),
-            readings: Vec::new(alloc),
+            nodes,
+            readings,
             line: Vec::new(alloc),
             is_whole: false,
         }
-    }
-
-    /// One node more to follow.
-    pub fn add(&mut self, node: &str) -> Result<()> {
-        self.nodes.push(Path::new(self.alloc, node)?)?;
-        self.readings.push(Reading {
-            is_asked: false,
-            is_absent: false,
-        })?;
-        Ok(())
     }
 
     /// The moment of the link's clock.

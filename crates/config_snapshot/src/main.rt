@@ -6,7 +6,7 @@ mod follower;
 mod memory;
 
 use anyhow::Result;
-use follower::Follower;
+use follower::{Follower, nodes_of};
 use std::io::Write;
 use std::process::ExitCode;
 use zk_link::{SystemClock, Tcp};
@@ -25,13 +25,13 @@ fn run<W: Write>(
     addresses: &[&str],
     out: &mut W,
 ) -> Result<()> {
+    let (nodes, readings) = nodes_of(rt.alloc(), &nodes)?;
     let (dial, clock) = (Tcp::new(rt), SystemClock::new(rt));
-    let mut follower = Follower::new(rt.alloc(), dial, clock, addresses);
-    for node in &nodes {
-        follower.add(node)?;
-    }
+    let mut follower = Follower::new(rt.alloc(), nodes, readings, dial, clock, addresses);
     let until = follower.now().saturating_add(seconds.saturating_mul(1_000));
-    follower.follow(until, out)
+    let followed = follower.follow(until, out);
+    drop(follower);
+    followed
 }
 
 /// Does what the words ask for. The first word is the program's name.

@@ -1,6 +1,6 @@
 //! The same over a server in memory, while another session changes all three nodes, in one transaction each time.
 
-use crate::follower::Follower;
+use crate::follower::{Follower, nodes_of};
 use anyhow::Result;
 use example_world::{Change, History, Moments, Shared, World};
 use std::alloc::Global;
@@ -93,20 +93,29 @@ fn happen(event: Event, world: &RefCell<World>) -> Result<()> {
     Ok(())
 }
 
+/// Follows the nodes through what happens.
+fn play<W: Write>(
+    follower: &mut Follower<'_, Shared<'_>, Shared<'_>>,
+    world: &RefCell<World>,
+    out: &mut W,
+) -> Result<()> {
+    for (moment, event) in &PLAN {
+        follower.follow(*moment, out)?;
+        happen(*event, world)?;
+    }
+    follower.follow(END_MS, out)
+}
+
 /// The program over a server in memory whose reads bring so many bytes at most.
 pub fn run<W: Write>(alloc: Global, piece: usize, out: &mut W) -> Result<()> {
     let mut history = History::new(alloc);
     fill(alloc, &mut history)?;
+    let (nodes, readings) = nodes_of(alloc, &NODES)?;
     let world = RefCell::new(World::new(alloc, history, piece));
     let moments = Moments::new();
     let (dial, clock) = (Shared::new(&world, &moments), Shared::new(&world, &moments));
-    let mut follower = Follower::new(alloc, dial, clock, &ADDRESSES);
-    for node in &NODES {
-        follower.add(node)?;
-    }
-    for (moment, event) in &PLAN {
-        follower.follow(*moment, out)?;
-        happen(*event, &world)?;
-    }
-    follower.follow(END_MS, out)
+    let mut follower = Follower::new(alloc, nodes, readings, dial, clock, &ADDRESSES);
+    let played = play(&mut follower, &world, out);
+    drop(follower);
+    played
 }

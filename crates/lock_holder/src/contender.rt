@@ -61,14 +61,13 @@ impl<'a, D: Dial + Drop, C: Clock + Drop> Contender<'a, D, C> {
     pub fn new(
         alloc: Global,
         name: &'a str,
-        directory: &str,
+        directory: Path,
         dial: D,
         clock: C,
         addresses: &'a [&'a str],
-    ) -> Result<Contender<'a, D, C>> {
-        let directory = Path::new(alloc, directory)?;
+    ) -> Contender<'a, D, C> {
         let client = Client::new(alloc, TIMEOUT_MS);
-        Ok(Contender {
+        Contender {
             alloc,
             name,
             link: Link::new(alloc, client, dial, clock, addresses),
@@ -77,7 +76,7 @@ impl<'a, D: Dial + Drop, C: Clock + Drop> Contender<'a, D, C> {
             is_asked: false,
             is_leaving: false,
             told: Told::Nothing,
-        })
+        }
     }
 
     /// The moment of the link's clock.

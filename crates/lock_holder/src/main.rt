@@ -12,13 +12,27 @@ use contender::Contender;
 use std::io::Write;
 use std::process::ExitCode;
 use store::Store;
-use zk_link::{SystemClock, Tcp};
+use zk_client::Path;
+use zk_link::{Clock, Dial, SystemClock, Tcp};
 
 /// What the words are to be.
 const USAGE: &str = "usage: lock_holder [NAME DIRECTORY SECONDS IP:PORT..]";
 
 /// How long it may take until the node is deleted at the end, in milliseconds.
 const LEAVE_MS: u64 = 2_000;
+
+/// Wants the lock for so many seconds, and leaves it then.
+fn hold<D: Dial + Drop, C: Clock + Drop, W: Write>(
+    session: &mut Contender<'_, D, C>,
+    seconds: u64,
+    out: &mut W,
+) -> Result<()> {
+    let mut store = Store::new();
+    let until = session.now().saturating_add(seconds.saturating_mul(1_000));
+    session.act(until, &mut store, out)?;
+    session.leave();
+    session.act(until.saturating_add(LEAVE_MS), &mut store, out)
+}
 
 /// Wants the lock of a directory of real servers for so many seconds.
 fn run<W: Write>(
@@ -29,13 +43,12 @@ fn run<W: Write>(
     addresses: &[&str],
     out: &mut W,
 ) -> Result<()> {
+    let directory = Path::new(rt.alloc(), directory)?;
     let (dial, clock) = (Tcp::new(rt), SystemClock::new(rt));
-    let mut session = Contender::new(rt.alloc(), name, directory, dial, clock, addresses)?;
-    let mut store = Store::new();
-    let until = session.now().saturating_add(seconds.saturating_mul(1_000));
-    session.act(until, &mut store, out)?;
-    session.leave();
-    session.act(until.saturating_add(LEAVE_MS), &mut store, out)
+    let mut session = Contender::new(rt.alloc(), name, directory, dial, clock, addresses);
+    let held = hold(&mut session, seconds, out);
+    drop(session);
+    held
 }
 
 /// Does what the words ask for. The first word is the program's name.

@@ -48,11 +48,11 @@ static PLAN: [(u64, Event); 5] = [
 /// A session in memory.
 type Session<'a> = Contender<'a, Shared<'a>, Shared<'a>>;
 
-/// A server of one session.
-fn world(alloc: Global) -> Result<World> {
+/// What there is at first.
+fn history(alloc: Global) -> Result<History<Global>> {
     let mut history = History::new(alloc);
     history.node(Path::new(alloc, DIRECTORY)?, None, 0)?;
-    Ok(World::new(alloc, history, usize::MAX))
+    Ok(history)
 }
 
 /// The change as the other session's server has it.
@@ -116,17 +116,6 @@ fn happen(
     Ok(())
 }
 
-/// A session over a server in memory.
-fn begin<'a>(
-    alloc: Global,
-    name: &'a str,
-    world: &'a RefCell<World>,
-    moments: &'a Moments,
-) -> Result<Session<'a>> {
-    let (dial, clock) = (Shared::new(world, moments), Shared::new(world, moments));
-    Contender::new(alloc, name, DIRECTORY, dial, clock, &ADDRESSES)
-}
-
 /// A session acts for a turn, and what it writes is told to the other's server.
 fn act<W: Write>(
     alloc: Global,
@@ -163,24 +152,50 @@ fn play<W: Write>(
 }
 
 /// The two sessions, until the plan is at its end.
-pub fn run<W: Write>(alloc: Global, out: &mut W) -> Result<()> {
-    let (one, other) = (RefCell::new(world(alloc)?), RefCell::new(world(alloc)?));
-    let moments = Moments::new();
-    let mut first = begin(alloc, "first", &one, &moments)?;
-    let mut second = begin(alloc, "second", &other, &moments)?;
-    let (mut store, worlds) = (Store::new(), [&one, &other]);
+fn play_plan<W: Write>(
+    alloc: Global,
+    first: &mut Session<'_>,
+    second: &mut Session<'_>,
+    worlds: [&RefCell<World>; 2],
+    out: &mut W,
+) -> Result<()> {
+    let mut store = Store::new();
+    let [one, other] = worlds;
     for (moment, event) in &PLAN {
-        play(
-            alloc,
-            *moment,
-            &mut first,
-            &mut second,
-            worlds,
-            &mut store,
-            out,
-        )?;
-        happen(alloc, *event, &one, &first, &mut second)?;
-        pass(alloc, &one, &other)?;
+        play(alloc, *moment, first, second, worlds, &mut store, out)?;
+        happen(alloc, *event, one, first, second)?;
+        pass(alloc, one, other)?;
     }
     Ok(())
+}
+
+/// Two sessions over these servers, each with the path of the lock.
+fn play_sessions<W: Write>(
+    alloc: Global,
+    paths: [Path; 2],
+    worlds: [&RefCell<World>; 2],
+    out: &mut W,
+) -> Result<()> {
+    let moments = Moments::new();
+    let ([path, same], [one, other]) = (paths, worlds);
+    let (dial, clock) = (Shared::new(one, &moments), Shared::new(one, &moments));
+    let mut first = Contender::new(alloc, "first", path, dial, clock, &ADDRESSES);
+    let (dial, clock) = (Shared::new(other, &moments), Shared::new(other, &moments));
+    let mut second = Contender::new(alloc, "second", same, dial, clock, &ADDRESSES);
+    let played = play_plan(alloc, &mut first, &mut second, worlds, out);
+    drop(first);
+    drop(second);
+    played
+}
+
+/// The two sessions, each over a server of its own.
+pub fn run<W: Write>(alloc: Global, out: &mut W) -> Result<()> {
+    let paths = [Path::new(alloc, DIRECTORY)?, Path::new(alloc, DIRECTORY)?];
+    let (first, second) = (history(alloc)?, history(alloc)?);
+    let one = RefCell::new(World::new(alloc, first, usize::MAX));
+    let other = RefCell::new(World::new(alloc, second, usize::MAX));
+    let played = play_sessions(alloc, paths, [&one, &other], out);
+    drop(one);
+    drop(other);
+    played
 }
