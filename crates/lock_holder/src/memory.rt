@@ -169,19 +169,28 @@ fn play_plan<W: Write>(
     Ok(())
 }
 
-/// Two sessions over these servers, each with the path of the lock.
-fn play_sessions<W: Write>(
+/// A session over a server in memory.
+fn session<'a>(
     alloc: Global,
-    paths: [Path; 2],
-    worlds: [&RefCell<World>; 2],
+    name: &'a str,
+    path: Path,
+    world: &'a RefCell<World>,
+    moments: &'a Moments,
+) -> Session<'a> {
+    let (dial, clock) = (Shared::new(world, moments), Shared::new(world, moments));
+    Contender::new(alloc, name, path, dial, clock, &ADDRESSES)
+}
+
+/// Two sessions over these servers, each with the path of the lock.
+fn play_sessions<'a, W: Write>(
+    alloc: Global,
+    paths: (Path, Path),
+    worlds: [&'a RefCell<World>; 2],
+    moments: &'a Moments,
     out: &mut W,
 ) -> Result<()> {
-    let moments = Moments::new();
-    let ([path, same], [one, other]) = (paths, worlds);
-    let (dial, clock) = (Shared::new(one, &moments), Shared::new(one, &moments));
-    let mut first = Contender::new(alloc, "first", path, dial, clock, &ADDRESSES);
-    let (dial, clock) = (Shared::new(other, &moments), Shared::new(other, &moments));
-    let mut second = Contender::new(alloc, "second", same, dial, clock, &ADDRESSES);
+    let mut first = session(alloc, "first", paths.0, worlds[0], moments);
+    let mut second = session(alloc, "second", paths.1, worlds[1], moments);
     let played = play_plan(alloc, &mut first, &mut second, worlds, out);
     drop(first);
     drop(second);
@@ -190,11 +199,12 @@ fn play_sessions<W: Write>(
 
 /// The two sessions, each over a server of its own.
 pub fn run<W: Write>(alloc: Global, out: &mut W) -> Result<()> {
-    let paths = [Path::new(alloc, DIRECTORY)?, Path::new(alloc, DIRECTORY)?];
+    let paths = (Path::new(alloc, DIRECTORY)?, Path::new(alloc, DIRECTORY)?);
     let (first, second) = (history(alloc)?, history(alloc)?);
     let one = RefCell::new(World::new(alloc, first, usize::MAX));
     let other = RefCell::new(World::new(alloc, second, usize::MAX));
-    let played = play_sessions(alloc, paths, [&one, &other], out);
+    let moments = Moments::new();
+    let played = play_sessions(alloc, paths, [&one, &other], &moments, out);
     drop(one);
     drop(other);
     played
