@@ -4,6 +4,7 @@ pub mod Later
 pub mod Turning
 pub mod Keeping
 pub mod Waiting
+pub mod Staged
 pub mod Entries
 pub mod Fronts
 pub mod Views

@@ -16,8 +16,8 @@ use Rattle.zk_laws.specs.Served.{is_going}
 use Rattle.zk_laws.specs.Headline.{IsCoherentWith}
 use Rattle.zk_serving.specs.Steps.{Step}
 use Rattle.zk_serving.specs.Shown.{Shown, Apart, Open, Over, connected, with_output, Hears, Takes, Processes}
-use Rattle.zk_serving.specs.Lines.{IsServedBy, IsPathCall, StandsFirst, WasServed, item_of, is_up}
-use Rattle.zk_serving.proofs.Entries.{nobody, coherent_so, opened_served, bytes_served, cut_served, moment_served, call_served, forget_served, there_served, takes_served, rests_served, waits_served, processes_served}
+use Rattle.zk_serving.specs.Lines.{IsServedBy, IsPathCall, StandsFirst, IsFor, WasServed, item_of, is_up}
+use Rattle.zk_serving.proofs.Entries.{nobody, coherent_so, opened_served, bytes_served, cut_served, moment_served, call_served, forget_served, there_served, takes_served, rests_served, waits_served, processes_served, answers_served}
 
 pub first_session : (start : Start) (view : View) (shown : Shown) → IsResumable start → 0 < start.timeout → Stands start [] view → WasServed view shown
 first_session start view shown from timed stands = record {
@@ -103,3 +103,8 @@ module _ (view : View) (old : Shown) (s : WasServed view old) where
       → ((request : Request) (xid : ℤ) (payload rest : List ℕ) → StandsFirst request xid payload rest old.requests → (steps : List Step) × Processes request xid payload steps old new) → WasServed view new
   processes_session new up open_now some does =
       still new (processes_served s.start s.items old s.served view s.resumable s.timed s.typed s.paths s.stands (going_up ∙ up) open_now new some does)
+
+  pub answers_session : IsHistory old.history → (new : Shown) → is_up view ≡ true → old.phase ≡ Open → old.requests ≢ []
+      → ((request : Request) (xid : ℤ) (payload rest : List ℕ) → StandsFirst request xid payload rest old.requests → IsFor request old.server.stage → (steps : List Step) × Processes request xid payload steps old new) → WasServed view new
+  answers_session is new up open_now some does =
+      still new (answers_served s.start s.items old s.served view s.resumable s.timed s.typed s.paths s.stands (going_up ∙ up) open_now is new some does)

@@ -107,7 +107,7 @@ module _ (start : Start) (items : List Item) (from : IsResumable start) (timed :
 
 -- ---- the first that is not processed
 
-first_all : {A : Type 0} (Q : A → Type 0) (n : ℕ) (xs : List A) (first : A) (more : List A) → drop n xs ≡ first ∷ more → AllByRecursion Q xs → Q first
+pub first_all : {A : Type 0} (Q : A → Type 0) (n : ℕ) (xs : List A) (first : A) (more : List A) → drop n xs ≡ first ∷ more → AllByRecursion Q xs → Q first
 first_all Q zero [] first more e a = absurd cc
 first_all Q zero (x ∷ xs) first more e a = let same : x ≡ first = cc in subst Q same a.0
 first_all Q (suc n) [] first more e a = absurd cc

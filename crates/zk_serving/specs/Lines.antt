@@ -15,6 +15,7 @@ use Rattle.zk_turns.specs.Kept.{Past, is_open}
 use Rattle.zk_turns.specs.Taken.{past_of}
 use Rattle.zk_laws.specs.Served.{Entry, items_in, Line, line_of, is_going, unread, requests, IsServing}
 use Rattle.zk_laws.specs.Messages.{Request, Connect, Restore, Ask, Ping}
+use Rattle.zk_laws.specs.ServerSteps.{Stage, Waiting, Serving}
 use Rattle.zk_laws.specs.Parsed.{AreTold, IsRecord, IsReadAs, stream_of}
 use Rattle.zk_serving.specs.Shown.{Shown, Apart, Open}
 
@@ -71,6 +72,11 @@ pub record StandsFirst (request : Request) (xid : ℤ) (payload rest bytes : Lis
   pub small : length payload < 2 ^ 31
   pub read : IsReadAs request xid payload
   pub fit : IsFit request payload
+
+-- A ConnectRequest is not for a server that has accepted the client, and another request is not for one that has not.
+abbrev pub IsFor : Request → Stage → Type 0
+IsFor (Connect seen) stage = stage ≢ Serving
+IsFor request stage = stage ≢ Waiting
 
 -- The bytes that a connection was sent are the frames of what was processed, so many, and then those that wait.
 pub record IsCutAt (items : List Item) (processed : ℕ) (waiting : List ℕ) : Type 0 where

@@ -26,7 +26,7 @@ ghost use Rattle.zk_serving.specs.GoingOn.{GoesOn};
 ghost use Rattle.zk_laws.specs.Served.{ArePayloads, Entry, is_going, items_in, line_of, requests, unread, IsServing, Served};
 ghost use Rattle.zk_serving.specs.Steps.{Step, used_by, Moves, ended_by, sent_by, processed_by};
 ghost use Rattle.zk_serving.specs.Shown.{Shown, Apart, Open, Over, AllTaken, connected, with_output, more_requests, Hears, Takes, Processes};
-ghost use Rattle.zk_serving.specs.Lines.{IsServedBy, IsPathCall, StandsFirst, IsCutAt, WasServed, item_of, is_up};
+ghost use Rattle.zk_serving.specs.Lines.{IsServedBy, IsPathCall, StandsFirst, IsFor, IsCutAt, WasServed, item_of, is_up};
 
 /// A schedule stays one when the history goes on, its servers end where they did, and each stands at a place of the history.
 #[tactic(auto, using(crate::proofs::GoingOn::goes_serving, crate::proofs::GoingOn::goes_line, crate::proofs::GoingOn::place_low, crate::proofs::GoingOn::goes_served))]
@@ -158,7 +158,8 @@ pub fn what_waits()
 {}
 
 /// The same by the view of the client alone: one that begins in range, with a timeout above 0, was served; so it is behind each
-/// turn by the rule, where callers ask about paths with values of their types; and what the servers do keeps it so. Then its good
+/// turn by the rule, where callers ask about paths with values of their types; and what the servers do keeps it so: over a history
+/// the server has to process a ConnectRequest alone where it has accepted nobody, and any other alone where it has. Then its good
 /// answers are those of the history at its last seen zxid.
 pub fn sessions()
     ensures begins { (start : Start) (view : View) (shown : Shown) → IsResumable start → 0 < start.timeout → Stands start [] view → WasServed view shown }
@@ -177,6 +178,8 @@ pub fn sessions()
         → (shown.requests ≡ []) ⊎ ((request : Request) × (xid : ℤ) × (payload : List ℕ) × (rest : List ℕ) × StandsFirst request xid payload rest shown.requests) }
     ensures processes { (view : View) (old new : Shown) → WasServed view old → is_up view ≡ true → old.phase ≡ Open → old.requests ≢ []
         → ((request : Request) (xid : ℤ) (payload rest : List ℕ) → StandsFirst request xid payload rest old.requests → (steps : List Step) × Processes request xid payload steps old new) → WasServed view new }
+    ensures answers { (view : View) (old new : Shown) → IsHistory old.history → WasServed view old → is_up view ≡ true → old.phase ≡ Open → old.requests ≢ []
+        → ((request : Request) (xid : ℤ) (payload rest : List ℕ) → StandsFirst request xid payload rest old.requests → IsFor request old.server.stage → (steps : List Step) × Processes request xid payload steps old new) → WasServed view new }
     ensures rests { (view : View) (old new : Shown) → WasServed view old → GoesOn old.history new.history → (is_up view ≡ true → (new.phase ≡ Over) × (new.output ≡ old.output)) → WasServed view new }
     ensures good { (view : View) (shown : Shown) → IsHistory shown.history → WasServed view shown → IsCoherentWith shown.history view }
 {}

@@ -1,4 +1,4 @@
-use Rattle.zk_serving.proofs.Views.{first_session, good_session, opened_session, received_session, cut_session, told_session, asked_session, forget_session, there_session, takes_session, rests_session, waits_session, processes_session}
+use Rattle.zk_serving.proofs.Views.{first_session, good_session, opened_session, received_session, cut_session, told_session, asked_session, forget_session, there_session, takes_session, rests_session, waits_session, processes_session, answers_session}
 use Rattle.zk_serving.proofs.sessions.Goals as goal
 
 pub returns-clause-begins : goal.returns-clause-begins
@@ -33,6 +33,9 @@ returns-clause-waits c view shown s up open_now = waits_session view shown s up 
 
 pub returns-clause-processes : goal.returns-clause-processes
 returns-clause-processes c view old new s up open_now some does = processes_session view old s new up open_now some does
+
+pub returns-clause-answers : goal.returns-clause-answers
+returns-clause-answers c view old new is s up open_now some does = answers_session view old s is new up open_now some does
 
 pub returns-clause-rests : goal.returns-clause-rests
 returns-clause-rests c view old new s g rests = rests_session view old s new g rests
