@@ -6,3 +6,5 @@ pub mod Admitted
 pub mod Restored
 pub mod Stepped
 pub mod Asked
+pub mod Processed
+pub mod Called

@@ -417,7 +417,7 @@ continues_so old new c = record { first = ap (λ (ts : List Transaction). after 
 
 -- A read that is answered
 
-goes_on : (asked : Call) → IsRead asked → closes (question_of asked) ≡ false
+pub goes_on : (asked : Call) → IsRead asked → closes (question_of asked) ≡ false
 goes_on (call.Exists text watch) is = refl
 goes_on (call.GetData text watch) is = refl
 goes_on (call.GetChildren text watch) is = refl
@@ -426,7 +426,7 @@ goes_on (call.Create text content mode) is = absurd is
 goes_on (call.Delete text version) is = absurd is
 goes_on call.Close is = absurd is
 
-gives_read : (h : History) (place : ℕ) (asked : Call) (result : Result) → IsRead asked → IsTold result → Reads (tree_held h place) (question_of asked) result → Gives h place asked result
+pub gives_read : (h : History) (place : ℕ) (asked : Call) (result : Result) → IsRead asked → IsTold result → Reads (tree_held h place) (question_of asked) result → Gives h place asked result
 gives_read h place (call.Exists text watch) NoNode is told reads = reads
 gives_read h place (call.Exists text watch) Done is told reads = reads
 gives_read h place (call.Exists text watch) (Refused code) is told reads = absurd told

@@ -8,12 +8,17 @@ ghost use Rattle.zk_bench.specs.Front.{IsShort, IsWhole};
 ghost use Rattle.zk_history.specs.Kept.{history_of};
 ghost use Rattle.zk_history.specs.declared.history_fault.HistoryFault.TheVariants as faults;
 ghost use Rattle.zk_laws.specs.Server.{zxid_held};
-ghost use Rattle.zk_laws.specs.Messages.{Connect, Ask};
-ghost use Rattle.zk_conversation.specs.Calls.{Call};
+ghost use Rattle.zk_laws.specs.ServerSteps.{Serving};
+ghost use Rattle.zk_laws.specs.Messages.{Request as Wanted, Connect, Ask, Ping, Restore};
+ghost use Rattle.zk_conversation.specs.Calls.{Call, SetData, Close};
 ghost use Rattle.zk_bench.specs.Answering.{IsReadOf};
 ghost use Rattle.zk_laws.specs.Parsed.{IsRecord};
 ghost use Rattle.zk_records.specs.Layouts.{connect_request};
-ghost use Rattle.zk_bench.specs.Stepping.{IsReady, TakesSome, ProcessesOne, ProcessesFirst, shown_of};
+ghost use Rattle.zk_bench.specs.Stepping.{IsReady, HasClient, TakesSome, ProcessesOne, ProcessesFirst, Declines, IsSending, zxid_of, stage_of, shown_of};
+ghost use Rattle.zk_bench.specs.Asking.{Asks, IsLook};
+ghost use Rattle.zk_bench.specs.Serving.{SendsHeader};
+ghost use Rattle.zk_laws.specs.Parsed.{IsReadAs};
+ghost use Rattle.zk_serving.specs.Lines.{IsFit, IsFor, StandsFirst};
 ghost use Rattle.zk_bench.specs.Served.{started, linked, connected, disconnected, ended, is_open, advanced, with_requests, without_output, Continues};
 
 use crate::connection::Connection;
@@ -312,6 +317,11 @@ impl<A: Allocator + Copy> Bench<A> {
     #[tactic(auto, using(crate::proofs::Continuing::same_goes_on))]
     fn process_later(&mut self, length: usize) -> Result<(), Stop>
         requires { 4 + length ≤ bytes_of self.old.connection.requests }
+        ensures serves { (asked : Wanted) (xid : ℤ) → HasClient self.old → IsFor asked Serving → IsReadAs asked xid (first length (drop 4 self.old.connection.requests)) → IsFit asked (first length (drop 4 self.old.connection.requests))
+            → OnOk result (ProcessesOne asked xid (shown_of self.old) (shown_of self.new)) }
+        ensures ends { (asked : Wanted) (xid : ℤ) → HasClient self.old → IsFor asked Serving → IsReadAs asked xid (first length (drop 4 self.old.connection.requests)) → IsFit asked (first length (drop 4 self.old.connection.requests))
+            → IsErrOf result stops.End → ProcessesOne asked xid (shown_of self.old) (shown_of (ended self.new)) }
+        ensures ready { HasClient self.old → IsReady self.new }
         ensures processed { self.new.connection.requests ≡ drop (4 + length) self.old.connection.requests }
         ensures history { Continues self.old.history self.new.history }
         ensures rest { self.new ≡ record self.old { history = self.new.history; taken = self.new.taken; connection = self.new.connection } }
@@ -342,9 +352,11 @@ impl<A: Allocator + Copy> Bench<A> {
         self.admit(&first?)
     }
 
+    // Answers with a header alone.
     fn send_err(&mut self, xid: i32, err: i32) -> Result<(), Stop>
-        ensures requests { self.new.connection.requests ≡ self.old.connection.requests }
-        ensures rest { self.new ≡ record self.old { taken = self.new.taken; connection = self.new.connection } }
+        ensures sends { IsReady self.old → OnOk result (SendsHeader (xid, (pos (zxid_of self.old), err)) self.old.connection.output self.new.connection.output) }
+        ensures sent { IsErrOf result stops.End → self.new.connection.output ≡ self.old.connection.output }
+        ensures only { IsSending self.old self.new }
     {
         let zxid = self.zxid();
         let header = ReplyHeader { xid, zxid, err };
@@ -377,6 +389,9 @@ impl<A: Allocator + Copy> Bench<A> {
     // Answers a request with its result, or says why it has none.
     #[tactic(auto, using(crate::proofs::Continuing::same_goes_on))]
     fn answer(&mut self, xid: i32, request: Request<A>) -> Result<(), Refusal>
+        ensures answers { (asked : Wanted) → HasClient self.old → Asks request asked → OnOk result (ProcessesOne asked xid (shown_of self.old) (shown_of self.new)) }
+        ensures declines { (asked : Wanted) → HasClient self.old → Asks request asked → IfErr result (Declines asked xid self.old self.new) }
+        ensures ready { HasClient self.old → IsReady self.new }
         ensures requests { self.new.connection.requests ≡ self.old.connection.requests }
         ensures history { Continues self.old.history self.new.history }
         ensures rest { self.new ≡ record self.old { history = self.new.history; taken = self.new.taken; connection = self.new.connection } }
@@ -385,12 +400,8 @@ impl<A: Allocator + Copy> Bench<A> {
             Request::Create(r) => self.create(xid, r),
             Request::SetData(r) => self.set_data(xid, r),
             Request::Delete(r) => self.delete(xid, &r),
-            Request::Ping => self.finish(PONG),
-            Request::CloseSession => {
-                self.finish(xid)?;
-                self.connection.phase = Phase::Ended;
-                Ok(())
-            }
+            Request::Ping => self.pong().map_err(Refusal::from),
+            Request::CloseSession => self.close(xid).map_err(Refusal::from),
             other => {
                 let outcome = self.read(xid, &other);
                 drop(other);
@@ -401,10 +412,12 @@ impl<A: Allocator + Copy> Bench<A> {
 
     // Answers a request that leaves the history as it is.
     fn read(&mut self, xid: i32, request: &Request<A>) -> Result<(), Refusal>
-        ensures reads { (asked : Call) → IsReady self.old → self.old.connection.phase ≡ Accepted → IsReadOf request.now asked
-            → OnOk result (ProcessesOne (Ask asked) xid (shown_of self.old) (shown_of self.new)) }
+        ensures answers { (asked : Wanted) → HasClient self.old → IsLook asked → Asks request.now asked
+            → OnOk result (ProcessesOne asked xid (shown_of self.old) (shown_of self.new)) }
+        ensures declines { (asked : Wanted) → HasClient self.old → IsLook asked → Asks request.now asked → IfErr result (Declines asked xid self.old self.new) }
+        ensures ready { HasClient self.old → IsReady self.new }
         ensures requests { self.new.connection.requests ≡ self.old.connection.requests }
-        ensures rest { self.new ≡ record self.old { taken = self.new.taken; connection = self.new.connection } }
+        ensures rest { self.new ≡ record self.old { connection = self.new.connection } }
     {
         let tree = Tree {
             alloc: self.alloc,
@@ -414,12 +427,26 @@ impl<A: Allocator + Copy> Bench<A> {
         read(&tree, xid, request, &mut self.connection)
     }
 
-    // Answers with a header alone.
-    fn finish(&mut self, xid: i32) -> Result<(), Refusal>
-        ensures requests { self.new.connection.requests ≡ self.old.connection.requests }
-        ensures rest { self.new ≡ record self.old { taken = self.new.taken; connection = self.new.connection } }
+    // Answers a ping.
+    fn pong(&mut self) -> Result<(), Stop>
+        ensures answers { (xid : ℤ) → HasClient self.old → OnOk result (ProcessesOne Ping xid (shown_of self.old) (shown_of self.new)) }
+        ensures ends { (xid : ℤ) → HasClient self.old → IsErrOf result stops.End → ProcessesOne Ping xid (shown_of self.old) (shown_of (ended self.new)) }
+        ensures only { IsSending self.old self.new }
     {
-        self.send_err(xid, 0).map_err(Refusal::from)
+        self.send_err(PONG, 0)
+    }
+
+    // Answers the end of a session, and ends the connection.
+    fn close(&mut self, xid: i32) -> Result<(), Stop>
+        ensures answers { HasClient self.old → OnOk result (ProcessesOne (Ask Close) xid (shown_of self.old) (shown_of self.new)) }
+        ensures ends { HasClient self.old → IsErrOf result stops.End → ProcessesOne (Ask Close) xid (shown_of self.old) (shown_of (ended self.new)) }
+        ensures ready { HasClient self.old → IsReady self.new }
+        ensures requests { self.new.connection.requests ≡ self.old.connection.requests }
+        ensures rest { self.new ≡ record self.old { connection = self.new.connection } }
+    {
+        self.send_err(xid, 0)?;
+        self.connection.phase = Phase::Ended;
+        Ok(())
     }
 
     // The connected server takes all transactions that are left.
@@ -575,6 +602,6 @@ impl<A: Allocator + Copy> Bench<A> {
         self.catch_up()?;
         let path = deleted_path(&self.newest(), request)?;
         self.write(Change::Delete(path))?;
-        self.finish(xid)
+        self.send_err(xid, 0).map_err(Refusal::from)
     }
 }
