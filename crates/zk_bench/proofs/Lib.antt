@@ -6,3 +6,4 @@ pub mod Admitted
 pub mod Restored
 pub mod Stepped
 pub mod Asked
+pub mod Written

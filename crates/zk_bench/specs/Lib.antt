@@ -7,3 +7,4 @@ pub mod Serving
 pub mod Answering
 pub mod Restoring
 pub mod Stepping
+pub mod Writing
