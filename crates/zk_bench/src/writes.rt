@@ -1,17 +1,20 @@
 //! Writes: which are refused, and how the others are made.
 
-ghost use Rattle.std.specs.Prelude.{◌≡◌, IfOk, IfErr, IfSome, OnOk, string_bytes};
+ghost use Rattle.std.specs.Prelude.{◌≡◌, Some, None, IfOk, IfErr, IfSome, OnOk, string_bytes};
 ghost use Rattle.std.specs.Option.{option_map};
+ghost use Rattle.std.specs.FinSet as set;
 ghost use Rattle.zk_jute.specs.Lenient.{or_empty};
 ghost use Rattle.zk_history.specs.History.{Creates, path_of as names_in};
+ghost use Rattle.zk_history.specs.Kept.{HasChildren};
 ghost use Rattle.zk_history.specs.Made.{change_of};
+ghost use Rattle.zk_history.specs.Replay.{Names as NameSet};
 ghost use Rattle.zk_history.specs.declared.history_fault.HistoryFault.TheVariants as faults;
 ghost use Rattle.zk_records.specs.declared.code.Code.TheVariants as codes;
 ghost use Rattle.zk_laws.specs.Server.{IsMadeOf};
 ghost use Rattle.zk_bench.specs.declared.stop.Refusal.TheVariants as refusals;
 ghost use Rattle.zk_bench.specs.Refusals.{IsCode};
 ghost use Rattle.zk_bench.specs.Served.{Continues};
-ghost use Rattle.zk_bench.specs.Writing.{appended, mode_of as mode_told, owner_of, IsAnswer};
+ghost use Rattle.zk_bench.specs.Writing.{appended, mode_of as mode_told, owner_of, IsAnswer, IsRefusedWith, IsStatAt, tree_of, node_at, is_version as version_told, data_refusal, removal_refusal, set_refusal, deletion_refusal};
 
 use crate::sequence::numbered;
 use crate::stop::{Refusal, Stop};
@@ -164,7 +167,9 @@ pub(crate) fn creation<A: Allocator + Copy>(
 // A path with the `Stat` of the node there, and -101 where no node is there.
 fn node_at<A: Allocator + Copy>(tree: &Tree<'_, A>, text: &str) -> Result<(Path<A>, Stat), Refusal>
     ensures path { IfOk result (λ found. found.0 ≡ text.now) }
-    ensures refused { IfErr result IsAnswer }
+    ensures found { IfOk result (λ found. IsStatAt (tree_of tree.now.history.now tree.now.zxid) text.now (Some found.1)) }
+    ensures missing { IfErr result (λ refusal. IsCode refusal → node_at (tree_of tree.now.history.now tree.now.zxid) text.now ≡ None) }
+    ensures refused { IfErr result (IsRefusedWith (Some codes.NoNode)) }
 {
     let Some(path) = path_of(tree.alloc, text)? else {
         return Err(Refusal::Code(Code::NoNode));
@@ -176,13 +181,16 @@ fn node_at<A: Allocator + Copy>(tree: &Tree<'_, A>, text: &str) -> Result<(Path<
 }
 
 // Whether a write that asks for this version, or for any by -1, is for a node of that version.
-fn is_version(asked: i32, version: i32) -> bool {
+fn is_version(asked: i32, version: i32) -> bool
+    ensures { result ≡ version_told asked version }
+{
     asked == -1 || asked == version
 }
 
 // The code that refuses data at a node of this version: -103 where another one is asked for, -8 where it is 2,147,483,647.
 fn refused_data(asked: i32, version: i32) -> Option<Code>
-    ensures { IfSome result (λ code. IsAnswer (refusals.Code code)) }
+    ensures is { result ≡ data_refusal asked version }
+    ensures answer { IfSome result (λ code. IsAnswer (refusals.Code code)) }
 {
     if !is_version(asked, version) {
         return Some(Code::BadVersion);
@@ -201,6 +209,8 @@ pub(crate) fn written_path<A: Allocator + Copy>(
     version: i32,
 ) -> Result<Path<A>, Refusal>
     ensures path { IfOk result (λ path. path ≡ text.now) }
+    ensures accepted { OnOk result (set_refusal (node_at (tree_of tree.now.history.now tree.now.zxid) text.now) version ≡ None) }
+    ensures told { IfErr result (IsRefusedWith (set_refusal (node_at (tree_of tree.now.history.now tree.now.zxid) text.now) version)) }
     ensures refused { IfErr result IsAnswer }
 {
     let (path, stat) = node_at(tree, text)?;
@@ -213,7 +223,8 @@ pub(crate) fn written_path<A: Allocator + Copy>(
 // The code that refuses that a node with this `Stat` is deleted: -103 where another version is asked for, -111 where it
 // has children.
 fn refused_deletion(asked: i32, stat: &Stat) -> Option<Code>
-    ensures { IfSome result (λ code. IsAnswer (refusals.Code code)) }
+    ensures is { result ≡ removal_refusal asked stat.now.version stat.now.num_children }
+    ensures answer { IfSome result (λ code. IsAnswer (refusals.Code code)) }
 {
     if !is_version(asked, stat.version) {
         return Some(Code::BadVersion);
@@ -231,6 +242,10 @@ pub(crate) fn deleted_path<A: Allocator + Copy>(
     request: &DeleteRequest<A>,
 ) -> Result<Path<A>, Refusal>
     ensures path { IfOk result (λ path. path ≡ or_empty request.now.path) }
+    ensures accepted { (names : NameSet) → HasChildren (tree_of tree.now.history.now tree.now.zxid) (names_in (or_empty request.now.path)) names
+        → OnOk result (deletion_refusal (tree_of tree.now.history.now tree.now.zxid) (or_empty request.now.path) (set.len names) request.now.version ≡ None) }
+    ensures told { (names : NameSet) → HasChildren (tree_of tree.now.history.now tree.now.zxid) (names_in (or_empty request.now.path)) names
+        → IfErr result (IsRefusedWith (deletion_refusal (tree_of tree.now.history.now tree.now.zxid) (or_empty request.now.path) (set.len names) request.now.version)) }
     ensures refused { IfErr result IsAnswer }
 {
     let text = text_of(&request.path);
