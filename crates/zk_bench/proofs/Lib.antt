@@ -8,3 +8,4 @@ pub mod Stepped
 pub mod Asked
 pub mod Processed
 pub mod Called
+pub mod Written

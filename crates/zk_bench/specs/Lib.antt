@@ -8,3 +8,4 @@ pub mod Answering
 pub mod Restoring
 pub mod Stepping
 pub mod Asking
+pub mod Writing

@@ -1,5 +1,9 @@
 //! The numbers of sequential nodes.
 
+ghost use Rattle.std.specs.Prelude.{◌≡◌, IfOk, IfErr};
+ghost use Rattle.zk_bench.specs.Writing.{IsAnswer};
+ghost use mathlib.Core.List.{IsPrefix};
+
 use crate::stop::Refusal;
 use std::alloc::Allocator;
 use zk_history::{Change, History, Path};
@@ -40,7 +44,10 @@ pub(crate) fn numbered<A: Allocator + Copy>(
     history: &History<A>,
     path: &Path<A>,
     parent: &str,
-) -> Result<Path<A>, Refusal> {
+) -> Result<Path<A>, Refusal>
+    ensures made { IfOk result (λ made. IsPrefix path.now made) }
+    ensures refused { IfErr result IsAnswer }
+{
     let number = creates_below(history, parent);
     if number > LAST_NUMBER {
         return Err(Refusal::Code(Code::BadArguments));
