@@ -1,44 +1,52 @@
 -- Steps of a server that takes transactions and then processes a request.
-use Rattle.std.proofs.Common.{ℕ, zero, suc, ℤ, pos, negsuc, ◌≡◌, ◌≢◌, ◌≤◌, ◌+◌, refl, ap, sym, ◌∙◌, subst, arith, List, [], ◌∷◌, ◌++◌, length, drop, append_assoc, Bool, true, false, ◌||◌, if◌then◌else◌}
+use Rattle.std.proofs.Common.{ℕ, zero, suc, ℤ, pos, negsuc, ◌≡◌, ◌≢◌, ◌≤◌, ◌<◌, ◌+◌, refl, ap, sym, ◌∙◌, subst, arith, inl, List, [], ◌∷◌, ◌++◌, length, drop, append_assoc, Bool, true, false, ◌||◌, if◌then◌else◌}
 use mathlib.Core.Path.{fun_ext}
-use Rattle.std.proofs.lemmas.List.{append-nil, length-append}
+use Rattle.std.proofs.lemmas.List.{append-nil, length-append, take_all}
 use Rattle.zk_frames.specs.Frame.{frame, joined}
-use Rattle.zk_records.specs.Layouts.{reply_header}
+use Rattle.zk_records.specs.Layouts.{reply_header, create_response}
+use Rattle.zk_history.specs.StatLayout.{stat}
+use Rattle.zk_records.specs.Codes.{code_number}
+use Rattle.zk_records.specs.declared.code.Code.{Code}
+use Rattle.zk_records.specs.declared.code.Code.TheVariants as codes
 use Rattle.zk_jute.specs.Spelling.{spelling}
-use Rattle.zk_history.specs.History.{History, NodePath, Transaction}
+use Rattle.zk_history.specs.History.{Text, path_of, History, Transaction, Change, Creates, Sets, Deletes, newest}
 use Rattle.zk_history.specs.declared.side.Side.{Side}
 use Rattle.zk_conversation.specs.Calls.{Call, ping_xid}
 use Rattle.zk_conversation.specs.Calls as call
 use Rattle.zk_watches.specs.Lists.{Lists}
-use Rattle.zk_history.specs.Kept.{Kept, history_of}
-use Rattle.std.specs.Prelude.{slice_index, Ok, Err, IfErr, IsErrOf}
+use Rattle.zk_history.specs.Kept.{Kept, history_of, made_transaction}
+use Rattle.std.specs.Prelude.{◌^◌, ⊤, Option, Some, slice_index, slice_set, Ok, Err, IfErr, IsErrOf}
 use Rattle.std.specs.Prelude.{Result as Outcome}
 use Rattle.zk_conversation.specs.Pending.{closes}
 use Rattle.zk_conversation.specs.Questions.{Question, question_of}
-use Rattle.zk_conversation.specs.Results.{Result, NoNode, Refused, Done, Found, Read, Listing, Made}
+use Rattle.zk_conversation.specs.Results.{Result, NoNode, Refused, Done, Found, Read, Listing, Made, stat_of}
 use Rattle.zk_turns.specs.Spelled.{HasResult}
-use Rattle.zk_laws.specs.Server.{Watches, both, sets, zxid_held, tree_held, Gives}
+use Rattle.zk_laws.specs.Server.{Watches, both, sets, zxid_held, tree_held, IsOther, IsMadeOf, is_sequential, Gives}
 use Rattle.zk_laws.specs.Messages.{Request, Ask, Restore, Ping, Replies}
 use Rattle.zk_laws.specs.ServerSteps.{ServerEnd, Stage, Serving, Ended as Silent, Answers, Restores, Pongs, MayDo, messages_by, end_after}
 use Rattle.zk_laws.specs.Served.{ArePayloads, IsPayload, code_of}
 use Rattle.zk_serving.specs.GoingOn.{GoesOn}
 use Rattle.zk_serving.specs.Steps.{Step, Moves, ended_by, sent_by, processed_by, used_by}
 use Rattle.zk_serving.specs.Shown.{Shown, Open, Apart}
-use Rattle.zk_serving.proofs.Stepping.{moves_more, ended_more, sent_more, answer_moves, idle_moves, idle_processes, last_ended, last_sent, last_processed}
-use Rattle.zk_serving.proofs.Later.{moves_later, ended_later}
+use Rattle.zk_serving.proofs.Stepping.{moves_more, ended_more, sent_more, processed_more, answer_moves, idle_moves, idle_processes, last_ended, last_sent, last_processed}
+use Rattle.zk_serving.proofs.Later.{moves_later, ended_later, taken_at, taken_set, taken_later}
 use Rattle.zk_bench.specs.declared.connection.Connection.{Connection}
 use Rattle.zk_bench.specs.declared.phase.Phase.TheVariants as phases
+use Rattle.zk_bench.specs.declared.stop.Stop.{Stop}
 use Rattle.zk_bench.specs.declared.stop.Stop.TheVariants as stops
 use Rattle.zk_bench.specs.declared.stop.Refusal.{Refusal}
 use Rattle.zk_bench.specs.declared.stop.Refusal.TheVariants as refusals
 use Rattle.zk_bench.specs.Refusals.{IsCode}
-use Rattle.zk_bench.specs.Served.{Served, is_open, ended}
+use Rattle.zk_bench.specs.Served.{Served, Linked, is_open, ended}
 use Rattle.zk_bench.specs.Linked.{linked_of}
-use Rattle.zk_bench.specs.Serving.{watched, SendsHeader}
+use Rattle.zk_bench.specs.Serving.{watched, Sends, SendsHeader}
 use Rattle.zk_bench.specs.Answering.{IsRead, FindsNone, RefusesRead}
 use Rattle.zk_bench.specs.Restoring.{RestoresPart}
-use Rattle.zk_bench.specs.Stepping.{TakesSome, ProcessesOne, Owes, IsRefusal, Declines, HasClient, zxid_of, stage_of, phase_of, shown_of}
-use Rattle.zk_bench.proofs.Stepped.{shows_same, shows_ended, same_history, gives_read, goes_on}
+use Rattle.zk_bench.specs.Stepping.{Catches, CatchesUp, IsReady, TakesSome, ProcessesOne, Owes, IsRefusal, Declines, HasClient, HasAll, HasWritten, LeavesUnmade, SendsStat, IsSending, zxid_of, stage_of, phase_of, shown_watches, end_of, shown_of}
+use Rattle.zk_bench.specs.Writing.{IsAnswer, appended}
+use Rattle.zk_bench.proofs.Answered.{or-false, stat_read}
+use Rattle.zk_bench.proofs.Written.{appended-transactions}
+use Rattle.zk_bench.proofs.Stepped.{shows_same, shows_ended, same_history, set_there, length_set, is_going_on, gives_read, goes_on}
 
 grown : (h later : History) (n : ℕ) → GoesOn h later → n ≤ length h.transactions → n ≤ length later.transactions
 grown h later n g low =
@@ -106,6 +114,31 @@ processes_after request xid old mid new last took up may told one same sent ther
             ∙ ap (λ (h : History). ended_by h (took.steps ++ last ∷ []) old.server) (sym same);
       };
       done = λ still. omega (arith, all, none, one);
+    }
+
+-- They are taken, and then a request is processed.
+pub processes_more : (request : Request) (xid : ℤ) (old mid new : Shown) → TakesSome old mid → mid.phase ≡ Open → old.server.place ≤ length old.history.transactions → ProcessesOne request xid mid new → ProcessesOne request xid old new
+processes_more request xid old mid new a up low b =
+    let g = a.takes.goes in
+    let k = b.goes in
+    let high = grown old.history mid.history old.server.place g.history low in
+    let none : processed_by a.steps ≡ 0 = idle_processes mid.history (pos 0) a.steps old.server g.moves in
+    let at : mid.server ≡ ended_by new.history a.steps old.server = g.ended up ∙ sym (ended_later mid.history new.history (pos 0) [] a.steps old.server k.history high g.moves) in
+    let first = idle_moves new.history (pos 0) xid (request ∷ []) a.steps old.server (moves_later mid.history new.history (pos 0) [] a.steps old.server k.history high g.moves) in
+    let second = subst (λ (s : ServerEnd). Moves new.history xid (request ∷ []) b.steps s) at k.moves in
+    let all = processed_more a.steps b.steps in
+    record {
+      steps = a.steps ++ b.steps;
+      goes = record {
+        history = goes_further old.history mid.history new.history g.history k.history;
+        moves = moves_more new.history xid (request ∷ []) a.steps b.steps old.server first
+            (subst (λ (n : ℕ). Moves new.history xid (drop n (request ∷ [])) b.steps (ended_by new.history a.steps old.server)) (sym none) second);
+        sent = k.sent ∙ ap (λ (bs : List ℕ). bs ++ sent_by b.steps) g.sent ∙ append_assoc old.output (sent_by a.steps) (sent_by b.steps)
+            ∙ ap (λ (bs : List ℕ). old.output ++ bs) (sym (sent_more a.steps b.steps));
+        there = k.there;
+        ended = λ still. k.ended still ∙ ap (ended_by new.history b.steps) at ∙ sym (ended_more new.history a.steps b.steps old.server);
+      };
+      done = λ still. let one = b.done still in omega (arith, all, none, one);
     }
 
 -- They are taken, and then the connection is ended.
@@ -256,3 +289,300 @@ module _ {A : Type 0} (b : Served) (old new : Connection A) (accepted : old.phas
   declines_part xid request (Err (refusals.Code code)) never ends = absurd (never tt)
   declines_part xid request (Err (refusals.Stop stops.End)) never ends = ends_unsent request xid before after refl (ends refl)
   declines_part xid request (Err (refusals.Stop stops.Memory)) never ends = tt
+
+-- ---- transactions that are taken, in the words of a bench
+
+-- so a server that caught up is shown
+pub shows_caught : {A : Type 0} (b : Served) (old new : Connection A) (place : ℕ) → IsReady (record b { connection = linked_of old }) → old.phase ≡ phases.Accepted
+    → new ≡ record old { watches = new.watches; output = new.output } → CatchesUp (history_of b.history) (slice_index b.taken b.server) old place new
+    → TakesSome (shown_of (record b { connection = linked_of old })) (shown_of (record b { taken = slice_set b.taken b.server place; connection = linked_of new }))
+shows_caught b old new place ready accepted rest g =
+    let phase : new.phase ≡ old.phase = ap (λ k. k.phase) rest in
+    let put : slice_index (slice_set b.taken b.server place) b.server ≡ place = set_there b.taken b.server place ready.there in
+    record {
+      steps = g.steps;
+      takes = record {
+        goes = record {
+          history = same_history (history_of b.history);
+          moves = g.moves;
+          sent = g.sent;
+          there = λ e. is_going_on new.phase (ap is_open (phase ∙ accepted)) e;
+          ended = λ still. ap (λ (n : ℕ). end_linked n (linked_of new)) put ∙ sym g.ended;
+        };
+        requests = λ still. ap (λ k. k.requests.items) rest;
+      };
+    }
+  where
+    end_linked : ℕ → Linked → ServerEnd
+    end_linked at c = record { place = at; watches = shown_watches c; stage = stage_of c.phase }
+
+-- and one that ends the connection on its way
+pub shows_stopped : {A : Type 0} (b : Served) (old new : Connection A) (place : ℕ) → Catches (history_of b.history) (slice_index b.taken b.server) old place new
+    → TakesSome (shown_of (record b { connection = linked_of old })) (shown_of (ended (record b { taken = slice_set b.taken b.server place; connection = linked_of new })))
+shows_stopped b old new place g = record {
+  steps = g.steps;
+  takes = record {
+    goes = record { history = same_history (history_of b.history); moves = g.moves; sent = g.sent; there = λ e. absurd cc; ended = λ e. absurd cc };
+    requests = λ e. absurd cc;
+  };
+}
+
+-- it has the client still
+pub has_caught : {A : Type 0} (b : Served) (old new : Connection A) (place : ℕ) → HasClient (record b { connection = linked_of old }) → new ≡ record old { watches = new.watches; output = new.output }
+    → place ≤ length b.history.transactions → HasClient (record b { taken = slice_set b.taken b.server place; connection = linked_of new })
+has_caught b old new place has rest low =
+    let accepted : new.phase ≡ phases.Accepted = ap (λ k. k.phase) rest ∙ has.accepted in
+    record {
+      ready = record {
+        taken = taken_set (history_of b.history) b.taken b.server place has.ready.taken low;
+        there = subst (λ (n : ℕ). b.server < n) (sym (length_set b.taken b.server place)) has.ready.there;
+        unwatched = λ opening. let f : phases.Opening ≡ phases.Accepted = sym opening ∙ accepted in absurd cc;
+      };
+      accepted = accepted;
+    }
+
+-- the connection ends behind transactions that were taken
+pub takes_ended : (old mid : Served) → TakesSome (shown_of old) (shown_of mid) → TakesSome (shown_of old) (shown_of (ended mid))
+takes_ended old mid a = record {
+  steps = a.steps;
+  takes = record {
+    goes = record { history = a.takes.goes.history; moves = a.takes.goes.moves; sent = a.takes.goes.sent; there = λ e. absurd cc; ended = λ e. absurd cc };
+    requests = λ e. absurd cc;
+  };
+}
+
+-- the history goes on, and the connected server takes nothing
+pub takes_none : (old new : Served) → GoesOn (history_of old.history) (history_of new.history) → HasClient old → new ≡ record old { history = new.history } → TakesSome (shown_of old) (shown_of new)
+takes_none old new goes has rest = record {
+  steps = [];
+  takes = record {
+    goes = record {
+      history = goes;
+      moves = tt;
+      sent = ap (λ (s : Served). s.connection.output) rest ∙ twice old.connection.output;
+      there = λ e. not_apart old has (ap (λ (s : Served). phase_of s.connection.phase) (sym rest) ∙ e);
+      ended = λ still. ap end_of rest;
+    };
+    requests = λ still. ap (λ (s : Served). s.connection.requests) rest;
+  };
+}
+
+-- and it holds a beginning of the history still
+pub has_later : (old : Served) (history : Kept) → GoesOn (history_of old.history) (history_of history) → HasClient old → HasClient (record old { history = history })
+has_later old history goes has = record {
+  ready = record { taken = taken_later (history_of old.history) (history_of history) old.taken goes has.ready.taken; there = has.ready.there; unwatched = has.ready.unwatched };
+  accepted = has.accepted;
+}
+
+-- it stands at a place of the history
+low_place : (old : Served) → HasClient old → (end_of old).place ≤ length old.history.transactions
+low_place old has = taken_at (history_of old.history) old.taken old.server has.ready.taken
+
+pub takes_then : (old mid new : Served) → HasClient old → HasClient mid → TakesSome (shown_of old) (shown_of mid) → TakesSome (shown_of mid) (shown_of new) → TakesSome (shown_of old) (shown_of new)
+takes_then old mid new has more a b = takes_more (shown_of old) (shown_of mid) (shown_of new) a (opened mid more) (low_place old has) b
+
+pub processes_then : (request : Request) (xid : ℤ) (old mid new : Served) → HasClient old → HasClient mid → TakesSome (shown_of old) (shown_of mid) → ProcessesOne request xid (shown_of mid) (shown_of new)
+    → ProcessesOne request xid (shown_of old) (shown_of new)
+processes_then request xid old mid new has more a b = processes_more request xid (shown_of old) (shown_of mid) (shown_of new) a (opened mid more) (low_place old has) b
+
+pub ends_then : (request : Request) (xid : ℤ) (old new : Served) → TakesSome (shown_of old) (shown_of (ended new)) → ProcessesOne request xid (shown_of old) (shown_of (ended new))
+ends_then request xid old new a = ends_after request xid (shown_of old) (shown_of (ended new)) a (λ still. absurd cc)
+
+owes_then : (one : Call) (code : ℤ) (old mid new : Served) → HasClient old → HasClient mid → TakesSome (shown_of old) (shown_of mid) → Owes one code (shown_of mid) (shown_of new) → Owes one code (shown_of old) (shown_of new)
+owes_then one code old mid new has more a o = record {
+  mid = o.mid;
+  took = takes_more (shown_of old) (shown_of mid) o.mid a (opened mid more) (low_place old has) o.took;
+  up = o.up;
+  serves = o.serves;
+  stays = o.stays;
+  result = o.result;
+  refuses = o.refuses;
+  coded = o.coded;
+  gives = o.gives;
+  left = o.left;
+}
+
+pub declines_then : (one : Call) (xid : ℤ) (old mid new : Served) (refusal : Refusal) → HasClient old → HasClient mid → TakesSome (shown_of old) (shown_of mid) → Declines (Ask one) xid mid new refusal → Declines (Ask one) xid old new refusal
+declines_then one xid old mid new (refusals.Code code) has more a d = owes_then one (code_number code) old mid new has more a d
+declines_then one xid old mid new (refusals.Stop stops.End) has more a d = processes_then (Ask one) xid old mid (ended new) has more a d
+declines_then one xid old mid new (refusals.Stop stops.Memory) has more a d = tt
+
+-- ---- writes
+
+-- a change that is not appended
+pub leaves_append : (old : Served) (history : Kept) (refusal : Refusal) → HasClient old → GoesOn (history_of old.history) (history_of history) → (IsCode refusal → (refusal ≡ refusals.Code codes.BadArguments) × (history ≡ old.history))
+    → LeavesUnmade old (record old { history = history }) refusal
+leaves_append old history (refusals.Code code) has goes told = (subst IsAnswer (sym (told tt).0) tt, takes_none old (record old { history = history }) goes has refl)
+leaves_append old history (refusals.Stop stop) has goes told = takes_ended old (record old { history = history }) (takes_none old (record old { history = history }) goes has refl)
+
+-- one that is appended and taken
+pub wrote_so : (kept : Kept) (time : ℕ) (change : Change) (new : Served) → new.history ≡ appended kept time change → HasAll new → HasWritten change new
+wrote_so kept time change new is all = (
+  kept.transactions,
+  made_transaction (newest 0 kept.transactions + 1) (pos time) (change ∷ []),
+  take_all (slice_index new.taken new.server) new.history.transactions all ∙ ap (λ (k : Kept). k.transactions) is ∙ appended-transactions kept time change,
+  inl refl,
+)
+
+abbrev IsWrite : Call → Type 0
+IsWrite (call.SetData text content version) = ⊤
+IsWrite (call.Create text content mode) = ⊤
+IsWrite (call.Delete text version) = ⊤
+IsWrite one = ⊥
+
+write_stays : (one : Call) → IsWrite one → closes (question_of one) ≡ false
+write_stays (call.Exists text watch) is = absurd is
+write_stays (call.GetData text watch) is = absurd is
+write_stays (call.GetChildren text watch) is = absurd is
+write_stays (call.SetData text content version) is = refl
+write_stays (call.Create text content mode) is = refl
+write_stays (call.Delete text version) is = refl
+write_stays call.Close is = absurd is
+
+no_watch : (w : Watches) → w ≡ both w (λ side path. false)
+no_watch w = fun_ext (λ side. fun_ext (λ path. sym (or-false (w side path))))
+
+-- a write leaves no watch
+write_sets : (one : Call) (result : Result) (w : Watches) → IsWrite one → w ≡ both w (sets (question_of one) result)
+write_sets (call.Exists text watch) result w is = absurd is
+write_sets (call.GetData text watch) result w is = absurd is
+write_sets (call.GetChildren text watch) result w is = absurd is
+write_sets (call.SetData text content version) result w is = no_watch w
+write_sets (call.Create text content mode) result w is = no_watch w
+write_sets (call.Delete text version) result w is = no_watch w
+write_sets call.Close result w is = absurd is
+
+-- what a code answers
+abbrev result_of : Code → Result
+result_of codes.NoNode = NoNode
+result_of code = Refused (code_number code)
+
+refused_so : (code : Code) → IsRefusal (result_of code) × (code_of (result_of code) ≡ code_number code)
+refused_so codes.ConnectionLoss = (tt, refl)
+refused_so codes.Unimplemented = (tt, refl)
+refused_so codes.BadArguments = (tt, refl)
+refused_so codes.NoNode = (tt, refl)
+refused_so codes.NoAuth = (tt, refl)
+refused_so codes.BadVersion = (tt, refl)
+refused_so codes.NoChildrenForEphemerals = (tt, refl)
+refused_so codes.NodeExists = (tt, refl)
+refused_so codes.NotEmpty = (tt, refl)
+refused_so codes.SessionExpired = (tt, refl)
+refused_so codes.InvalidAcl = (tt, refl)
+refused_so codes.SessionMoved = (tt, refl)
+refused_so (codes.Other n) = (tt, refl)
+
+other_by : (h : History) (place : ℕ) (one : Call) (code : ℤ) → IsOther code → Gives h place one (Refused code)
+other_by h place (call.Exists text watch) code o = o
+other_by h place (call.GetData text watch) code o = o
+other_by h place (call.GetChildren text watch) code o = o
+other_by h place (call.SetData text content version) code o = o
+other_by h place (call.Create text content mode) code o = o
+other_by h place (call.Delete text version) code o = o
+other_by h place call.Close code o = o
+
+none_by : (h : History) (place : ℕ) (one : Call) → IsWrite one → Gives h place one NoNode
+none_by h place (call.Exists text watch) is = absurd is
+none_by h place (call.GetData text watch) is = absurd is
+none_by h place (call.GetChildren text watch) is = absurd is
+none_by h place (call.SetData text content version) is = tt
+none_by h place (call.Create text content mode) is = tt
+none_by h place (call.Delete text version) is = tt
+none_by h place call.Close is = absurd is
+
+abbrev behind_zero : ℤ → ℕ
+behind_zero (pos n) = n
+behind_zero (negsuc n) = n
+
+other_code : (n : ℕ) → (n ≡ 100 → ⊥) → IsOther (negsuc n)
+other_code n h = (λ e. absurd cc, λ e. h (ap behind_zero e))
+
+-- A code may answer a write.
+gives_code : (h : History) (place : ℕ) (one : Call) (code : Code) → IsWrite one → IsAnswer (refusals.Code code) → Gives h place one (result_of code)
+gives_code h place one codes.ConnectionLoss is a = other_by h place one (code_number codes.ConnectionLoss) (other_code 3 (λ e. absurd (omega (arith, e))))
+gives_code h place one codes.Unimplemented is a = other_by h place one (code_number codes.Unimplemented) (other_code 5 (λ e. absurd (omega (arith, e))))
+gives_code h place one codes.BadArguments is a = other_by h place one (code_number codes.BadArguments) (other_code 7 (λ e. absurd (omega (arith, e))))
+gives_code h place one codes.NoNode is a = none_by h place one is
+gives_code h place one codes.NoAuth is a = other_by h place one (code_number codes.NoAuth) (other_code 101 (λ e. absurd (omega (arith, e))))
+gives_code h place one codes.BadVersion is a = other_by h place one (code_number codes.BadVersion) (other_code 102 (λ e. absurd (omega (arith, e))))
+gives_code h place one codes.NoChildrenForEphemerals is a = other_by h place one (code_number codes.NoChildrenForEphemerals) (other_code 107 (λ e. absurd (omega (arith, e))))
+gives_code h place one codes.NodeExists is a = other_by h place one (code_number codes.NodeExists) (other_code 109 (λ e. absurd (omega (arith, e))))
+gives_code h place one codes.NotEmpty is a = other_by h place one (code_number codes.NotEmpty) (other_code 110 (λ e. absurd (omega (arith, e))))
+gives_code h place one codes.SessionExpired is a = other_by h place one (code_number codes.SessionExpired) (other_code 111 (λ e. absurd (omega (arith, e))))
+gives_code h place one codes.InvalidAcl is a = other_by h place one (code_number codes.InvalidAcl) (other_code 113 (λ e. absurd (omega (arith, e))))
+gives_code h place one codes.SessionMoved is a = other_by h place one (code_number codes.SessionMoved) (other_code 117 (λ e. absurd (omega (arith, e))))
+gives_code h place one (codes.Other n) is a = absurd a
+
+-- A write that is not made is owed its code, or the connection has ended.
+pub declines_unmade : (one : Call) (xid : ℤ) (old new : Served) (refusal : Refusal) → IsWrite one → HasClient old → HasClient new → LeavesUnmade old new refusal → Declines (Ask one) xid old new refusal
+declines_unmade one xid old new (refusals.Code code) is has now unmade = record {
+  mid = shown_of new;
+  took = unmade.1;
+  up = opened new now;
+  serves = ap stage_of now.accepted;
+  stays = write_stays one is;
+  result = result_of code;
+  refuses = (refused_so code).0;
+  coded = (refused_so code).1;
+  gives = gives_code (history_of new.history) (slice_index new.taken new.server) one code is unmade.0;
+  left = ap (λ (w : Watches). record (shown_of new) { server = record (end_of new) { watches = w } }) (write_sets one (result_of code) (end_of new).watches is);
+}
+declines_unmade one xid old new (refusals.Stop stops.End) is has now unmade = ends_then (Ask one) xid old new unmade
+declines_unmade one xid old new (refusals.Stop stops.Memory) is has now unmade = tt
+
+-- where nothing was done yet
+pub unmade_same : (old : Served) (refusal : Refusal) → HasClient old → IsAnswer refusal → LeavesUnmade old old refusal
+unmade_same old (refusals.Code code) has is = (is, shows_same old (ap is_open has.accepted))
+unmade_same old (refusals.Stop stop) has is = takes_ended old old (shows_same old (ap is_open has.accepted))
+
+-- A write that was made is answered.
+pub answers_made : (one : Call) (result : Result) (xid : ℤ) (old mid : Served) (output payload : List ℕ) → IsWrite one → HasClient mid → TakesSome (shown_of old) (shown_of mid)
+    → Gives (history_of mid.history) (slice_index mid.taken mid.server) one result → length payload < 2 ^ 31 → IsPayload xid (Replies (question_of one) (zxid_of mid) result) payload
+    → output ≡ mid.connection.output ++ frame payload → ProcessesOne (Ask one) xid (shown_of old) (shown_of (sending mid output))
+answers_made one result xid old mid output payload is has took gives small spelled sent =
+    processes_after (Ask one) xid (shown_of old) (shown_of mid) (shown_of (sending mid output)) (record { step = Answers one result; payloads = payload ∷ [] }) took (opened mid has)
+    (ap stage_of has.accepted, refl, gives) (small, spelled, tt) refl refl
+    (sent ∙ ap (λ (bs : List ℕ). mid.connection.output ++ bs) (twice (frame payload))) (not_apart mid has)
+    (λ still. ap (λ (w : Watches). record (end_of mid) { watches = w }) (write_sets one result (end_of mid).watches is)
+    ∙ ap (λ (s : Stage). record (end_of mid) { watches = both (end_of mid).watches (sets (question_of one) result); stage = s }) (ap stage_of has.accepted ∙ ap (λ (over : Bool). if over then Silent else Serving) (sym (write_stays one is))))
+
+-- where nothing of the answer was sent, the connection ends
+pub ends_sending : (request : Request) (xid : ℤ) (old mid new : Served) → HasClient old → HasClient mid → TakesSome (shown_of old) (shown_of mid) → IsSending mid new → new.connection.output ≡ mid.connection.output
+    → ProcessesOne request xid (shown_of old) (shown_of (ended new))
+ends_sending request xid old mid new has more took only unsent =
+    let goes = subst (λ (k : Kept). GoesOn (history_of mid.history) (history_of k)) (ap (λ (s : Served). s.history) (sym only)) (same_history (history_of mid.history)) in
+    ends_then request xid old new (takes_then old mid (ended new) has more took (shows_ended mid (ended new) goes refl unsent))
+
+-- a stop is no code
+pub stops_by : (request : Request) (xid : ℤ) (old new : Served) (stop : Stop) → (stop ≡ stops.End → ProcessesOne request xid (shown_of old) (shown_of (ended new))) → Declines request xid old new (refusals.Stop stop)
+stops_by request xid old new stops.End ends = ends refl
+stops_by request xid old new stops.Memory ends = tt
+
+-- the path that was made is answered
+pub created_so : (text : Text) (content : Option (List ℕ)) (number : ℕ) (xid : ℤ) (old mid new : Served) (at : Text) (owner : ℤ) → HasClient mid → TakesSome (shown_of old) (shown_of mid) → IsMadeOf text (is_sequential number) at
+    → HasWritten (Creates (path_of at) content owner) mid → Sends (xid, (pos (zxid_of mid), pos 0)) create_response (Some at) mid.connection.output new.connection.output → IsSending mid new
+    → ProcessesOne (Ask (call.Create text content number)) xid (shown_of old) (shown_of new)
+created_so text content number xid old mid new at owner has took made wrote s only =
+    let behind = spelling create_response (Some at) in
+    subst (λ (n : Served). ProcessesOne (Ask (call.Create text content number)) xid (shown_of old) (shown_of n)) (sym only)
+    (answers_made (call.Create text content number) (Made at) xid old mid new.connection.output (spelling reply_header (xid, (pos (zxid_of mid), pos 0)) ++ behind) tt has took (owner, made, wrote) s.small
+    (behind, record { fits = s.header_fits; whole = refl }, (Some at, record { ignored = []; fits = s.value_fits; whole = twice behind }, refl)) s.output)
+
+-- so is the Stat behind a write
+pub set_so : (text : Text) (content : Option (List ℕ)) (version xid : ℤ) (old mid new : Served) → HasClient mid → TakesSome (shown_of old) (shown_of mid) → HasWritten (Sets (path_of text) content) mid → SendsStat xid text mid new
+    → IsSending mid new → ProcessesOne (Ask (call.SetData text content version)) xid (shown_of old) (shown_of new)
+set_so text content version xid old mid new has took wrote s only =
+    let behind = spelling stat s.value in
+    subst (λ (n : Served). ProcessesOne (Ask (call.SetData text content version)) xid (shown_of old) (shown_of n)) (sym only)
+    (answers_made (call.SetData text content version) (Found (stat_of s.value)) xid old mid new.connection.output (spelling reply_header (xid, (pos (zxid_of mid), pos 0)) ++ behind) tt has took
+    (wrote, stat_read (tree_held (history_of mid.history) (slice_index mid.taken mid.server)) (path_of text) (stat_of s.value) s.told) s.sends.small
+    (behind, record { fits = s.sends.header_fits; whole = refl }, (s.value, record { ignored = []; fits = s.sends.value_fits; whole = twice behind }, refl)) s.sends.output)
+
+-- and a header alone, where a node is gone
+pub deleted_so : (text : Text) (version xid : ℤ) (old mid new : Served) → HasClient mid → TakesSome (shown_of old) (shown_of mid) → HasWritten (Deletes (path_of text)) mid
+    → SendsHeader (xid, (pos (zxid_of mid), pos 0)) mid.connection.output new.connection.output → IsSending mid new → ProcessesOne (Ask (call.Delete text version)) xid (shown_of old) (shown_of new)
+deleted_so text version xid old mid new has took wrote s only =
+    let payload = spelling reply_header (xid, (pos (zxid_of mid), pos 0)) in
+    subst (λ (n : Served). ProcessesOne (Ask (call.Delete text version)) xid (shown_of old) (shown_of n)) (sym only)
+    (answers_made (call.Delete text version) Done xid old mid new.connection.output payload tt has took wrote s.small
+    ([], record { fits = s.fits; whole = twice payload }, (tt, record { ignored = []; fits = tt; whole = refl }, refl)) s.output)

@@ -145,17 +145,17 @@ takes_silently h at old opening unwatched room =
 
 -- What a bench shows
 
-set_there : (xs : List ℕ) (i n : ℕ) → i < length xs → slice_index (slice_set xs i n) i ≡ n
+pub set_there : (xs : List ℕ) (i n : ℕ) → i < length xs → slice_index (slice_set xs i n) i ≡ n
 set_there [] i n low = absurd (omega (arith, low))
 set_there (x ∷ xs) zero n low = refl
 set_there (x ∷ xs) (suc i) n low = set_there xs i n (omega (arith, low))
 
-length_set : (xs : List ℕ) (i n : ℕ) → length (slice_set xs i n) ≡ length xs
+pub length_set : (xs : List ℕ) (i n : ℕ) → length (slice_set xs i n) ≡ length xs
 length_set [] i n = refl
 length_set (x ∷ xs) zero n = refl
 length_set (x ∷ xs) (suc i) n = ap suc (length_set xs i n)
 
-is_going_on : (phase : Phase) → is_open phase ≡ true → phase_of phase ≢ shows.Apart
+pub is_going_on : (phase : Phase) → is_open phase ≡ true → phase_of phase ≢ shows.Apart
 is_going_on Apart e f = absurd cc
 is_going_on Opening e f = absurd cc
 is_going_on Accepted e f = absurd cc

@@ -1,13 +1,17 @@
 -- Steps of a server on a connection, and what a bench shows in the words of the laws.
-use Rattle.std.specs.Prelude.{ℕ, pos, ◌≡◌, ◌<◌, ◌≤◌, ℤ, false, List, [], ◌∷◌, ◌++◌, length, slice_index, ⊤}
-use Rattle.zk_history.specs.History.{History}
+use Rattle.std.specs.Prelude.{ℕ, pos, ◌≡◌, ◌<◌, ◌≤◌, ℤ, false, List, [], ◌∷◌, ◌++◌, length, slice_index, Some, ⊤}
+use Rattle.zk_history.specs.History.{History, Text, Change, path_of}
+use Rattle.zk_history.specs.Shown.{IsStat}
+use Rattle.zk_history.specs.StatLayout.{stat}
+use Rattle.zk_jute.specs.Layout.{Value}
 use Rattle.zk_history.specs.Kept.{history_of}
 use Rattle.zk_conversation.specs.Calls.{Call}
 use Rattle.zk_conversation.specs.Pending.{closes}
 use Rattle.zk_conversation.specs.Questions.{question_of}
-use Rattle.zk_conversation.specs.Results.{Result, NoNode, Refused}
+use Rattle.zk_conversation.specs.Results.{Result, NoNode, Refused, stat_of}
 use Rattle.zk_records.specs.Codes.{code_number}
-use Rattle.zk_laws.specs.Server.{Watches, no_watches, both, sets, zxid_held, Gives}
+use Rattle.zk_records.specs.declared.code.Code.TheVariants as codes
+use Rattle.zk_laws.specs.Server.{Watches, no_watches, both, sets, held, zxid_held, tree_held, LastHolds, Gives}
 use Rattle.zk_laws.specs.ServerSteps.{ServerEnd, Stage, Waiting, Serving, Ended as Silent}
 use Rattle.zk_laws.specs.Served.{code_of}
 use Rattle.zk_serving.specs.Steps.{Step, Moves, ended_by, sent_by, processed_by}
@@ -18,7 +22,8 @@ use Rattle.zk_serving.specs.Shown as shows
 use Rattle.zk_bench.specs.declared.connection.Connection.{Connection}
 use Rattle.zk_bench.specs.declared.phase.Phase.{Phase}
 use Rattle.zk_bench.specs.declared.phase.Phase.TheVariants.{Apart, Opening, Accepted, Ended}
-use Rattle.zk_bench.specs.Serving.{watched, watches_of}
+use Rattle.zk_bench.specs.Serving.{watched, watches_of, Sends}
+use Rattle.zk_bench.specs.Writing.{IsAnswer}
 use Rattle.zk_bench.specs.Answering.{name_set}
 use Rattle.zk_bench.specs.Served.{Served, Linked, ended}
 use Rattle.zk_bench.specs.declared.stop.Stop.{Stop}
@@ -147,3 +152,28 @@ zxid_of served = zxid_held (history_of served.history) (slice_index served.taken
 -- bytes more are sent, or fewer, and nothing else changes
 abbrev pub IsSending : Served → Served → Type 0
 IsSending old new = new ≡ record old { connection = record old.connection { output = new.connection.output } }
+
+-- It holds the whole history.
+abbrev pub HasAll : Served → Type 0
+HasAll served = length served.history.transactions ≤ slice_index served.taken served.server
+
+-- the last transaction that it holds has this change
+abbrev pub HasWritten : Change → Served → Type 0
+HasWritten change served = LastHolds change (held (history_of served.history) (slice_index served.taken served.server))
+
+-- The write is not made: it is to be refused by a code, or the connection ends. Transactions may have been taken before.
+abbrev pub LeavesUnmade : Served → Served → Refusal → Type 0
+LeavesUnmade old new (refusals.Code code) = IsAnswer (refusals.Code code) × TakesSome (shown_of old) (shown_of new)
+LeavesUnmade old new (refusals.Stop stop) = TakesSome (shown_of old) (shown_of (ended new))
+
+-- The Stat of a node is sent.
+pub record SendsStat (xid : ℤ) (text : Text) (old new : Served) : Type 0 where
+  pub value : Value stat
+  pub told : IsStat (tree_held (history_of old.history) (slice_index old.taken old.server)) (path_of text) (Some (stat_of value))
+  pub sends : Sends (xid, (pos (zxid_of old), pos 0)) stat value old.connection.output new.connection.output
+
+-- It is not: no node is there, or the connection ends.
+abbrev pub LeavesUnsent : Served → Served → Refusal → Type 0
+LeavesUnsent old new (refusals.Code code) = (code ≡ codes.NoNode) × (new ≡ old)
+LeavesUnsent old new (refusals.Stop stops.End) = new.connection.output ≡ old.connection.output
+LeavesUnsent old new (refusals.Stop stops.Memory) = ⊤
