@@ -1,18 +1,21 @@
 -- What writes make.
-use Rattle.std.proofs.Common.{◌-◌, nat_lt, map, take, get_or, length, List, ◌<◌, ◌^◌, ◌≡◌, ◌+◌, ◌≤◌, ℕ, ℤ, zero, suc, pos, Bool, false, cond, [], ◌∷◌, ◌++◌, Option, Some, None, refl, sym, ap, ◌∙◌, subst, arith}
-use Rattle.std.specs.Prelude.{unwrap_or, bytes_eq, slice_get, count_by, min, replicate, Ok, Err, IfErr}
+use Rattle.std.proofs.Common.{◌-◌, nat_lt, nat_le, ◌||◌, map, take, get_or, length, List, ◌<◌, ◌^◌, ◌≡◌, ◌+◌, ◌≤◌, ℕ, ℤ, zero, suc, pos, Bool, false, cond, [], ◌∷◌, ◌++◌, Option, Some, None, refl, sym, ap, ◌∙◌, subst, arith}
+use Rattle.std.specs.Prelude.{unwrap_or, bytes_eq, slice_get, count_by, min, replicate, Ok, Err, IfErr, OnOk}
 use Rattle.std.specs.Prelude.{Result as Outcome}
 use Rattle.std.specs.Result.{IsErrAnd}
 use Rattle.std.proofs.lemmas.List.Sums.{sum_by-cons, sum_by_more}
 use Rattle.std.proofs.lemmas.List.{take_all, append-nil}
 use Rattle.std.proofs.lemmas.Option.{none-some}
 use Rattle.std.specs.Fmt.{styled_decimal, padded_integral, char_count, format_spec, decimal}
-use borrow.Author.Tests.{le-ltb}
+use borrow.Author.Tests.{le-ltb, lt-leb}
 use Rattle.std.specs.FinSet as set
 use Rattle.std.specs.Option.{option_map}
-use Rattle.zk_history.specs.History.{Text, NodePath, Node, Tree, Change, Transaction, AreRising, newest, path_of}
+use Rattle.zk_history.specs.History.{Text, NodePath, Node, Tree, Change, Transaction, AreRising, newest, path_of, after, apply_all}
 use Rattle.zk_history.specs.Path.{parent_of}
-use Rattle.zk_history.specs.Kept.{Kept, made_transaction, HasChildren}
+use Rattle.zk_history.specs.Kept.{Kept, IsAccepted, made_transaction, with_transaction, first_tree, newest_tree, HasChildren}
+use Rattle.zk_history.specs.Refused.{ChangeRefused}
+use Rattle.zk_history.specs.declared.history_fault.HistoryFault.{HistoryFault}
+use Rattle.zk_history.specs.declared.history_fault.HistoryFault.TheVariants.{Place, Order, Illegal, Memory}
 use Rattle.zk_history.specs.PathFault.{fault_of, fault_told, IsPath}
 use Rattle.zk_history.specs.declared.path_fault.PathFault.{PathFault}
 use Rattle.zk_history.specs.declared.path_fault.PathFault.TheVariants as path_faults
@@ -25,7 +28,7 @@ use Rattle.zk_laws.specs.Server.{is_sequential}
 use Rattle.zk_bench.specs.declared.stop.Refusal.{Refusal}
 use Rattle.zk_bench.specs.declared.stop.Refusal.TheVariants as refusals
 use Rattle.zk_bench.specs.Refusals.{IsCode, refusal_of_path}
-use Rattle.zk_bench.specs.Writing.{appended, mode_of, IsAnswer, IsStatAt, text_unless, path_told, node_of, node_at, data_refusal, set_refusal, removal_refusal, absence_refusal, deletion_refusal, AreBeside, makes_below, creates_below, ten_digits, numbered_text}
+use Rattle.zk_bench.specs.Writing.{appended, mode_of, IsAnswer, IsStatAt, text_unless, path_told, node_of, node_at, data_refusal, set_refusal, removal_refusal, absence_refusal, deletion_refusal, AreBeside, makes_below, creates_below, ten_digits, numbered_text, is_over, AppendRefused}
 use Rattle.zk_bench.proofs.Continuing.{last_with-append}
 use Rattle.zk_bench.proofs.Placed.{is_room}
 
@@ -166,3 +169,37 @@ pub no_path : {X : Type 0} (result : Outcome X Refusal) (text : Text) (fault : P
     → fault_of text ≡ fault_told fault → IfErr result (λ refusal. IsCode refusal → outcome ≡ None)
 no_path (Ok x) text fault outcome same gives is = tt
 no_path (Err refusal) text fault outcome same gives is = λ code. same ∙ refused_text text fault (subst IsCode gives code) is
+
+-- Where a change is appended
+
+-- A transaction with no change leaves the tree.
+after_begun : (ts : List Transaction) (tree : Tree) (zxid : ℕ) (time : ℤ) → after (ts ++ made_transaction zxid time [] ∷ []) tree ≡ after ts tree
+after_begun [] tree zxid time = refl
+after_begun (one ∷ more) tree zxid time = after_begun more (apply_all one.zxid one.time one.changes tree) zxid time
+
+pub tree_begun : (old mid : Kept) (zxid : ℕ) (time : ℤ) → mid ≡ with_transaction old zxid time → newest_tree mid ≡ newest_tree old
+tree_begun old mid zxid time is = ap newest_tree is ∙ after_begun old.transactions (first_tree old) zxid time
+
+not_empty : {X : Type 0} (xs : List X) (x : X) → xs ++ x ∷ [] ≡ [] → ⊥
+not_empty [] x e = cc
+not_empty (y ∷ ys) x e = cc
+
+pub some_begun : (old mid : Kept) (zxid : ℕ) (time : ℤ) → mid ≡ with_transaction old zxid time → mid.transactions ≡ [] → ⊥
+some_begun old mid zxid time is none = not_empty old.transactions (made_transaction zxid time []) (sym (ap (λ (k : Kept). k.transactions) is) ∙ none)
+
+pub append_told : {X : Type 0} (result : Outcome X HistoryFault) (old mid : Kept) (zxid time : ℕ) (at : ℤ) (change : Change) → mid ≡ with_transaction old zxid at → is_over old time ≡ false
+    → IfErr result (ChangeRefused mid change) → IfErr result (AppendRefused old time change)
+append_told (Ok x) old mid zxid time at change begun over refused = tt
+append_told (Err Place) old mid zxid time at change begun over refused = some_begun old mid zxid at begun refused
+append_told (Err Order) old mid zxid time at change begun over refused = absurd refused
+append_told (Err Illegal) old mid zxid time at change begun over refused =
+    (over, λ accepted. refused.1 (subst (λ (tree : Tree). IsAccepted change tree) (sym (tree_begun old mid zxid at begun)) accepted))
+append_told (Err Memory) old mid zxid time at change begun over refused = over
+
+pub append_accepted : {X : Type 0} (result : Outcome X HistoryFault) (old mid : Kept) (zxid : ℕ) (at : ℤ) (change : Change) → mid ≡ with_transaction old zxid at
+    → OnOk result (IsAccepted change (newest_tree mid)) → OnOk result (IsAccepted change (newest_tree old))
+append_accepted (Ok x) old mid zxid at change begun accepted = subst (λ (tree : Tree). IsAccepted change tree) (tree_begun old mid zxid at begun) accepted
+append_accepted (Err fault) old mid zxid at change begun accepted = tt
+
+pub room_left : (newest_zxid time : ℕ) → newest_zxid < 9223372036854775807 → time ≤ 9223372036854775807 → (nat_le 9223372036854775807 newest_zxid || nat_lt 9223372036854775807 time) ≡ false
+room_left newest_zxid time low early = ap (λ (b : Bool). b || nat_lt 9223372036854775807 time) (lt-leb 9223372036854775807 newest_zxid low) ∙ le-ltb 9223372036854775807 time early

@@ -1,5 +1,5 @@
 -- Writes: what they make of the history, and which are refused, with which code.
-use Rattle.std.specs.Prelude.{ℕ, ℤ, pos, negsuc, ◌+◌, ◌-◌, ◌==◌, ◌≡◌, nat_lt, Bool, true, false, ◌||◌, not, if◌then◌else◌, List, [], ◌∷◌, ◌++◌, length, replicate, sum_by, count_by, Option, Some, None, option_map, ⊤, bytes_eq}
+use Rattle.std.specs.Prelude.{ℕ, ℤ, pos, negsuc, ◌+◌, ◌-◌, ◌==◌, ◌≡◌, nat_lt, nat_le, Bool, true, false, ◌||◌, not, if◌then◌else◌, List, [], ◌∷◌, ◌++◌, length, replicate, sum_by, count_by, Option, Some, None, option_map, ⊤, bytes_eq, int_lt}
 use Rattle.std.specs.Fmt.{decimal}
 use Rattle.std.specs.FinSet as set
 use Rattle.std.specs.Ordering.{int_eq}
@@ -10,7 +10,9 @@ use Rattle.zk_history.specs.Shown.{stat_of}
 use Rattle.zk_history.specs.declared.stat.Stat.{Stat}
 use Rattle.zk_history.specs.PathFault.{fault_of}
 use Rattle.zk_history.specs.declared.path_fault.PathFault.{PathFault}
-use Rattle.zk_history.specs.Kept.{Kept, with_change, with_transaction, HasChildren, history_of, natural}
+use Rattle.zk_history.specs.Kept.{Kept, with_change, with_transaction, HasChildren, IsAccepted, history_of, natural, newest_tree}
+use Rattle.zk_history.specs.declared.history_fault.HistoryFault.{HistoryFault}
+use Rattle.zk_history.specs.declared.history_fault.HistoryFault.TheVariants.{Place, Order, Illegal, Memory}
 use Rattle.zk_records.specs.declared.code.Code.{Code}
 use Rattle.zk_records.specs.declared.code.Code.TheVariants as codes
 use Rattle.zk_bench.specs.declared.stop.Stop.TheVariants as stops
@@ -84,7 +86,7 @@ is_version asked version = int_eq asked (negsuc 0) || int_eq asked version
 
 -- the code that refuses data at a node of this version: -103 where another one is asked for, -8 where it can't rise
 abbrev pub data_refusal : ℤ → ℤ → Option Code
-data_refusal asked version = if not (is_version asked version) then Some codes.BadVersion else (if int_eq version (pos 2147483647) then Some codes.BadArguments else None)
+data_refusal asked version = if not (is_version asked version) then Some codes.BadVersion else (if int_lt version (pos 2147483647) then None else Some codes.BadArguments)
 
 -- The code that refuses a setData at a node, or at none: -101 there.
 abbrev pub set_refusal : Option Node → ℤ → Option Code
@@ -150,7 +152,7 @@ refusal_above tree (name ∷ parent) = parent_refusal (tree parent)
 -- where they are as many as a Stat can tell
 abbrev pub place_refusal : Option Node → ℤ → Option Code
 place_refusal (Some node) children = Some codes.NodeExists
-place_refusal None children = if int_eq children (pos 2147483647) then Some codes.BadArguments else None
+place_refusal None children = if int_lt children (pos 2147483647) then None else Some codes.BadArguments
 
 -- the code that refuses a node of this text, or of none: -8 for none
 abbrev pub text_refusal : Tree → Option Text → ℤ → Option Code
@@ -175,3 +177,21 @@ creation_refusal tree sequential text number children = path_refusal tree sequen
 abbrev pub AreBeside : Tree → NodePath → Names → Type 0
 AreBeside tree [] names = ⊤
 AreBeside tree (name ∷ parent) names = HasChildren tree parent names
+
+-- Which changes are appended
+
+-- no transaction can follow at this time: its zxid or the time would be past 2^63 - 1
+abbrev pub is_over : Kept → ℕ → Bool
+is_over kept time = nat_le 9223372036854775807 (newest 0 kept.transactions) || nat_lt 9223372036854775807 time
+
+-- When a change is not appended: behind the last zxid or time, where the tree does not admit it, and where memory ran out.
+abbrev pub AppendRefused : Kept → ℕ → Change → HistoryFault → Type 0
+AppendRefused kept time change Place = ⊥
+AppendRefused kept time change Order = is_over kept time ≡ true
+AppendRefused kept time change Illegal = (is_over kept time ≡ false) × ¬ IsAccepted change (newest_tree kept)
+AppendRefused kept time change Memory = is_over kept time ≡ false
+
+-- When the write of a client is not appended: -8 behind the last zxid or time, and else a stop, of memory alone where the tree admits it.
+abbrev pub WriteRefused : Kept → ℕ → Change → Refusal → Type 0
+WriteRefused kept time change (refusals.Code code) = (code ≡ codes.BadArguments) × (is_over kept time ≡ true)
+WriteRefused kept time change (refusals.Stop stop) = (is_over kept time ≡ false) × (IsAccepted change (newest_tree kept) → stop ≡ stops.Memory)

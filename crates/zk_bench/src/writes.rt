@@ -1,11 +1,11 @@
 //! Writes: which are refused, and how the others are made.
 
-ghost use Rattle.std.specs.Prelude.{◌≡◌, pos, Some, None, IfOk, IfErr, IfSome, OnOk, string_bytes};
+ghost use Rattle.std.specs.Prelude.{◌≡◌, false, pos, Some, None, IfOk, IfErr, IfSome, OnOk, string_bytes};
 ghost use Rattle.std.specs.Option.{option_map};
 ghost use Rattle.std.specs.FinSet as set;
 ghost use Rattle.zk_jute.specs.Lenient.{or_empty};
 ghost use Rattle.zk_history.specs.History.{Creates, path_of as names_in};
-ghost use Rattle.zk_history.specs.Kept.{HasChildren};
+ghost use Rattle.zk_history.specs.Kept.{HasChildren, IsAccepted, newest_tree};
 ghost use Rattle.zk_history.specs.Made.{change_of};
 ghost use Rattle.zk_history.specs.Path.{parent_of};
 ghost use Rattle.zk_history.specs.PathFault.{IsPath};
@@ -16,7 +16,7 @@ ghost use Rattle.zk_laws.specs.Server.{IsMadeOf};
 ghost use Rattle.zk_bench.specs.declared.stop.Refusal.TheVariants as refusals;
 ghost use Rattle.zk_bench.specs.Refusals.{IsCode};
 ghost use Rattle.zk_bench.specs.Served.{Continues};
-ghost use Rattle.zk_bench.specs.Writing.{appended, mode_of as mode_told, owner_of, IsAnswer, IsRefusedWith, IsStatAt, tree_of, node_at, is_version as version_told, data_refusal, removal_refusal, set_refusal, deletion_refusal, made_text, creates_beside, refusal_above, place_refusal, creation_refusal, AreBeside};
+ghost use Rattle.zk_bench.specs.Writing.{appended, mode_of as mode_told, owner_of, IsAnswer, IsRefusedWith, IsStatAt, tree_of, node_at, is_version as version_told, data_refusal, removal_refusal, set_refusal, deletion_refusal, made_text, creates_beside, refusal_above, place_refusal, creation_refusal, AreBeside, is_over, AppendRefused, WriteRefused};
 
 use crate::sequence::numbered;
 use crate::stop::{Refusal, Stop};
@@ -293,6 +293,9 @@ pub(crate) fn append<A: Allocator + Copy>(
     ensures ok { OnOk result (history.new ≡ appended history.old time (change_of change)) }
     ensures goes_on { Continues history.old history.new }
     ensures order { IfErr result (λ fault. fault ≡ faults.Order → history.new ≡ history.old) }
+    ensures room { OnOk result (is_over history.old time ≡ false) }
+    ensures accepted { OnOk result (IsAccepted (change_of change) (newest_tree history.old)) }
+    ensures told { IfErr result (AppendRefused history.old time (change_of change)) }
 {
     let last = history.last_zxid();
     if last == i64::MAX || time > i64::MAX as u64 {
@@ -316,6 +319,9 @@ pub(crate) fn append_write<A: Allocator + Copy>(
     ensures ok { OnOk result (history.new ≡ appended history.old time (change_of change)) }
     ensures goes_on { Continues history.old history.new }
     ensures refused { IfErr result (λ refusal. IsCode refusal → (refusal ≡ refusals.Code codes.BadArguments) × (history.new ≡ history.old)) }
+    ensures room { OnOk result (is_over history.old time ≡ false) }
+    ensures accepted { OnOk result (IsAccepted (change_of change) (newest_tree history.old)) }
+    ensures told { IfErr result (WriteRefused history.old time (change_of change)) }
 {
     match append(history, time, change) {
         Ok(()) => Ok(()),
