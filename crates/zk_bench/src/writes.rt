@@ -1,12 +1,14 @@
 //! Writes: which are refused, and how the others are made.
 
-ghost use Rattle.std.specs.Prelude.{◌≡◌, Some, None, IfOk, IfErr, IfSome, OnOk, string_bytes};
+ghost use Rattle.std.specs.Prelude.{◌≡◌, false, pos, Some, None, IfOk, IfErr, IfSome, OnOk, string_bytes};
 ghost use Rattle.std.specs.Option.{option_map};
 ghost use Rattle.std.specs.FinSet as set;
 ghost use Rattle.zk_jute.specs.Lenient.{or_empty};
 ghost use Rattle.zk_history.specs.History.{Creates, path_of as names_in};
-ghost use Rattle.zk_history.specs.Kept.{HasChildren};
+ghost use Rattle.zk_history.specs.Kept.{HasChildren, IsAccepted, newest_tree};
 ghost use Rattle.zk_history.specs.Made.{change_of};
+ghost use Rattle.zk_history.specs.Path.{parent_of};
+ghost use Rattle.zk_history.specs.PathFault.{IsPath};
 ghost use Rattle.zk_history.specs.Replay.{Names as NameSet};
 ghost use Rattle.zk_history.specs.declared.history_fault.HistoryFault.TheVariants as faults;
 ghost use Rattle.zk_records.specs.declared.code.Code.TheVariants as codes;
@@ -14,7 +16,7 @@ ghost use Rattle.zk_laws.specs.Server.{IsMadeOf};
 ghost use Rattle.zk_bench.specs.declared.stop.Refusal.TheVariants as refusals;
 ghost use Rattle.zk_bench.specs.Refusals.{IsCode};
 ghost use Rattle.zk_bench.specs.Served.{Continues};
-ghost use Rattle.zk_bench.specs.Writing.{appended, mode_of as mode_told, owner_of, IsAnswer, IsRefusedWith, IsStatAt, tree_of, node_at, is_version as version_told, data_refusal, removal_refusal, set_refusal, deletion_refusal};
+ghost use Rattle.zk_bench.specs.Writing.{appended, mode_of as mode_told, owner_of, IsAnswer, IsRefusedWith, IsStatAt, tree_of, node_at, is_version as version_told, data_refusal, removal_refusal, set_refusal, deletion_refusal, made_text, creates_beside, refusal_above, place_refusal, creation_refusal, AreBeside, is_over, AppendRefused, WriteRefused};
 
 use crate::sequence::numbered;
 use crate::stop::{Refusal, Stop};
@@ -57,6 +59,12 @@ fn parent_of<'p, A: Allocator + Copy>(
     tree: &Tree<'_, A>,
     asked: &'p Path<A>,
 ) -> Result<(&'p str, Stat), Refusal>
+    ensures parent { IfOk result (λ found. parent_of (names_in asked.now) ≡ Some (names_in found.0.now)) }
+    ensures path { IfOk result (λ found. IsPath found.0.now) }
+    ensures accepted { OnOk result (refusal_above (tree_of tree.now.history.now tree.now.zxid) (names_in asked.now) ≡ None) }
+    ensures counted { (names : NameSet) → AreBeside (tree_of tree.now.history.now tree.now.zxid) (names_in asked.now) names
+        → IfOk result (λ found. found.1.num_children ≡ pos (set.len names)) }
+    ensures told { IfErr result (IsRefusedWith (refusal_above (tree_of tree.now.history.now tree.now.zxid) (names_in asked.now))) }
     ensures refused { IfErr result IsAnswer }
 {
     let Some(parent) = asked.parent() else {
@@ -78,8 +86,12 @@ fn path_in_mode<A: Allocator + Copy>(
     asked: &Path<A>,
     parent: &str,
 ) -> Result<Path<A>, Refusal>
+    requires path { IsPath parent.now }
+    requires parent { parent_of (names_in asked.now) ≡ Some (names_in parent.now) }
     ensures made { IfOk result (λ path. IsMadeOf asked.now mode.sequential path) }
-    ensures refused { IfErr result IsAnswer }
+    ensures text { IfOk result (λ path. made_text mode.sequential asked.now (creates_beside (names_in asked.now) tree.now.history.now.transactions) ≡ Some path) }
+    ensures none { IfErr result (λ refusal. IsCode refusal → made_text mode.sequential asked.now (creates_beside (names_in asked.now) tree.now.history.now.transactions) ≡ None) }
+    ensures refused { IfErr result (IsRefusedWith (Some codes.BadArguments)) }
 {
     if mode.sequential {
         return numbered(tree.alloc, tree.history, asked, parent);
@@ -95,7 +107,8 @@ fn refusal_at<A: Allocator + Copy>(
     path: &Path<A>,
     children: i32,
 ) -> Option<Code>
-    ensures { IfSome result (λ code. IsAnswer (refusals.Code code)) }
+    ensures is { result ≡ place_refusal (tree_of tree.now.history.now tree.now.zxid (names_in path.now)) children }
+    ensures answer { IfSome result (λ code. IsAnswer (refusals.Code code)) }
 {
     if tree.history.stat_at(tree.zxid, path).is_some() {
         return Some(Code::NodeExists);
@@ -115,6 +128,11 @@ fn created_path<A: Allocator + Copy>(
     text: &str,
 ) -> Result<Path<A>, Refusal>
     ensures made { IfOk result (λ path. IsMadeOf text.now mode.sequential path) }
+    ensures text { IfOk result (λ path. made_text mode.sequential text.now (creates_beside (names_in text.now) tree.now.history.now.transactions) ≡ Some path) }
+    ensures accepted { (names : NameSet) → AreBeside (tree_of tree.now.history.now tree.now.zxid) (names_in text.now) names
+        → OnOk result (creation_refusal (tree_of tree.now.history.now tree.now.zxid) mode.sequential text.now (creates_beside (names_in text.now) tree.now.history.now.transactions) (set.len names) ≡ None) }
+    ensures told { (names : NameSet) → AreBeside (tree_of tree.now.history.now tree.now.zxid) (names_in text.now) names
+        → IfErr result (IsRefusedWith (creation_refusal (tree_of tree.now.history.now tree.now.zxid) mode.sequential text.now (creates_beside (names_in text.now) tree.now.history.now.transactions) (set.len names))) }
     ensures refused { IfErr result IsAnswer }
 {
     let asked = Path::new(tree.alloc, text)?;
@@ -145,6 +163,11 @@ pub(crate) fn creation<A: Allocator + Copy>(
     bytes: Buffer<A>,
 ) -> Result<(String<A>, Change<A>), Refusal>
     ensures made { IfOk result (λ made. (change_of made.1 ≡ Creates (names_in (string_bytes made.0)) bytes (owner_of mode.ephemeral)) × IsMadeOf text.now mode.sequential (string_bytes made.0)) }
+    ensures text { IfOk result (λ made. made_text mode.sequential text.now (creates_beside (names_in text.now) tree.now.history.now.transactions) ≡ Some (string_bytes made.0)) }
+    ensures accepted { (names : NameSet) → AreBeside (tree_of tree.now.history.now tree.now.zxid) (names_in text.now) names
+        → OnOk result (creation_refusal (tree_of tree.now.history.now tree.now.zxid) mode.sequential text.now (creates_beside (names_in text.now) tree.now.history.now.transactions) (set.len names) ≡ None) }
+    ensures told { (names : NameSet) → AreBeside (tree_of tree.now.history.now tree.now.zxid) (names_in text.now) names
+        → IfErr result (IsRefusedWith (creation_refusal (tree_of tree.now.history.now tree.now.zxid) mode.sequential text.now (creates_beside (names_in text.now) tree.now.history.now.transactions) (set.len names))) }
     ensures refused { IfErr result IsAnswer }
 {
     let path = match created_path(tree, mode, text) {
@@ -270,6 +293,9 @@ pub(crate) fn append<A: Allocator + Copy>(
     ensures ok { OnOk result (history.new ≡ appended history.old time (change_of change)) }
     ensures goes_on { Continues history.old history.new }
     ensures order { IfErr result (λ fault. fault ≡ faults.Order → history.new ≡ history.old) }
+    ensures room { OnOk result (is_over history.old time ≡ false) }
+    ensures accepted { OnOk result (IsAccepted (change_of change) (newest_tree history.old)) }
+    ensures told { IfErr result (AppendRefused history.old time (change_of change)) }
 {
     let last = history.last_zxid();
     if last == i64::MAX || time > i64::MAX as u64 {
@@ -293,6 +319,9 @@ pub(crate) fn append_write<A: Allocator + Copy>(
     ensures ok { OnOk result (history.new ≡ appended history.old time (change_of change)) }
     ensures goes_on { Continues history.old history.new }
     ensures refused { IfErr result (λ refusal. IsCode refusal → (refusal ≡ refusals.Code codes.BadArguments) × (history.new ≡ history.old)) }
+    ensures room { OnOk result (is_over history.old time ≡ false) }
+    ensures accepted { OnOk result (IsAccepted (change_of change) (newest_tree history.old)) }
+    ensures told { IfErr result (WriteRefused history.old time (change_of change)) }
 {
     match append(history, time, change) {
         Ok(()) => Ok(()),
