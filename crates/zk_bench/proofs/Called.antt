@@ -1,6 +1,6 @@
 -- Which request stands in a payload.
 use Rattle.std.proofs.Common.{ℕ, ℤ, pos, ◌≡◌, refl, sym, ap, subst, ◌∙◌, Bool, List, Some, Option, map}
-use Rattle.std.specs.Prelude.{option_map, Vec}
+use Rattle.std.specs.Prelude.{◌≤◌, option_map, unwrap_or}
 use Rattle.zk_jute.specs.Layout.{Value}
 use Rattle.zk_history.specs.History.{Text}
 use Rattle.zk_history.specs.PathFault.{IsPath}
@@ -8,7 +8,9 @@ use Rattle.zk_records.specs.declared.operation.Operation.{Operation}
 use Rattle.zk_records.specs.declared.operation.Operation.TheVariants as operation
 use Rattle.zk_records.specs.declared.request.Request.{Request}
 use Rattle.zk_records.specs.declared.request.Request.TheVariants as requests
-use Rattle.zk_records.specs.declared.watches.SetWatches.{SetWatches}
+use Rattle.zk_records.specs.declared.create.CreateRequest.{CreateRequest}
+use Rattle.zk_records.specs.declared.ask.SetDataRequest.{SetDataRequest}
+use Rattle.zk_records.specs.declared.ask.DeleteRequest.{DeleteRequest}
 use Rattle.zk_records.specs.Operations.{operation_number, body_layout, request_layout}
 use Rattle.zk_records.specs.Asked.{Asked, asked_of, asked_value}
 use Rattle.zk_records.specs.Request.{operation_of, body_of}
@@ -21,6 +23,9 @@ use Rattle.zk_laws.specs.Parsed.{IsRecord, IsReadAs}
 use Rattle.zk_serving.specs.Lines.{IsPathCall, IsFit}
 use Rattle.zk_bench.specs.Answering.{IsRead, IsReadOf, IsRestoring}
 use Rattle.zk_bench.specs.Asking.{Wants, IsBodyOf, IsPartOf, Asks, IsLook}
+use Rattle.zk_laws.specs.Server.{is_sequential}
+use Rattle.zk_bench.specs.Writing.{mode_of}
+use Rattle.zk_bench.proofs.Written.{mode_of-low}
 use Rattle.zk_bench.proofs.Answered.{no_copy}
 
 -- what is asked, as it is read: with its xid, its operation and its record
@@ -122,3 +127,48 @@ looks P request (wanted.Connect seen) look asks reads parts = absurd look
 looks P request (wanted.Restore is_last since part) look asks reads parts = parts is_last since part (part_asked request since part asks)
 looks P request (wanted.Ask one) look asks reads parts = reads one look (read_asked request one look asks)
 looks P request wanted.Ping look asks reads parts = absurd look
+
+-- Writes, as the functions that answer them ask
+
+pub creates_asked : {A : Type 0} (P : wanted.Request → Type 0) (r : CreateRequest A) (asked : wanted.Request) → Asks (requests.Create r) asked → ((text : Text) (number : ℕ) → IsPath text → r.path ≡ Some text → r.flags ≡ pos number → number ≤ 3 → P (wanted.Ask (call.Create text r.bytes number))) → P asked
+creates_asked P r (wanted.Connect seen) asks f = absurd asks
+creates_asked P r (wanted.Restore is_last since part) asks f = absurd asks
+creates_asked P r wanted.Ping asks f = absurd asks
+creates_asked P r (wanted.Ask (call.Exists text watch)) asks f = absurd asks
+creates_asked P r (wanted.Ask (call.GetData text watch)) asks f = absurd asks
+creates_asked P r (wanted.Ask (call.GetChildren text watch)) asks f = absurd asks
+creates_asked P r (wanted.Ask (call.SetData text content version)) asks f = absurd asks
+creates_asked P r (wanted.Ask (call.Create text content mode)) asks f = subst (λ (o : Option (List ℕ)). P (wanted.Ask (call.Create text o mode))) asks.2 (f text mode asks.0 asks.1 asks.3 asks.4)
+creates_asked P r (wanted.Ask (call.Delete text version)) asks f = absurd asks
+creates_asked P r (wanted.Ask call.Close) asks f = absurd asks
+
+pub sets_asked : {A : Type 0} (P : wanted.Request → Type 0) (r : SetDataRequest A) (asked : wanted.Request) → Asks (requests.SetData r) asked → ((text : Text) → IsPath text → r.path ≡ Some text → P (wanted.Ask (call.SetData text r.bytes r.version))) → P asked
+sets_asked P r (wanted.Connect seen) asks f = absurd asks
+sets_asked P r (wanted.Restore is_last since part) asks f = absurd asks
+sets_asked P r wanted.Ping asks f = absurd asks
+sets_asked P r (wanted.Ask (call.Exists text watch)) asks f = absurd asks
+sets_asked P r (wanted.Ask (call.GetData text watch)) asks f = absurd asks
+sets_asked P r (wanted.Ask (call.GetChildren text watch)) asks f = absurd asks
+sets_asked P r (wanted.Ask (call.SetData text content version)) asks f = subst (λ (o : Option (List ℕ)). P (wanted.Ask (call.SetData text o version))) asks.2 (subst (λ (v : ℤ). P (wanted.Ask (call.SetData text r.bytes v))) asks.3 (f text asks.0 asks.1))
+sets_asked P r (wanted.Ask (call.Create text content mode)) asks f = absurd asks
+sets_asked P r (wanted.Ask (call.Delete text version)) asks f = absurd asks
+sets_asked P r (wanted.Ask call.Close) asks f = absurd asks
+
+pub deletes_asked : {A : Type 0} (P : wanted.Request → Type 0) (r : DeleteRequest A) (asked : wanted.Request) → Asks (requests.Delete r) asked → ((text : Text) → IsPath text → r.path ≡ Some text → P (wanted.Ask (call.Delete text r.version))) → P asked
+deletes_asked P r (wanted.Connect seen) asks f = absurd asks
+deletes_asked P r (wanted.Restore is_last since part) asks f = absurd asks
+deletes_asked P r wanted.Ping asks f = absurd asks
+deletes_asked P r (wanted.Ask (call.Exists text watch)) asks f = absurd asks
+deletes_asked P r (wanted.Ask (call.GetData text watch)) asks f = absurd asks
+deletes_asked P r (wanted.Ask (call.GetChildren text watch)) asks f = absurd asks
+deletes_asked P r (wanted.Ask (call.SetData text content version)) asks f = absurd asks
+deletes_asked P r (wanted.Ask (call.Create text content mode)) asks f = absurd asks
+deletes_asked P r (wanted.Ask (call.Delete text version)) asks f = subst (λ (v : ℤ). P (wanted.Ask (call.Delete text v))) asks.2 (f text asks.0 asks.1)
+deletes_asked P r (wanted.Ask call.Close) asks f = absurd asks
+
+-- the mode of these flags is sequential where the call's is
+pub mode_is : (flags : ℤ) (number : ℕ) (ephemeral sequential : Bool) → number ≤ 3 → flags ≡ pos number → mode_of flags ≡ Some (ephemeral, sequential) → is_sequential number ≡ sequential
+mode_is flags number ephemeral sequential low is told =
+    let same : Some (is_sequential number) ≡ Some sequential =
+    sym (mode_of-low number low) ∙ ap (λ (z : ℤ). option_map (λ (mode : Bool × Bool). mode.1) (mode_of z)) (sym is) ∙ ap (option_map (λ (mode : Bool × Bool). mode.1)) told in
+    ap (λ (o : Option Bool). unwrap_or o sequential) same

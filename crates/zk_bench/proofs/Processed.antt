@@ -42,7 +42,7 @@ use Rattle.zk_bench.specs.Linked.{linked_of}
 use Rattle.zk_bench.specs.Serving.{watched, Sends, SendsHeader}
 use Rattle.zk_bench.specs.Answering.{IsRead, FindsNone, RefusesRead}
 use Rattle.zk_bench.specs.Restoring.{RestoresPart}
-use Rattle.zk_bench.specs.Stepping.{Catches, CatchesUp, IsReady, TakesSome, ProcessesOne, Owes, IsRefusal, Declines, HasClient, HasAll, HasWritten, LeavesUnmade, SendsStat, IsSending, zxid_of, stage_of, phase_of, shown_watches, end_of, shown_of}
+use Rattle.zk_bench.specs.Stepping.{Catches, CatchesUp, IsReady, TakesSome, ProcessesOne, Owes, IsRefusal, Declines, HasClient, HasAll, HasWritten, LeavesUnmade, LeavesUnsent, SendsStat, IsSending, zxid_of, stage_of, phase_of, shown_watches, end_of, shown_of}
 use Rattle.zk_bench.specs.Writing.{IsAnswer, appended}
 use Rattle.zk_bench.proofs.Answered.{or-false, stat_read}
 use Rattle.zk_bench.proofs.Written.{appended-transactions}
@@ -586,3 +586,14 @@ deleted_so text version xid old mid new has took wrote s only =
     subst (λ (n : Served). ProcessesOne (Ask (call.Delete text version)) xid (shown_of old) (shown_of n)) (sym only)
     (answers_made (call.Delete text version) Done xid old mid new.connection.output payload tt has took wrote s.small
     ([], record { fits = s.fits; whole = twice payload }, (tt, record { ignored = []; fits = tt; whole = refl }, refl)) s.output)
+
+-- where the Stat behind a write is not sent
+pub declines_unsent : (text : Text) (content : Option (List ℕ)) (version xid : ℤ) (old mid new : Served) (refusal : Refusal) → HasClient old → HasClient mid → TakesSome (shown_of old) (shown_of mid) → IsSending mid new → LeavesUnsent mid new refusal
+    → Declines (Ask (call.SetData text content version)) xid old new refusal
+declines_unsent text content version xid old mid new (refusals.Code code) has more took only unsent =
+    let one = call.SetData text content version in
+    subst (λ (n : Served). Declines (Ask one) xid old n (refusals.Code code)) (sym unsent.1)
+    (declines_then one xid old mid mid (refusals.Code code) has more took
+    (declines_unmade one xid mid mid (refusals.Code code) tt more more (unmade_same mid (refusals.Code code) more (subst (λ (c : Code). IsAnswer (refusals.Code c)) (sym unsent.0) tt))))
+declines_unsent text content version xid old mid new (refusals.Stop stops.End) has more took only unsent = ends_sending (Ask (call.SetData text content version)) xid old mid new has more took only unsent
+declines_unsent text content version xid old mid new (refusals.Stop stops.Memory) has more took only unsent = tt

@@ -1,7 +1,7 @@
 -- Steps of a server that takes transactions.
 use Rattle.std.proofs.Common.{ℕ, zero, suc, ℤ, pos, ◌≡◌, ◌≢◌, ◌<◌, ◌≤◌, ◌+◌, refl, ap, sym, ◌∙◌, subst, arith, List, [], ◌∷◌, ◌++◌, length, take, drop, ◌^◌, append_assoc, Bool, true, false, ◌&&◌, if◌then◌else◌}
 use mathlib.Core.Path.{fun_ext}
-use Rattle.std.specs.Prelude.{slice_index, slice_set, slice_get, Option, Some, None, Ok, Err, OnOk, OnErr, IsErrOf, int_lt}
+use Rattle.std.specs.Prelude.{slice_index, slice_set, slice_get, Option, Some, None, Ok, Err, OnOk, OnErr, IfErr, IsErrOf, int_lt}
 use Rattle.std.proofs.lemmas.Bool.Decides.{nat_tests}
 use Rattle.std.specs.Prelude.{Result as Outcome}
 use Rattle.std.specs.declared.alloc.AllocError.{AllocError}
@@ -365,6 +365,10 @@ ready_front b requests ready = record { taken = ready.taken; there = ready.there
 pub ok_so : {T E : Type 0} (r : Outcome T E) (P Q : Type 0) → OnOk r P → (P → Q) → OnOk r Q
 ok_so (Ok x) P Q h f = f h
 ok_so (Err e) P Q h f = tt
+
+pub err_so : {T E : Type 0} (r : Outcome T E) (P Q : E → Type 0) → IfErr r P → ((e : E) → P e → Q e) → IfErr r Q
+err_so (Ok x) P Q h f = tt
+err_so (Err e) P Q h f = f e h
 
 -- What stands first
 
