@@ -7,3 +7,4 @@ pub mod Restored
 pub mod Stepped
 pub mod Asked
 pub mod Written
+pub mod Allowed
