@@ -9,3 +9,4 @@ pub mod Asked
 pub mod Processed
 pub mod Called
 pub mod Written
+pub mod Allowed

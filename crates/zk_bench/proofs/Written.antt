@@ -1,4 +1,4 @@
--- What writes make.
+-- What writes make, and which are refused.
 use Rattle.std.proofs.Common.{◌-◌, nat_lt, nat_le, ◌||◌, map, take, get_or, length, List, ◌<◌, ◌^◌, ◌≡◌, ◌+◌, ◌≤◌, ℕ, ℤ, zero, suc, pos, Bool, false, cond, [], ◌∷◌, ◌++◌, Option, Some, None, refl, sym, ap, ◌∙◌, subst, arith}
 use Rattle.std.specs.Prelude.{unwrap_or, bytes_eq, slice_get, count_by, min, replicate, Ok, Err, IfErr, OnOk}
 use Rattle.std.specs.Prelude.{Result as Outcome}
@@ -10,7 +10,7 @@ use Rattle.std.specs.Fmt.{styled_decimal, padded_integral, char_count, format_sp
 use borrow.Author.Tests.{le-ltb, lt-leb}
 use Rattle.std.specs.FinSet as set
 use Rattle.std.specs.Option.{option_map}
-use Rattle.zk_history.specs.History.{Text, NodePath, Node, Tree, Change, Transaction, AreRising, newest, path_of, after, apply_all}
+use Rattle.zk_history.specs.History.{Text, NodePath, Node, Tree, Change, Transaction, AreRising, newest, path_of}
 use Rattle.zk_history.specs.Path.{parent_of}
 use Rattle.zk_history.specs.Kept.{Kept, IsAccepted, made_transaction, with_transaction, first_tree, newest_tree, HasChildren}
 use Rattle.zk_history.specs.Refused.{ChangeRefused}
@@ -25,6 +25,7 @@ use Rattle.zk_history.specs.Shown.{IsStat, stat_of}
 use Rattle.zk_history.proofs.KeptLemmas.{same_count}
 use Rattle.zk_records.specs.declared.code.Code.TheVariants as codes
 use Rattle.zk_laws.specs.Server.{is_sequential}
+use Rattle.zk_laws.proofs.Stamps.{after-append}
 use Rattle.zk_bench.specs.declared.stop.Refusal.{Refusal}
 use Rattle.zk_bench.specs.declared.stop.Refusal.TheVariants as refusals
 use Rattle.zk_bench.specs.Refusals.{IsCode, refusal_of_path}
@@ -50,7 +51,7 @@ answer-bad_arguments (refusals.Code code) is = subst IsAnswer (sym (is tt)) tt
 answer-bad_arguments (refusals.Stop stop) is = tt
 
 -- The node at the text of a path is that at the path.
-path_told-some : (tree : Tree) (text at : Text) → path_told text ≡ Some at → (at ≡ text) × (node_at tree text ≡ tree (path_of text))
+pub path_told-some : (tree : Tree) (text at : Text) → path_told text ≡ Some at → (at ≡ text) × (node_at tree text ≡ tree (path_of text))
 path_told-some tree text at told = go (fault_of text) told
   where
     go : (fault : Option PathFault) → text_unless fault text ≡ Some at → (at ≡ text) × (node_of tree (text_unless fault text) ≡ tree (path_of text))
@@ -173,12 +174,8 @@ no_path (Err refusal) text fault outcome same gives is = λ code. same ∙ refus
 -- Where a change is appended
 
 -- A transaction with no change leaves the tree.
-after_begun : (ts : List Transaction) (tree : Tree) (zxid : ℕ) (time : ℤ) → after (ts ++ made_transaction zxid time [] ∷ []) tree ≡ after ts tree
-after_begun [] tree zxid time = refl
-after_begun (one ∷ more) tree zxid time = after_begun more (apply_all one.zxid one.time one.changes tree) zxid time
-
 pub tree_begun : (old mid : Kept) (zxid : ℕ) (time : ℤ) → mid ≡ with_transaction old zxid time → newest_tree mid ≡ newest_tree old
-tree_begun old mid zxid time is = ap newest_tree is ∙ after_begun old.transactions (first_tree old) zxid time
+tree_begun old mid zxid time is = ap newest_tree is ∙ after-append old.transactions (made_transaction zxid time [] ∷ []) (first_tree old)
 
 not_empty : {X : Type 0} (xs : List X) (x : X) → xs ++ x ∷ [] ≡ [] → ⊥
 not_empty [] x e = cc
