@@ -172,3 +172,75 @@ mode_is flags number ephemeral sequential low is told =
     let same : Some (is_sequential number) ≡ Some sequential =
     sym (mode_of-low number low) ∙ ap (λ (z : ℤ). option_map (λ (mode : Bool × Bool). mode.1) (mode_of z)) (sym is) ∙ ap (option_map (λ (mode : Bool × Bool). mode.1)) told in
     ap (λ (o : Option Bool). unwrap_or o sequential) same
+
+-- What is no write, no ping and no end of a session is a look.
+pub look_if : {A : Type 0} (request : Request A) (asked : wanted.Request) → Asks request asked → ((r : CreateRequest A) → request ≡ requests.Create r → ⊥) → ((r : SetDataRequest A) → request ≡ requests.SetData r → ⊥)
+    → ((r : DeleteRequest A) → request ≡ requests.Delete r → ⊥) → (request ≡ requests.Ping → ⊥) → (request ≡ requests.CloseSession → ⊥) → IsLook asked
+look_if request (wanted.Connect seen) asks a b d p q = absurd asks
+look_if request (wanted.Restore is_last since part) asks a b d p q = tt
+look_if (requests.Exists r) wanted.Ping asks a b d p q = absurd asks
+look_if (requests.GetData r) wanted.Ping asks a b d p q = absurd asks
+look_if (requests.GetChildren r) wanted.Ping asks a b d p q = absurd asks
+look_if (requests.GetChildren2 r) wanted.Ping asks a b d p q = absurd asks
+look_if (requests.SetData r) wanted.Ping asks a b d p q = absurd asks
+look_if (requests.Create r) wanted.Ping asks a b d p q = absurd asks
+look_if (requests.Delete r) wanted.Ping asks a b d p q = absurd asks
+look_if (requests.SetWatches r) wanted.Ping asks a b d p q = absurd asks
+look_if requests.Ping wanted.Ping asks a b d p q = absurd (p refl)
+look_if requests.CloseSession wanted.Ping asks a b d p q = absurd asks
+look_if request (wanted.Ask (call.Exists text watch)) asks a b d p q = tt
+look_if request (wanted.Ask (call.GetData text watch)) asks a b d p q = tt
+look_if request (wanted.Ask (call.GetChildren text watch)) asks a b d p q = tt
+look_if (requests.Exists r) (wanted.Ask (call.SetData text content version)) asks a b d p q = absurd asks
+look_if (requests.GetData r) (wanted.Ask (call.SetData text content version)) asks a b d p q = absurd asks
+look_if (requests.GetChildren r) (wanted.Ask (call.SetData text content version)) asks a b d p q = absurd asks
+look_if (requests.GetChildren2 r) (wanted.Ask (call.SetData text content version)) asks a b d p q = absurd asks
+look_if (requests.SetData r) (wanted.Ask (call.SetData text content version)) asks a b d p q = absurd (b r refl)
+look_if (requests.Create r) (wanted.Ask (call.SetData text content version)) asks a b d p q = absurd asks
+look_if (requests.Delete r) (wanted.Ask (call.SetData text content version)) asks a b d p q = absurd asks
+look_if (requests.SetWatches r) (wanted.Ask (call.SetData text content version)) asks a b d p q = absurd asks
+look_if requests.Ping (wanted.Ask (call.SetData text content version)) asks a b d p q = absurd asks
+look_if requests.CloseSession (wanted.Ask (call.SetData text content version)) asks a b d p q = absurd asks
+look_if (requests.Exists r) (wanted.Ask (call.Create text content mode)) asks a b d p q = absurd asks
+look_if (requests.GetData r) (wanted.Ask (call.Create text content mode)) asks a b d p q = absurd asks
+look_if (requests.GetChildren r) (wanted.Ask (call.Create text content mode)) asks a b d p q = absurd asks
+look_if (requests.GetChildren2 r) (wanted.Ask (call.Create text content mode)) asks a b d p q = absurd asks
+look_if (requests.SetData r) (wanted.Ask (call.Create text content mode)) asks a b d p q = absurd asks
+look_if (requests.Create r) (wanted.Ask (call.Create text content mode)) asks a b d p q = absurd (a r refl)
+look_if (requests.Delete r) (wanted.Ask (call.Create text content mode)) asks a b d p q = absurd asks
+look_if (requests.SetWatches r) (wanted.Ask (call.Create text content mode)) asks a b d p q = absurd asks
+look_if requests.Ping (wanted.Ask (call.Create text content mode)) asks a b d p q = absurd asks
+look_if requests.CloseSession (wanted.Ask (call.Create text content mode)) asks a b d p q = absurd asks
+look_if (requests.Exists r) (wanted.Ask (call.Delete text version)) asks a b d p q = absurd asks
+look_if (requests.GetData r) (wanted.Ask (call.Delete text version)) asks a b d p q = absurd asks
+look_if (requests.GetChildren r) (wanted.Ask (call.Delete text version)) asks a b d p q = absurd asks
+look_if (requests.GetChildren2 r) (wanted.Ask (call.Delete text version)) asks a b d p q = absurd asks
+look_if (requests.SetData r) (wanted.Ask (call.Delete text version)) asks a b d p q = absurd asks
+look_if (requests.Create r) (wanted.Ask (call.Delete text version)) asks a b d p q = absurd asks
+look_if (requests.Delete r) (wanted.Ask (call.Delete text version)) asks a b d p q = absurd (d r refl)
+look_if (requests.SetWatches r) (wanted.Ask (call.Delete text version)) asks a b d p q = absurd asks
+look_if requests.Ping (wanted.Ask (call.Delete text version)) asks a b d p q = absurd asks
+look_if requests.CloseSession (wanted.Ask (call.Delete text version)) asks a b d p q = absurd asks
+look_if (requests.Exists r) (wanted.Ask call.Close) asks a b d p q = absurd asks
+look_if (requests.GetData r) (wanted.Ask call.Close) asks a b d p q = absurd asks
+look_if (requests.GetChildren r) (wanted.Ask call.Close) asks a b d p q = absurd asks
+look_if (requests.GetChildren2 r) (wanted.Ask call.Close) asks a b d p q = absurd asks
+look_if (requests.SetData r) (wanted.Ask call.Close) asks a b d p q = absurd asks
+look_if (requests.Create r) (wanted.Ask call.Close) asks a b d p q = absurd asks
+look_if (requests.Delete r) (wanted.Ask call.Close) asks a b d p q = absurd asks
+look_if (requests.SetWatches r) (wanted.Ask call.Close) asks a b d p q = absurd asks
+look_if requests.Ping (wanted.Ask call.Close) asks a b d p q = absurd asks
+look_if requests.CloseSession (wanted.Ask call.Close) asks a b d p q = absurd (q refl)
+
+-- A request for a ping asks for nothing else.
+pub pings_asked : (P : wanted.Request → Type 0) (asked : wanted.Request) → Wants operation.Ping tt asked → P wanted.Ping → P asked
+pings_asked P (wanted.Connect seen) asks p = absurd asks
+pings_asked P (wanted.Restore is_last since part) asks p = absurd asks
+pings_asked P wanted.Ping asks p = p
+pings_asked P (wanted.Ask (call.Exists text watch)) asks p = absurd asks
+pings_asked P (wanted.Ask (call.GetData text watch)) asks p = absurd asks
+pings_asked P (wanted.Ask (call.GetChildren text watch)) asks p = absurd asks
+pings_asked P (wanted.Ask (call.SetData text content version)) asks p = absurd asks
+pings_asked P (wanted.Ask (call.Create text content mode)) asks p = absurd asks
+pings_asked P (wanted.Ask (call.Delete text version)) asks p = absurd asks
+pings_asked P (wanted.Ask call.Close) asks p = absurd asks

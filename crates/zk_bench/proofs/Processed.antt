@@ -161,9 +161,9 @@ payload_refused xid question zxid (Refused c) code old new is same s =
     subst (λ (x : ℤ). SendsHeader (xid, (pos zxid, x)) old new → IsPayload xid (Replies question zxid (Refused c)) (spelling reply_header (xid, (pos zxid, x)))) same
     (λ t. ([], record { fits = t.fits; whole = sym (append-nil (spelling reply_header (xid, (pos zxid, c)))) }, tt)) s
 payload_refused xid question zxid Done code old new is same s = absurd is
-payload_refused xid question zxid (Found stat) code old new is same s = absurd is
-payload_refused xid question zxid (Read bytes stat) code old new is same s = absurd is
-payload_refused xid question zxid (Listing names stat) code old new is same s = absurd is
+payload_refused xid question zxid (Found told) code old new is same s = absurd is
+payload_refused xid question zxid (Read bytes told) code old new is same s = absurd is
+payload_refused xid question zxid (Listing names told) code old new is same s = absurd is
 payload_refused xid question zxid (Made at) code old new is same s = absurd is
 
 twice : (bs : List ℕ) → bs ≡ bs ++ []
@@ -473,22 +473,22 @@ refused_so codes.SessionMoved = (tt, refl)
 refused_so (codes.Other n) = (tt, refl)
 
 other_by : (h : History) (place : ℕ) (one : Call) (code : ℤ) → IsOther code → Gives h place one (Refused code)
-other_by h place (call.Exists text watch) code o = o
-other_by h place (call.GetData text watch) code o = o
-other_by h place (call.GetChildren text watch) code o = o
-other_by h place (call.SetData text content version) code o = o
-other_by h place (call.Create text content mode) code o = o
-other_by h place (call.Delete text version) code o = o
-other_by h place call.Close code o = o
+other_by h at (call.Exists text watch) code o = o
+other_by h at (call.GetData text watch) code o = o
+other_by h at (call.GetChildren text watch) code o = o
+other_by h at (call.SetData text content version) code o = o
+other_by h at (call.Create text content mode) code o = o
+other_by h at (call.Delete text version) code o = o
+other_by h at call.Close code o = o
 
 none_by : (h : History) (place : ℕ) (one : Call) → IsWrite one → Gives h place one NoNode
-none_by h place (call.Exists text watch) is = absurd is
-none_by h place (call.GetData text watch) is = absurd is
-none_by h place (call.GetChildren text watch) is = absurd is
-none_by h place (call.SetData text content version) is = tt
-none_by h place (call.Create text content mode) is = tt
-none_by h place (call.Delete text version) is = tt
-none_by h place call.Close is = absurd is
+none_by h at (call.Exists text watch) is = absurd is
+none_by h at (call.GetData text watch) is = absurd is
+none_by h at (call.GetChildren text watch) is = absurd is
+none_by h at (call.SetData text content version) is = tt
+none_by h at (call.Create text content mode) is = tt
+none_by h at (call.Delete text version) is = tt
+none_by h at call.Close is = absurd is
 
 abbrev behind_zero : ℤ → ℕ
 behind_zero (pos n) = n
