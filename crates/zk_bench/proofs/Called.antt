@@ -20,7 +20,8 @@ use Rattle.zk_watches.specs.Lists.{Lists}
 use Rattle.zk_turns.specs.Ranges.{IsTyped}
 use Rattle.zk_laws.specs.Messages as wanted
 use Rattle.zk_laws.specs.Parsed.{IsRecord, IsReadAs}
-use Rattle.zk_serving.specs.Lines.{IsPathCall, IsFit}
+use Rattle.zk_laws.specs.ServerSteps.{Serving}
+use Rattle.zk_serving.specs.Lines.{IsPathCall, IsFit, IsFor}
 use Rattle.zk_bench.specs.Answering.{IsRead, IsReadOf, IsRestoring}
 use Rattle.zk_bench.specs.Asking.{Wants, IsBodyOf, IsPartOf, Asks, IsLook}
 use Rattle.zk_laws.specs.Server.{is_sequential}
@@ -244,3 +245,11 @@ pings_asked P (wanted.Ask (call.SetData text content version)) asks p = absurd a
 pings_asked P (wanted.Ask (call.Create text content mode)) asks p = absurd asks
 pings_asked P (wanted.Ask (call.Delete text version)) asks p = absurd asks
 pings_asked P (wanted.Ask call.Close) asks p = absurd asks
+
+-- The request that is read asks for what was asked, under its xid.
+pub found_so : {A : Type 0} (asked : wanted.Request) (xid found : ℤ) (payload : List ℕ) (request : Request A) → IsFor asked Serving → IsReadAs asked xid payload → IsFit asked payload
+    → ((a : Asked) → IsRecord (request_layout a.operation) (asked_value a) payload → asked_of found request ≡ a) → Asks request asked × (found ≡ xid)
+found_so asked xid found payload request later read fit is =
+    let t = told_so asked xid payload (λ seen e. subst (λ (a : wanted.Request). IsFor a Serving) e later refl) read fit in
+    let same = is (record { xid = xid; operation = t.named; body = t.body }) t.read in
+    (asks_so asked xid found payload t request same, ap (λ (a : Asked). a.xid) same)

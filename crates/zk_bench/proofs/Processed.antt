@@ -22,7 +22,7 @@ use Rattle.zk_conversation.specs.Questions.{Question, question_of}
 use Rattle.zk_conversation.specs.Results.{Result, NoNode, Refused, Done, Found, Read, Listing, Made, stat_of}
 use Rattle.zk_turns.specs.Spelled.{HasResult}
 use Rattle.zk_laws.specs.Server.{Watches, both, sets, zxid_held, tree_held, IsOther, IsMadeOf, is_sequential, Gives}
-use Rattle.zk_laws.specs.Messages.{Request, Ask, Restore, Ping, Replies}
+use Rattle.zk_laws.specs.Messages.{Request, Connect, Ask, Restore, Ping, Replies}
 use Rattle.zk_laws.specs.ServerSteps.{ServerEnd, Stage, Serving, Ended as Silent, Answers, Restores, Pongs, MayDo, messages_by, end_after}
 use Rattle.zk_laws.specs.Served.{ArePayloads, IsPayload, code_of}
 use Rattle.zk_serving.specs.GoingOn.{GoesOn}
@@ -42,7 +42,7 @@ use Rattle.zk_bench.specs.Linked.{linked_of}
 use Rattle.zk_bench.specs.Serving.{watched, Sends, SendsHeader}
 use Rattle.zk_bench.specs.Answering.{IsRead, FindsNone, RefusesRead}
 use Rattle.zk_bench.specs.Restoring.{RestoresPart}
-use Rattle.zk_bench.specs.Stepping.{Catches, CatchesUp, IsReady, TakesSome, ProcessesOne, Owes, IsRefusal, Declines, HasClient, HasAll, HasWritten, LeavesUnmade, LeavesUnsent, SendsStat, IsSending, zxid_of, stage_of, phase_of, shown_watches, end_of, shown_of}
+use Rattle.zk_bench.specs.Stepping.{Catches, CatchesUp, IsReady, TakesSome, ProcessesOne, Owes, OwesTo, IsRefusal, Declines, HasClient, HasAll, HasWritten, LeavesUnmade, LeavesUnsent, SendsStat, IsSending, zxid_of, stage_of, phase_of, shown_watches, end_of, shown_of}
 use Rattle.zk_bench.specs.Writing.{IsAnswer, appended}
 use Rattle.zk_bench.proofs.Answered.{or-false, stat_read}
 use Rattle.zk_bench.proofs.Written.{appended-transactions}
@@ -597,3 +597,43 @@ declines_unsent text content version xid old mid new (refusals.Code code) has mo
     (declines_unmade one xid mid mid (refusals.Code code) tt more more (unmade_same mid (refusals.Code code) more (subst (λ (c : Code). IsAnswer (refusals.Code c)) (sym unsent.0) tt))))
 declines_unsent text content version xid old mid new (refusals.Stop stops.End) has more took only unsent = ends_sending (Ask (call.SetData text content version)) xid old mid new has more took only unsent
 declines_unsent text content version xid old mid new (refusals.Stop stops.Memory) has more took only unsent = tt
+
+-- ---- a request that stands first
+
+-- the bytes of the request are taken away
+pub has_front : (b : Served) (requests : List ℕ) → HasClient b → HasClient (record b { connection = record b.connection { requests = requests } })
+has_front b requests has = record { ready = record { taken = has.ready.taken; there = has.ready.there; unwatched = has.ready.unwatched }; accepted = has.accepted }
+
+pub ready_sending : (mid new : Served) → IsReady mid → IsSending mid new → IsReady new
+ready_sending mid new ready only = subst IsReady (sym only) (record { taken = ready.taken; there = ready.there; unwatched = ready.unwatched })
+
+-- a code that a request is owed is sent
+pub owed_to : (request : Request) (code xid : ℤ) (old : Shown) (mid new : Served) → OwesTo request code old (shown_of mid) → SendsHeader (xid, (pos (zxid_of mid), code)) mid.connection.output new.connection.output → IsSending mid new
+    → ProcessesOne request xid old (shown_of new)
+owed_to (Connect seen) code xid old mid new owes s only = absurd owes
+owed_to (Restore is_last since part) code xid old mid new owes s only = absurd owes
+owed_to (Ask one) code xid old mid new owes s only = owed_sent one code xid old (shown_of mid) (shown_of new) owes s (ap shown_of only)
+owed_to Ping code xid old mid new owes s only = absurd owes
+
+-- or it is not, and the connection ends
+pub owed_unsent : (request : Request) (code xid : ℤ) (old : Shown) (mid new : Served) → OwesTo request code old (shown_of mid) → IsSending mid new → new.connection.output ≡ mid.connection.output
+    → ProcessesOne request xid old (shown_of (ended new))
+owed_unsent (Connect seen) code xid old mid new owes only unsent = absurd owes
+owed_unsent (Restore is_last since part) code xid old mid new owes only unsent = absurd owes
+owed_unsent (Ask one) code xid old mid new owes only unsent =
+    let g = owes.took.takes.goes in
+    let same : history_of new.history ≡ owes.mid.history = ap (λ (s : Served). history_of s.history) only ∙ ap (λ (s : Shown). s.history) owes.left in
+    ends_after (Ask one) xid old (shown_of (ended new)) (record {
+      steps = owes.took.steps;
+      takes = record {
+        goes = record {
+          history = subst (λ (h : History). GoesOn old.history h) (sym same) g.history;
+          moves = subst (λ (h : History). Moves h (pos 0) [] owes.took.steps old.server) (sym same) g.moves;
+          sent = unsent ∙ ap (λ (s : Shown). s.output) owes.left ∙ g.sent;
+          there = λ e. absurd cc;
+          ended = λ e. absurd cc;
+        };
+        requests = λ e. absurd cc;
+      };
+    }) (λ still. absurd cc)
+owed_unsent Ping code xid old mid new owes only unsent = absurd owes
