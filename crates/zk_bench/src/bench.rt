@@ -193,6 +193,7 @@ impl<A: Allocator + Copy> Bench<A> {
         // The connected server advances as a server of the laws does.
         ensures ready { IsReady self.old → IsReady self.new }
         ensures advances { IsReady self.old → n - 1 ≡ self.old.server → is_open self.old.connection.phase ≡ true → OnOk result (TakesSome (shown_of self.old) (shown_of self.new)) }
+        ensures apart { is_open self.old.connection.phase ≡ false → OnOk result (self.new.connection ≡ self.old.connection) }
         ensures lost { OnErr result (self.new.connection ≡ linked Apart) }
         ensures rest { self.new ≡ record self.old { taken = self.new.taken; connection = self.new.connection } }
     {
@@ -281,6 +282,7 @@ impl<A: Allocator + Copy> Bench<A> {
         ensures elsewhere { server ≢ self.old.server → (self.new.connection ≡ self.old.connection) × IsOk result }
         ensures ready { IsReady self.old → IsReady self.new }
         ensures advances { IsReady self.old → server ≡ self.old.server → is_open self.old.connection.phase ≡ true → OnOk result (TakesSome (shown_of self.old) (shown_of self.new)) }
+        ensures apart { is_open self.old.connection.phase ≡ false → (self.new.connection ≡ self.old.connection) × IsOk result }
         ensures sent { OnErr result (self.new.connection.output ≡ self.old.connection.output) }
         ensures rest { self.new ≡ record self.old { taken = self.new.taken; connection = self.new.connection } }
     {
