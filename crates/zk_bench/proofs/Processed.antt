@@ -2,8 +2,9 @@
 use Rattle.std.proofs.Common.{ℕ, zero, suc, ℤ, pos, negsuc, ◌≡◌, ◌≢◌, ◌≤◌, ◌<◌, ◌+◌, refl, ap, sym, ◌∙◌, subst, arith, inl, List, [], ◌∷◌, ◌++◌, length, drop, append_assoc, Bool, true, false, ◌||◌, if◌then◌else◌}
 use mathlib.Core.Path.{fun_ext}
 use Rattle.std.proofs.lemmas.List.{append-nil, length-append, take_all}
-use Rattle.zk_frames.specs.Frame.{frame, joined}
-use Rattle.zk_records.specs.Layouts.{reply_header, create_response}
+use Rattle.std.proofs.lemmas.Bool.Decides.{nat_tests}
+use Rattle.zk_frames.specs.Frame.{frame, joined, length_field, IsNegative}
+use Rattle.zk_records.specs.Layouts.{reply_header, create_response, connect_request}
 use Rattle.zk_history.specs.StatLayout.{stat}
 use Rattle.zk_records.specs.Codes.{code_number}
 use Rattle.zk_records.specs.declared.code.Code.{Code}
@@ -15,7 +16,7 @@ use Rattle.zk_conversation.specs.Calls.{Call, ping_xid}
 use Rattle.zk_conversation.specs.Calls as call
 use Rattle.zk_watches.specs.Lists.{Lists}
 use Rattle.zk_history.specs.Kept.{Kept, history_of, made_transaction}
-use Rattle.std.specs.Prelude.{◌^◌, ⊤, Option, Some, slice_index, slice_set, Ok, Err, IfErr, IsErrOf}
+use Rattle.std.specs.Prelude.{◌^◌, ⊤, int_lt, Option, Some, slice_index, slice_set, Ok, Err, IfErr, IsErrOf}
 use Rattle.std.specs.Prelude.{Result as Outcome}
 use Rattle.zk_conversation.specs.Pending.{closes}
 use Rattle.zk_conversation.specs.Questions.{Question, question_of}
@@ -23,7 +24,10 @@ use Rattle.zk_conversation.specs.Results.{Result, NoNode, Refused, Done, Found, 
 use Rattle.zk_turns.specs.Spelled.{HasResult}
 use Rattle.zk_laws.specs.Server.{Watches, both, sets, zxid_held, tree_held, IsOther, IsMadeOf, is_sequential, Gives}
 use Rattle.zk_laws.specs.Messages.{Request, Connect, Ask, Restore, Ping, Replies}
-use Rattle.zk_laws.specs.ServerSteps.{ServerEnd, Stage, Serving, Ended as Silent, Answers, Restores, Pongs, MayDo, messages_by, end_after}
+use Rattle.zk_laws.specs.Parsed.{IsRecord}
+use Rattle.zk_serving.specs.Lines.{IsFit, IsFor}
+use Rattle.zk_serving.proofs.Fronts.{front_field}
+use Rattle.zk_laws.specs.ServerSteps.{ServerEnd, Stage, Waiting, Serving, Ended as Silent, Answers, Restores, Pongs, MayDo, messages_by, end_after}
 use Rattle.zk_laws.specs.Served.{ArePayloads, IsPayload, code_of}
 use Rattle.zk_serving.specs.GoingOn.{GoesOn}
 use Rattle.zk_serving.specs.Steps.{Step, Moves, ended_by, sent_by, processed_by, used_by}
@@ -31,6 +35,7 @@ use Rattle.zk_serving.specs.Shown.{Shown, Open, Apart}
 use Rattle.zk_serving.proofs.Stepping.{moves_more, ended_more, sent_more, processed_more, answer_moves, idle_moves, idle_processes, last_ended, last_sent, last_processed}
 use Rattle.zk_serving.proofs.Later.{moves_later, ended_later, taken_at, taken_set, taken_later}
 use Rattle.zk_bench.specs.declared.connection.Connection.{Connection}
+use Rattle.zk_bench.specs.declared.phase.Phase.{Phase}
 use Rattle.zk_bench.specs.declared.phase.Phase.TheVariants as phases
 use Rattle.zk_bench.specs.declared.stop.Stop.{Stop}
 use Rattle.zk_bench.specs.declared.stop.Stop.TheVariants as stops
@@ -637,3 +642,30 @@ owed_unsent (Ask one) code xid old mid new owes only unsent =
       };
     }) (λ still. absurd cc)
 owed_unsent Ping code xid old mid new owes only unsent = absurd owes
+
+-- The first request of a connection is a ConnectRequest, of a client that asks for a timeout above 0.
+pub first_by : (P : Request → Type 0) (asked : Request) (xid : ℤ) (payload : List ℕ) → IsFor asked Waiting → IsFit asked payload
+    → ((seen : ℕ) (timeout session : ℤ) (password : List ℕ) → IsRecord connect_request (pos 0, (pos seen, (timeout, (session, (Some password, false))))) payload → int_lt (pos 0) timeout ≡ true → P (Connect seen)) → P asked
+first_by P (Connect seen) xid payload now fit f = f seen (pos fit.0) fit.2 fit.3 fit.4 (above fit.0 fit.1)
+  where
+    above : (timeout : ℕ) → 0 < timeout → int_lt (pos 0) (pos timeout) ≡ true
+    above timeout low = grind (arith, nat_tests)
+first_by P (Restore is_last since part) xid payload now fit f = absurd (now refl)
+first_by P (Ask one) xid payload now fit f = absurd (now refl)
+first_by P Ping xid payload now fit f = absurd (now refl)
+
+-- a connection that takes requests, on which the client was not accepted, was
+pub has_open : (old : Served) → IsReady old → is_open old.connection.phase ≡ true → (old.connection.phase ≡ phases.Opening → ⊥) → HasClient old
+has_open old ready up later = by old.connection.phase refl
+  where
+    by : (phase : Phase) → old.connection.phase ≡ phase → HasClient old
+    by phases.Apart e = let f : is_open phases.Apart ≡ true = ap is_open (sym e) ∙ up in absurd cc
+    by phases.Opening e = absurd (later e)
+    by phases.Accepted e = record { ready = ready; accepted = e }
+    by phases.Ended e = let f : is_open phases.Ended ≡ true = ap is_open (sym e) ∙ up in absurd cc
+
+-- a frame that stands first has no length below 0
+pub not_negative : (payload rest bytes : List ℕ) → bytes ≡ frame payload ++ rest → length payload < 2 ^ 31 → IsNegative bytes → ⊥
+not_negative payload rest bytes is small negative = let field = front_field payload rest bytes is small in
+    let low = negative.below in
+    omega (arith, field, small, low)

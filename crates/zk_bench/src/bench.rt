@@ -214,12 +214,10 @@ impl<A: Allocator + Copy> Bench<A> {
         ensures ends { is_open self.old.connection.phase ≡ true → IsNegative self.old.connection.requests → self.new ≡ ended self.old }
         ensures processed { (count : ℕ) → is_open self.old.connection.phase ≡ true → IsWhole self.old.connection.requests count
             → OnOk result (self.new.connection.requests ≡ drop (4 + count) self.old.connection.requests) }
-        // A ConnectRequest is processed as a server of the laws does.
-        ensures ready { self.old.connection.phase ≡ Opening → IsReady self.old → IsReady self.new }
-        ensures connects { (seen : ℕ) (timeout session : ℤ) (password payload rest : List ℕ) (xid : ℤ) → IsReady self.old → self.old.connection.phase ≡ Opening
-            → self.old.connection.requests ≡ frame payload ++ rest → bytes_of payload < 2 ^ 31
-            → IsRecord connect_request (pos 0, (pos seen, (timeout, (session, (Some password, false))))) payload → int_lt (pos 0) timeout ≡ true
-            → OnOk result (ProcessesFirst (Connect seen) xid payload (shown_of self.old) (shown_of self.new)) }
+        // The request that stands first, if it is one for the stage of the connection, is processed as a server of the laws does.
+        ensures ready { IsReady self.old → IsReady self.new }
+        ensures serves { (request : Wanted) (xid : ℤ) (payload rest : List ℕ) → IsReady self.old → is_open self.old.connection.phase ≡ true → StandsFirst request xid payload rest self.old.connection.requests
+            → IsFor request (shown_of self.old).server.stage → OnOk result (ProcessesFirst request xid payload (shown_of self.old) (shown_of self.new)) }
         ensures lost { OnErr result (self.new.connection ≡ linked Apart) }
         ensures history { Continues self.old.history self.new.history }
         ensures rest { self.new ≡ record self.old { history = self.new.history; taken = self.new.taken; connection = self.new.connection } }
@@ -238,12 +236,11 @@ impl<A: Allocator + Copy> Bench<A> {
         ensures ends { IsNegative self.old.connection.requests → (self.new ≡ self.old) × IsErrOf result stops.End }
         ensures processed { (count : ℕ) → IsWhole self.old.connection.requests count
             → self.new.connection.requests ≡ drop (4 + count) self.old.connection.requests }
-        ensures ready { self.old.connection.phase ≡ Opening → IsReady self.old → IsReady self.new }
-        ensures connects { (seen : ℕ) (timeout session : ℤ) (password payload rest : List ℕ) (xid : ℤ) → IsReady self.old → self.old.connection.phase ≡ Opening
-            → self.old.connection.requests ≡ frame payload ++ rest → bytes_of payload < 2 ^ 31
-            → IsRecord connect_request (pos 0, (pos seen, (timeout, (session, (Some password, false))))) payload → int_lt (pos 0) timeout ≡ true
-            → OnOk result (ProcessesOne (Connect seen) xid (shown_of self.old) (shown_of self.new)) }
-        ensures sent { self.old.connection.phase ≡ Opening → IsErrOf result stops.End → self.new.connection.output ≡ self.old.connection.output }
+        ensures ready { is_open self.old.connection.phase ≡ true → IsReady self.old → IsReady self.new }
+        ensures serves { (asked : Wanted) (xid : ℤ) (payload rest : List ℕ) → IsReady self.old → is_open self.old.connection.phase ≡ true → StandsFirst asked xid payload rest self.old.connection.requests
+            → IsFor asked (stage_of self.old.connection.phase) → OnOk result (ProcessesOne asked xid (shown_of self.old) (shown_of self.new)) }
+        ensures breaks { (asked : Wanted) (xid : ℤ) (payload rest : List ℕ) → IsReady self.old → is_open self.old.connection.phase ≡ true → StandsFirst asked xid payload rest self.old.connection.requests
+            → IsFor asked (stage_of self.old.connection.phase) → IsErrOf result stops.End → ProcessesOne asked xid (shown_of self.old) (shown_of (ended self.new)) }
         ensures history { Continues self.old.history self.new.history }
         ensures rest { self.new ≡ record self.old { history = self.new.history; taken = self.new.taken; connection = self.new.connection } }
     {
@@ -311,16 +308,18 @@ impl<A: Allocator + Copy> Bench<A> {
         ensures processed { self.new.connection.requests ≡ drop (4 + length) self.old.connection.requests }
         ensures history { Continues self.old.history self.new.history }
         ensures rest { self.new ≡ record self.old { history = self.new.history; taken = self.new.taken; connection = self.new.connection } }
-        ensures ready { self.old.connection.phase ≡ Opening → IsReady self.old → IsReady self.new }
-        ensures connects { (seen : ℕ) (timeout session : ℤ) (password : List ℕ) (xid : ℤ) → IsReady self.old → self.old.connection.phase ≡ Opening
-            → IsRecord connect_request (pos 0, (pos seen, (timeout, (session, (Some password, false))))) (first length (drop 4 self.old.connection.requests)) → int_lt (pos 0) timeout ≡ true
-            → OnOk result (ProcessesOne (Connect seen) xid (shown_of self.old) (shown_of self.new)) }
-        ensures sent { self.old.connection.phase ≡ Opening → IsErrOf result stops.End → self.new.connection.output ≡ self.old.connection.output }
+        ensures ready { is_open self.old.connection.phase ≡ true → IsReady self.old → IsReady self.new }
+        ensures serves { (asked : Wanted) (xid : ℤ) → IsReady self.old → is_open self.old.connection.phase ≡ true → IsFor asked (stage_of self.old.connection.phase)
+            → IsReadAs asked xid (first length (drop 4 self.old.connection.requests)) → IsFit asked (first length (drop 4 self.old.connection.requests))
+            → OnOk result (ProcessesOne asked xid (shown_of self.old) (shown_of self.new)) }
+        ensures ends { (asked : Wanted) (xid : ℤ) → IsReady self.old → is_open self.old.connection.phase ≡ true → IsFor asked (stage_of self.old.connection.phase)
+            → IsReadAs asked xid (first length (drop 4 self.old.connection.requests)) → IsFit asked (first length (drop 4 self.old.connection.requests))
+            → IsErrOf result stops.End → ProcessesOne asked xid (shown_of self.old) (shown_of (ended self.new)) }
     {
-        if self.connection.phase == Phase::Opening {
-            return self.process_first(length);
+        match self.connection.phase {
+            Phase::Opening => self.process_first(length),
+            _ => self.process_later(length),
         }
-        self.process_later(length)
     }
 
     // The same for a later frame.
