@@ -14,7 +14,7 @@ ghost use Rattle.zk_conversation.specs.Calls.{SetData, Create, Close};
 ghost use Rattle.zk_laws.specs.Parsed.{IsRecord};
 ghost use Rattle.zk_records.specs.Layouts.{connect_request};
 ghost use Rattle.zk_bench.specs.Stepping.{IsReady, HasClient, TakesSome, ProcessesOne, ProcessesFirst, Declines, IsSending, HasAll, HasWritten, LeavesUnmade, SendsStat, LeavesUnsent, zxid_of, stage_of, shown_of};
-ghost use Rattle.zk_bench.specs.Writing.{mode_of as mode_told};
+ghost use Rattle.zk_bench.specs.Writing.{appended, mode_of as mode_told};
 ghost use Rattle.zk_history.specs.History.{tree_at};
 ghost use Rattle.zk_history.specs.Made.{change_of};
 ghost use Rattle.zk_history.specs.PathFault.{IsPath};
@@ -144,6 +144,7 @@ impl<A: Allocator + Copy> Bench<A> {
     /// says. Where the history does not allow the change (`Illegal`), a transaction with no change stands there; so it may where memory
     /// is refused (`Memory`). `Order` says that the zxid or the time would be past 2^63 - 1: then nothing has changed.
     pub fn append(&mut self, change: Change<A>) -> Result<(), HistoryFault>
+        ensures ok { OnOk result (self.new ≡ record self.old { history = appended self.old.history self.old.time (change_of change) }) }
         ensures goes_on { Continues self.old.history self.new.history }
         ensures order { IfErr result (λ fault. fault ≡ faults.Order → self.new ≡ self.old) }
         ensures rest { self.new ≡ record self.old { history = self.new.history } }

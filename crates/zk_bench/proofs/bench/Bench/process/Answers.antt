@@ -1,6 +1,6 @@
-use Rattle.std.proofs.Common.{length}
+use Rattle.std.proofs.Common.{◌≡◌, true, sym, ap, ◌∙◌, length}
 use Rattle.zk_serving.proofs.Fronts.{front_there, front_field}
-use Rattle.zk_bench.specs.Served.{Served, ended}
+use Rattle.zk_bench.specs.Served.{Served, is_open, ended}
 use Rattle.zk_bench.specs.Stepping.{IsReady, ProcessesFirst, shown_of}
 use Rattle.zk_bench.proofs.Stepped.{settled, settled_so, ready_ended, ready_disconnected, ok_so, first_processed}
 use Rattle.zk_bench.proofs.bench.Bench.process.Goals as goal
@@ -8,7 +8,8 @@ use Rattle.zk_bench.proofs.bench.Bench.process.Goals as goal
 pub returns-clause-ready : goal.returns-clause-ready
 returns-clause-ready g c = λ ready.
     let mid = c.process_next-outcome.new.self in
-    let now = c.process_next-outcome.ensures.ready ? ready in
+    let up : is_open c.args.self.now.connection.phase ≡ true = ap (λ (s : Served). is_open s.connection.phase) (sym c.self.view_is) ∙ sym c.is_open.ensures ∙ c.if-not-is_open.false in
+    let now = c.process_next-outcome.ensures.ready up ready in
     settled IsReady c.process_next-outcome.result mid c.settle.new.self c.settle.ensures.ok c.settle.ensures.ended c.settle.ensures.lost now (ready_ended mid now) (ready_disconnected mid now)
 
 pub returns-clause-serves : goal.returns-clause-serves
