@@ -16,7 +16,7 @@ same_goes_on old new same = record {
 }
 
 -- a change goes into the last transaction
-last_with-append : (ts : List Transaction) (t : Transaction) (c : Change) → last_with (ts ++ t ∷ []) c ≡ ts ++ with_one t c ∷ []
+pub last_with-append : (ts : List Transaction) (t : Transaction) (c : Change) → last_with (ts ++ t ∷ []) c ≡ ts ++ with_one t c ∷ []
 last_with-append [] t c = refl
 last_with-append (a ∷ []) t c = refl
 last_with-append (a ∷ b ∷ ts) t c = ap (λ (xs : List Transaction). a ∷ xs) (last_with-append (b ∷ ts) t c)

@@ -6,3 +6,7 @@ pub mod Admitted
 pub mod Restored
 pub mod Stepped
 pub mod Asked
+pub mod Processed
+pub mod Called
+pub mod Written
+pub mod Allowed

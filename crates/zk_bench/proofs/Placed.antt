@@ -4,6 +4,7 @@ use Rattle.std.specs.Prelude.{unwrap_or, slice_get, FitsSigned}
 use Rattle.std.specs.Int.{w64}
 use Rattle.zk_bench.proofs.Continuing.{above}
 use Rattle.std.proofs.lemmas.Option.{none-some}
+use Rattle.std.proofs.lemmas.List.{take_all}
 use Rattle.zk_history.specs.History.{Transaction, AreRising, newest, History, after, tree_at}
 use Rattle.zk_laws.specs.Server.{zxid_held, tree_held}
 use Rattle.zk_laws.proofs.Stamps.{up_to_newest}
@@ -75,3 +76,7 @@ zxid_fits ts taken zxid t rising some is e =
 -- the tree at the zxid of a server is that of the transactions that it has taken
 pub held_tree : (h : History) (taken : ℕ) → AreRising 0 h.transactions → tree_at h (zxid_held h taken) ≡ tree_held h taken
 held_tree h taken rising = ap (λ (ts : List Transaction). after ts h.first) (up_to_newest 0 taken h.transactions rising)
+
+-- the newest tree is that of a server that has taken all transactions
+pub newest_tree : (h : History) (taken : ℕ) → AreRising 0 h.transactions → length h.transactions ≤ taken → tree_at h (newest 0 h.transactions) ≡ tree_held h taken
+newest_tree h taken rising all = ap (λ (ts : List Transaction). tree_at h (newest 0 ts)) (sym (take_all taken h.transactions all)) ∙ held_tree h taken rising

@@ -1,7 +1,7 @@
 -- Steps of a server that takes transactions.
 use Rattle.std.proofs.Common.{ℕ, zero, suc, ℤ, pos, ◌≡◌, ◌≢◌, ◌<◌, ◌≤◌, ◌+◌, refl, ap, sym, ◌∙◌, subst, arith, List, [], ◌∷◌, ◌++◌, length, take, drop, ◌^◌, append_assoc, Bool, true, false, ◌&&◌, if◌then◌else◌}
 use mathlib.Core.Path.{fun_ext}
-use Rattle.std.specs.Prelude.{slice_index, slice_set, slice_get, Option, Some, None, Ok, Err, OnOk, OnErr, IsErrOf, int_lt}
+use Rattle.std.specs.Prelude.{slice_index, slice_set, slice_get, Option, Some, None, Ok, Err, OnOk, OnErr, IfErr, IsErrOf, int_lt}
 use Rattle.std.proofs.lemmas.Bool.Decides.{nat_tests}
 use Rattle.std.specs.Prelude.{Result as Outcome}
 use Rattle.std.specs.declared.alloc.AllocError.{AllocError}
@@ -145,17 +145,17 @@ takes_silently h at old opening unwatched room =
 
 -- What a bench shows
 
-set_there : (xs : List ℕ) (i n : ℕ) → i < length xs → slice_index (slice_set xs i n) i ≡ n
+pub set_there : (xs : List ℕ) (i n : ℕ) → i < length xs → slice_index (slice_set xs i n) i ≡ n
 set_there [] i n low = absurd (omega (arith, low))
 set_there (x ∷ xs) zero n low = refl
 set_there (x ∷ xs) (suc i) n low = set_there xs i n (omega (arith, low))
 
-length_set : (xs : List ℕ) (i n : ℕ) → length (slice_set xs i n) ≡ length xs
+pub length_set : (xs : List ℕ) (i n : ℕ) → length (slice_set xs i n) ≡ length xs
 length_set [] i n = refl
 length_set (x ∷ xs) zero n = refl
 length_set (x ∷ xs) (suc i) n = ap suc (length_set xs i n)
 
-is_going_on : (phase : Phase) → is_open phase ≡ true → phase_of phase ≢ shows.Apart
+pub is_going_on : (phase : Phase) → is_open phase ≡ true → phase_of phase ≢ shows.Apart
 is_going_on Apart e f = absurd cc
 is_going_on Opening e f = absurd cc
 is_going_on Accepted e f = absurd cc
@@ -366,6 +366,10 @@ pub ok_so : {T E : Type 0} (r : Outcome T E) (P Q : Type 0) → OnOk r P → (P 
 ok_so (Ok x) P Q h f = f h
 ok_so (Err e) P Q h f = tt
 
+pub err_so : {T E : Type 0} (r : Outcome T E) (P Q : E → Type 0) → IfErr r P → ((e : E) → P e → Q e) → IfErr r Q
+err_so (Ok x) P Q h f = tt
+err_so (Err e) P Q h f = f e h
+
 -- What stands first
 
 pub not_short : (payload rest bytes : List ℕ) → bytes ≡ frame payload ++ rest → length payload < 2 ^ 31 → IsShort bytes → ⊥
@@ -417,7 +421,7 @@ continues_so old new c = record { first = ap (λ (ts : List Transaction). after 
 
 -- A read that is answered
 
-goes_on : (asked : Call) → IsRead asked → closes (question_of asked) ≡ false
+pub goes_on : (asked : Call) → IsRead asked → closes (question_of asked) ≡ false
 goes_on (call.Exists text watch) is = refl
 goes_on (call.GetData text watch) is = refl
 goes_on (call.GetChildren text watch) is = refl
@@ -426,7 +430,7 @@ goes_on (call.Create text content mode) is = absurd is
 goes_on (call.Delete text version) is = absurd is
 goes_on call.Close is = absurd is
 
-gives_read : (h : History) (place : ℕ) (asked : Call) (result : Result) → IsRead asked → IsTold result → Reads (tree_held h place) (question_of asked) result → Gives h place asked result
+pub gives_read : (h : History) (place : ℕ) (asked : Call) (result : Result) → IsRead asked → IsTold result → Reads (tree_held h place) (question_of asked) result → Gives h place asked result
 gives_read h place (call.Exists text watch) NoNode is told reads = reads
 gives_read h place (call.Exists text watch) Done is told reads = reads
 gives_read h place (call.Exists text watch) (Refused code) is told reads = absurd told

@@ -7,3 +7,5 @@ pub mod Serving
 pub mod Answering
 pub mod Restoring
 pub mod Stepping
+pub mod Asking
+pub mod Writing

@@ -5,15 +5,25 @@ ghost use Rattle.zk_frames.specs.Frame.{frame, IsNegative};
 ghost use Rattle.zk_bench.specs.declared.phase.Phase.TheVariants.{Apart, Opening, Accepted};
 ghost use Rattle.zk_bench.specs.declared.stop.Stop.TheVariants as stops;
 ghost use Rattle.zk_bench.specs.Front.{IsShort, IsWhole};
-ghost use Rattle.zk_history.specs.Kept.{history_of};
+ghost use Rattle.zk_history.specs.Kept.{history_of, natural};
 ghost use Rattle.zk_history.specs.declared.history_fault.HistoryFault.TheVariants as faults;
-ghost use Rattle.zk_laws.specs.Server.{zxid_held};
-ghost use Rattle.zk_laws.specs.Messages.{Connect, Ask};
-ghost use Rattle.zk_conversation.specs.Calls.{Call};
-ghost use Rattle.zk_bench.specs.Answering.{IsReadOf};
+ghost use Rattle.zk_laws.specs.Server.{zxid_held, tree_held, is_sequential};
+ghost use Rattle.zk_laws.specs.ServerSteps.{Serving};
+ghost use Rattle.zk_laws.specs.Messages.{Request as Wanted, Connect, Ask, Ping};
+ghost use Rattle.zk_conversation.specs.Calls.{SetData, Create, Close};
 ghost use Rattle.zk_laws.specs.Parsed.{IsRecord};
 ghost use Rattle.zk_records.specs.Layouts.{connect_request};
-ghost use Rattle.zk_bench.specs.Stepping.{IsReady, TakesSome, ProcessesOne, ProcessesFirst, shown_of};
+ghost use Rattle.zk_bench.specs.Stepping.{IsReady, HasClient, TakesSome, ProcessesOne, ProcessesFirst, Declines, IsSending, HasAll, HasWritten, LeavesUnmade, SendsStat, LeavesUnsent, zxid_of, stage_of, shown_of};
+ghost use Rattle.zk_bench.specs.Writing.{appended, mode_of as mode_told};
+ghost use Rattle.zk_history.specs.History.{tree_at};
+ghost use Rattle.zk_history.specs.Made.{change_of};
+ghost use Rattle.zk_history.specs.PathFault.{IsPath};
+ghost use Rattle.zk_records.specs.declared.request.Request.TheVariants as requests;
+ghost use Rattle.zk_records.specs.Layouts.{create_response};
+ghost use Rattle.zk_bench.specs.Asking.{Asks, IsLook};
+ghost use Rattle.zk_bench.specs.Serving.{Sends, SendsHeader};
+ghost use Rattle.zk_laws.specs.Parsed.{IsReadAs};
+ghost use Rattle.zk_serving.specs.Lines.{IsFit, IsFor, StandsFirst};
 ghost use Rattle.zk_bench.specs.Served.{started, linked, connected, disconnected, ended, is_open, advanced, with_requests, without_output, Continues};
 
 use crate::connection::Connection;
@@ -75,7 +85,8 @@ impl<A: Allocator + Copy> Model for Bench<A> {
 impl<A: Allocator + Copy> Bench<A> {
     /// Servers over a history, each before its first transaction. None is connected, and the time is 0.
     pub fn new(alloc: A, history: History<A>) -> Bench<A>
-        ensures { result ≡ started history }
+        ensures is { result ≡ started history }
+        ensures ready { IsReady result }
     {
         Bench {
             alloc,
@@ -99,7 +110,8 @@ impl<A: Allocator + Copy> Bench<A> {
     pub fn connect(&mut self, n: usize)
         requires low { 1 ≤ n }
         requires high { n ≤ 8 }
-        ensures { self.new ≡ connected self.old (n - 1) }
+        ensures is { self.new ≡ connected self.old (n - 1) }
+        ensures ready { IsReady self.old → IsReady self.new }
     {
         self.server = n - 1;
         self.connection = Connection::new(self.alloc, Phase::Opening);
@@ -107,7 +119,8 @@ impl<A: Allocator + Copy> Bench<A> {
 
     /// The connection is gone, with its watches and all bytes on their way.
     pub fn disconnect(&mut self)
-        ensures { self.new ≡ disconnected self.old }
+        ensures is { self.new ≡ disconnected self.old }
+        ensures ready { IsReady self.old → IsReady self.new }
     {
         self.connection = Connection::new(self.alloc, Phase::Apart);
     }
@@ -131,6 +144,7 @@ impl<A: Allocator + Copy> Bench<A> {
     /// says. Where the history does not allow the change (`Illegal`), a transaction with no change stands there; so it may where memory
     /// is refused (`Memory`). `Order` says that the zxid or the time would be past 2^63 - 1: then nothing has changed.
     pub fn append(&mut self, change: Change<A>) -> Result<(), HistoryFault>
+        ensures ok { OnOk result (self.new ≡ record self.old { history = appended self.old.history self.old.time (change_of change) }) }
         ensures goes_on { Continues self.old.history self.new.history }
         ensures order { IfErr result (λ fault. fault ≡ faults.Order → self.new ≡ self.old) }
         ensures rest { self.new ≡ record self.old { history = self.new.history } }
@@ -180,6 +194,7 @@ impl<A: Allocator + Copy> Bench<A> {
         // The connected server advances as a server of the laws does.
         ensures ready { IsReady self.old → IsReady self.new }
         ensures advances { IsReady self.old → n - 1 ≡ self.old.server → is_open self.old.connection.phase ≡ true → OnOk result (TakesSome (shown_of self.old) (shown_of self.new)) }
+        ensures apart { is_open self.old.connection.phase ≡ false → OnOk result (self.new.connection ≡ self.old.connection) }
         ensures lost { OnErr result (self.new.connection ≡ linked Apart) }
         ensures rest { self.new ≡ record self.old { taken = self.new.taken; connection = self.new.connection } }
     {
@@ -200,12 +215,10 @@ impl<A: Allocator + Copy> Bench<A> {
         ensures ends { is_open self.old.connection.phase ≡ true → IsNegative self.old.connection.requests → self.new ≡ ended self.old }
         ensures processed { (count : ℕ) → is_open self.old.connection.phase ≡ true → IsWhole self.old.connection.requests count
             → OnOk result (self.new.connection.requests ≡ drop (4 + count) self.old.connection.requests) }
-        // A ConnectRequest is processed as a server of the laws does.
-        ensures ready { self.old.connection.phase ≡ Opening → IsReady self.old → IsReady self.new }
-        ensures connects { (seen : ℕ) (timeout session : ℤ) (password payload rest : List ℕ) (xid : ℤ) → IsReady self.old → self.old.connection.phase ≡ Opening
-            → self.old.connection.requests ≡ frame payload ++ rest → bytes_of payload < 2 ^ 31
-            → IsRecord connect_request (pos 0, (pos seen, (timeout, (session, (Some password, false))))) payload → int_lt (pos 0) timeout ≡ true
-            → OnOk result (ProcessesFirst (Connect seen) xid payload (shown_of self.old) (shown_of self.new)) }
+        // The request that stands first, if it is one for the stage of the connection, is processed as a server of the laws does.
+        ensures ready { IsReady self.old → IsReady self.new }
+        ensures serves { (request : Wanted) (xid : ℤ) (payload rest : List ℕ) → IsReady self.old → is_open self.old.connection.phase ≡ true → StandsFirst request xid payload rest self.old.connection.requests
+            → IsFor request (shown_of self.old).server.stage → OnOk result (ProcessesFirst request xid payload (shown_of self.old) (shown_of self.new)) }
         ensures lost { OnErr result (self.new.connection ≡ linked Apart) }
         ensures history { Continues self.old.history self.new.history }
         ensures rest { self.new ≡ record self.old { history = self.new.history; taken = self.new.taken; connection = self.new.connection } }
@@ -224,12 +237,11 @@ impl<A: Allocator + Copy> Bench<A> {
         ensures ends { IsNegative self.old.connection.requests → (self.new ≡ self.old) × IsErrOf result stops.End }
         ensures processed { (count : ℕ) → IsWhole self.old.connection.requests count
             → self.new.connection.requests ≡ drop (4 + count) self.old.connection.requests }
-        ensures ready { self.old.connection.phase ≡ Opening → IsReady self.old → IsReady self.new }
-        ensures connects { (seen : ℕ) (timeout session : ℤ) (password payload rest : List ℕ) (xid : ℤ) → IsReady self.old → self.old.connection.phase ≡ Opening
-            → self.old.connection.requests ≡ frame payload ++ rest → bytes_of payload < 2 ^ 31
-            → IsRecord connect_request (pos 0, (pos seen, (timeout, (session, (Some password, false))))) payload → int_lt (pos 0) timeout ≡ true
-            → OnOk result (ProcessesOne (Connect seen) xid (shown_of self.old) (shown_of self.new)) }
-        ensures sent { self.old.connection.phase ≡ Opening → IsErrOf result stops.End → self.new.connection.output ≡ self.old.connection.output }
+        ensures ready { is_open self.old.connection.phase ≡ true → IsReady self.old → IsReady self.new }
+        ensures serves { (asked : Wanted) (xid : ℤ) (payload rest : List ℕ) → IsReady self.old → is_open self.old.connection.phase ≡ true → StandsFirst asked xid payload rest self.old.connection.requests
+            → IsFor asked (stage_of self.old.connection.phase) → OnOk result (ProcessesOne asked xid (shown_of self.old) (shown_of self.new)) }
+        ensures breaks { (asked : Wanted) (xid : ℤ) (payload rest : List ℕ) → IsReady self.old → is_open self.old.connection.phase ≡ true → StandsFirst asked xid payload rest self.old.connection.requests
+            → IsFor asked (stage_of self.old.connection.phase) → IsErrOf result stops.End → ProcessesOne asked xid (shown_of self.old) (shown_of (ended self.new)) }
         ensures history { Continues self.old.history self.new.history }
         ensures rest { self.new ≡ record self.old { history = self.new.history; taken = self.new.taken; connection = self.new.connection } }
     {
@@ -268,6 +280,7 @@ impl<A: Allocator + Copy> Bench<A> {
         ensures elsewhere { server ≢ self.old.server → (self.new.connection ≡ self.old.connection) × IsOk result }
         ensures ready { IsReady self.old → IsReady self.new }
         ensures advances { IsReady self.old → server ≡ self.old.server → is_open self.old.connection.phase ≡ true → OnOk result (TakesSome (shown_of self.old) (shown_of self.new)) }
+        ensures apart { is_open self.old.connection.phase ≡ false → (self.new.connection ≡ self.old.connection) × IsOk result }
         ensures sent { OnErr result (self.new.connection.output ≡ self.old.connection.output) }
         ensures rest { self.new ≡ record self.old { taken = self.new.taken; connection = self.new.connection } }
     {
@@ -296,22 +309,29 @@ impl<A: Allocator + Copy> Bench<A> {
         ensures processed { self.new.connection.requests ≡ drop (4 + length) self.old.connection.requests }
         ensures history { Continues self.old.history self.new.history }
         ensures rest { self.new ≡ record self.old { history = self.new.history; taken = self.new.taken; connection = self.new.connection } }
-        ensures ready { self.old.connection.phase ≡ Opening → IsReady self.old → IsReady self.new }
-        ensures connects { (seen : ℕ) (timeout session : ℤ) (password : List ℕ) (xid : ℤ) → IsReady self.old → self.old.connection.phase ≡ Opening
-            → IsRecord connect_request (pos 0, (pos seen, (timeout, (session, (Some password, false))))) (first length (drop 4 self.old.connection.requests)) → int_lt (pos 0) timeout ≡ true
-            → OnOk result (ProcessesOne (Connect seen) xid (shown_of self.old) (shown_of self.new)) }
-        ensures sent { self.old.connection.phase ≡ Opening → IsErrOf result stops.End → self.new.connection.output ≡ self.old.connection.output }
+        ensures ready { is_open self.old.connection.phase ≡ true → IsReady self.old → IsReady self.new }
+        ensures serves { (asked : Wanted) (xid : ℤ) → IsReady self.old → is_open self.old.connection.phase ≡ true → IsFor asked (stage_of self.old.connection.phase)
+            → IsReadAs asked xid (first length (drop 4 self.old.connection.requests)) → IsFit asked (first length (drop 4 self.old.connection.requests))
+            → OnOk result (ProcessesOne asked xid (shown_of self.old) (shown_of self.new)) }
+        ensures ends { (asked : Wanted) (xid : ℤ) → IsReady self.old → is_open self.old.connection.phase ≡ true → IsFor asked (stage_of self.old.connection.phase)
+            → IsReadAs asked xid (first length (drop 4 self.old.connection.requests)) → IsFit asked (first length (drop 4 self.old.connection.requests))
+            → IsErrOf result stops.End → ProcessesOne asked xid (shown_of self.old) (shown_of (ended self.new)) }
     {
-        if self.connection.phase == Phase::Opening {
-            return self.process_first(length);
+        match self.connection.phase {
+            Phase::Opening => self.process_first(length),
+            _ => self.process_later(length),
         }
-        self.process_later(length)
     }
 
     // The same for a later frame.
     #[tactic(auto, using(crate::proofs::Continuing::same_goes_on))]
     fn process_later(&mut self, length: usize) -> Result<(), Stop>
         requires { 4 + length ≤ bytes_of self.old.connection.requests }
+        ensures serves { (asked : Wanted) (xid : ℤ) → HasClient self.old → IsFor asked Serving → IsReadAs asked xid (first length (drop 4 self.old.connection.requests)) → IsFit asked (first length (drop 4 self.old.connection.requests))
+            → OnOk result (ProcessesOne asked xid (shown_of self.old) (shown_of self.new)) }
+        ensures ends { (asked : Wanted) (xid : ℤ) → HasClient self.old → IsFor asked Serving → IsReadAs asked xid (first length (drop 4 self.old.connection.requests)) → IsFit asked (first length (drop 4 self.old.connection.requests))
+            → IsErrOf result stops.End → ProcessesOne asked xid (shown_of self.old) (shown_of (ended self.new)) }
+        ensures ready { HasClient self.old → IsReady self.new }
         ensures processed { self.new.connection.requests ≡ drop (4 + length) self.old.connection.requests }
         ensures history { Continues self.old.history self.new.history }
         ensures rest { self.new ≡ record self.old { history = self.new.history; taken = self.new.taken; connection = self.new.connection } }
@@ -342,9 +362,11 @@ impl<A: Allocator + Copy> Bench<A> {
         self.admit(&first?)
     }
 
+    // Answers with a header alone.
     fn send_err(&mut self, xid: i32, err: i32) -> Result<(), Stop>
-        ensures requests { self.new.connection.requests ≡ self.old.connection.requests }
-        ensures rest { self.new ≡ record self.old { taken = self.new.taken; connection = self.new.connection } }
+        ensures sends { IsReady self.old → OnOk result (SendsHeader (xid, (pos (zxid_of self.old), err)) self.old.connection.output self.new.connection.output) }
+        ensures sent { IsErrOf result stops.End → self.new.connection.output ≡ self.old.connection.output }
+        ensures only { IsSending self.old self.new }
     {
         let zxid = self.zxid();
         let header = ReplyHeader { xid, zxid, err };
@@ -377,6 +399,9 @@ impl<A: Allocator + Copy> Bench<A> {
     // Answers a request with its result, or says why it has none.
     #[tactic(auto, using(crate::proofs::Continuing::same_goes_on))]
     fn answer(&mut self, xid: i32, request: Request<A>) -> Result<(), Refusal>
+        ensures answers { (asked : Wanted) → HasClient self.old → Asks request asked → OnOk result (ProcessesOne asked xid (shown_of self.old) (shown_of self.new)) }
+        ensures declines { (asked : Wanted) → HasClient self.old → Asks request asked → IfErr result (Declines asked xid self.old self.new) }
+        ensures ready { HasClient self.old → IsReady self.new }
         ensures requests { self.new.connection.requests ≡ self.old.connection.requests }
         ensures history { Continues self.old.history self.new.history }
         ensures rest { self.new ≡ record self.old { history = self.new.history; taken = self.new.taken; connection = self.new.connection } }
@@ -385,10 +410,12 @@ impl<A: Allocator + Copy> Bench<A> {
             Request::Create(r) => self.create(xid, r),
             Request::SetData(r) => self.set_data(xid, r),
             Request::Delete(r) => self.delete(xid, &r),
-            Request::Ping => self.finish(PONG),
+            Request::Ping => {
+                self.pong()?;
+                Ok(())
+            }
             Request::CloseSession => {
-                self.finish(xid)?;
-                self.connection.phase = Phase::Ended;
+                self.close(xid)?;
                 Ok(())
             }
             other => {
@@ -401,10 +428,12 @@ impl<A: Allocator + Copy> Bench<A> {
 
     // Answers a request that leaves the history as it is.
     fn read(&mut self, xid: i32, request: &Request<A>) -> Result<(), Refusal>
-        ensures reads { (asked : Call) → IsReady self.old → self.old.connection.phase ≡ Accepted → IsReadOf request.now asked
-            → OnOk result (ProcessesOne (Ask asked) xid (shown_of self.old) (shown_of self.new)) }
+        ensures answers { (asked : Wanted) → HasClient self.old → IsLook asked → Asks request.now asked
+            → OnOk result (ProcessesOne asked xid (shown_of self.old) (shown_of self.new)) }
+        ensures declines { (asked : Wanted) → HasClient self.old → IsLook asked → Asks request.now asked → IfErr result (Declines asked xid self.old self.new) }
+        ensures ready { HasClient self.old → IsReady self.new }
         ensures requests { self.new.connection.requests ≡ self.old.connection.requests }
-        ensures rest { self.new ≡ record self.old { taken = self.new.taken; connection = self.new.connection } }
+        ensures rest { self.new ≡ record self.old { connection = self.new.connection } }
     {
         let tree = Tree {
             alloc: self.alloc,
@@ -414,16 +443,34 @@ impl<A: Allocator + Copy> Bench<A> {
         read(&tree, xid, request, &mut self.connection)
     }
 
-    // Answers with a header alone.
-    fn finish(&mut self, xid: i32) -> Result<(), Refusal>
-        ensures requests { self.new.connection.requests ≡ self.old.connection.requests }
-        ensures rest { self.new ≡ record self.old { taken = self.new.taken; connection = self.new.connection } }
+    // Answers a ping.
+    fn pong(&mut self) -> Result<(), Stop>
+        ensures answers { (xid : ℤ) → HasClient self.old → OnOk result (ProcessesOne Ping xid (shown_of self.old) (shown_of self.new)) }
+        ensures ends { (xid : ℤ) → HasClient self.old → IsErrOf result stops.End → ProcessesOne Ping xid (shown_of self.old) (shown_of (ended self.new)) }
+        ensures only { IsSending self.old self.new }
     {
-        self.send_err(xid, 0).map_err(Refusal::from)
+        self.send_err(PONG, 0)
+    }
+
+    // Answers the end of a session, and ends the connection.
+    fn close(&mut self, xid: i32) -> Result<(), Stop>
+        ensures answers { HasClient self.old → OnOk result (ProcessesOne (Ask Close) xid (shown_of self.old) (shown_of self.new)) }
+        ensures ends { HasClient self.old → IsErrOf result stops.End → ProcessesOne (Ask Close) xid (shown_of self.old) (shown_of (ended self.new)) }
+        ensures ready { HasClient self.old → IsReady self.new }
+        ensures requests { self.new.connection.requests ≡ self.old.connection.requests }
+        ensures rest { self.new ≡ record self.old { connection = self.new.connection } }
+    {
+        self.send_err(xid, 0)?;
+        self.connection.phase = Phase::Ended;
+        Ok(())
     }
 
     // The connected server takes all transactions that are left.
     fn catch_up(&mut self) -> Result<(), Stop>
+        ensures takes { HasClient self.old → OnOk result (TakesSome (shown_of self.old) (shown_of self.new)) }
+        ensures ends { HasClient self.old → OnErr result (TakesSome (shown_of self.old) (shown_of (ended self.new))) }
+        ensures all { HasClient self.old → OnOk result (HasAll self.new) }
+        ensures has { HasClient self.old → HasClient self.new }
         ensures requests { self.new.connection.requests ≡ self.old.connection.requests }
         ensures rest { self.new ≡ record self.old { taken = self.new.taken; connection = self.new.connection } }
     {
@@ -437,7 +484,10 @@ impl<A: Allocator + Copy> Bench<A> {
     }
 
     // The tree at the end of the history.
-    fn newest(&self) -> Tree<'_, A> {
+    fn newest(&self) -> Tree<'_, A>
+        ensures history { result.history.now ≡ self.now.history }
+        ensures held { HasAll self.now → tree_at (history_of self.now.history) (natural result.zxid) ≡ tree_held (history_of self.now.history) (slice_index self.now.taken self.now.server) }
+    {
         Tree {
             alloc: self.alloc,
             history: &self.history,
@@ -445,31 +495,45 @@ impl<A: Allocator + Copy> Bench<A> {
         }
     }
 
-    // The mode of a create, for which the connected server has taken all transactions that are left.
-    fn mode_caught_up(&mut self, flags: i32) -> Result<Mode, Refusal>
-        ensures requests { self.new.connection.requests ≡ self.old.connection.requests }
-        ensures rest { self.new ≡ record self.old { taken = self.new.taken; connection = self.new.connection } }
-    {
-        let Some(mode) = mode_of(flags) else {
-            return Err(Refusal::Stop(Stop::End));
-        };
-        self.catch_up()?;
-        Ok(mode)
-    }
-
     // Appends a change to the history, and the connected server takes it.
     #[tactic(auto, using(crate::proofs::Continuing::same_goes_on))]
     fn write(&mut self, change: Change<A>) -> Result<(), Refusal>
+        ensures takes { HasClient self.old → OnOk result (TakesSome (shown_of self.old) (shown_of self.new)) }
+        ensures wrote { HasClient self.old → OnOk result (HasWritten (change_of change) self.new) }
+        ensures all { HasClient self.old → OnOk result (HasAll self.new) }
+        ensures refuses { HasClient self.old → IfErr result (LeavesUnmade self.old self.new) }
+        ensures has { HasClient self.old → HasClient self.new }
         ensures requests { self.new.connection.requests ≡ self.old.connection.requests }
         ensures history { Continues self.old.history self.new.history }
         ensures rest { self.new ≡ record self.old { history = self.new.history; taken = self.new.taken; connection = self.new.connection } }
     {
         append_write(&mut self.history, self.time, change)?;
-        self.catch_up().map_err(Refusal::from)
+        self.catch_up()?;
+        Ok(())
     }
 
+    // The mode of a create, for which the connected server has taken all transactions that are left.
+    fn mode_caught_up(&mut self, flags: i32) -> Result<Mode, Stop>
+        ensures mode { IfOk result (λ mode. mode_told flags ≡ Some (mode.ephemeral, mode.sequential)) }
+        ensures takes { HasClient self.old → OnOk result (TakesSome (shown_of self.old) (shown_of self.new)) }
+        ensures ends { HasClient self.old → OnErr result (TakesSome (shown_of self.old) (shown_of (ended self.new))) }
+        ensures has { HasClient self.old → HasClient self.new }
+        ensures requests { self.new.connection.requests ≡ self.old.connection.requests }
+        ensures rest { self.new ≡ record self.old { taken = self.new.taken; connection = self.new.connection } }
+    {
+        let Some(mode) = mode_of(flags) else {
+            return Err(Stop::End);
+        };
+        self.catch_up()?;
+        Ok(mode)
+    }
+
+    // Answers a create: the codes of the specification in their order, or the path that is made.
     #[tactic(auto, using(crate::proofs::Continuing::same_goes_on))]
     fn create(&mut self, xid: i32, request: CreateRequest<A>) -> Result<(), Refusal>
+        ensures answers { (asked : Wanted) → HasClient self.old → Asks (requests.Create request) asked → OnOk result (ProcessesOne asked xid (shown_of self.old) (shown_of self.new)) }
+        ensures declines { (asked : Wanted) → HasClient self.old → Asks (requests.Create request) asked → IfErr result (Declines asked xid self.old self.new) }
+        ensures has { HasClient self.old → HasClient self.new }
         ensures requests { self.new.connection.requests ≡ self.old.connection.requests }
         ensures history { Continues self.old.history self.new.history }
         ensures rest { self.new ≡ record self.old { history = self.new.history; taken = self.new.taken; connection = self.new.connection } }
@@ -483,36 +547,55 @@ impl<A: Allocator + Copy> Bench<A> {
         drop(acl);
         let mode = match self.mode_caught_up(flags) {
             Ok(mode) => mode,
-            Err(refusal) => {
+            Err(stop) => {
                 drop(path);
                 drop(bytes);
-                return Err(refusal);
+                return Err(Refusal::Stop(stop));
             }
         };
-        let made = creation(&self.newest(), mode, text_of(&path), bytes);
+        let outcome = self.make(xid, mode, text_of(&path), bytes);
         drop(path);
-        let (text, change) = made?;
-        let outcome = match self.write(change) {
-            Ok(()) => self.send_created(xid, text.as_str()),
-            Err(refusal) => Err(refusal),
-        };
-        drop(text);
         outcome
     }
 
-    fn send_created(&mut self, xid: i32, text: &str) -> Result<(), Refusal>
+    // Makes a node in this mode, below the newest tree, and answers with its path.
+    #[tactic(auto, using(crate::proofs::Continuing::same_goes_on))]
+    fn make(&mut self, xid: i32, mode: Mode, text: &str, bytes: Buffer<A>) -> Result<(), Refusal>
+        ensures answers { (number : ℕ) → HasClient self.old → is_sequential number ≡ mode.sequential → OnOk result (ProcessesOne (Ask (Create text.now bytes number)) xid (shown_of self.old) (shown_of self.new)) }
+        ensures declines { (number : ℕ) → HasClient self.old → IfErr result (Declines (Ask (Create text.now bytes number)) xid self.old self.new) }
+        ensures has { HasClient self.old → HasClient self.new }
         ensures requests { self.new.connection.requests ≡ self.old.connection.requests }
-        ensures rest { self.new ≡ record self.old { taken = self.new.taken; connection = self.new.connection } }
+        ensures history { Continues self.old.history self.new.history }
+        ensures rest { self.new ≡ record self.old { history = self.new.history; taken = self.new.taken; connection = self.new.connection } }
+    {
+        let (made, change) = creation(&self.newest(), mode, text, bytes)?;
+        if let Err(refusal) = self.write(change) {
+            drop(made);
+            return Err(refusal);
+        }
+        let outcome = self.send_created(xid, made.as_str());
+        drop(made);
+        outcome?;
+        Ok(())
+    }
+
+    fn send_created(&mut self, xid: i32, text: &str) -> Result<(), Stop>
+        ensures sends { IsReady self.old → OnOk result (Sends (xid, (pos (zxid_of self.old), pos 0)) create_response (Some text.now) self.old.connection.output self.new.connection.output) }
+        ensures sent { IsErrOf result stops.End → self.new.connection.output ≡ self.old.connection.output }
+        ensures only { IsSending self.old self.new }
     {
         let zxid = self.zxid();
         let path = TextRef { text: Some(text) };
         let record = CreateRef { path };
-        let out = &mut self.connection.output;
-        send_result(self.alloc, xid, zxid, record, out).map_err(Refusal::from)
+        send_result(self.alloc, xid, zxid, record, &mut self.connection.output)
     }
 
+    // Answers a setData: the codes of the specification in their order, or the Stat behind the write.
     #[tactic(auto, using(crate::proofs::Continuing::same_goes_on))]
     fn set_data(&mut self, xid: i32, request: SetDataRequest<A>) -> Result<(), Refusal>
+        ensures answers { (asked : Wanted) → HasClient self.old → Asks (requests.SetData request) asked → OnOk result (ProcessesOne asked xid (shown_of self.old) (shown_of self.new)) }
+        ensures declines { (asked : Wanted) → HasClient self.old → Asks (requests.SetData request) asked → IfErr result (Declines asked xid self.old self.new) }
+        ensures has { HasClient self.old → HasClient self.new }
         ensures requests { self.new.connection.requests ≡ self.old.connection.requests }
         ensures history { Continues self.old.history self.new.history }
         ensures rest { self.new ≡ record self.old { history = self.new.history; taken = self.new.taken; connection = self.new.connection } }
@@ -535,6 +618,9 @@ impl<A: Allocator + Copy> Bench<A> {
         bytes: Buffer<A>,
         version: i32,
     ) -> Result<(), Refusal>
+        ensures answers { HasClient self.old → IsPath text.now → OnOk result (ProcessesOne (Ask (SetData text.now bytes version)) xid (shown_of self.old) (shown_of self.new)) }
+        ensures declines { HasClient self.old → IsPath text.now → IfErr result (Declines (Ask (SetData text.now bytes version)) xid self.old self.new) }
+        ensures has { HasClient self.old → HasClient self.new }
         ensures requests { self.new.connection.requests ≡ self.old.connection.requests }
         ensures history { Continues self.old.history self.new.history }
         ensures rest { self.new ≡ record self.old { history = self.new.history; taken = self.new.taken; connection = self.new.connection } }
@@ -555,19 +641,25 @@ impl<A: Allocator + Copy> Bench<A> {
     }
 
     fn send_stat(&mut self, xid: i32, text: &str) -> Result<(), Refusal>
-        ensures requests { self.new.connection.requests ≡ self.old.connection.requests }
-        ensures rest { self.new ≡ record self.old { taken = self.new.taken; connection = self.new.connection } }
+        ensures sends { IsReady self.old → HasAll self.old → IsPath text.now → OnOk result (SendsStat xid text.now self.old self.new) }
+        ensures unsent { IfErr result (LeavesUnsent self.old self.new) }
+        ensures only { IsSending self.old self.new }
     {
         let zxid = self.zxid();
         let Some(stat) = self.newest().stat(text)? else {
             return Err(Refusal::Code(Code::NoNode));
         };
         let out = &mut self.connection.output;
-        send_result(self.alloc, xid, zxid, stat, out).map_err(Refusal::from)
+        send_result(self.alloc, xid, zxid, stat, out)?;
+        Ok(())
     }
 
+    // Answers a delete: the codes of the specification in their order, or a header alone.
     #[tactic(auto, using(crate::proofs::Continuing::same_goes_on))]
     fn delete(&mut self, xid: i32, request: &DeleteRequest<A>) -> Result<(), Refusal>
+        ensures answers { (asked : Wanted) → HasClient self.old → Asks (requests.Delete request.now) asked → OnOk result (ProcessesOne asked xid (shown_of self.old) (shown_of self.new)) }
+        ensures declines { (asked : Wanted) → HasClient self.old → Asks (requests.Delete request.now) asked → IfErr result (Declines asked xid self.old self.new) }
+        ensures has { HasClient self.old → HasClient self.new }
         ensures requests { self.new.connection.requests ≡ self.old.connection.requests }
         ensures history { Continues self.old.history self.new.history }
         ensures rest { self.new ≡ record self.old { history = self.new.history; taken = self.new.taken; connection = self.new.connection } }
@@ -575,6 +667,7 @@ impl<A: Allocator + Copy> Bench<A> {
         self.catch_up()?;
         let path = deleted_path(&self.newest(), request)?;
         self.write(Change::Delete(path))?;
-        self.finish(xid)
+        self.send_err(xid, 0)?;
+        Ok(())
     }
 }

@@ -1,6 +1,6 @@
 //! What a transaction tells the connection that watches.
 
-ghost use Rattle.std.specs.Prelude.{◌≡◌, ◌≢◌, OnOk, OnErr, map, take as first, length as bytes_of};
+ghost use Rattle.std.specs.Prelude.{◌≡◌, ◌≢◌, OnOk, OnErr, IsOk, map, take as first, length as bytes_of};
 ghost use Rattle.zk_history.specs.History.{path_of, IsPathText};
 ghost use Rattle.zk_history.specs.Made.{change_of};
 ghost use Rattle.zk_laws.specs.Server.{fires, leaves_set, fires_all, leaves_set_all};
@@ -108,6 +108,7 @@ pub(crate) fn tell_accepted<A: Allocator + Copy>(
     ensures left { connection.old.phase ≡ Accepted → OnOk result (watched connection.new.watches ≡ leaves_set_all (map change_of changes.now) (watched connection.old.watches)) }
     ensures tells { connection.old.phase ≡ Accepted → OnOk result (Tells (fires_all (map change_of changes.now) (watched connection.old.watches)) connection.old.output.items connection.new.output.items) }
     ensures idle { connection.old.phase ≢ Accepted → connection.new ≡ connection.old }
+    ensures quiet { connection.old.phase ≢ Accepted → IsOk result }
     ensures err { OnErr result (connection.new.output.items ≡ connection.old.output.items) }
 {
     if connection.phase == Phase::Accepted {

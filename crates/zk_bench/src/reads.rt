@@ -3,7 +3,7 @@
 //! exists leaves a data watch whether a node is there or not; getData a data watch, and getChildren a child watch, where
 //! one is there (Programmer's Guide, "ZooKeeper Watches").
 
-ghost use Rattle.std.specs.Prelude.{◌≡◌, ℕ, pos, Some, None, cond, map, OnOk, IfOk, IfErr, string_bytes};
+ghost use Rattle.std.specs.Prelude.{◌≡◌, ℕ, pos, Some, None, cond, map, OnOk, IfOk, IfErr, IsErrOf, string_bytes};
 ghost use Rattle.std.specs.Option.{option_map};
 ghost use Rattle.std.specs.FinSet as set;
 ghost use Rattle.zk_jute.specs.Lenient.{or_empty};
@@ -16,6 +16,9 @@ ghost use Rattle.zk_conversation.specs.Calls.{Call, Exists, GetData, GetChildren
 ghost use Rattle.zk_watches.specs.Lists.{Lists};
 ghost use Rattle.zk_bench.specs.Restoring.{RestoresPart};
 ghost use Rattle.zk_bench.specs.Answering.{AnswersRead, RefusesRead, MissesNode, ListsChildren, FindsNoNode, IsReadOf, IsRestoring};
+ghost use Rattle.zk_bench.specs.Refusals.{IsCode};
+ghost use Rattle.zk_bench.specs.declared.stop.Stop.TheVariants as stops;
+ghost use Rattle.zk_bench.specs.declared.stop.Refusal.TheVariants as refusals;
 
 use crate::connection::Connection;
 use crate::replies::send_result;
@@ -38,12 +41,15 @@ pub(crate) fn read<A: Allocator + Copy>(
     connection: &mut Connection<A>,
 ) -> Result<(), Refusal>
     ensures requests { connection.new.requests ≡ connection.old.requests }
+    ensures rest { connection.new ≡ record connection.old { watches = connection.new.watches; output = connection.new.output } }
+    ensures ends { IsErrOf result (refusals.Stop stops.End) → connection.new.output.items ≡ connection.old.output.items }
     ensures answers { (asked : Call) (zxid : ℕ) → IsReadOf request.now asked → tree.now.zxid ≡ pos zxid
         → OnOk result (AnswersRead (tree_at (history_of tree.now.history.now) zxid) zxid xid asked connection.old connection.new) }
     ensures refuses { (asked : Call) (zxid : ℕ) → IsReadOf request.now asked → tree.now.zxid ≡ pos zxid
         → IfErr result (RefusesRead (tree_at (history_of tree.now.history.now) zxid) asked connection.old connection.new) }
     ensures restores { (since zxid : ℕ) (part : Lists) → IsRestoring request.now since part → tree.now.zxid ≡ pos zxid
         → OnOk result (RestoresPart (tree_at (history_of tree.now.history.now) zxid) zxid xid since part connection.old connection.new) }
+    ensures stops { (since : ℕ) (part : Lists) → IsRestoring request.now since part → IfErr result (λ refusal. IsCode refusal → ⊥) }
 {
     match request {
         Request::Exists(r) => exists(tree, xid, r, connection),
@@ -66,6 +72,8 @@ fn exists<A: Allocator + Copy>(
     connection: &mut Connection<A>,
 ) -> Result<(), Refusal>
     ensures requests { connection.new.requests ≡ connection.old.requests }
+    ensures rest { connection.new ≡ record connection.old { watches = connection.new.watches; output = connection.new.output } }
+    ensures ends { IsErrOf result (refusals.Stop stops.End) → connection.new.output.items ≡ connection.old.output.items }
     ensures answers { (text : Bytes) (zxid : ℕ) → IsPath text → request.now.path ≡ Some text → tree.now.zxid ≡ pos zxid
         → OnOk result (AnswersRead (tree_at (history_of tree.now.history.now) zxid) zxid xid (Exists text request.now.watch) connection.old connection.new) }
     ensures refuses { (text : Bytes) (zxid : ℕ) → IsPath text → request.now.path ≡ Some text → tree.now.zxid ≡ pos zxid
@@ -112,6 +120,8 @@ fn get_data<A: Allocator + Copy>(
     connection: &mut Connection<A>,
 ) -> Result<(), Refusal>
     ensures requests { connection.new.requests ≡ connection.old.requests }
+    ensures rest { connection.new ≡ record connection.old { watches = connection.new.watches; output = connection.new.output } }
+    ensures ends { IsErrOf result (refusals.Stop stops.End) → connection.new.output.items ≡ connection.old.output.items }
     ensures answers { (text : Bytes) (zxid : ℕ) → IsPath text → request.now.path ≡ Some text → tree.now.zxid ≡ pos zxid
         → OnOk result (AnswersRead (tree_at (history_of tree.now.history.now) zxid) zxid xid (GetData text request.now.watch) connection.old connection.new) }
     ensures refuses { (text : Bytes) (zxid : ℕ) → IsPath text → request.now.path ≡ Some text → tree.now.zxid ≡ pos zxid
@@ -135,7 +145,9 @@ fn get_children<A: Allocator + Copy>(
     request: &ReadRequest<A>,
     connection: &mut Connection<A>,
 ) -> Result<(), Refusal>
-    ensures { connection.new.requests ≡ connection.old.requests }
+    ensures requests { connection.new.requests ≡ connection.old.requests }
+    ensures rest { connection.new ≡ record connection.old { watches = connection.new.watches; output = connection.new.output } }
+    ensures ends { IsErrOf result (refusals.Stop stops.End) → connection.new.output.items ≡ connection.old.output.items }
 {
     let _stat = watched(tree, request, &mut connection.watches.child)?;
     let children = children_at(tree, text_of(&request.path))?;
@@ -152,6 +164,8 @@ fn get_children_2<A: Allocator + Copy>(
     connection: &mut Connection<A>,
 ) -> Result<(), Refusal>
     ensures requests { connection.new.requests ≡ connection.old.requests }
+    ensures rest { connection.new ≡ record connection.old { watches = connection.new.watches; output = connection.new.output } }
+    ensures ends { IsErrOf result (refusals.Stop stops.End) → connection.new.output.items ≡ connection.old.output.items }
     ensures answers { (text : Bytes) (zxid : ℕ) → IsPath text → request.now.path ≡ Some text → tree.now.zxid ≡ pos zxid
         → OnOk result (AnswersRead (tree_at (history_of tree.now.history.now) zxid) zxid xid (GetChildren text request.now.watch) connection.old connection.new) }
     ensures refuses { (text : Bytes) (zxid : ℕ) → IsPath text → request.now.path ≡ Some text → tree.now.zxid ≡ pos zxid

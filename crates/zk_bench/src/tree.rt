@@ -7,6 +7,7 @@ ghost use Rattle.zk_history.specs.declared.side.Side.TheVariants as sides;
 ghost use Rattle.zk_history.specs.Kept.{history_of, natural};
 ghost use Rattle.zk_history.specs.PathFault.{IsPath};
 ghost use Rattle.zk_history.specs.Shown.{data_told, names_told, IsStat};
+ghost use Rattle.zk_bench.specs.Writing.{path_told};
 
 use std::alloc::{AllocError, Allocator};
 use zk_history::{Data, History, Names, Path, PathFault, Stat};
@@ -32,7 +33,8 @@ pub(crate) fn text_of<A: Allocator>(text: &Text<A>) -> &str
 
 /// The path of a text, and none where it is no path.
 pub(crate) fn path_of<A: Allocator>(alloc: A, text: &str) -> Result<Option<Path<A>>, AllocError>
-    ensures { IfOk result (λ path. IsPath text.now → path ≡ Some text.now) }
+    ensures path { IfOk result (λ path. IsPath text.now → path ≡ Some text.now) }
+    ensures told { IfOk result (λ path. path ≡ path_told text.now) }
 {
     match Path::new(alloc, text) {
         Ok(path) => Ok(Some(path)),

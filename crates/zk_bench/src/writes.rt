@@ -1,9 +1,22 @@
 //! Writes: which are refused, and how the others are made.
 
-ghost use Rattle.std.specs.Prelude.{◌≡◌, IfErr};
-ghost use Rattle.zk_bench.specs.Served.{Continues};
+ghost use Rattle.std.specs.Prelude.{◌≡◌, false, pos, Some, None, IfOk, IfErr, IfSome, OnOk, string_bytes};
+ghost use Rattle.std.specs.Option.{option_map};
+ghost use Rattle.std.specs.FinSet as set;
+ghost use Rattle.zk_jute.specs.Lenient.{or_empty};
+ghost use Rattle.zk_history.specs.History.{Creates, path_of as names_in};
+ghost use Rattle.zk_history.specs.Kept.{HasChildren, IsAccepted, newest_tree};
+ghost use Rattle.zk_history.specs.Made.{change_of};
+ghost use Rattle.zk_history.specs.Path.{parent_of};
+ghost use Rattle.zk_history.specs.PathFault.{IsPath};
+ghost use Rattle.zk_history.specs.Replay.{Names as NameSet};
 ghost use Rattle.zk_history.specs.declared.history_fault.HistoryFault.TheVariants as faults;
+ghost use Rattle.zk_records.specs.declared.code.Code.TheVariants as codes;
+ghost use Rattle.zk_laws.specs.Server.{IsMadeOf};
+ghost use Rattle.zk_bench.specs.declared.stop.Refusal.TheVariants as refusals;
 ghost use Rattle.zk_bench.specs.Refusals.{IsCode};
+ghost use Rattle.zk_bench.specs.Served.{Continues};
+ghost use Rattle.zk_bench.specs.Writing.{appended, mode_of as mode_told, owner_of, IsAnswer, IsRefusedWith, IsStatAt, tree_of, node_at, is_version as version_told, data_refusal, removal_refusal, set_refusal, deletion_refusal, made_text, creates_beside, refusal_above, place_refusal, creation_refusal, AreBeside, is_over, AppendRefused, WriteRefused};
 
 use crate::sequence::numbered;
 use crate::stop::{Refusal, Stop};
@@ -24,7 +37,9 @@ pub(crate) struct Mode {
 }
 
 /// The mode of some flags, 0 to 3, and none for others.
-pub(crate) fn mode_of(flags: i32) -> Option<Mode> {
+pub(crate) fn mode_of(flags: i32) -> Option<Mode>
+    ensures { option_map (λ mode. (mode.ephemeral, mode.sequential)) result ≡ mode_told flags }
+{
     let (ephemeral, sequential) = match flags {
         0 => (false, false),
         1 => (true, false),
@@ -43,7 +58,15 @@ pub(crate) fn mode_of(flags: i32) -> Option<Mode> {
 fn parent_of<'p, A: Allocator + Copy>(
     tree: &Tree<'_, A>,
     asked: &'p Path<A>,
-) -> Result<(&'p str, Stat), Refusal> {
+) -> Result<(&'p str, Stat), Refusal>
+    ensures parent { IfOk result (λ found. parent_of (names_in asked.now) ≡ Some (names_in found.0.now)) }
+    ensures path { IfOk result (λ found. IsPath found.0.now) }
+    ensures accepted { OnOk result (refusal_above (tree_of tree.now.history.now tree.now.zxid) (names_in asked.now) ≡ None) }
+    ensures counted { (names : NameSet) → AreBeside (tree_of tree.now.history.now tree.now.zxid) (names_in asked.now) names
+        → IfOk result (λ found. found.1.num_children ≡ pos (set.len names)) }
+    ensures told { IfErr result (IsRefusedWith (refusal_above (tree_of tree.now.history.now tree.now.zxid) (names_in asked.now))) }
+    ensures refused { IfErr result IsAnswer }
+{
     let Some(parent) = asked.parent() else {
         return Err(Refusal::Code(Code::NodeExists));
     };
@@ -62,7 +85,14 @@ fn path_in_mode<A: Allocator + Copy>(
     mode: Mode,
     asked: &Path<A>,
     parent: &str,
-) -> Result<Path<A>, Refusal> {
+) -> Result<Path<A>, Refusal>
+    requires path { IsPath parent.now }
+    requires parent { parent_of (names_in asked.now) ≡ Some (names_in parent.now) }
+    ensures made { IfOk result (λ path. IsMadeOf asked.now mode.sequential path) }
+    ensures text { IfOk result (λ path. made_text mode.sequential asked.now (creates_beside (names_in asked.now) tree.now.history.now.transactions) ≡ Some path) }
+    ensures none { IfErr result (λ refusal. IsCode refusal → made_text mode.sequential asked.now (creates_beside (names_in asked.now) tree.now.history.now.transactions) ≡ None) }
+    ensures refused { IfErr result (IsRefusedWith (Some codes.BadArguments)) }
+{
     if mode.sequential {
         return numbered(tree.alloc, tree.history, asked, parent);
     }
@@ -76,7 +106,10 @@ fn refusal_at<A: Allocator + Copy>(
     tree: &Tree<'_, A>,
     path: &Path<A>,
     children: i32,
-) -> Option<Code> {
+) -> Option<Code>
+    ensures is { result ≡ place_refusal (tree_of tree.now.history.now tree.now.zxid (names_in path.now)) children }
+    ensures answer { IfSome result (λ code. IsAnswer (refusals.Code code)) }
+{
     if tree.history.stat_at(tree.zxid, path).is_some() {
         return Some(Code::NodeExists);
     }
@@ -93,7 +126,15 @@ fn created_path<A: Allocator + Copy>(
     tree: &Tree<'_, A>,
     mode: Mode,
     text: &str,
-) -> Result<Path<A>, Refusal> {
+) -> Result<Path<A>, Refusal>
+    ensures made { IfOk result (λ path. IsMadeOf text.now mode.sequential path) }
+    ensures text { IfOk result (λ path. made_text mode.sequential text.now (creates_beside (names_in text.now) tree.now.history.now.transactions) ≡ Some path) }
+    ensures accepted { (names : NameSet) → AreBeside (tree_of tree.now.history.now tree.now.zxid) (names_in text.now) names
+        → OnOk result (creation_refusal (tree_of tree.now.history.now tree.now.zxid) mode.sequential text.now (creates_beside (names_in text.now) tree.now.history.now.transactions) (set.len names) ≡ None) }
+    ensures told { (names : NameSet) → AreBeside (tree_of tree.now.history.now tree.now.zxid) (names_in text.now) names
+        → IfErr result (IsRefusedWith (creation_refusal (tree_of tree.now.history.now tree.now.zxid) mode.sequential text.now (creates_beside (names_in text.now) tree.now.history.now.transactions) (set.len names))) }
+    ensures refused { IfErr result IsAnswer }
+{
     let asked = Path::new(tree.alloc, text)?;
     let (parent, above) = match parent_of(tree, &asked) {
         Ok(found) => found,
@@ -120,7 +161,15 @@ pub(crate) fn creation<A: Allocator + Copy>(
     mode: Mode,
     text: &str,
     bytes: Buffer<A>,
-) -> Result<(String<A>, Change<A>), Refusal> {
+) -> Result<(String<A>, Change<A>), Refusal>
+    ensures made { IfOk result (λ made. (change_of made.1 ≡ Creates (names_in (string_bytes made.0)) bytes (owner_of mode.ephemeral)) × IsMadeOf text.now mode.sequential (string_bytes made.0)) }
+    ensures text { IfOk result (λ made. made_text mode.sequential text.now (creates_beside (names_in text.now) tree.now.history.now.transactions) ≡ Some (string_bytes made.0)) }
+    ensures accepted { (names : NameSet) → AreBeside (tree_of tree.now.history.now tree.now.zxid) (names_in text.now) names
+        → OnOk result (creation_refusal (tree_of tree.now.history.now tree.now.zxid) mode.sequential text.now (creates_beside (names_in text.now) tree.now.history.now.transactions) (set.len names) ≡ None) }
+    ensures told { (names : NameSet) → AreBeside (tree_of tree.now.history.now tree.now.zxid) (names_in text.now) names
+        → IfErr result (IsRefusedWith (creation_refusal (tree_of tree.now.history.now tree.now.zxid) mode.sequential text.now (creates_beside (names_in text.now) tree.now.history.now.transactions) (set.len names))) }
+    ensures refused { IfErr result IsAnswer }
+{
     let path = match created_path(tree, mode, text) {
         Ok(path) => path,
         Err(refusal) => {
@@ -139,10 +188,12 @@ pub(crate) fn creation<A: Allocator + Copy>(
 }
 
 // A path with the `Stat` of the node there, and -101 where no node is there.
-fn node_at<A: Allocator + Copy>(
-    tree: &Tree<'_, A>,
-    text: &str,
-) -> Result<(Path<A>, Stat), Refusal> {
+fn node_at<A: Allocator + Copy>(tree: &Tree<'_, A>, text: &str) -> Result<(Path<A>, Stat), Refusal>
+    ensures path { IfOk result (λ found. found.0 ≡ text.now) }
+    ensures found { IfOk result (λ found. IsStatAt (tree_of tree.now.history.now tree.now.zxid) text.now (Some found.1)) }
+    ensures missing { IfErr result (λ refusal. IsCode refusal → node_at (tree_of tree.now.history.now tree.now.zxid) text.now ≡ None) }
+    ensures refused { IfErr result (IsRefusedWith (Some codes.NoNode)) }
+{
     let Some(path) = path_of(tree.alloc, text)? else {
         return Err(Refusal::Code(Code::NoNode));
     };
@@ -153,12 +204,17 @@ fn node_at<A: Allocator + Copy>(
 }
 
 // Whether a write that asks for this version, or for any by -1, is for a node of that version.
-fn is_version(asked: i32, version: i32) -> bool {
+fn is_version(asked: i32, version: i32) -> bool
+    ensures { result ≡ version_told asked version }
+{
     asked == -1 || asked == version
 }
 
 // The code that refuses data at a node of this version: -103 where another one is asked for, -8 where it is 2,147,483,647.
-fn refused_data(asked: i32, version: i32) -> Option<Code> {
+fn refused_data(asked: i32, version: i32) -> Option<Code>
+    ensures is { result ≡ data_refusal asked version }
+    ensures answer { IfSome result (λ code. IsAnswer (refusals.Code code)) }
+{
     if !is_version(asked, version) {
         return Some(Code::BadVersion);
     }
@@ -174,7 +230,12 @@ pub(crate) fn written_path<A: Allocator + Copy>(
     tree: &Tree<'_, A>,
     text: &str,
     version: i32,
-) -> Result<Path<A>, Refusal> {
+) -> Result<Path<A>, Refusal>
+    ensures path { IfOk result (λ path. path ≡ text.now) }
+    ensures accepted { OnOk result (set_refusal (node_at (tree_of tree.now.history.now tree.now.zxid) text.now) version ≡ None) }
+    ensures told { IfErr result (IsRefusedWith (set_refusal (node_at (tree_of tree.now.history.now tree.now.zxid) text.now) version)) }
+    ensures refused { IfErr result IsAnswer }
+{
     let (path, stat) = node_at(tree, text)?;
     match refused_data(version, stat.version) {
         Some(code) => Err(Refusal::Code(code)),
@@ -184,7 +245,10 @@ pub(crate) fn written_path<A: Allocator + Copy>(
 
 // The code that refuses that a node with this `Stat` is deleted: -103 where another version is asked for, -111 where it
 // has children.
-fn refused_deletion(asked: i32, stat: &Stat) -> Option<Code> {
+fn refused_deletion(asked: i32, stat: &Stat) -> Option<Code>
+    ensures is { result ≡ removal_refusal asked stat.now.version stat.now.num_children }
+    ensures answer { IfSome result (λ code. IsAnswer (refusals.Code code)) }
+{
     if !is_version(asked, stat.version) {
         return Some(Code::BadVersion);
     }
@@ -199,7 +263,14 @@ fn refused_deletion(asked: i32, stat: &Stat) -> Option<Code> {
 pub(crate) fn deleted_path<A: Allocator + Copy>(
     tree: &Tree<'_, A>,
     request: &DeleteRequest<A>,
-) -> Result<Path<A>, Refusal> {
+) -> Result<Path<A>, Refusal>
+    ensures path { IfOk result (λ path. path ≡ or_empty request.now.path) }
+    ensures accepted { (names : NameSet) → HasChildren (tree_of tree.now.history.now tree.now.zxid) (names_in (or_empty request.now.path)) names
+        → OnOk result (deletion_refusal (tree_of tree.now.history.now tree.now.zxid) (or_empty request.now.path) (set.len names) request.now.version ≡ None) }
+    ensures told { (names : NameSet) → HasChildren (tree_of tree.now.history.now tree.now.zxid) (names_in (or_empty request.now.path)) names
+        → IfErr result (IsRefusedWith (deletion_refusal (tree_of tree.now.history.now tree.now.zxid) (or_empty request.now.path) (set.len names) request.now.version)) }
+    ensures refused { IfErr result IsAnswer }
+{
     let text = text_of(&request.path);
     if text == "/" {
         return Err(Refusal::Code(Code::BadArguments));
@@ -219,8 +290,12 @@ pub(crate) fn append<A: Allocator + Copy>(
     time: u64,
     change: Change<A>,
 ) -> Result<(), HistoryFault>
+    ensures ok { OnOk result (history.new ≡ appended history.old time (change_of change)) }
     ensures goes_on { Continues history.old history.new }
     ensures order { IfErr result (λ fault. fault ≡ faults.Order → history.new ≡ history.old) }
+    ensures room { OnOk result (is_over history.old time ≡ false) }
+    ensures accepted { OnOk result (IsAccepted (change_of change) (newest_tree history.old)) }
+    ensures told { IfErr result (AppendRefused history.old time (change_of change)) }
 {
     let last = history.last_zxid();
     if last == i64::MAX || time > i64::MAX as u64 {
@@ -241,8 +316,12 @@ pub(crate) fn append_write<A: Allocator + Copy>(
     time: u64,
     change: Change<A>,
 ) -> Result<(), Refusal>
+    ensures ok { OnOk result (history.new ≡ appended history.old time (change_of change)) }
     ensures goes_on { Continues history.old history.new }
-    ensures refused { IfErr result (λ refusal. IsCode refusal → history.new ≡ history.old) }
+    ensures refused { IfErr result (λ refusal. IsCode refusal → (refusal ≡ refusals.Code codes.BadArguments) × (history.new ≡ history.old)) }
+    ensures room { OnOk result (is_over history.old time ≡ false) }
+    ensures accepted { OnOk result (IsAccepted (change_of change) (newest_tree history.old)) }
+    ensures told { IfErr result (WriteRefused history.old time (change_of change)) }
 {
     match append(history, time, change) {
         Ok(()) => Ok(()),

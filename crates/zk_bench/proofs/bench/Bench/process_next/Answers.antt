@@ -1,14 +1,33 @@
-use Rattle.std.proofs.Common.{ap, ◌∙◌, subst, pos, Some, false}
-use Rattle.zk_records.specs.Layouts.{connect_request}
-use Rattle.zk_laws.specs.Parsed.{IsRecord}
-use Rattle.zk_bench.specs.Front.{IsWhole}
+use Rattle.std.proofs.Common.{ap, ◌∙◌, subst, ℕ, List}
+use Rattle.zk_frames.specs.Frame.{IsNegative}
+use Rattle.zk_laws.specs.Parsed.{IsReadAs}
+use Rattle.zk_serving.specs.Lines.{IsFit}
+use Rattle.zk_bench.specs.Front.{IsShort, IsWhole}
 use Rattle.zk_bench.specs.Served.{Served}
-use Rattle.zk_bench.proofs.Stepped.{whole_payload}
+use Rattle.zk_bench.proofs.Stepped.{not_short, whole_payload}
+use Rattle.zk_bench.proofs.Processed.{not_negative}
 use Rattle.zk_bench.proofs.bench.Bench.process_next.Goals as goal
 
-pub returns-in-Whole-clause-connects : goal.returns-in-Whole-clause-connects
-returns-in-Whole-clause-connects g c = λ seen timeout session password payload rest xid ready opening is small read up.
+pub returns-in-Unfinished-clause-serves : goal.returns-in-Unfinished-clause-serves
+returns-in-Unfinished-clause-serves g c = λ asked xid payload rest ready up stands now.
+    absurd (not_short payload rest c.args.self.now.connection.requests stands.whole stands.small
+    (subst IsShort (c.as_slice.ensures.value ∙ ap (λ (s : Served). s.connection.requests) c.self.view_is) c.in-Unfinished.ensures))
+
+pub returns-in-Negative-clause-breaks : goal.returns-in-Negative-clause-breaks
+returns-in-Negative-clause-breaks g c = λ asked xid payload rest ready up stands now over.
+    absurd (not_negative payload rest c.args.self.now.connection.requests stands.whole stands.small
+    (subst IsNegative (c.as_slice.ensures.value ∙ ap (λ (s : Served). s.connection.requests) c.self.view_is) c.in-Negative.ensures))
+
+pub returns-in-Whole-clause-serves : goal.returns-in-Whole-clause-serves
+returns-in-Whole-clause-serves g c = λ asked xid payload rest ready up stands now.
     let whole : IsWhole c.args.self.now.connection.requests c.in-Whole.length =
     subst (λ bytes. IsWhole bytes c.in-Whole.length) (c.as_slice.ensures.value ∙ ap (λ (s : Served). s.connection.requests) c.self.view_is) c.in-Whole.ensures in
-    c.process_frame.ensures.connects seen timeout session password xid ready opening
-    (subst (λ p. IsRecord connect_request (pos 0, (pos seen, (timeout, (session, (Some password, false))))) p) (whole_payload payload rest c.args.self.now.connection.requests c.in-Whole.length is small whole) read) up
+    let same = whole_payload payload rest c.args.self.now.connection.requests c.in-Whole.length stands.whole stands.small whole in
+    c.process_frame.ensures.serves asked xid ready up now (subst (λ (p : List ℕ). IsReadAs asked xid p) same stands.read) (subst (λ (p : List ℕ). IsFit asked p) same stands.fit)
+
+pub returns-in-Whole-clause-breaks : goal.returns-in-Whole-clause-breaks
+returns-in-Whole-clause-breaks g c = λ asked xid payload rest ready up stands now over.
+    let whole : IsWhole c.args.self.now.connection.requests c.in-Whole.length =
+    subst (λ bytes. IsWhole bytes c.in-Whole.length) (c.as_slice.ensures.value ∙ ap (λ (s : Served). s.connection.requests) c.self.view_is) c.in-Whole.ensures in
+    let same = whole_payload payload rest c.args.self.now.connection.requests c.in-Whole.length stands.whole stands.small whole in
+    c.process_frame.ensures.ends asked xid ready up now (subst (λ (p : List ℕ). IsReadAs asked xid p) same stands.read) (subst (λ (p : List ℕ). IsFit asked p) same stands.fit) over

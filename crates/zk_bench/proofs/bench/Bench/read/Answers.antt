@@ -1,19 +1,25 @@
-use Rattle.std.proofs.Common.{rules, ◌≡◌, refl, sym, subst, ◌∙◌, pos, to_z, of_z, w32, w64}
-use Rattle.std.specs.Prelude.{OnOk, slice_index}
+use Rattle.std.proofs.Common.{rules, ◌≡◌, refl, sym, subst, ◌∙◌, pos, to_z, of_z, w32, w64, Bool, ℕ, ℤ}
+use Rattle.std.specs.Prelude.{OnOk, IfErr, slice_index}
+use Rattle.zk_history.specs.History.{Tree}
 use Rattle.zk_history.specs.Kept.{history_of}
+use Rattle.zk_conversation.specs.Calls.{Call}
+use Rattle.zk_watches.specs.Lists.{Lists}
 use Rattle.zk_laws.specs.Server.{zxid_held, tree_held}
-use Rattle.zk_laws.specs.Messages.{Ask}
+use Rattle.zk_laws.specs.Messages.{Request, Ask, Restore}
 use Rattle.zk_serving.proofs.Later.{taken_at}
 use Rattle.zk_bench.specs.Linked.{linked_of}
 use Rattle.zk_bench.specs.Served.{Served}
 use Rattle.zk_bench.specs.declared.phase.Phase.TheVariants.{Accepted}
-use Rattle.zk_bench.specs.Answering.{AnswersRead}
-use Rattle.zk_bench.specs.Stepping.{IsReady, ProcessesOne, shown_of}
+use Rattle.zk_bench.specs.Answering.{AnswersRead, RefusesRead}
+use Rattle.zk_bench.specs.Restoring.{RestoresPart}
+use Rattle.zk_bench.specs.Stepping.{HasClient, ProcessesOne, Declines, shown_of}
 use Rattle.zk_bench.proofs.Stepped.{ok_so, reads_so}
+use Rattle.zk_bench.proofs.Called.{looks}
+use Rattle.zk_bench.proofs.Processed.{restores_so, declines_read, declines_part}
 use Rattle.zk_bench.proofs.bench.Bench.read.Goals as goal
 
-pub returns-clause-reads : goal.returns-clause-reads
-returns-clause-reads g c = λ asked ready accepted is.
+pub returns-clause-answers : goal.returns-clause-answers
+returns-clause-answers g c = λ asked has look asks.
     let b : Served = record {
       history = c.self.inside.history;
       taken = c.self.inside.taken;
@@ -26,11 +32,46 @@ returns-clause-reads g c = λ asked ready accepted is.
     let held = zxid_held h (slice_index b.taken b.server) in
     let old = c.self.inside.connection in
     let new = c.read.new.connection in
+    let mine : HasClient b = subst HasClient (sym c.self.view_is) has in
     let xid : to_z w32 (of_z w32 c.args.xid) ≡ c.args.xid = search rules in
     let ranged : to_z w64 (of_z w64 c.zxid_after.result) ≡ c.zxid_after.result = search rules in
-    let at = ranged ∙ c.zxid_after.ensures.zxid (taken_at h b.taken b.server (subst IsReady (sym c.self.view_is) ready).taken) in
-    subst (λ (s : Served). OnOk c.read.result (ProcessesOne (Ask asked) c.args.xid (shown_of s) (shown_of (record b { connection = linked_of new })))) c.self.view_is
-    (ok_so c.read.result _ _ (c.read.ensures.answers asked held is at)
-    (λ a. reads_so b old new asked c.args.xid refl (subst (λ (s : Served). s.connection.phase ≡ Accepted) (sym c.self.view_is) accepted)
-    (subst (λ x. AnswersRead (tree_held h (slice_index b.taken b.server)) held x asked old new) xid
-    (subst (λ t. AnswersRead t held (to_z w32 (of_z w32 c.args.xid)) asked old new) c.zxid_after.ensures.held a))))
+    let at = ranged ∙ c.zxid_after.ensures.zxid (taken_at h b.taken b.server mine.ready.taken) in
+    looks (λ (one : Request). OnOk c.read.result (ProcessesOne one c.args.xid (shown_of c.args.self.now) (shown_of (record b { connection = linked_of new })))) c.args.request.now asked look asks
+    (λ call is reads.
+    subst (λ (s : Served). OnOk c.read.result (ProcessesOne (Ask call) c.args.xid (shown_of s) (shown_of (record b { connection = linked_of new })))) c.self.view_is
+    (ok_so c.read.result _ _ (c.read.ensures.answers call held reads at)
+    (λ a. reads_so b old new call c.args.xid refl mine.accepted
+    (subst (λ (x : ℤ). AnswersRead (tree_held h (slice_index b.taken b.server)) held x call old new) xid
+    (subst (λ (t : Tree). AnswersRead t held (to_z w32 (of_z w32 c.args.xid)) call old new) c.zxid_after.ensures.held a)))))
+    (λ is_last since part restoring.
+    subst (λ (s : Served). OnOk c.read.result (ProcessesOne (Restore is_last since part) c.args.xid (shown_of s) (shown_of (record b { connection = linked_of new })))) c.self.view_is
+    (ok_so c.read.result _ _ (c.read.ensures.restores since held part restoring at)
+    (λ r. restores_so b old new mine.accepted is_last since part c.args.xid
+    (subst (λ (x : ℤ). RestoresPart (tree_held h (slice_index b.taken b.server)) held x since part old new) xid
+    (subst (λ (t : Tree). RestoresPart t held (to_z w32 (of_z w32 c.args.xid)) since part old new) c.zxid_after.ensures.held r)))))
+
+pub returns-clause-declines : goal.returns-clause-declines
+returns-clause-declines g c = λ asked has look asks.
+    let b : Served = record {
+      history = c.self.inside.history;
+      taken = c.self.inside.taken;
+      server = c.self.inside.server;
+      connection = linked_of c.self.inside.connection;
+      expired = c.self.inside.expired;
+      time = c.self.inside.time;
+    } in
+    let h = history_of b.history in
+    let held = zxid_held h (slice_index b.taken b.server) in
+    let old = c.self.inside.connection in
+    let new = c.read.new.connection in
+    let mine : HasClient b = subst HasClient (sym c.self.view_is) has in
+    let ranged : to_z w64 (of_z w64 c.zxid_after.result) ≡ c.zxid_after.result = search rules in
+    let at = ranged ∙ c.zxid_after.ensures.zxid (taken_at h b.taken b.server mine.ready.taken) in
+    looks (λ (one : Request). IfErr c.read.result (Declines one c.args.xid c.args.self.now (record b { connection = linked_of new }))) c.args.request.now asked look asks
+    (λ call is reads.
+    subst (λ (s : Served). IfErr c.read.result (Declines (Ask call) c.args.xid s (record b { connection = linked_of new }))) c.self.view_is
+    (declines_read b old new mine.accepted c.args.xid call c.read.result is
+    (subst (λ (t : Tree). IfErr c.read.result (RefusesRead t call old new)) c.zxid_after.ensures.held (c.read.ensures.refuses call held reads at)) c.read.ensures.ends))
+    (λ is_last since part restoring.
+    subst (λ (s : Served). IfErr c.read.result (Declines (Restore is_last since part) c.args.xid s (record b { connection = linked_of new }))) c.self.view_is
+    (declines_part b old new mine.accepted c.args.xid (Restore is_last since part) c.read.result (c.read.ensures.stops since part restoring) c.read.ensures.ends))

@@ -1,4 +1,4 @@
-use Rattle.std.proofs.Common.{◌≡◌, refl, sym, subst}
+use Rattle.std.proofs.Common.{◌≡◌, refl, sym, ap, subst, ◌∙◌, Result, Ok, Err, OnOk, IsOk}
 use Rattle.zk_serving.specs.GoingOn.{GoesOn}
 use Rattle.zk_bench.specs.declared.stop.Stop.TheVariants as stops
 use Rattle.zk_history.specs.Kept.{history_of}
@@ -22,3 +22,18 @@ returns-clause-advances g c = λ ready same up.
     (λ over. shows_ended old (ended mid)
     (subst (λ (s : Served). GoesOn (history_of old.history) (history_of s.history)) (sym c.take_next-outcome.ensures.rest) (same_history (history_of old.history)))
     refl (this_error c.take_next-outcome.result stops.End (mid.connection.output ≡ old.connection.output) c.take_next-outcome.ensures.sent over))
+
+gives : {T E : Type 0} (result : Result T E) (P : Type 0) → IsOk result → OnOk result P → P
+gives (Ok x) P is p = p
+gives (Err e) P is p = absurd cc
+
+on_ok : {T E : Type 0} (result : Result T E) (P : Type 0) → P → OnOk result P
+on_ok (Ok x) P p = p
+on_ok (Err e) P p = tt
+
+pub returns-clause-apart : goal.returns-clause-apart
+returns-clause-apart g c = λ shut.
+    let mid = c.take_next-outcome.new.self in
+    let stays = c.take_next-outcome.ensures.apart shut in
+    let same = gives c.take_next-outcome.result (c.settle.new.self ≡ mid) stays.1 c.settle.ensures.ok in
+    on_ok c.settle.result (c.settle.new.self.connection ≡ c.args.self.now.connection) (ap (λ (b : Served). b.connection) same ∙ stays.0)

@@ -1,8 +1,10 @@
-use Rattle.std.proofs.Common.{◌≡◌, ap, sym, subst, ◌∙◌, ◌+◌, ◌<◌, length, refl, true, map}
+use Rattle.std.proofs.Common.{◌≡◌, ◌≢◌, ap, sym, subst, ◌∙◌, ◌+◌, ◌<◌, length, refl, true, false, map, IsOk}
 use Rattle.zk_laws.specs.ServerSteps.{changes_next}
 use Rattle.std.specs.Prelude.{slice_index, slice_set}
 use Rattle.zk_history.specs.Kept.{history_of}
 use Rattle.zk_history.specs.Made.{change_of}
+use Rattle.zk_bench.specs.declared.phase.Phase.{Phase}
+use Rattle.zk_bench.specs.declared.phase.Phase.TheVariants.{Accepted}
 use Rattle.zk_bench.specs.Linked.{linked_of}
 use Rattle.zk_bench.specs.Served.{Served, advanced, is_open}
 use Rattle.zk_bench.specs.Stepping.{IsReady, TakesSome, shown_of}
@@ -96,3 +98,16 @@ returns-in_ok-tell_accepted-clause-advances g c =
     (subst (λ n. slice_index b.taken n < length b.history.transactions) (sym one) c.in-Some.ensures.room)
     (subst (λ n. changes_next (history_of b.history) (slice_index b.taken n) ≡ map change_of c.in-Some.changes.now) (sym one) c.in-Some.ensures.changes)
     after.left after.tells after.idle after.rest)))
+
+not_admitted : (phase : Phase) → is_open phase ≡ false → phase ≢ Accepted
+not_admitted phase shut same = let clash : is_open Accepted ≡ false = ap is_open (sym same) ∙ shut in absurd cc
+
+pub returns-in_err-tell_accepted-clause-apart : goal.returns-in_err-tell_accepted-clause-apart
+returns-in_err-tell_accepted-clause-apart g c =
+    subst (λ (old : Served). is_open old.connection.phase ≡ false → (linked_of c.tell_accepted.new.connection ≡ old.connection) × IsOk c.from_residual.result) c.self.view_is
+    (λ shut. absurd (let never = c.in_err-tell_accepted.ensures.quiet (not_admitted c.self.inside.connection.phase shut) in cc))
+
+pub returns-in_ok-tell_accepted-clause-apart : goal.returns-in_ok-tell_accepted-clause-apart
+returns-in_ok-tell_accepted-clause-apart g c =
+    subst (λ (old : Served). is_open old.connection.phase ≡ false → (linked_of c.tell_accepted.new.connection ≡ old.connection) × (true ≡ true)) c.self.view_is
+    (λ shut. (ap linked_of (c.in_ok-tell_accepted.ensures.idle (not_admitted c.self.inside.connection.phase shut)), refl))

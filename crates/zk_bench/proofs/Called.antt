@@ -1,0 +1,255 @@
+-- Which request stands in a payload.
+use Rattle.std.proofs.Common.{ℕ, ℤ, pos, ◌≡◌, refl, sym, ap, subst, ◌∙◌, Bool, List, Some, Option, map}
+use Rattle.std.specs.Prelude.{◌≤◌, option_map, unwrap_or}
+use Rattle.zk_jute.specs.Layout.{Value}
+use Rattle.zk_history.specs.History.{Text}
+use Rattle.zk_history.specs.PathFault.{IsPath}
+use Rattle.zk_records.specs.declared.operation.Operation.{Operation}
+use Rattle.zk_records.specs.declared.operation.Operation.TheVariants as operation
+use Rattle.zk_records.specs.declared.request.Request.{Request}
+use Rattle.zk_records.specs.declared.request.Request.TheVariants as requests
+use Rattle.zk_records.specs.declared.create.CreateRequest.{CreateRequest}
+use Rattle.zk_records.specs.declared.ask.SetDataRequest.{SetDataRequest}
+use Rattle.zk_records.specs.declared.ask.DeleteRequest.{DeleteRequest}
+use Rattle.zk_records.specs.Operations.{operation_number, body_layout, request_layout}
+use Rattle.zk_records.specs.Asked.{Asked, asked_of, asked_value}
+use Rattle.zk_records.specs.Request.{operation_of, body_of}
+use Rattle.zk_conversation.specs.Calls as call
+use Rattle.zk_conversation.specs.Calls.{Call, call_operation, call_body, texts_value}
+use Rattle.zk_watches.specs.Lists.{Lists}
+use Rattle.zk_turns.specs.Ranges.{IsTyped}
+use Rattle.zk_laws.specs.Messages as wanted
+use Rattle.zk_laws.specs.Parsed.{IsRecord, IsReadAs}
+use Rattle.zk_laws.specs.ServerSteps.{Serving}
+use Rattle.zk_serving.specs.Lines.{IsPathCall, IsFit, IsFor}
+use Rattle.zk_bench.specs.Answering.{IsRead, IsReadOf, IsRestoring}
+use Rattle.zk_bench.specs.Asking.{Wants, IsBodyOf, IsPartOf, Asks, IsLook}
+use Rattle.zk_laws.specs.Server.{is_sequential}
+use Rattle.zk_bench.specs.Writing.{mode_of}
+use Rattle.zk_bench.proofs.Written.{mode_of-low}
+use Rattle.zk_bench.proofs.Answered.{no_copy}
+
+-- what is asked, as it is read: with its xid, its operation and its record
+pub record Told (asked : wanted.Request) (xid : ℤ) (payload : List ℕ) : Type 0 where
+  pub named : Operation
+  pub body : Value (body_layout named)
+  pub read : IsRecord (request_layout named) (xid, (operation_number named, body)) payload
+  pub wants : Wants named body asked
+
+calls : (asked : Call) → IsTyped asked → IsPathCall asked → IsBodyOf (call_operation asked) (call_body asked) asked
+calls (call.Exists text watch) typed is = (is, refl, refl)
+calls (call.GetData text watch) typed is = (is, refl, refl)
+calls (call.GetChildren text watch) typed is = (is, refl, refl)
+calls (call.SetData text content version) typed is = (is, refl, refl, refl)
+calls (call.Create text content mode) typed is = (is, refl, refl, refl, typed.1)
+calls (call.Delete text version) typed is = (is, refl, refl)
+calls call.Close typed is = tt
+
+-- a request but the first of a connection is told so
+pub told_so : (asked : wanted.Request) (xid : ℤ) (payload : List ℕ) → ((seen : ℕ) → asked ≡ wanted.Connect seen → ⊥) → IsReadAs asked xid payload → IsFit asked payload → Told asked xid payload
+told_so (wanted.Connect seen) xid payload later read fit = absurd (later seen refl)
+told_so (wanted.Restore is_last relative part) xid payload later read fit = record {
+  named = operation.SetWatches;
+  body = (pos relative, (texts_value part.data_watches, (texts_value part.exist_watches, texts_value part.child_watches)));
+  read = read;
+  wants = (refl, refl, refl, refl, record { data_watches = fit.0; exist_watches = fit.1; child_watches = fit.2 });
+}
+told_so (wanted.Ask asked) xid payload later read fit = record { named = call_operation asked; body = call_body asked; read = read; wants = calls asked fit.0 fit.1 }
+told_so wanted.Ping xid payload later read fit = record { named = operation.Ping; body = tt; read = read; wants = tt }
+
+-- the request that is read asks for it
+pub asks_so : {A : Type 0} (asked : wanted.Request) (xid found : ℤ) (payload : List ℕ) (t : Told asked xid payload) (request : Request A) → asked_of found request ≡ record { xid = xid; operation = t.named; body = t.body } → Asks request asked
+asks_so {A} asked xid found payload t request is = subst (λ (a : Asked). Wants a.operation a.body asked) (sym is) t.wants
+
+-- Reads and parts of setWatches, as the functions that answer them ask
+
+-- a read is the read of a request
+read_asked : {A : Type 0} (request : Request A) (asked : Call) → IsRead asked → IsBodyOf (operation_of request) (body_of request) asked → IsReadOf request asked
+read_asked (requests.Exists r) (call.Exists text watch) look is = is
+read_asked (requests.GetData r) (call.Exists text watch) look is = absurd is
+read_asked (requests.GetChildren r) (call.Exists text watch) look is = absurd is
+read_asked (requests.GetChildren2 r) (call.Exists text watch) look is = absurd is
+read_asked (requests.SetData r) (call.Exists text watch) look is = absurd is
+read_asked (requests.Create r) (call.Exists text watch) look is = absurd is
+read_asked (requests.Delete r) (call.Exists text watch) look is = absurd is
+read_asked (requests.SetWatches r) (call.Exists text watch) look is = absurd is
+read_asked requests.Ping (call.Exists text watch) look is = absurd is
+read_asked requests.CloseSession (call.Exists text watch) look is = absurd is
+read_asked (requests.Exists r) (call.GetData text watch) look is = absurd is
+read_asked (requests.GetData r) (call.GetData text watch) look is = is
+read_asked (requests.GetChildren r) (call.GetData text watch) look is = absurd is
+read_asked (requests.GetChildren2 r) (call.GetData text watch) look is = absurd is
+read_asked (requests.SetData r) (call.GetData text watch) look is = absurd is
+read_asked (requests.Create r) (call.GetData text watch) look is = absurd is
+read_asked (requests.Delete r) (call.GetData text watch) look is = absurd is
+read_asked (requests.SetWatches r) (call.GetData text watch) look is = absurd is
+read_asked requests.Ping (call.GetData text watch) look is = absurd is
+read_asked requests.CloseSession (call.GetData text watch) look is = absurd is
+read_asked (requests.Exists r) (call.GetChildren text watch) look is = absurd is
+read_asked (requests.GetData r) (call.GetChildren text watch) look is = absurd is
+read_asked (requests.GetChildren r) (call.GetChildren text watch) look is = absurd is
+read_asked (requests.GetChildren2 r) (call.GetChildren text watch) look is = is
+read_asked (requests.SetData r) (call.GetChildren text watch) look is = absurd is
+read_asked (requests.Create r) (call.GetChildren text watch) look is = absurd is
+read_asked (requests.Delete r) (call.GetChildren text watch) look is = absurd is
+read_asked (requests.SetWatches r) (call.GetChildren text watch) look is = absurd is
+read_asked requests.Ping (call.GetChildren text watch) look is = absurd is
+read_asked requests.CloseSession (call.GetChildren text watch) look is = absurd is
+read_asked request (call.SetData text content version) look is = absurd look
+read_asked request (call.Create text content mode) look is = absurd look
+read_asked request (call.Delete text version) look is = absurd look
+read_asked request call.Close look is = absurd look
+
+-- a part of setWatches is that of a request
+part_asked : {A : Type 0} (request : Request A) (since : ℕ) (part : Lists) → IsPartOf (operation_of request) (body_of request) since part → IsRestoring request since part
+part_asked (requests.Exists r) since part is = absurd is
+part_asked (requests.GetData r) since part is = absurd is
+part_asked (requests.GetChildren r) since part is = absurd is
+part_asked (requests.GetChildren2 r) since part is = absurd is
+part_asked (requests.SetData r) since part is = absurd is
+part_asked (requests.Create r) since part is = absurd is
+part_asked (requests.Delete r) since part is = absurd is
+part_asked (requests.SetWatches r) since part is = (
+  record {
+    relative = is.0;
+    data_watches = sym (no_copy r.data_watches.elements) ∙ is.1;
+    exist_watches = sym (no_copy r.exist_watches.elements) ∙ is.2;
+    child_watches = sym (no_copy r.child_watches.elements) ∙ is.3;
+  },
+  is.4,
+)
+part_asked requests.Ping since part is = absurd is
+part_asked requests.CloseSession since part is = absurd is
+
+-- what holds of reads and of parts of setWatches holds of a look
+pub looks : {A : Type 0} (P : wanted.Request → Type 0) (request : Request A) (asked : wanted.Request) → IsLook asked → Asks request asked → ((one : Call) → IsRead one → IsReadOf request one → P (wanted.Ask one))
+    → ((is_last : Bool) (since : ℕ) (part : Lists) → IsRestoring request since part → P (wanted.Restore is_last since part)) → P asked
+looks P request (wanted.Connect seen) look asks reads parts = absurd look
+looks P request (wanted.Restore is_last since part) look asks reads parts = parts is_last since part (part_asked request since part asks)
+looks P request (wanted.Ask one) look asks reads parts = reads one look (read_asked request one look asks)
+looks P request wanted.Ping look asks reads parts = absurd look
+
+-- Writes, as the functions that answer them ask
+
+pub creates_asked : {A : Type 0} (P : wanted.Request → Type 0) (r : CreateRequest A) (asked : wanted.Request) → Asks (requests.Create r) asked → ((text : Text) (number : ℕ) → IsPath text → r.path ≡ Some text → r.flags ≡ pos number → number ≤ 3 → P (wanted.Ask (call.Create text r.bytes number))) → P asked
+creates_asked P r (wanted.Connect seen) asks f = absurd asks
+creates_asked P r (wanted.Restore is_last since part) asks f = absurd asks
+creates_asked P r wanted.Ping asks f = absurd asks
+creates_asked P r (wanted.Ask (call.Exists text watch)) asks f = absurd asks
+creates_asked P r (wanted.Ask (call.GetData text watch)) asks f = absurd asks
+creates_asked P r (wanted.Ask (call.GetChildren text watch)) asks f = absurd asks
+creates_asked P r (wanted.Ask (call.SetData text content version)) asks f = absurd asks
+creates_asked P r (wanted.Ask (call.Create text content mode)) asks f = subst (λ (o : Option (List ℕ)). P (wanted.Ask (call.Create text o mode))) asks.2 (f text mode asks.0 asks.1 asks.3 asks.4)
+creates_asked P r (wanted.Ask (call.Delete text version)) asks f = absurd asks
+creates_asked P r (wanted.Ask call.Close) asks f = absurd asks
+
+pub sets_asked : {A : Type 0} (P : wanted.Request → Type 0) (r : SetDataRequest A) (asked : wanted.Request) → Asks (requests.SetData r) asked → ((text : Text) → IsPath text → r.path ≡ Some text → P (wanted.Ask (call.SetData text r.bytes r.version))) → P asked
+sets_asked P r (wanted.Connect seen) asks f = absurd asks
+sets_asked P r (wanted.Restore is_last since part) asks f = absurd asks
+sets_asked P r wanted.Ping asks f = absurd asks
+sets_asked P r (wanted.Ask (call.Exists text watch)) asks f = absurd asks
+sets_asked P r (wanted.Ask (call.GetData text watch)) asks f = absurd asks
+sets_asked P r (wanted.Ask (call.GetChildren text watch)) asks f = absurd asks
+sets_asked P r (wanted.Ask (call.SetData text content version)) asks f = subst (λ (o : Option (List ℕ)). P (wanted.Ask (call.SetData text o version))) asks.2 (subst (λ (v : ℤ). P (wanted.Ask (call.SetData text r.bytes v))) asks.3 (f text asks.0 asks.1))
+sets_asked P r (wanted.Ask (call.Create text content mode)) asks f = absurd asks
+sets_asked P r (wanted.Ask (call.Delete text version)) asks f = absurd asks
+sets_asked P r (wanted.Ask call.Close) asks f = absurd asks
+
+pub deletes_asked : {A : Type 0} (P : wanted.Request → Type 0) (r : DeleteRequest A) (asked : wanted.Request) → Asks (requests.Delete r) asked → ((text : Text) → IsPath text → r.path ≡ Some text → P (wanted.Ask (call.Delete text r.version))) → P asked
+deletes_asked P r (wanted.Connect seen) asks f = absurd asks
+deletes_asked P r (wanted.Restore is_last since part) asks f = absurd asks
+deletes_asked P r wanted.Ping asks f = absurd asks
+deletes_asked P r (wanted.Ask (call.Exists text watch)) asks f = absurd asks
+deletes_asked P r (wanted.Ask (call.GetData text watch)) asks f = absurd asks
+deletes_asked P r (wanted.Ask (call.GetChildren text watch)) asks f = absurd asks
+deletes_asked P r (wanted.Ask (call.SetData text content version)) asks f = absurd asks
+deletes_asked P r (wanted.Ask (call.Create text content mode)) asks f = absurd asks
+deletes_asked P r (wanted.Ask (call.Delete text version)) asks f = subst (λ (v : ℤ). P (wanted.Ask (call.Delete text v))) asks.2 (f text asks.0 asks.1)
+deletes_asked P r (wanted.Ask call.Close) asks f = absurd asks
+
+-- the mode of these flags is sequential where the call's is
+pub mode_is : (flags : ℤ) (number : ℕ) (ephemeral sequential : Bool) → number ≤ 3 → flags ≡ pos number → mode_of flags ≡ Some (ephemeral, sequential) → is_sequential number ≡ sequential
+mode_is flags number ephemeral sequential low is told =
+    let same : Some (is_sequential number) ≡ Some sequential =
+    sym (mode_of-low number low) ∙ ap (λ (z : ℤ). option_map (λ (mode : Bool × Bool). mode.1) (mode_of z)) (sym is) ∙ ap (option_map (λ (mode : Bool × Bool). mode.1)) told in
+    ap (λ (o : Option Bool). unwrap_or o sequential) same
+
+-- What is no write, no ping and no end of a session is a look.
+pub look_if : {A : Type 0} (request : Request A) (asked : wanted.Request) → Asks request asked → ((r : CreateRequest A) → request ≡ requests.Create r → ⊥) → ((r : SetDataRequest A) → request ≡ requests.SetData r → ⊥)
+    → ((r : DeleteRequest A) → request ≡ requests.Delete r → ⊥) → (request ≡ requests.Ping → ⊥) → (request ≡ requests.CloseSession → ⊥) → IsLook asked
+look_if request (wanted.Connect seen) asks a b d p q = absurd asks
+look_if request (wanted.Restore is_last since part) asks a b d p q = tt
+look_if (requests.Exists r) wanted.Ping asks a b d p q = absurd asks
+look_if (requests.GetData r) wanted.Ping asks a b d p q = absurd asks
+look_if (requests.GetChildren r) wanted.Ping asks a b d p q = absurd asks
+look_if (requests.GetChildren2 r) wanted.Ping asks a b d p q = absurd asks
+look_if (requests.SetData r) wanted.Ping asks a b d p q = absurd asks
+look_if (requests.Create r) wanted.Ping asks a b d p q = absurd asks
+look_if (requests.Delete r) wanted.Ping asks a b d p q = absurd asks
+look_if (requests.SetWatches r) wanted.Ping asks a b d p q = absurd asks
+look_if requests.Ping wanted.Ping asks a b d p q = absurd (p refl)
+look_if requests.CloseSession wanted.Ping asks a b d p q = absurd asks
+look_if request (wanted.Ask (call.Exists text watch)) asks a b d p q = tt
+look_if request (wanted.Ask (call.GetData text watch)) asks a b d p q = tt
+look_if request (wanted.Ask (call.GetChildren text watch)) asks a b d p q = tt
+look_if (requests.Exists r) (wanted.Ask (call.SetData text content version)) asks a b d p q = absurd asks
+look_if (requests.GetData r) (wanted.Ask (call.SetData text content version)) asks a b d p q = absurd asks
+look_if (requests.GetChildren r) (wanted.Ask (call.SetData text content version)) asks a b d p q = absurd asks
+look_if (requests.GetChildren2 r) (wanted.Ask (call.SetData text content version)) asks a b d p q = absurd asks
+look_if (requests.SetData r) (wanted.Ask (call.SetData text content version)) asks a b d p q = absurd (b r refl)
+look_if (requests.Create r) (wanted.Ask (call.SetData text content version)) asks a b d p q = absurd asks
+look_if (requests.Delete r) (wanted.Ask (call.SetData text content version)) asks a b d p q = absurd asks
+look_if (requests.SetWatches r) (wanted.Ask (call.SetData text content version)) asks a b d p q = absurd asks
+look_if requests.Ping (wanted.Ask (call.SetData text content version)) asks a b d p q = absurd asks
+look_if requests.CloseSession (wanted.Ask (call.SetData text content version)) asks a b d p q = absurd asks
+look_if (requests.Exists r) (wanted.Ask (call.Create text content mode)) asks a b d p q = absurd asks
+look_if (requests.GetData r) (wanted.Ask (call.Create text content mode)) asks a b d p q = absurd asks
+look_if (requests.GetChildren r) (wanted.Ask (call.Create text content mode)) asks a b d p q = absurd asks
+look_if (requests.GetChildren2 r) (wanted.Ask (call.Create text content mode)) asks a b d p q = absurd asks
+look_if (requests.SetData r) (wanted.Ask (call.Create text content mode)) asks a b d p q = absurd asks
+look_if (requests.Create r) (wanted.Ask (call.Create text content mode)) asks a b d p q = absurd (a r refl)
+look_if (requests.Delete r) (wanted.Ask (call.Create text content mode)) asks a b d p q = absurd asks
+look_if (requests.SetWatches r) (wanted.Ask (call.Create text content mode)) asks a b d p q = absurd asks
+look_if requests.Ping (wanted.Ask (call.Create text content mode)) asks a b d p q = absurd asks
+look_if requests.CloseSession (wanted.Ask (call.Create text content mode)) asks a b d p q = absurd asks
+look_if (requests.Exists r) (wanted.Ask (call.Delete text version)) asks a b d p q = absurd asks
+look_if (requests.GetData r) (wanted.Ask (call.Delete text version)) asks a b d p q = absurd asks
+look_if (requests.GetChildren r) (wanted.Ask (call.Delete text version)) asks a b d p q = absurd asks
+look_if (requests.GetChildren2 r) (wanted.Ask (call.Delete text version)) asks a b d p q = absurd asks
+look_if (requests.SetData r) (wanted.Ask (call.Delete text version)) asks a b d p q = absurd asks
+look_if (requests.Create r) (wanted.Ask (call.Delete text version)) asks a b d p q = absurd asks
+look_if (requests.Delete r) (wanted.Ask (call.Delete text version)) asks a b d p q = absurd (d r refl)
+look_if (requests.SetWatches r) (wanted.Ask (call.Delete text version)) asks a b d p q = absurd asks
+look_if requests.Ping (wanted.Ask (call.Delete text version)) asks a b d p q = absurd asks
+look_if requests.CloseSession (wanted.Ask (call.Delete text version)) asks a b d p q = absurd asks
+look_if (requests.Exists r) (wanted.Ask call.Close) asks a b d p q = absurd asks
+look_if (requests.GetData r) (wanted.Ask call.Close) asks a b d p q = absurd asks
+look_if (requests.GetChildren r) (wanted.Ask call.Close) asks a b d p q = absurd asks
+look_if (requests.GetChildren2 r) (wanted.Ask call.Close) asks a b d p q = absurd asks
+look_if (requests.SetData r) (wanted.Ask call.Close) asks a b d p q = absurd asks
+look_if (requests.Create r) (wanted.Ask call.Close) asks a b d p q = absurd asks
+look_if (requests.Delete r) (wanted.Ask call.Close) asks a b d p q = absurd asks
+look_if (requests.SetWatches r) (wanted.Ask call.Close) asks a b d p q = absurd asks
+look_if requests.Ping (wanted.Ask call.Close) asks a b d p q = absurd asks
+look_if requests.CloseSession (wanted.Ask call.Close) asks a b d p q = absurd (q refl)
+
+-- A request for a ping asks for nothing else.
+pub pings_asked : (P : wanted.Request → Type 0) (asked : wanted.Request) → Wants operation.Ping tt asked → P wanted.Ping → P asked
+pings_asked P (wanted.Connect seen) asks p = absurd asks
+pings_asked P (wanted.Restore is_last since part) asks p = absurd asks
+pings_asked P wanted.Ping asks p = p
+pings_asked P (wanted.Ask (call.Exists text watch)) asks p = absurd asks
+pings_asked P (wanted.Ask (call.GetData text watch)) asks p = absurd asks
+pings_asked P (wanted.Ask (call.GetChildren text watch)) asks p = absurd asks
+pings_asked P (wanted.Ask (call.SetData text content version)) asks p = absurd asks
+pings_asked P (wanted.Ask (call.Create text content mode)) asks p = absurd asks
+pings_asked P (wanted.Ask (call.Delete text version)) asks p = absurd asks
+pings_asked P (wanted.Ask call.Close) asks p = absurd asks
+
+-- The request that is read asks for what was asked, under its xid.
+pub found_so : {A : Type 0} (asked : wanted.Request) (xid found : ℤ) (payload : List ℕ) (request : Request A) → IsFor asked Serving → IsReadAs asked xid payload → IsFit asked payload
+    → ((a : Asked) → IsRecord (request_layout a.operation) (asked_value a) payload → asked_of found request ≡ a) → Asks request asked × (found ≡ xid)
+found_so asked xid found payload request later read fit is =
+    let t = told_so asked xid payload (λ seen e. subst (λ (a : wanted.Request). IsFor a Serving) e later refl) read fit in
+    let same = is (record { xid = xid; operation = t.named; body = t.body }) t.read in
+    (asks_so asked xid found payload t request same, ap (λ (a : Asked). a.xid) same)

@@ -1,0 +1,28 @@
+use Rattle.std.proofs.Common.{sym, subst}
+use Rattle.std.specs.Prelude.{OnOk, slice_set}
+use Rattle.zk_serving.proofs.Later.{taken_at}
+use Rattle.zk_history.specs.Kept.{history_of}
+use Rattle.zk_bench.specs.Linked.{linked_of}
+use Rattle.zk_bench.specs.Served.{Served}
+use Rattle.zk_bench.specs.Stepping.{HasClient, TakesSome, shown_of}
+use Rattle.zk_bench.proofs.Stepped.{ok_so}
+use Rattle.zk_bench.proofs.Processed.{shows_caught}
+use Rattle.zk_bench.proofs.bench.Bench.catch_up.Goals as goal
+
+pub returns-clause-takes : goal.returns-clause-takes
+returns-clause-takes g c = λ has.
+    let b : Served = record {
+      history = c.self.inside.history;
+      taken = c.self.inside.taken;
+      server = c.self.inside.server;
+      connection = linked_of c.self.inside.connection;
+      expired = c.self.inside.expired;
+      time = c.self.inside.time;
+    } in
+    let old = c.self.inside.connection in
+    let new = c.take_all.new.connection in
+    let mine : HasClient b = subst HasClient (sym c.self.view_is) has in
+    let after : Served = record b { taken = slice_set b.taken b.server c.take_all.new.taken; connection = linked_of new } in
+    subst (λ (s : Served). OnOk c.take_all.result (TakesSome (shown_of s) (shown_of after))) c.self.view_is
+    (ok_so c.take_all.result _ _ (c.take_all.ensures.up mine.accepted (taken_at (history_of b.history) b.taken b.server mine.ready.taken))
+    (λ up. shows_caught b old new c.take_all.new.taken mine.ready mine.accepted c.take_all.ensures.rest up))

@@ -1,0 +1,51 @@
+use Rattle.std.proofs.Common.{rules, ◌≡◌, sym, ap, ◌∙◌, subst, ℤ, to_z, of_z, w32}
+use Rattle.std.specs.Prelude.{OnOk, IfErr}
+use Rattle.zk_jute.specs.Lenient.{or_empty}
+use Rattle.zk_history.specs.History.{Text}
+use Rattle.zk_conversation.specs.Calls.{Create}
+use Rattle.zk_laws.specs.Messages.{Request, Ask}
+use Rattle.zk_bench.specs.Stepping.{ProcessesOne, Declines, shown_of}
+use Rattle.zk_bench.proofs.Stepped.{ok_so, err_so}
+use Rattle.zk_bench.proofs.Called.{creates_asked, mode_is}
+use Rattle.zk_bench.proofs.Processed.{processes_then, declines_then, ends_then, stops_by}
+use Rattle.zk_bench.proofs.bench.Bench.create.Goals as goal
+
+pub returns-in-Err-clause-declines : goal.returns-in-Err-clause-declines
+returns-in-Err-clause-declines g c = λ asked has asks.
+    let old = c.args.self.now in
+    let new = c.mode_caught_up.new.self in
+    stops_by asked c.args.xid old new c.in-Err.stop (λ over. ends_then asked c.args.xid old new (c.in-Err.ensures.ends has))
+
+pub returns-clause-answers : goal.returns-clause-answers
+returns-clause-answers g c = λ asked has asks.
+    let old = c.args.self.now in
+    let mid = c.mode_caught_up.new.self in
+    let new = c.make-outcome.new.self in
+    let r = c.args.request in
+    let more = c.mode_caught_up.ensures.has has in
+    let xid : to_z w32 (of_z w32 c.args.xid) ≡ c.args.xid = search rules in
+    creates_asked (λ (one : Request). OnOk c.make-outcome.result (ProcessesOne one c.args.xid (shown_of old) (shown_of new))) r asked asks
+    (λ text number is at flags low.
+    let flagged : to_z w32 (of_z w32 r.flags) ≡ r.flags = search rules in
+    let same : c.text_of.result.now ≡ text = c.text_of.ensures ∙ ap or_empty at in
+    subst (λ (t : Text). OnOk c.make-outcome.result (ProcessesOne (Ask (Create t r.bytes number)) c.args.xid (shown_of old) (shown_of new))) same
+    (subst (λ (x : ℤ). OnOk c.make-outcome.result (ProcessesOne (Ask (Create c.text_of.result.now r.bytes number)) x (shown_of old) (shown_of new))) xid
+    (ok_so c.make-outcome.result _ _ (c.make-outcome.ensures.answers number more (mode_is (to_z w32 (of_z w32 r.flags)) number _ _ low (flagged ∙ flags) c.in-Ok.ensures.mode))
+    (λ done. processes_then (Ask (Create c.text_of.result.now r.bytes number)) (to_z w32 (of_z w32 c.args.xid)) old mid new has more (c.in-Ok.ensures.takes has) done))))
+
+pub returns-clause-declines : goal.returns-clause-declines
+returns-clause-declines g c = λ asked has asks.
+    let old = c.args.self.now in
+    let mid = c.mode_caught_up.new.self in
+    let new = c.make-outcome.new.self in
+    let r = c.args.request in
+    let more = c.mode_caught_up.ensures.has has in
+    let xid : to_z w32 (of_z w32 c.args.xid) ≡ c.args.xid = search rules in
+    creates_asked (λ (one : Request). IfErr c.make-outcome.result (Declines one c.args.xid old new)) r asked asks
+    (λ text number is at flags low.
+    let one = Create c.text_of.result.now r.bytes number in
+    let same : c.text_of.result.now ≡ text = c.text_of.ensures ∙ ap or_empty at in
+    subst (λ (t : Text). IfErr c.make-outcome.result (Declines (Ask (Create t r.bytes number)) c.args.xid old new)) same
+    (subst (λ (x : ℤ). IfErr c.make-outcome.result (Declines (Ask one) x old new)) xid
+    (err_so c.make-outcome.result (Declines (Ask one) (to_z w32 (of_z w32 c.args.xid)) mid new) (Declines (Ask one) (to_z w32 (of_z w32 c.args.xid)) old new) (c.make-outcome.ensures.declines number more)
+    (λ refusal d. declines_then one (to_z w32 (of_z w32 c.args.xid)) old mid new refusal has more (c.in-Ok.ensures.takes has) d))))

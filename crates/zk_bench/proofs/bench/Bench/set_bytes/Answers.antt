@@ -1,0 +1,64 @@
+use Rattle.std.proofs.Common.{rules, ◌≡◌, sym, ap, ◌∙◌, subst, ℤ, ℕ, List, Option, to_z, of_z, w32}
+use Rattle.zk_history.specs.History.{Text, Sets, path_of}
+use Rattle.zk_conversation.specs.Calls.{SetData}
+use Rattle.zk_laws.specs.Messages.{Ask}
+use Rattle.zk_bench.specs.Stepping.{Declines, HasWritten, SendsStat, LeavesUnsent}
+use Rattle.zk_bench.proofs.Answered.{errs_so}
+use Rattle.zk_bench.proofs.Stepped.{ok_so, err_so}
+use Rattle.zk_bench.proofs.Processed.{takes_then, ends_then, stops_by, declines_then, declines_unmade, unmade_same, declines_unsent, set_so}
+use Rattle.zk_bench.proofs.bench.Bench.set_bytes.Goals as goal
+
+pub returns-in-Err-clause-declines : goal.returns-in-Err-clause-declines
+returns-in-Err-clause-declines g c = λ has is.
+    let one = Ask (SetData c.args.text.now c.args.bytes c.args.version) in
+    stops_by one c.args.xid c.args.self.now c.catch_up.new.self c.in-Err.stop (λ over. ends_then one c.args.xid c.args.self.now c.catch_up.new.self (c.in-Err.ensures.ends has))
+
+pub returns-in-Err-written_path-clause-declines : goal.returns-in-Err-written_path-clause-declines
+returns-in-Err-written_path-clause-declines g c = λ has is.
+    let old = c.args.self.now in
+    let mid = c.catch_up.new.self in
+    let one = SetData c.args.text.now c.args.bytes c.args.version in
+    let refusal = c.in-Err-written_path.refusal in
+    let more = c.catch_up.ensures.has has in
+    declines_then one c.args.xid old mid mid refusal has more (c.in_default.ensures.takes has)
+    (declines_unmade one c.args.xid mid mid refusal tt more more (unmade_same mid refusal more c.in-Err-written_path.ensures.refused))
+
+pub returns-in_err-write-clause-declines : goal.returns-in_err-write-clause-declines
+returns-in_err-write-clause-declines g c = λ has is.
+    let old = c.args.self.now in
+    let mid = c.catch_up.new.self in
+    let new = c.write.new.self in
+    let one = SetData c.args.text.now c.args.bytes c.args.version in
+    let more = c.catch_up.ensures.has has in
+    errs_so c.from_residual.result _ _ c.from_residual.ensures.1
+    (λ refusal same. subst (Declines (Ask one) c.args.xid old new) (sym same)
+    (declines_then one c.args.xid old mid new _ has more (c.in_default.ensures.takes has) (declines_unmade one c.args.xid mid new _ tt more (c.write.ensures.has more) (c.in_err-write.ensures.refuses more))))
+
+pub returns-clause-answers : goal.returns-clause-answers
+returns-clause-answers g c = λ has is.
+    let old = c.args.self.now in
+    let mid = c.catch_up.new.self in
+    let late = c.write.new.self in
+    let new = c.send_stat.new.self in
+    let text = c.args.text.now in
+    let more = c.catch_up.ensures.has has in
+    let still = c.write.ensures.has more in
+    let done = c.in_ok-write.ensures in
+    let took = takes_then old mid late has more (c.in_default.ensures.takes has) (done.takes more) in
+    let xid : to_z w32 (of_z w32 c.args.xid) ≡ c.args.xid = search rules in
+    let wrote : HasWritten (Sets (path_of text) c.args.bytes) late =
+    subst (λ (t : Text). HasWritten (Sets (path_of t) c.args.bytes) late) c.in-Ok.ensures.path
+    (subst (λ (bytes : Option (List ℕ)). HasWritten (Sets (path_of c.in-Ok.path) bytes) late) c.into_inner.ensures (done.wrote more)) in
+    ok_so c.send_stat.result _ _ (c.send_stat.ensures.sends still.ready (done.all more) is)
+    (λ sends. set_so text c.args.bytes c.args.version c.args.xid old late new still took wrote (subst (λ (x : ℤ). SendsStat x text late new) xid sends) c.send_stat.ensures.only)
+
+pub returns-clause-declines : goal.returns-clause-declines
+returns-clause-declines g c = λ has is.
+    let old = c.args.self.now in
+    let mid = c.catch_up.new.self in
+    let late = c.write.new.self in
+    let new = c.send_stat.new.self in
+    let more = c.catch_up.ensures.has has in
+    let took = takes_then old mid late has more (c.in_default.ensures.takes has) (c.in_ok-write.ensures.takes more) in
+    err_so c.send_stat.result (LeavesUnsent late new) (Declines (Ask (SetData c.args.text.now c.args.bytes c.args.version)) c.args.xid old new) c.send_stat.ensures.unsent
+    (λ refusal unsent. declines_unsent c.args.text.now c.args.bytes c.args.version c.args.xid old late new refusal has (c.write.ensures.has more) took c.send_stat.ensures.only unsent)
