@@ -1,9 +1,9 @@
 -- Steps of a server that takes transactions and then processes a request.
-use Rattle.std.proofs.Common.{ℕ, zero, suc, ℤ, pos, negsuc, ◌≡◌, ◌≢◌, ◌≤◌, ◌<◌, ◌+◌, refl, ap, sym, ◌∙◌, subst, arith, inl, List, [], ◌∷◌, ◌++◌, length, drop, append_assoc, Bool, true, false, ◌||◌, if◌then◌else◌}
+use Rattle.std.proofs.Common.{ℕ, zero, suc, ℤ, pos, negsuc, ◌≡◌, ◌≢◌, ◌≤◌, ◌<◌, ◌+◌, refl, ap, sym, ◌∙◌, subst, arith, inl, List, [], ◌∷◌, ◌++◌, length, drop, append_assoc, Bool, true, false, if◌then◌else◌}
 use mathlib.Core.Path.{fun_ext}
 use Rattle.std.proofs.lemmas.List.{append-nil, length-append, take_all}
 use Rattle.std.proofs.lemmas.Bool.Decides.{nat_tests}
-use Rattle.zk_frames.specs.Frame.{frame, joined, length_field, IsNegative}
+use Rattle.zk_frames.specs.Frame.{frame, joined, IsNegative}
 use Rattle.zk_records.specs.Layouts.{reply_header, create_response, connect_request}
 use Rattle.zk_history.specs.StatLayout.{stat}
 use Rattle.zk_records.specs.Codes.{code_number}
@@ -11,7 +11,6 @@ use Rattle.zk_records.specs.declared.code.Code.{Code}
 use Rattle.zk_records.specs.declared.code.Code.TheVariants as codes
 use Rattle.zk_jute.specs.Spelling.{spelling}
 use Rattle.zk_history.specs.History.{Text, path_of, History, Transaction, Change, Creates, Sets, Deletes, newest}
-use Rattle.zk_history.specs.declared.side.Side.{Side}
 use Rattle.zk_conversation.specs.Calls.{Call, ping_xid}
 use Rattle.zk_conversation.specs.Calls as call
 use Rattle.zk_watches.specs.Lists.{Lists}
@@ -21,7 +20,6 @@ use Rattle.std.specs.Prelude.{Result as Outcome}
 use Rattle.zk_conversation.specs.Pending.{closes}
 use Rattle.zk_conversation.specs.Questions.{Question, question_of}
 use Rattle.zk_conversation.specs.Results.{Result, NoNode, Refused, Done, Found, Read, Listing, Made, stat_of}
-use Rattle.zk_turns.specs.Spelled.{HasResult}
 use Rattle.zk_laws.specs.Server.{Watches, both, sets, zxid_held, tree_held, IsOther, IsMadeOf, is_sequential, Gives}
 use Rattle.zk_laws.specs.Messages.{Request, Connect, Ask, Restore, Ping, Replies}
 use Rattle.zk_laws.specs.Parsed.{IsRecord}

@@ -1,6 +1,5 @@
 use Rattle.std.proofs.Common.{rules, ◌≡◌, sym, ap, subst, ℤ, to_z, of_z, w32}
 use Rattle.std.specs.Prelude.{Err, OnOk, IfErr}
-use Rattle.zk_bench.specs.declared.stop.Refusal.{Refusal}
 use Rattle.zk_bench.specs.Asking.{Asks}
 use Rattle.zk_bench.specs.Stepping.{ProcessesOne, Declines, shown_of}
 use Rattle.zk_bench.proofs.Answered.{errs_so}

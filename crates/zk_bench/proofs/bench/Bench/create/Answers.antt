@@ -1,4 +1,4 @@
-use Rattle.std.proofs.Common.{rules, ◌≡◌, sym, ap, ◌∙◌, subst, ℤ, to_z, of_z, w32}
+use Rattle.std.proofs.Common.{rules, ◌≡◌, ap, ◌∙◌, subst, ℤ, to_z, of_z, w32}
 use Rattle.std.specs.Prelude.{OnOk, IfErr}
 use Rattle.zk_jute.specs.Lenient.{or_empty}
 use Rattle.zk_history.specs.History.{Text}

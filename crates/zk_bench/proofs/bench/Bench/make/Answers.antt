@@ -1,12 +1,11 @@
-use Rattle.std.proofs.Common.{rules, ◌≡◌, sym, ap, ◌∙◌, subst, ℤ, ℕ, List, pos, Bool, Some, to_z, of_z, w32}
+use Rattle.std.proofs.Common.{rules, ◌≡◌, sym, ap, subst, ℤ, pos, Bool, Some, to_z, of_z, w32}
 use Rattle.std.specs.Prelude.{Err}
 use Rattle.zk_records.specs.Layouts.{create_response}
 use Rattle.zk_history.specs.History.{Text, Creates, path_of}
 use Rattle.zk_history.specs.History as model
 use Rattle.zk_conversation.specs.Calls.{Create}
-use Rattle.zk_laws.specs.Server.{IsMadeOf, is_sequential}
+use Rattle.zk_laws.specs.Server.{IsMadeOf}
 use Rattle.zk_laws.specs.Messages.{Ask}
-use Rattle.zk_bench.specs.declared.stop.Refusal.{Refusal}
 use Rattle.zk_bench.specs.Serving.{Sends}
 use Rattle.zk_bench.specs.Writing.{IsAnswer, owner_of}
 use Rattle.zk_bench.specs.Stepping.{Declines, HasWritten, zxid_of}

@@ -1,4 +1,4 @@
-use Rattle.std.proofs.Common.{rules, ◌≡◌, ℤ, ap, ◌∙◌, subst, pos, to_z, of_z, w64}
+use Rattle.std.proofs.Common.{rules, ◌≡◌, ℤ, ap, ◌∙◌, subst, to_z, of_z, w64}
 use Rattle.std.specs.Prelude.{slice_index}
 use Rattle.zk_history.specs.Kept.{history_of, natural}
 use Rattle.zk_history.specs.History.{tree_at}

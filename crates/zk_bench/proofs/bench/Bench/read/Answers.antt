@@ -1,15 +1,12 @@
-use Rattle.std.proofs.Common.{rules, ◌≡◌, refl, sym, subst, ◌∙◌, pos, to_z, of_z, w32, w64, Bool, ℕ, ℤ}
+use Rattle.std.proofs.Common.{rules, ◌≡◌, refl, sym, subst, ◌∙◌, to_z, of_z, w32, w64, ℤ}
 use Rattle.std.specs.Prelude.{OnOk, IfErr, slice_index}
 use Rattle.zk_history.specs.History.{Tree}
 use Rattle.zk_history.specs.Kept.{history_of}
-use Rattle.zk_conversation.specs.Calls.{Call}
-use Rattle.zk_watches.specs.Lists.{Lists}
 use Rattle.zk_laws.specs.Server.{zxid_held, tree_held}
 use Rattle.zk_laws.specs.Messages.{Request, Ask, Restore}
 use Rattle.zk_serving.proofs.Later.{taken_at}
 use Rattle.zk_bench.specs.Linked.{linked_of}
 use Rattle.zk_bench.specs.Served.{Served}
-use Rattle.zk_bench.specs.declared.phase.Phase.TheVariants.{Accepted}
 use Rattle.zk_bench.specs.Answering.{AnswersRead, RefusesRead}
 use Rattle.zk_bench.specs.Restoring.{RestoresPart}
 use Rattle.zk_bench.specs.Stepping.{HasClient, ProcessesOne, Declines, shown_of}

@@ -1,4 +1,4 @@
-use Rattle.std.proofs.Common.{rules, ◌≡◌, ℤ, ℕ, List, sym, ap, ◌∙◌, subst, Option, Some, pos, to_z, of_z, w32, w64}
+use Rattle.std.proofs.Common.{rules, ◌≡◌, ℤ, ap, ◌∙◌, subst, Option, Some, pos, to_z, of_z, w32, w64}
 use Rattle.std.specs.Prelude.{slice_index}
 use Rattle.zk_history.specs.Kept.{Kept, history_of, natural}
 use Rattle.zk_history.specs.History.{Tree, tree_at, path_of}
@@ -10,7 +10,7 @@ use Rattle.zk_laws.specs.Server.{tree_held}
 use Rattle.zk_bench.specs.Linked.{linked_of}
 use Rattle.zk_bench.specs.Served.{Served}
 use Rattle.zk_bench.specs.Serving.{Sends}
-use Rattle.zk_bench.specs.Stepping.{SendsStat, zxid_of}
+use Rattle.zk_bench.specs.Stepping.{zxid_of}
 use Rattle.zk_bench.proofs.Answered.{numbers_of}
 use Rattle.zk_bench.proofs.bench.Bench.send_stat.Goals as goal
 

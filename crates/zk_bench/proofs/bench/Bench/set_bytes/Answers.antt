@@ -1,4 +1,4 @@
-use Rattle.std.proofs.Common.{rules, ◌≡◌, sym, ap, ◌∙◌, subst, ℤ, ℕ, List, Option, to_z, of_z, w32}
+use Rattle.std.proofs.Common.{rules, ◌≡◌, sym, subst, ℤ, ℕ, List, Option, to_z, of_z, w32}
 use Rattle.zk_history.specs.History.{Text, Sets, path_of}
 use Rattle.zk_conversation.specs.Calls.{SetData}
 use Rattle.zk_laws.specs.Messages.{Ask}

@@ -1,5 +1,5 @@
 use Rattle.std.proofs.Common.{◌≡◌, refl, sym, ap, ◌∙◌, subst}
-use Rattle.std.specs.Prelude.{IfErr, slice_index}
+use Rattle.std.specs.Prelude.{IfErr}
 use Rattle.zk_history.specs.Made.{change_of}
 use Rattle.zk_bench.specs.Linked.{linked_of}
 use Rattle.zk_records.specs.declared.code.Code.TheVariants as codes
