@@ -86,3 +86,17 @@ abbrev pub TellsPaths : View → History → List Text → List ℕ → Type 0
 TellsPaths client history [] text = text ≡ []
 TellsPaths client history (path ∷ paths) text =
     (first rest : List ℕ) × TellsPath client history path first × TellsPaths client history paths rest × (text ≡ first ++ rest)
+
+-- What is printed of an answer that agrees with what there is to see: nothing, unless it is good.
+abbrev pub agreeing : {A : Type 0} → Side → Option (Kept A) → Text → List ℕ
+agreeing side None path = []
+agreeing side (Some kept) path = if_good kept.mark (verdict_line side path true)
+
+-- the same of a path on both sides: data before names
+abbrev pub agreeing_path : View → Text → List ℕ
+agreeing_path client path = agreeing Data (client.cache.nodes path) path ++ agreeing Child (client.cache.children path) path
+
+-- the same of paths, one behind the other
+abbrev pub agreeing_paths : View → List Text → List ℕ
+agreeing_paths client [] = []
+agreeing_paths client (path ∷ paths) = agreeing_path client path ++ agreeing_paths client paths

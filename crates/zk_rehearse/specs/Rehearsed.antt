@@ -1,16 +1,19 @@
 -- What the lines of a rehearsal make of a history, and of a client with servers over it, and what they print.
-use Rattle.std.specs.Prelude.{◌≡◌, ⊤, ℕ, ℤ, Bool, true, false, List, [], Option, Some, None, Ok, Err}
+use Rattle.std.specs.Prelude.{◌≡◌, ◌<ℤ◌, pos, unsigned_abs, ⊤, ℕ, ℤ, Bool, true, false, List, [], Option, Some, None, Ok, Err}
 use Rattle.std.specs.Option.{option_map}
 use Rattle.zk_history.specs.History.{Text}
 use Rattle.zk_script.specs.Pieces.{words_of}
 use Rattle.zk_script.specs.Stories as story
+use Rattle.zk_turns.specs.Ranges.{IsResumable}
+use Rattle.zk_turns.specs.Turns.{new_start}
 use Rattle.zk_script.specs.declared.script_fault.ScriptFault.{ScriptFault}
 use Rattle.zk_replay.specs.declared.stop.Stop.{Stop}
 use Rattle.zk_replay.specs.declared.stop.Stop.TheVariants.{Refused, Halted, Memory}
 use Rattle.zk_rehearse.specs.declared.rehearsal.Rehearsal.{Rehearsal}
-use Rattle.zk_rehearse.specs.BenchLines.{BenchValue}
+use Rattle.zk_rehearse.specs.BenchLines.{BenchValue, GoodLine}
 use Rattle.zk_rehearse.specs.RehearseLines.{RehearseValue, HistoryLine, BeginLine, BenchValueLine, says_at}
-use Rattle.zk_rehearse.specs.Stages.{Scene, scene_of, first_scene, DoesBench, HaltsBench}
+use Rattle.zk_rehearse.specs.Coherent.{IsServed}
+use Rattle.zk_rehearse.specs.Stages.{Scene, scene_of, first_scene, DoesBench, HaltsBench, TellsAgreeing}
 
 -- A history is told, and from the line on that makes the client there is a scene.
 pub data Standing : Type 0 where
@@ -28,9 +31,9 @@ abbrev pub is_begun : Standing → Bool
 is_begun (Told told) = false
 is_begun (Staged scene) = true
 
--- The client is made, and the servers over the history so far.
+-- The client is made, with a timeout in range and above 0, and the servers over the history so far.
 abbrev pub Begins : ℤ → Standing → Standing → Type 0
-Begins timeout (Told told) new = new ≡ Staged (first_scene timeout told.history)
+Begins timeout (Told told) new = (new ≡ Staged (first_scene timeout told.history)) × (pos 0 <ℤ timeout) × IsResumable (new_start (unsigned_abs timeout))
 Begins timeout (Staged scene) new = ⊥
 
 abbrev pub DoesBenchLine : BenchValue → Standing → Standing → List ℕ → Type 0
@@ -58,6 +61,16 @@ pub record TakesLine (line : Text) (old new : Standing) (text : List ℕ) : Type
   pub what : Option RehearseValue
   pub says : says_at (words_of line) (is_begun old) ≡ Ok what
   pub does : DoesSome line what old new text
+
+-- Where a client was made, servers of the laws have served it.
+abbrev pub IsServedAt : Standing → Type 0
+IsServedAt (Told told) = ⊤
+IsServedAt (Staged scene) = IsServed scene
+
+-- A line that looks the good answers up says of each that it agrees with the history.
+abbrev pub Agrees : Text → Standing → List ℕ → Type 0
+Agrees line (Told told) text = ⊤
+Agrees line (Staged scene) text = says_at (words_of line) true ≡ Ok (Some (BenchValueLine GoodLine)) → TellsAgreeing scene text
 
 -- The client halts at what a line says that is one behind the line that makes it.
 abbrev pub HaltsBenchLine : BenchValue → Standing → Standing → Type 0

@@ -6,7 +6,7 @@ use Rattle.zk_script.specs.declared.script_fault.ScriptFault.{ScriptFault}
 use Rattle.zk_replay.specs.declared.replay.End.{End}
 use Rattle.zk_replay.specs.declared.replay.End.TheVariants.{Taken, Refused, Halted, Memory}
 use Rattle.zk_script.specs.Stories.{first_standing}
-use Rattle.zk_rehearse.specs.Rehearsed.{Standing, Told, HaltsLine, TakesLine, RefusesLine}
+use Rattle.zk_rehearse.specs.Rehearsed.{Standing, Told, Agrees, HaltsLine, TakesLine, RefusesLine}
 
 -- how far a script has come: where it stands, and what was printed
 pub record Progress : Type 0 where
@@ -19,9 +19,10 @@ progress standing printed = record { standing = standing; printed = printed }
 abbrev pub beginning : Progress
 beginning = progress (Told first_standing) []
 
--- one line further: what it prints stands behind what was printed
+-- One line further: what it prints stands behind what was printed. A line that looks the good answers up says of each that it
+-- agrees with the history, and of none that it differs.
 abbrev pub Goes : Progress → Text → Progress → Type 0
-Goes old line new = (text : List ℕ) × TakesLine line old.standing new.standing text × (new.printed ≡ old.printed ++ text)
+Goes old line new = (text : List ℕ) × TakesLine line old.standing new.standing text × Agrees line old.standing text × (new.printed ≡ old.printed ++ text)
 
 -- Each of these lines is taken, in order, and the text is what they print, one behind the other.
 pub record Prints (lines : List Text) (text : List ℕ) : Type 0 where

@@ -4,6 +4,7 @@ ghost use Rattle.std.specs.Prelude.{◌≡◌, OnOk};
 ghost use Rattle.std.specs.Option.{option_copied};
 ghost use Rattle.zk_conversation.specs.Views.{call_view};
 ghost use Rattle.zk_history.specs.NamesKept.{names_of};
+ghost use Rattle.zk_serving.specs.Lines.{IsPathCall};
 ghost use Rattle.zk_rehearse.specs.Stages.{named_path, with_path};
 
 use std::alloc::{AllocError, Allocator};
@@ -12,7 +13,8 @@ use zk_conversation::Call;
 
 /// The path that a call names.
 fn named_path<A: Allocator>(call: &Call<A>) -> Option<&str>
-    ensures { option_copied result ≡ named_path (call_view call.now) }
+    ensures named { option_copied result ≡ named_path (call_view call.now) }
+    ensures path { IsPathCall (call_view call.now) }
 {
     match call {
         Call::Exists { path, .. } => Some(path.as_str()),
@@ -31,7 +33,8 @@ pub(crate) fn add_path<A: Allocator + Copy>(
     call: &Call<A>,
     called: &mut BTreeSet<String<A>, A>,
 ) -> Result<(), AllocError>
-    ensures { OnOk result (names_of called.new ≡ with_path (named_path (call_view call.now)) (names_of called.old)) }
+    ensures added { OnOk result (names_of called.new ≡ with_path (named_path (call_view call.now)) (names_of called.old)) }
+    ensures path { IsPathCall (call_view call.now) }
 {
     if let Some(path) = named_path(call) {
         called.insert(String::from_str(alloc, path)?)?;

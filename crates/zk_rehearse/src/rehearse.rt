@@ -5,7 +5,7 @@ ghost use Rattle.zk_script.specs.Scripts.{lines_of};
 ghost use Rattle.zk_script.specs.Stories.{first_standing};
 ghost use Rattle.zk_replay.specs.Played.{IfHalted};
 ghost use Rattle.zk_replay.specs.Replays.{end_at};
-ghost use Rattle.zk_rehearse.specs.Rehearsed.{standing_of, Told, HaltsLine, IsDue};
+ghost use Rattle.zk_rehearse.specs.Rehearsed.{standing_of, Told, HaltsLine, IsDue, IsServedAt};
 ghost use Rattle.zk_rehearse.specs.Scripts.{progress, Goes, IsOutcome};
 
 use crate::rehearsal::Rehearsal;
@@ -15,13 +15,16 @@ use zk_replay::stop::Stop;
 use zk_script::pieces::lines_of;
 
 /// Adds what one line prints: all of it, or nothing where the line is not done.
+#[tactic(auto, using(crate::proofs::Serving::line_served, crate::proofs::Agreeing::line_agrees))]
 fn read_line<A: Allocator + Copy>(
     alloc: A,
     rehearsal: &mut Rehearsal<A>,
     line: &[u8],
     text: &mut String<A>,
 ) -> Result<(), Stop>
+    requires { IsServedAt (standing_of rehearsal.old) }
     ensures ok { OnOk result (Goes (progress (standing_of rehearsal.old) (string_bytes text.old)) line.now (progress (standing_of rehearsal.new) (string_bytes text.new))) }
+    ensures served { OnOk result (IsServedAt (standing_of rehearsal.new)) }
     ensures err { IfErr result (IsDue line.now (standing_of rehearsal.old)) }
     ensures halt { IfErr result (IfHalted (HaltsLine line.now (standing_of rehearsal.old) (standing_of rehearsal.new))) }
     ensures same { OnErr result (string_bytes text.new ≡ string_bytes text.old) }

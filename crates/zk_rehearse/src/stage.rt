@@ -29,20 +29,22 @@ pub struct Stage<A: Allocator + Copy> {
 }
 
 impl<A: Allocator + Copy> Stage<A> {
-    ghost use Rattle.std.specs.Prelude.{◌≡◌, ◌≤◌, ◌<ℤ◌, pos, ℕ, List, [], IfOk, IfErr, take, string_bytes};
+    ghost use Rattle.std.specs.Prelude.{◌≡◌, ◌≤◌, ◌<ℤ◌, pos, unsigned_abs, ℕ, List, IfOk, IfErr, take, string_bytes};
     ghost use Rattle.zk_client.specs.Views.{input_view};
-    ghost use Rattle.zk_turns.specs.Turns.{Bytes, Call};
+    ghost use Rattle.zk_turns.specs.Turns.{Bytes, Call, new_start};
+    ghost use Rattle.zk_turns.specs.Ranges.{IsResumable};
     ghost use Rattle.zk_replay.specs.ClientLines.{ClientValue};
     ghost use Rattle.zk_replay.specs.Lines.{client_value_of, asked_of};
     ghost use Rattle.zk_replay.specs.Played.{HaltsAt, HaltsClient, IfHalted, IsWant};
-    ghost use Rattle.zk_rehearse.specs.BenchLines.{ProcessLine, bench_value_of, CanServe, IsServer};
+    ghost use Rattle.zk_rehearse.specs.BenchLines.{TakeLine, ProcessLine, bench_value_of, CanServe, IsServer};
     ghost use Rattle.zk_rehearse.specs.Good.{TellsPaths};
-    ghost use Rattle.zk_rehearse.specs.Stages.{scene_of, first_scene, rejoined, Plays, Delivers, Processes, TakesNext, Calls, TellsGood, DoesBench, DoesClientLine, HaltsBench};
+    ghost use Rattle.zk_rehearse.specs.Stages.{scene_of, first_scene, Plays, Delivers, Processes, TakesNext, Calls, Rejoins, TellsGood, DoesBench, DoesClientLine, HaltsBench};
 
     /// A new client, and servers over a history. None is connected.
     pub fn new(alloc: A, timeout: i32, history: History<A>) -> Stage<A>
         requires { pos 0 <ℤ timeout }
-        ensures { scene_of result ≡ first_scene timeout history }
+        ensures first { scene_of result ≡ first_scene timeout history }
+        ensures resumable { IsResumable (new_start (unsigned_abs timeout)) }
     {
         Stage {
             timeout,
@@ -64,12 +66,25 @@ impl<A: Allocator + Copy> Stage<A> {
         Ok(text)
     }
 
+    /// A server takes the next transaction.
+    fn take_next(&mut self, alloc: A, server: usize) -> Result<String<A>, Stop>
+        requires { IsServer server }
+        ensures ok { IfOk result (λ text. DoesBench (TakeLine server) (scene_of self.old) (scene_of self.new) (string_bytes text)) }
+        ensures err { IfErr result IsWant }
+        ensures halt { IfErr result (IfHalted ⊥) }
+    {
+        self.bench.take(server)?;
+        Ok(String::new(alloc))
+    }
+
     /// The connected server processes the next request.
     fn process(&mut self, alloc: A) -> Result<String<A>, Stop>
         ensures ok { IfOk result (λ text. DoesBench ProcessLine (scene_of self.old) (scene_of self.new) (string_bytes text)) }
         ensures err { IfErr result IsWant }
         ensures halt { IfErr result (IfHalted ⊥) }
     {
+        // What is kept is a history.
+        let _last = self.bench.history().last_zxid();
         self.bench.process()?;
         Ok(String::new(alloc))
     }
@@ -99,7 +114,7 @@ impl<A: Allocator + Copy> Stage<A> {
 
     /// Another client takes up the session. No server is connected.
     fn rejoin(&mut self, alloc: A) -> Result<String<A>, Stop>
-        ensures ok { IfOk result (λ text. (scene_of self.new ≡ rejoined (scene_of self.old)) × (string_bytes text ≡ [])) }
+        ensures ok { IfOk result (λ text. Rejoins (scene_of self.old) (scene_of self.new) (string_bytes text)) }
         ensures err { IfErr result IsWant }
         ensures halt { IfErr result (IfHalted ⊥) }
     {
@@ -115,6 +130,8 @@ impl<A: Allocator + Copy> Stage<A> {
     {
         let mut text = String::new(alloc);
         let history = self.bench.history();
+        // What is kept is a history.
+        let _last = history.last_zxid();
         push_paths(&mut text, alloc, &self.client, history, &self.called)?;
         Ok(text)
     }
@@ -152,10 +169,7 @@ impl<A: Allocator + Copy> Stage<A> {
                 self.bench.connect(server);
                 self.play(alloc, Input::Opened)
             }
-            BenchLine::Take(server) => {
-                self.bench.take(server)?;
-                Ok(String::new(alloc))
-            }
+            BenchLine::Take(server) => self.take_next(alloc, server),
             BenchLine::Process => self.process(alloc),
             BenchLine::Deliver(most) => self.deliver(alloc, most),
             BenchLine::Expire => {

@@ -3,6 +3,8 @@ use Rattle.std.specs.Prelude.{string_bytes}
 use Rattle.std.specs.Cmp.Lexicographic.{slice_cmp}
 use Rattle.std.specs.Ordering.{nat_cmp}
 use Rattle.zk_client.specs.Clients.{view_of}
+use Rattle.zk_history.specs.History.{IsHistory}
+use Rattle.zk_history.specs.Kept.{history_of}
 use Rattle.zk_rehearse.specs.Good.{TellsPaths}
 use Rattle.zk_script.proofs.NamesLemmas.{sorted_map}
 use Rattle.zk_replay.proofs.SetLemmas.{same_members}
@@ -19,4 +21,5 @@ returns g c =
           subst (λ text. TellsPaths (view_of stage.client) stage.bench.history (map string_bytes stage.called.keys) text)
           (sym (told.2 ∙ ap (λ text. text ++ told.0) c.new-text.ensures.bytes))
           (subst (λ history. TellsPaths (view_of stage.client) history (map string_bytes stage.called.keys) told.0) c.history-history.ensures told.1);
+      history = subst (λ history. IsHistory (history_of history)) c.history-history.ensures c.last_zxid-last.ensures.history;
     }
