@@ -1,7 +1,6 @@
 -- A client stands where all that its lines made happen has led, and prints what the definitions give for that.
 use Rattle.std.proofs.Common.{◌≡◌, ℕ, List, [], ◌∷◌, IfOk, is_some, refl, sym, ap, subst, ◌∙◌}
 use Rattle.std.specs.Prelude.{Option, Some, None, Result, Ok, Err, String, string_bytes}
-use Rattle.std.specs.List.{FoldsTo}
 use Rattle.zk_history.specs.History.{Text}
 use Rattle.zk_history.specs.declared.side.Side.TheVariants.{Data, Child}
 use Rattle.zk_turns.specs.Turns.{Input, Opened, Bytes, Cut, Now, Call, Output, Start, Item, Turned, Forgets}
@@ -9,13 +8,17 @@ use Rattle.zk_turns.specs.View.{View, Cache, view_at}
 use Rattle.zk_turns.specs.Rule.{Stands, forgotten}
 use Rattle.zk_turns.proofs.Stepped.{one_turn as turn_stands}
 use Rattle.zk_script.specs.Pieces.{words_of}
-use Rattle.zk_replay.specs.declared.stop.Stop.{Stop}
+use Rattle.zk_script.specs.declared.stop.Stop.{Stop}
 use Rattle.zk_replay.specs.ClientLines.{ClientValue, CutLine, NowLine, CallLine, PeekLine, LastLine, ForgetLine, SavedLine}
 use Rattle.zk_replay.specs.ReplayLines.{DriveValue, OpenedLine, BytesLine, ClientValueLine, ReplayValue, Begins, Drives, says_at}
 use Rattle.zk_replay.specs.Shown.{TellsAll, TellsKept, kept_line, last_line, saved_line}
-use Rattle.zk_replay.specs.Played.{start_of, TakesTurn, DoesClient, DoesDrive, Does, DoesSome, TakesLine}
-use Rattle.zk_replay.specs.Replays.{Goes, Prints, Progress, beginning, progress}
-use Rattle.zk_replay.specs.Courses.{Course, and_then, due_to, AddsTurn, AddsClient, AddsDrive, Adds, AddsSome, StandsBy, Follows, Moves, first_stage, stage}
+use Rattle.zk_replay.specs.Played.{start_of, TakesTurn, DoesClient, DoesDrive, Does, HaltsLine, TakesLine}
+use Rattle.zk_replay.specs.Replays.{Moves, Position, rules}
+use Rattle.zk_script.specs.Scripts.{IsDue}
+use Rattle.zk_script.specs.Said.{DoesSome}
+use Rattle.zk_script.specs.Stops.{IfHalted, IsDueBy}
+use Rattle.zk_script.specs.declared.stop.Stop.TheVariants as stops
+use Rattle.zk_replay.specs.Courses.{Course, and_then, due_to, AddsTurn, AddsClient, AddsDrive, Adds, StandsBy, Follows}
 
 -- nothing has happened to a client that was just made
 first : (start : Start) → Stands start [] (view_at start [])
@@ -116,8 +119,8 @@ does_value (Drives value) course old new text s goes =
       subst (λ (view : Option View). StandsBy (Some driven.0) view) (sym goes.is) driven.2,
     )
 
-does_some : (what : Option ReplayValue) (course : Option Course) (old new : Option View) (text : List ℕ) → StandsBy course old → DoesSome what old new text
-    → (next : Option Course) × AddsSome what course next text × StandsBy next new
+does_some : (what : Option ReplayValue) (course : Option Course) (old new : Option View) (text : List ℕ) → StandsBy course old → DoesSome Does what old new text
+    → (next : Option Course) × DoesSome Adds what course next text × StandsBy next new
 does_some None course old new text s does = (course, (refl, does.1), subst (λ (view : Option View). StandsBy course view) (sym does.0) s)
 does_some (Some value) course old new text s does = does_value value course old new text s does
 
@@ -132,33 +135,29 @@ follows line course old new text s takes =
       stands = does.2;
     }
 
--- line after line
-along : (lines : List Text) (course : Option Course) (view : Option View) (printed : List ℕ) (end : Progress) → StandsBy course view
-    → FoldsTo Goes (progress view printed) lines end
-    → (last : Option Course) × FoldsTo Moves (stage course printed) lines (stage last end.printed) × StandsBy last end.standing
-along [] course view printed end s taken =
-    (course, ap (λ (p : Progress). stage course p.printed) taken, subst (λ (p : Progress). StandsBy course p.standing) taken s)
-along (line ∷ lines) course view printed end s taken =
-    let middle = taken.0 in
-    let goes = taken.1 in
-    let step = follows line course view middle.standing goes.0 s goes.1 in
-    let more = along lines step.next middle.standing middle.printed end step.stands taken.2 in
-    (more.0, (stage step.next middle.printed, (goes.0, step.adds, goes.2), more.1), more.2)
-
--- all that these lines make happen
-pub from_first : (lines : List Text) (end : Option View) (text : List ℕ) → FoldsTo Goes beginning lines (progress end text)
-    → (last : Option Course) × FoldsTo Moves first_stage lines (stage last text) × StandsBy last end
-from_first lines end text taken = along lines None None [] (progress end text) tt taken
-
--- and what they print
-pub prints : (lines : List Text) (end : Option View) (text : List ℕ) → FoldsTo Goes beginning lines (progress end text) → Prints lines text
-prints lines end text taken =
-    let all = from_first lines end text taken in
-    record { end = end; taken = taken; course = all.0; told = all.1; stands = all.2 }
-
 -- what a line makes a player print
 pub followed : {Y : Type 0} (line : Text) (old new : Option View) (r : Result (String Y) Stop)
     → IfOk r (λ text. TakesLine line old new (string_bytes text))
     → IfOk r (λ text. (course : Option Course) → StandsBy course old → Follows line course new (string_bytes text))
 followed line old new (Ok text) takes = λ course s. follows line course old new (string_bytes text) s takes
 followed line old new (Err stop) takes = tt
+
+-- from a position that a player has to the next
+pub moved : {Y : Type 0} (line : Text) (old : Position) (before after : Option View) (r : Result (String Y) Stop)
+    → IfOk r (λ text. TakesLine line before after (string_bytes text))
+    → IfOk r (λ text. (course : Option Course) → StandsBy course before → Follows line course after (string_bytes text))
+    → before ≡ old.view → StandsBy old.course old.view
+    → IfOk r (λ text. (new : Position) × Moves line old new (string_bytes text) × (after ≡ new.view) × StandsBy new.course new.view)
+moved line old before after (Ok text) takes goes is s =
+    let follows : Follows line old.course after (string_bytes text) = goes old.course (rw is s) in
+    (record { view = after; course = follows.next }, record { takes = rw (← is) takes; adds = follows.adds; stands = follows.stands }, refl, follows.stands)
+moved line old before after (Err stop) takes goes is s = tt
+
+-- and why a line is not done there
+pub due : {X : Type 0} (line : Text) (old : Position) (before after : Option View) (r : Result X Stop)
+    → IfErr r (IsDueBy (says_at (words_of line) (is_some before))) → IfErr r (IfHalted (HaltsLine line before after)) → before ≡ old.view
+    → IfErr r (IsDue rules line old)
+due line old before after (Ok text) refused halted is = tt
+due line old before after (Err (stops.Refused fault)) refused halted is = rw (← is) refused
+due line old before after (Err stops.Halted) refused halted is = (after, rw (← is) halted)
+due line old before after (Err stops.Memory) refused halted is = tt

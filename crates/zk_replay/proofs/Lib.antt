@@ -2,4 +2,3 @@ pub mod SetLemmas
 pub mod TellLemmas
 pub mod PlayLemmas
 pub mod CourseLemmas
-pub mod ScriptLemmas

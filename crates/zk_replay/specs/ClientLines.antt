@@ -5,7 +5,7 @@ use Rattle.zk_history.specs.History.{Text}
 use Rattle.zk_history.specs.declared.side.Side.{Side}
 use Rattle.zk_script.specs.declared.script_fault.ScriptFault.{ScriptFault}
 use Rattle.zk_script.specs.declared.script_fault.ScriptFault.TheVariants.{Words}
-use Rattle.zk_script.specs.HistoryLines.{side_read}
+use Rattle.zk_script.specs.Reads.{side_read}
 use Rattle.zk_script.specs.Reads.{◌>>=◌, text_at, path_at, is_printed}
 use Rattle.zk_replay.specs.declared.client_line.ClientKeyword.{ClientKeyword}
 use Rattle.zk_replay.specs.declared.client_line.ClientKeyword.TheVariants as keyword

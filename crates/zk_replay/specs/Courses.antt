@@ -1,6 +1,6 @@
 -- What the lines of a replay print by all that they make happen: each input is a turn with the outputs that are due, and a look-up
 -- prints what the definitions give for the whole past. No client is named here but where it is said that one stands there.
-use Rattle.std.specs.Prelude.{◌≡◌, ⊤, is_some, ℕ, List, [], ◌∷◌, ◌++◌, Option, Some, None, Ok}
+use Rattle.std.specs.Prelude.{◌≡◌, ⊤, is_some, ℕ, List, [], ◌∷◌, Option, Some, None}
 use Rattle.zk_history.specs.History.{Text}
 use Rattle.zk_history.specs.declared.side.Side.TheVariants.{Data, Child}
 use Rattle.zk_turns.specs.Turns.{Input, Opened, Bytes, Cut, Now, Call, Output, Start, Item, Turned, Forgets, signals_of}
@@ -9,6 +9,7 @@ use Rattle.zk_turns.specs.View.{View, view_at}
 use Rattle.zk_turns.specs.Taken.{past_of}
 use Rattle.zk_turns.specs.Rule.{Stands, due_signals}
 use Rattle.zk_script.specs.Pieces.{words_of}
+use Rattle.zk_script.specs.Said.{TakesSaid}
 use Rattle.zk_replay.specs.ClientLines.{ClientValue, CutLine, NowLine, CallLine, PeekLine, LastLine, ForgetLine, SavedLine}
 use Rattle.zk_replay.specs.ReplayLines.{DriveValue, OpenedLine, BytesLine, ClientValueLine, ReplayValue, Begins, Drives, says_at}
 use Rattle.zk_replay.specs.Shown.{TellsAll, TellsKept, kept_line, last_line, saved_line}
@@ -64,15 +65,9 @@ abbrev pub Adds : ReplayValue → Option Course → Option Course → List ℕ �
 Adds (Begins value) old new text = (old ≡ None) × (new ≡ Some (record { start = start_of value; items = [] })) × (text ≡ [])
 Adds (Drives value) old new text = Continues value old new text
 
-abbrev pub AddsSome : Option ReplayValue → Option Course → Option Course → List ℕ → Type 0
-AddsSome None old new text = (new ≡ old) × (text ≡ [])
-AddsSome (Some value) old new text = Adds value old new text
-
 -- What the words of a line say is added, and printed.
-pub record AddsLine (line : Text) (old new : Option Course) (text : List ℕ) : Type 0 where
-  pub what : Option ReplayValue
-  pub says : says_at (words_of line) (is_some old) ≡ Ok what
-  pub adds : AddsSome what old new text
+abbrev pub AddsLine : Text → Option Course → Option Course → List ℕ → Type 0
+AddsLine line old new text = TakesSaid (says_at (words_of line) (is_some old)) Adds old new text
 
 -- A client stands where a course has led, once there is one.
 abbrev pub StandsBy : Option Course → Option View → Type 0
@@ -86,18 +81,3 @@ pub record Follows (line : Text) (old : Option Course) (view : Option View) (tex
   pub next : Option Course
   pub adds : AddsLine line old next text
   pub stands : StandsBy next view
-
--- how far lines have come: what has happened, and what was printed
-pub record Stage : Type 0 where
-  pub course : Option Course
-  pub printed : List ℕ
-
-abbrev pub stage : Option Course → List ℕ → Stage
-stage course printed = record { course = course; printed = printed }
-
-abbrev pub first_stage : Stage
-first_stage = stage None []
-
--- one line further
-abbrev pub Moves : Stage → Text → Stage → Type 0
-Moves old line new = (text : List ℕ) × AddsLine line old.course new.course text × (new.printed ≡ old.printed ++ text)

@@ -7,7 +7,7 @@ use Rattle.zk_jute.specs.declared.fault.TakeError.TheVariants as take
 use Rattle.zk_conversation.specs.declared.fault.TalkFault.{TalkFault}
 use Rattle.zk_conversation.specs.declared.fault.TalkFault.TheVariants as talk
 use Rattle.zk_turns.specs.Turns.{Fault, Framed, Talked, Silent, Behind, WatchesRefused}
-use Rattle.zk_script.specs.Answers.{spaced}
+use Rattle.zk_script.specs.Values.{spaced}
 
 -- why a value does not read: the code of the fault, and its place where it has one
 abbrev pub take_error_text : TakeError → List ℕ

@@ -9,18 +9,16 @@ use Rattle.zk_turns.specs.Rule.{Rule, HaltsAs, forgotten}
 use Rattle.zk_client.specs.Clients.{view_of}
 use Rattle.zk_client.specs.Steps.{IsQuiet}
 use Rattle.zk_script.specs.Pieces.{words_of}
+use Rattle.zk_script.specs.Said.{TakesSaid}
 use Rattle.zk_script.specs.declared.script_fault.ScriptFault.{ScriptFault}
-use Rattle.zk_script.specs.declared.script_fault.ScriptFault.TheVariants as refused
 use Rattle.zk_replay.specs.declared.player.Player.{Player}
-use Rattle.zk_replay.specs.declared.stop.Stop.{Stop}
-use Rattle.zk_replay.specs.declared.stop.Stop.TheVariants.{Refused, Halted, Memory}
 use Rattle.zk_replay.specs.ClientLines.{ClientValue, CutLine, NowLine, CallLine, PeekLine, LastLine, ForgetLine, SavedLine}
 use Rattle.zk_replay.specs.ReplayLines.{BeginValue, TimeoutLine, ResumeLine, DriveValue, OpenedLine, BytesLine, ClientValueLine, ReplayValue, Begins, Drives, says_at}
 use Rattle.zk_replay.specs.Shown.{TellsAll, TellsKept, kept_line, last_line, saved_line}
 
 -- the client that a player has, by its view
-abbrev pub standing_of : {A : Type 0} → Player A → Option View
-standing_of player = option_map view_of player.client
+abbrev pub view_of_player : {A : Type 0} → Player A → Option View
+view_of_player player = option_map view_of player.client
 
 -- what a client begins with
 abbrev pub start_of : BeginValue → Start
@@ -67,16 +65,9 @@ pub record DoesSaid (said : Result ReplayValue ScriptFault) (old new : Option Vi
   pub says : said ≡ Ok value
   pub does : Does value old new text
 
--- nothing changes nothing and prints nothing
-abbrev pub DoesSome : Option ReplayValue → Option View → Option View → List ℕ → Type 0
-DoesSome None old new text = (new ≡ old) × (text ≡ [])
-DoesSome (Some value) old new text = Does value old new text
-
 -- What the words of a line make of a player, and what it prints.
-pub record TakesWords (words : List Text) (old new : Option View) (text : List ℕ) : Type 0 where
-  pub what : Option ReplayValue
-  pub says : says_at words (is_some old) ≡ Ok what
-  pub does : DoesSome what old new text
+abbrev pub TakesWords : List Text → Option View → Option View → List ℕ → Type 0
+TakesWords words old new text = TakesSaid (says_at words (is_some old)) Does old new text
 
 abbrev pub TakesLine : Text → Option View → Option View → List ℕ → Type 0
 TakesLine line old new text = TakesWords (words_of line) old new text
@@ -84,24 +75,6 @@ TakesLine line old new text = TakesWords (words_of line) old new text
 -- A line is refused by its words.
 abbrev pub RefusesLine : Text → Option View → ScriptFault → Type 0
 RefusesLine line old fault = says_at (words_of line) (is_some old) ≡ Err fault
-
--- why a line is not done, if memory did not run out
-abbrev pub IsDue : {X : Type 0} → Result X ScriptFault → Stop → Type 0
-IsDue said (Refused fault) = said ≡ Err fault
-IsDue said Halted = ⊤
-IsDue said Memory = ⊤
-
--- memory ran out, in a step of the client or elsewhere
-abbrev pub IsWant : Stop → Type 0
-IsWant (Refused fault) = ⊥
-IsWant Halted = ⊤
-IsWant Memory = ⊤
-
--- this, where a step of the client ran out of memory
-abbrev pub IfHalted : Type 0 → Stop → Type 0
-IfHalted halts (Refused fault) = ⊤
-IfHalted halts Halted = halts
-IfHalted halts Memory = ⊤
 
 -- A client halts at an input of which something comes.
 pub record HaltsAt (input : Input) (old new : View) : Type 0 where
@@ -142,7 +115,3 @@ pub record HaltsWords (words : List Text) (old new : Option View) : Type 0 where
 
 abbrev pub HaltsLine : Text → Option View → Option View → Type 0
 HaltsLine line old new = HaltsWords (words_of line) old new
-
-abbrev pub stop_of : ScriptFault → Stop
-stop_of refused.Memory = Memory
-stop_of fault = Refused fault

@@ -7,7 +7,7 @@ use Rattle.zk_conversation.specs.declared.conversation.TheConstants.{LONGEST_PAS
 use Rattle.zk_script.specs.declared.script_fault.ScriptFault.{ScriptFault}
 use Rattle.zk_script.specs.declared.script_fault.ScriptFault.TheVariants.{Unknown, Place, Words, Hex}
 use Rattle.zk_script.specs.Reads.{◌>>=◌, time_at, is_printed}
-use Rattle.zk_script.specs.Stories.{is_remark}
+use Rattle.zk_script.specs.Said.{says_by}
 use Rattle.zk_replay.specs.declared.begin_line.BeginKeyword.{BeginKeyword}
 use Rattle.zk_replay.specs.declared.begin_line.BeginKeyword.TheVariants as begin_keyword
 use Rattle.zk_replay.specs.declared.drive_line.DriveKeyword.{DriveKeyword}
@@ -115,12 +115,7 @@ abbrev pub known_at : Option Keyword → (begun : Bool) → List Text → Result
 known_at None begun words = Err Unknown
 known_at (Some word) begun words = placed_at word begun words
 
-abbrev pub something : Result ReplayValue ScriptFault → Result (Option ReplayValue) ScriptFault
-something (Ok value) = Ok (Some value)
-something (Err fault) = Err fault
-
 -- What the words of a line say, and nothing where there are none and for a remark; or the first fault of the words: no such
 -- line, a line that may not stand here, a fault of the words behind the first.
 abbrev pub says_at : List Text → (begun : Bool) → Result (Option ReplayValue) ScriptFault
-says_at [] begun = Ok None
-says_at (first ∷ words) begun = if is_remark first then Ok None else something (known_at (keyword_of first) begun words)
+says_at words begun = says_by (λ first behind. known_at (keyword_of first) begun behind) words

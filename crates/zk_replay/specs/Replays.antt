@@ -1,85 +1,36 @@
--- What a whole script prints, line by line.
-use Rattle.std.specs.Prelude.{◌≡◌, ℕ, ◌+◌, List, [], ◌∷◌, ◌++◌, length, Option, None}
-use Rattle.std.specs.List.{FoldsTo}
+-- The rules of a replay's lines.
+use Rattle.std.specs.Prelude.{◌≡◌, ℕ, List, Option, None}
 use Rattle.zk_history.specs.History.{Text}
 use Rattle.zk_turns.specs.View.{View}
-use Rattle.zk_script.specs.declared.script_fault.ScriptFault.{ScriptFault}
-use Rattle.zk_replay.specs.declared.replay.End.{End}
-use Rattle.zk_replay.specs.declared.replay.End.TheVariants.{Taken, Refused, Halted, Memory}
-use Rattle.zk_replay.specs.declared.stop.Stop.{Stop}
-use Rattle.zk_replay.specs.declared.stop.Stop.TheVariants as stops
-use Rattle.zk_replay.specs.Played.{HaltsLine, TakesLine, RefusesLine}
-use Rattle.zk_replay.specs.Courses.{Course, StandsBy, Moves, first_stage, stage}
+use Rattle.zk_script.specs.Scripts.{Rules}
+use Rattle.zk_replay.specs.declared.player.Player.{Player}
+use Rattle.zk_replay.specs.Courses.{Course, AddsLine, StandsBy}
+use Rattle.zk_replay.specs.Played.{view_of_player, HaltsLine, RefusesLine, TakesLine}
 
--- how far a script has come: the client, once there is one, and what was printed
-pub record Progress : Type 0 where
-  pub standing : Option View
-  pub printed : List ℕ
-
-abbrev pub progress : Option View → List ℕ → Progress
-progress standing printed = record { standing = standing; printed = printed }
-
-abbrev pub beginning : Progress
-beginning = progress None []
-
--- one line further: what it prints stands behind what was printed
-abbrev pub Goes : Progress → Text → Progress → Type 0
-Goes old line new = (text : List ℕ) × TakesLine line old.standing new.standing text × (new.printed ≡ old.printed ++ text)
-
--- Each of these lines is taken, in order, and the text is what they print, one behind the other. By all that they make happen it is
--- what the definitions give, and the client stands where that has led.
-pub record Prints (lines : List Text) (text : List ℕ) : Type 0 where
-  pub end : Option View
-  pub taken : FoldsTo Goes beginning lines (progress end text)
+-- Where a replay stands: its client, once there is one, and all that its lines made happen.
+pub record Position : Type 0 where
+  pub view : Option View
   pub course : Option Course
-  pub told : FoldsTo Moves first_stage lines (stage course text)
-  pub stands : StandsBy course end
 
--- The line of this number, counted from 1, is refused for this reason, and the text is what the lines before it print.
-pub record StopsAt (lines : List Text) (number : ℕ) (fault : ScriptFault) (text : List ℕ) : Type 0 where
-  pub before : List Text
-  pub line : Text
-  pub behind : List Text
-  pub are : lines ≡ before ++ line ∷ behind
-  pub counted : number ≡ length before + 1
-  pub end : Option View
-  pub taken : FoldsTo Goes beginning before (progress end text)
-  pub refused : RefusesLine line end fault
-  pub course : Option Course
-  pub told : FoldsTo Moves first_stage before (stage course text)
-  pub stands : StandsBy course end
+-- before the first line
+abbrev pub first_position : Position
+first_position = record { view = None; course = None }
 
--- One of these lines is an input of which something comes, and the client that stands there halts at it. The text is what the lines
--- before it print.
-pub record HaltsIn (lines : List Text) (text : List ℕ) : Type 0 where
-  pub before : List Text
-  pub line : Text
-  pub behind : List Text
-  pub are : lines ≡ before ++ line ∷ behind
-  pub end : Option View
-  pub taken : FoldsTo Goes beginning before (progress end text)
-  pub after : Option View
-  pub halts : HaltsLine line end after
-  pub course : Option Course
-  pub told : FoldsTo Moves first_stage before (stage course text)
-  pub stands : StandsBy course end
+-- A line goes on from a position, and prints this: what it makes of the client there; and by all that the lines make happen it is what
+-- the definitions give, and the client stands where that has led.
+pub record Moves (line : Text) (old new : Position) (text : List ℕ) : Type 0 where
+  pub takes : TakesLine line old.view new.view text
+  pub adds : AddsLine line old.course new.course text
+  pub stands : StandsBy new.course new.view
 
--- The text is what the first of these lines print: of no line a part.
-pub record PrintsFirst (lines : List Text) (text : List ℕ) : Type 0 where
-  pub before : List Text
-  pub behind : List Text
-  pub are : lines ≡ before ++ behind
-  pub prints : Prints before text
+-- A client halts at an input of which something comes.
+abbrev pub rules : Rules Position
+rules = record {
+  Takes = Moves;
+  Refuses = λ line old fault. RefusesLine line old.view fault;
+  Halts = λ line old. (after : Option View) × HaltsLine line old.view after;
+}
 
--- what lines printed, by how they ended
-abbrev pub IsOutcome : List Text → List ℕ → End → Type 0
-IsOutcome lines text Taken = Prints lines text
-IsOutcome lines text (Refused number why) = StopsAt lines number why text
-IsOutcome lines text Halted = HaltsIn lines text
-IsOutcome lines text Memory = PrintsFirst lines text
-
--- how lines end at the line of this number, which is not done
-abbrev pub end_at : ℕ → Stop → End
-end_at number (stops.Refused why) = Refused number why
-end_at number stops.Halted = Halted
-end_at number stops.Memory = Memory
+-- A player is at a position where all that happened has led its client.
+abbrev pub IsAt : {A : Type 0} → Player A → Position → Type 0
+IsAt player position = (view_of_player player ≡ position.view) × StandsBy position.course position.view

@@ -18,7 +18,7 @@ use Rattle.zk_cache.specs.declared.held.Mark.{Mark}
 use Rattle.zk_cache.specs.declared.held.Mark.TheVariants.{Good, Stale}
 use Rattle.zk_turns.specs.Turns.{Outcome, Replied, Fault, Output, Send, Answer as Answers, Report, Enters, Drop}
 use Rattle.zk_client.specs.FaultText.{fault_code, outcome_code}
-use Rattle.zk_script.specs.Answers.{AreNames, spaced, stat_words, names_text}
+use Rattle.zk_script.specs.Values.{AreNames, spaced, stat_words, names_text}
 use Rattle.zk_script.specs.Lines.{line}
 use Rattle.zk_script.specs.Words.{bytes_word, text_word}
 use Rattle.zk_replay.specs.FaultTexts.{fault_values}

@@ -4,17 +4,18 @@ ghost use Rattle.std.specs.Prelude.{◌≡◌, [], IfOk, IfErr, string_bytes};
 ghost use Rattle.zk_turns.specs.View.{view_at};
 ghost use Rattle.zk_client.specs.Clients.{view_of};
 ghost use Rattle.zk_client.specs.Views.{input_view};
+ghost use Rattle.zk_script.specs.Stops.{IfHalted, IsWant};
 ghost use Rattle.zk_replay.specs.Lines.{begin_value_of, client_value_of, drive_value_of};
 ghost use Rattle.zk_replay.specs.ClientLines.{PeekLine};
 ghost use Rattle.zk_replay.specs.ReplayLines.{CanBegin};
-ghost use Rattle.zk_replay.specs.Played.{start_of, DoesClient, DoesDrive, HaltsAt, HaltsClient, HaltsDrive, IfHalted, IsWant, TakesTurn};
+ghost use Rattle.zk_replay.specs.Played.{start_of, DoesClient, DoesDrive, HaltsAt, HaltsClient, HaltsDrive, TakesTurn};
 
 use crate::begin_line::BeginLine;
 use crate::client_line::ClientLine;
 use crate::drive_line::DriveLine;
 use crate::outputs::outputs_text;
 use crate::peeks::{data_line, last_line, names_line, saved_line};
-use crate::stop::Stop;
+use zk_script::stop::Stop;
 use std::alloc::{AllocError, Allocator};
 use zk_client::{Client, Input};
 use zk_history::{Path, Side};
@@ -53,7 +54,9 @@ fn stepped<A: Allocator + Copy>(
     ensures err { IfErr result IsWant }
     ensures halt { IfErr result (IfHalted (HaltsAt (input_view input) (view_of client.old) (view_of client.new))) }
 {
-    let outputs = client.step(input)?;
+    let Ok(outputs) = client.step(input) else {
+        return Err(Stop::Halted);
+    };
     let text = outputs_text(alloc, outputs.as_slice())?;
     Ok(text)
 }

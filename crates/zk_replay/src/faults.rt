@@ -11,7 +11,7 @@ use std::fmt;
 use zk_client::Fault;
 use zk_conversation::TalkFault;
 use zk_jute::TakeError;
-use zk_script::answers::push_word;
+use zk_script::values::push_word;
 
 /// A fault of reading as it is told: its code, and its place where it has one.
 #[derive(Clone, Copy, Debug, PartialEq, Eq)]

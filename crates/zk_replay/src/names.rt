@@ -9,7 +9,7 @@ ghost use Rattle.zk_replay.specs.Shown.{names_words, TellsSet};
 
 use std::alloc::{AllocError, Allocator};
 use std::collections::BTreeSet;
-use zk_script::answers::{push_all, push_word};
+use zk_script::values::{push_all, push_word};
 
 /// The names as a set.
 fn set_of<A: Allocator + Copy>(

@@ -1,7 +1,7 @@
 //! What a client keeps, as printed lines.
 
 ghost use Rattle.std.specs.Prelude.{◌≡◌, ◌++◌, ◌∷◌, ℕ, List, [], Some, IfOk, OnOk, option_map, string_bytes};
-ghost use Rattle.zk_script.specs.Answers.{spaced};
+ghost use Rattle.zk_script.specs.Values.{spaced};
 ghost use Rattle.zk_script.specs.Words.{bytes_word};
 ghost use Rattle.zk_cache.specs.Contents.{answer_of, names_in};
 ghost use Rattle.zk_replay.specs.Shown.{answer_text, kept_line, last_line, mark_word, saved_line, TellsKept};
@@ -11,7 +11,7 @@ use crate::words::push_spaced;
 use std::alloc::{AllocError, Allocator};
 use zk_cache::{DataAnswer, Mark};
 use zk_history::Names;
-use zk_script::answers::{push_data_word, push_stat, push_word};
+use zk_script::values::{push_data_word, push_stat, push_word};
 use zk_script::words::bytes_to_word;
 use zk_session::Saved;
 

@@ -4,18 +4,21 @@ ghost use Rattle.std.specs.Prelude.{◌≡◌, Option, None, IfOk, IfErr, is_som
 ghost use Rattle.zk_replay.specs.ReplayLines.{keyword_of, placed_at, says_at};
 ghost use Rattle.zk_replay.specs.declared.player.Keyword.TheVariants as made;
 ghost use Rattle.zk_script.specs.Pieces.{words_of};
-ghost use Rattle.zk_replay.specs.Played.{standing_of, DoesSaid, HaltsLine, HaltsSaid, HaltsWords, IfHalted, IsDue, TakesLine, TakesWords};
+ghost use Rattle.zk_replay.specs.Played.{view_of_player, DoesSaid, HaltsLine, HaltsSaid, HaltsWords, TakesLine, TakesWords};
 ghost use Rattle.zk_replay.specs.Courses.{Course, Follows, StandsBy};
+ghost use Rattle.zk_replay.specs.Replays.{rules, IsAt, Position};
+ghost use Rattle.zk_script.specs.Stops.{IfHalted, IsDueBy};
 
 use crate::begin_line::{BeginKeyword, begin_line_at};
 use crate::drive_line::{DriveKeyword, drive_line_at};
 use crate::driven::{begun, replayed};
-use crate::stop::Stop;
+use zk_script::stop::Stop;
 use std::alloc::Allocator;
 use zk_client::Client;
 use zk_script::pieces::words_of;
 use zk_script::script_fault::ScriptFault;
-use zk_script::story::is_remark;
+use zk_script::reads::is_remark;
+use zk_script::script::LineReader;
 
 /// What a line does, by its first word.
 #[derive(Clone, Copy)]
@@ -48,16 +51,16 @@ pub struct Player<A: Allocator + Copy> {
 impl<A: Allocator + Copy> Player<A> {
     /// No client yet.
     pub fn new() -> Player<A>
-        ensures { standing_of result ≡ None }
+        ensures { view_of_player result ≡ None }
     {
         Player { client: None }
     }
 
     /// Makes the client. Only the first line does.
     fn begin(&mut self, alloc: A, word: BeginKeyword, words: &[&[u8]]) -> Result<String<A>, Stop>
-        ensures ok { IfOk result (λ text. DoesSaid (placed_at (made.Begin word) (is_some (standing_of self.old)) (map (λ w. w.now) words.now)) (standing_of self.old) (standing_of self.new) (string_bytes text)) }
-        ensures err { IfErr result (IsDue (placed_at (made.Begin word) (is_some (standing_of self.old)) (map (λ w. w.now) words.now))) }
-        ensures halt { IfErr result (IfHalted (HaltsSaid (placed_at (made.Begin word) (is_some (standing_of self.old)) (map (λ w. w.now) words.now)) (standing_of self.old) (standing_of self.new))) }
+        ensures ok { IfOk result (λ text. DoesSaid (placed_at (made.Begin word) (is_some (view_of_player self.old)) (map (λ w. w.now) words.now)) (view_of_player self.old) (view_of_player self.new) (string_bytes text)) }
+        ensures err { IfErr result (IsDueBy (placed_at (made.Begin word) (is_some (view_of_player self.old)) (map (λ w. w.now) words.now))) }
+        ensures halt { IfErr result (IfHalted (HaltsSaid (placed_at (made.Begin word) (is_some (view_of_player self.old)) (map (λ w. w.now) words.now)) (view_of_player self.old) (view_of_player self.new))) }
     {
         if self.client.is_some() {
             return Err(Stop::Refused(ScriptFault::Place));
@@ -69,9 +72,9 @@ impl<A: Allocator + Copy> Player<A> {
 
     /// Does with the client what the words say.
     fn drive(&mut self, alloc: A, word: DriveKeyword, words: &[&[u8]]) -> Result<String<A>, Stop>
-        ensures ok { IfOk result (λ text. DoesSaid (placed_at (made.Drive word) (is_some (standing_of self.old)) (map (λ w. w.now) words.now)) (standing_of self.old) (standing_of self.new) (string_bytes text)) }
-        ensures err { IfErr result (IsDue (placed_at (made.Drive word) (is_some (standing_of self.old)) (map (λ w. w.now) words.now))) }
-        ensures halt { IfErr result (IfHalted (HaltsSaid (placed_at (made.Drive word) (is_some (standing_of self.old)) (map (λ w. w.now) words.now)) (standing_of self.old) (standing_of self.new))) }
+        ensures ok { IfOk result (λ text. DoesSaid (placed_at (made.Drive word) (is_some (view_of_player self.old)) (map (λ w. w.now) words.now)) (view_of_player self.old) (view_of_player self.new) (string_bytes text)) }
+        ensures err { IfErr result (IsDueBy (placed_at (made.Drive word) (is_some (view_of_player self.old)) (map (λ w. w.now) words.now))) }
+        ensures halt { IfErr result (IfHalted (HaltsSaid (placed_at (made.Drive word) (is_some (view_of_player self.old)) (map (λ w. w.now) words.now)) (view_of_player self.old) (view_of_player self.new))) }
     {
         let Some(client) = &mut self.client else {
             return Err(Stop::Refused(ScriptFault::Place));
@@ -82,9 +85,9 @@ impl<A: Allocator + Copy> Player<A> {
 
     /// Does what the words behind a keyword say.
     fn take(&mut self, alloc: A, keyword: Keyword, words: &[&[u8]]) -> Result<String<A>, Stop>
-        ensures ok { IfOk result (λ text. DoesSaid (placed_at keyword (is_some (standing_of self.old)) (map (λ w. w.now) words.now)) (standing_of self.old) (standing_of self.new) (string_bytes text)) }
-        ensures err { IfErr result (IsDue (placed_at keyword (is_some (standing_of self.old)) (map (λ w. w.now) words.now))) }
-        ensures halt { IfErr result (IfHalted (HaltsSaid (placed_at keyword (is_some (standing_of self.old)) (map (λ w. w.now) words.now)) (standing_of self.old) (standing_of self.new))) }
+        ensures ok { IfOk result (λ text. DoesSaid (placed_at keyword (is_some (view_of_player self.old)) (map (λ w. w.now) words.now)) (view_of_player self.old) (view_of_player self.new) (string_bytes text)) }
+        ensures err { IfErr result (IsDueBy (placed_at keyword (is_some (view_of_player self.old)) (map (λ w. w.now) words.now))) }
+        ensures halt { IfErr result (IfHalted (HaltsSaid (placed_at keyword (is_some (view_of_player self.old)) (map (λ w. w.now) words.now)) (view_of_player self.old) (view_of_player self.new))) }
     {
         match keyword {
             Keyword::Begin(word) => self.begin(alloc, word, words),
@@ -94,9 +97,9 @@ impl<A: Allocator + Copy> Player<A> {
 
     /// Does what the words of a line say.
     fn take_words(&mut self, alloc: A, words: &[&[u8]]) -> Result<String<A>, Stop>
-        ensures ok { IfOk result (λ text. TakesWords (map (λ w. w.now) words.now) (standing_of self.old) (standing_of self.new) (string_bytes text)) }
-        ensures err { IfErr result (IsDue (says_at (map (λ w. w.now) words.now) (is_some (standing_of self.old)))) }
-        ensures halt { IfErr result (IfHalted (HaltsWords (map (λ w. w.now) words.now) (standing_of self.old) (standing_of self.new))) }
+        ensures ok { IfOk result (λ text. TakesWords (map (λ w. w.now) words.now) (view_of_player self.old) (view_of_player self.new) (string_bytes text)) }
+        ensures err { IfErr result (IsDueBy (says_at (map (λ w. w.now) words.now) (is_some (view_of_player self.old)))) }
+        ensures halt { IfErr result (IfHalted (HaltsWords (map (λ w. w.now) words.now) (view_of_player self.old) (view_of_player self.new))) }
     {
         let Some((first, behind)) = words.split_first() else {
             return Ok(String::new(alloc));
@@ -113,13 +116,26 @@ impl<A: Allocator + Copy> Player<A> {
     /// Does what a line says, and gives what is to be printed: the lines of what the client says, or of a look-up. An empty line
     /// and one that begins with `#` say nothing. The first reason that applies refuses a line. Wherever what has happened has led
     /// the client, what is printed is what the definitions give for it, and the client stands where the line leads.
-    pub fn read(&mut self, alloc: A, line: &[u8]) -> Result<String<A>, Stop>
-        ensures ok { IfOk result (λ text. TakesLine line.now (standing_of self.old) (standing_of self.new) (string_bytes text)) }
-        ensures stands { IfOk result (λ text. (course : Option Course) → StandsBy course (standing_of self.old) → Follows line.now course (standing_of self.new) (string_bytes text)) }
-        ensures err { IfErr result (IsDue (says_at (words_of line.now) (is_some (standing_of self.old)))) }
-        ensures halt { IfErr result (IfHalted (HaltsLine line.now (standing_of self.old) (standing_of self.new))) }
+    pub fn read_line(&mut self, alloc: A, line: &[u8]) -> Result<String<A>, Stop>
+        ensures ok { IfOk result (λ text. TakesLine line.now (view_of_player self.old) (view_of_player self.new) (string_bytes text)) }
+        ensures stands { IfOk result (λ text. (course : Option Course) → StandsBy course (view_of_player self.old) → Follows line.now course (view_of_player self.new) (string_bytes text)) }
+        ensures err { IfErr result (IsDueBy (says_at (words_of line.now) (is_some (view_of_player self.old)))) }
+        ensures halt { IfErr result (IfHalted (HaltsLine line.now (view_of_player self.old) (view_of_player self.new))) }
     {
         let words = words_of(alloc, line)?;
         self.take_words(alloc, words.as_slice())
+    }
+}
+
+impl<A: Allocator + Copy> LineReader<A> for Player<A> {
+    ghost Position = { Position };
+
+    ghost rules = { rules };
+
+    ghost stands = { IsAt };
+
+    #[tactic(auto, using(crate::proofs::CourseLemmas::moved, crate::proofs::CourseLemmas::due))]
+    fn read(&mut self, alloc: A, line: &[u8]) -> Result<String<A>, Stop> {
+        self.read_line(alloc, line)
     }
 }

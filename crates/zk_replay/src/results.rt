@@ -14,7 +14,7 @@ use crate::words::push_spaced;
 use std::alloc::{AllocError, Allocator};
 use zk_client::{CallResult, Outcome};
 use zk_records::{Code, Stat};
-use zk_script::answers::{push_data_word, push_name, push_numbers, push_value, push_word};
+use zk_script::values::{push_data_word, push_name, push_numbers, push_value, push_word};
 
 /// Adds the first six numbers of a Stat.
 #[tactic(auto, unfolding(crate::specs::Shown::front_words))]

@@ -1,3 +1,3 @@
 mod PiecesLemmas
 pub mod NamesLemmas
-pub mod StoryLemmas
+mod ScriptLemmas

@@ -5,7 +5,7 @@ pub mod Numbers
 pub mod Texts
 pub mod ScriptFaults
 pub mod Reads
-pub mod HistoryLines
-pub mod Answers
-pub mod Stories
+pub mod Values
+pub mod Said
+pub mod Stops
 pub mod Scripts

@@ -6,6 +6,8 @@ use Rattle.hex.specs.Hex.{decode_of}
 use Rattle.hex.specs.declared.error.FromHexError.{FromHexError}
 use Rattle.zk_history.specs.PathFault.{fault_of}
 use Rattle.zk_history.specs.declared.path_fault.PathFault.{PathFault}
+use Rattle.zk_history.specs.declared.side.Side.{Side}
+use Rattle.zk_history.specs.declared.side.Side.TheVariants.{Data, Child}
 use Rattle.zk_script.specs.declared.script_fault.ScriptFault.{ScriptFault}
 use Rattle.zk_script.specs.declared.script_fault.ScriptFault.TheVariants.{Words, Number, Hex, Path, Memory}
 use Rattle.zk_script.specs.declared.texts.Place.TheVariants.{Plain}
@@ -56,6 +58,10 @@ path_read (Some fault) text = Err (Path fault)
 -- a text that is a path
 abbrev pub path_at : List ℕ → Result (List ℕ) ScriptFault
 path_at text = path_read (fault_of text) text
+
+-- the side that a word names
+abbrev pub side_read : List ℕ → Result Side ScriptFault
+side_read word = if bytes_eq word (codes "data") then Ok Data else (if bytes_eq word (codes "names") then Ok Child else Err Words)
 
 -- printable, and no space
 abbrev pub is_printable : ℕ → Bool

@@ -1,50 +1,84 @@
--- What a whole script answers, line by line.
-use Rattle.std.specs.Prelude.{◌≡◌, ℕ, ◌+◌, List, [], ◌∷◌, ◌++◌, length, codes}
+-- What a whole script prints, line by line, up to the first line that is not done.
+use Rattle.std.specs.Prelude.{◌≡◌, ⊤, ℕ, ◌+◌, List, [], ◌∷◌, ◌++◌, length, codes}
 use Rattle.std.specs.Fmt.{decimal}
 use Rattle.std.specs.List.{FoldsTo}
 use Rattle.zk_history.specs.History.{Text}
+use Rattle.zk_script.specs.declared.script.End.{End}
+use Rattle.zk_script.specs.declared.script.End.TheVariants as ends
 use Rattle.zk_script.specs.declared.script_fault.ScriptFault.{ScriptFault}
+use Rattle.zk_script.specs.declared.stop.Stop.{Stop}
+use Rattle.zk_script.specs.declared.stop.Stop.TheVariants as stops
 use Rattle.zk_script.specs.Pieces.{pieces_at}
 use Rattle.zk_script.specs.ScriptFaults.{script_fault_text}
-use Rattle.zk_script.specs.Stories.{Standing, first_standing, TakesLine, RefusesLine}
 
--- how far a script has come: where it stands, and what its lines answered
-pub record Progress : Type 0 where
-  pub standing : Standing
-  pub answers : List ℕ
+-- The rules of a kind of script: what a line that is taken makes of where the script stands, and what it prints; for which reason a
+-- line is refused; and at which lines a client halts.
+pub record Rules (S : Type 0) : Type 1 where
+  pub Takes : Text → S → S → List ℕ → Type 0
+  pub Refuses : Text → S → ScriptFault → Type 0
+  pub Halts : Text → S → Type 0
 
-abbrev pub progress : Standing → List ℕ → Progress
-progress standing answers = record { standing = standing; answers = answers }
+-- how far a script has come: where it stands, and what was printed
+pub record Progress (S : Type 0) : Type 0 where
+  pub position : S
+  pub printed : List ℕ
 
-abbrev pub beginning : Progress
-beginning = progress first_standing []
+abbrev pub progress : {S : Type 0} → S → List ℕ → Progress S
+progress position printed = record { position = position; printed = printed }
 
--- one line further: its answer stands behind those before it
-abbrev pub Goes : Progress → Text → Progress → Type 0
-Goes old line new = (answer : List ℕ) × TakesLine line old.standing new.standing answer × (new.answers ≡ old.answers ++ answer)
+-- one line further: what it prints stands behind what was printed
+abbrev pub Goes : {S : Type 0} → Rules S → Progress S → Text → Progress S → Type 0
+Goes rules old line new = (text : List ℕ) × rules.Takes line old.position new.position text × (new.printed ≡ old.printed ++ text)
 
--- Each of these lines is taken, in order, and the text is their answers, one behind the other.
-pub record Answers (lines : List Text) (text : List ℕ) : Type 0 where
-  pub end : Standing
-  pub taken : FoldsTo Goes beginning lines (progress end text)
+-- Each of these lines is taken, in order, from here on: the text is what was printed before them, and what they print.
+pub record Prints {S : Type 0} (rules : Rules S) (here : Progress S) (lines : List Text) (text : List ℕ) : Type 0 where
+  pub end : S
+  pub taken : FoldsTo (Goes rules) here lines (progress end text)
 
--- The line of this number, counted from 1, is refused for this reason, and the text is the answers of the lines before it.
-pub record StopsAt (lines : List Text) (number : ℕ) (fault : ScriptFault) (text : List ℕ) : Type 0 where
+-- The first of them are taken, and the text is what these print: of no line a part.
+pub record PrintsFirst {S : Type 0} (rules : Rules S) (here : Progress S) (lines : List Text) (text : List ℕ) : Type 0 where
+  pub before : List Text
+  pub behind : List Text
+  pub are : lines ≡ before ++ behind
+  pub prints : Prints rules here before text
+
+-- Those before the line of this number, counted from 1, are taken, and that line is refused for this reason.
+pub record StopsAt {S : Type 0} (rules : Rules S) (here : Progress S) (lines : List Text) (number : ℕ) (fault : ScriptFault) (text : List ℕ) : Type 0 where
   pub before : List Text
   pub line : Text
   pub behind : List Text
   pub are : lines ≡ before ++ line ∷ behind
   pub counted : number ≡ length before + 1
-  pub end : Standing
-  pub taken : FoldsTo Goes beginning before (progress end text)
-  pub refused : RefusesLine line end fault
+  pub prints : Prints rules here before text
+  pub refused : rules.Refuses line prints.end fault
 
--- The text is the answers of the first of these lines: no answer is cut.
-pub record AnswersFirst (lines : List Text) (text : List ℕ) : Type 0 where
+-- At one of them the client that stands there halts, and those before it are taken.
+pub record HaltsIn {S : Type 0} (rules : Rules S) (here : Progress S) (lines : List Text) (text : List ℕ) : Type 0 where
   pub before : List Text
+  pub line : Text
   pub behind : List Text
-  pub are : lines ≡ before ++ behind
-  pub answers : Answers before text
+  pub are : lines ≡ before ++ line ∷ behind
+  pub prints : Prints rules here before text
+  pub halts : rules.Halts line prints.end
+
+-- what lines printed from here on, by how they ended
+abbrev pub IsOutcome : {S : Type 0} → Rules S → Progress S → List Text → List ℕ → End → Type 0
+IsOutcome rules here lines text ends.Taken = Prints rules here lines text
+IsOutcome rules here lines text (ends.Refused number why) = StopsAt rules here lines number why text
+IsOutcome rules here lines text ends.Halted = HaltsIn rules here lines text
+IsOutcome rules here lines text ends.Memory = PrintsFirst rules here lines text
+
+-- why a line is not done, if memory did not run out elsewhere
+abbrev pub IsDue : {S : Type 0} → Rules S → Text → S → Stop → Type 0
+IsDue rules line old (stops.Refused fault) = rules.Refuses line old fault
+IsDue rules line old stops.Halted = rules.Halts line old
+IsDue rules line old stops.Memory = ⊤
+
+-- how lines end at the line of this number, which is not done
+abbrev pub end_at : ℕ → Stop → End
+end_at number (stops.Refused why) = ends.Refused number why
+end_at number stops.Halted = ends.Halted
+end_at number stops.Memory = ends.Memory
 
 -- the lines of a script, which end with newlines
 abbrev pub lines_of : Text → List Text

@@ -4,7 +4,8 @@ ghost use Rattle.std.specs.Prelude.{◌≡◌, bytes_eq, string_bytes, map, true
 ghost use Rattle.std.specs.Str.{is_utf8};
 ghost use Rattle.std.specs.List.{list_all};
 ghost use Rattle.std.specs.Option.{option_map};
-ghost use Rattle.zk_script.specs.Reads.{Reads, time_at, zxid_at, data_at, text_at, text_read, path_at, is_printed};
+ghost use Rattle.zk_script.specs.Said.{is_remark};
+ghost use Rattle.zk_script.specs.Reads.{Reads, time_at, zxid_at, data_at, text_at, text_read, path_at, side_read, is_printed};
 
 use crate::numbers::natural_of;
 use crate::script_fault::ScriptFault;
@@ -12,7 +13,7 @@ use crate::texts::unescaped;
 use crate::words::{EMPTY, NULL};
 use hex::FromHexError;
 use std::alloc::Allocator;
-use zk_history::{Path, PathFault};
+use zk_history::{Path, PathFault, Side};
 
 /// The greatest number of 64 bits with a sign.
 const GREATEST: u64 = 9_223_372_036_854_775_807;
@@ -113,6 +114,19 @@ pub fn path_at<A: Allocator + Copy>(alloc: A, text: &str) -> Result<Path<A>, Scr
     }
 }
 
+/// The side that a word names.
+pub fn side_at(word: &[u8]) -> Result<Side, ScriptFault>
+    ensures { Reads (λ s. s) result (side_read word.now) }
+{
+    if is_named(word, "data") {
+        Ok(Side::Data)
+    } else if is_named(word, "names") {
+        Ok(Side::Child)
+    } else {
+        Err(ScriptFault::Words)
+    }
+}
+
 /// Whether the bytes of a word are printable.
 fn is_printed(word: &[u8]) -> bool
     ensures { result ≡ is_printed word.now }
@@ -135,4 +149,11 @@ pub fn are_printed(words: &[&[u8]]) -> bool
         }
     }
     true
+}
+
+/// Whether a line is a remark, by its first word.
+pub fn is_remark(word: &[u8]) -> bool
+    ensures { result ≡ is_remark word.now }
+{
+    matches!(word, [b'#', ..])
 }

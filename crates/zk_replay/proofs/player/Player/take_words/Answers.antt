@@ -1,13 +1,14 @@
 use Rattle.std.proofs.Common.{◌≡◌, map, is_some, rules}
-use Rattle.zk_replay.specs.Played.{standing_of}
-use Rattle.zk_replay.specs.ReplayLines.{says_at, something, placed_at}
+use Rattle.zk_replay.specs.Played.{view_of_player}
+use Rattle.zk_replay.specs.ReplayLines.{says_at, placed_at}
+use Rattle.zk_script.specs.Said.{something}
 use Rattle.zk_replay.proofs.PlayLemmas.{taken}
 use Rattle.zk_replay.proofs.player.Player.take_words.Goals as goal
 
 pub returns-clause-ok : goal.returns-clause-ok
 returns-clause-ok g c =
     let words = map (λ w. w.now) c.args.words.now in
-    let begun = is_some (standing_of c.args.self.now) in
+    let begun = is_some (view_of_player c.args.self.now) in
     let said = placed_at c.in-Some-named.keyword begun (map (λ w. w.now) c.in-Some.behind.now) in
     let says : says_at words begun ≡ something said = search rules in
-    taken words (standing_of c.args.self.now) (standing_of c.take.new.self) said c.take.result says c.take.ensures.ok
+    taken words (view_of_player c.args.self.now) (view_of_player c.take.new.self) said c.take.result says c.take.ensures.ok

@@ -1,0 +1,101 @@
+-- The lines of a script that make a history and ask it.
+use Rattle.std.specs.Prelude.{ℕ, ℤ, if◌then◌else◌, List, [], ◌∷◌, codes, Option, Some, None, Result, Ok, Err, bytes_eq}
+use Rattle.std.specs.Option.{option_map}
+use Rattle.std.specs.List.{list_all}
+use Rattle.zk_history.specs.History.{Text, Change, Creates, Sets, Deletes, path_of}
+use Rattle.zk_history.specs.Made.{change_of}
+use Rattle.zk_history.specs.declared.side.Side.{Side}
+use Rattle.zk_story.specs.declared.history_line.HistoryLine.{HistoryLine}
+use Rattle.zk_story.specs.declared.history_line.HistoryLine.TheVariants as line
+use Rattle.zk_story.specs.declared.history_line.Keyword.{Keyword}
+use Rattle.zk_story.specs.declared.history_line.Keyword.TheVariants as keyword
+use Rattle.zk_script.specs.declared.script_fault.ScriptFault.{ScriptFault}
+use Rattle.zk_script.specs.declared.script_fault.ScriptFault.TheVariants.{Words}
+use Rattle.zk_script.specs.Reads.{◌>>=◌, time_at, zxid_at, data_at, text_at, path_at, side_read, is_printed}
+
+abbrev pub keyword_of : Text → Option Keyword
+keyword_of word =
+    if bytes_eq word (codes "node") then Some keyword.Node
+    else (if bytes_eq word (codes "tx") then Some keyword.Tx
+    else (if bytes_eq word (codes "create") then Some keyword.Create
+    else (if bytes_eq word (codes "set") then Some keyword.Set
+    else (if bytes_eq word (codes "delete") then Some keyword.Delete
+    else (if bytes_eq word (codes "ask") then Some keyword.Ask
+    else None)))))
+
+-- A node of the first tree, the beginning of a transaction, a change, or a look-up.
+pub data LineValue : Type 0 where
+  NodeLine : Text → Option (List ℕ) → ℤ → LineValue
+  BeginLine : ℤ → ℤ → LineValue
+  ChangeLine : Change → LineValue
+  AskLine : Side → ℤ → Text → LineValue
+
+abbrev pub value_of : {A : Type 0} → HistoryLine A → LineValue
+value_of (line.Node path bytes time) = NodeLine path (option_map (λ v. v.items) bytes) time
+value_of (line.Begin zxid time) = BeginLine zxid time
+value_of (line.Change change) = ChangeLine (change_of change)
+value_of (line.Ask side zxid path) = AskLine side zxid path
+
+abbrev pub node_at : List Text → Result LineValue ScriptFault
+node_at (path ∷ bytes ∷ time ∷ []) = do
+  text ← text_at path
+  moment ← time_at time
+  content ← data_at bytes
+  place ← path_at text
+  Ok (NodeLine place content moment)
+node_at words = Err Words
+
+abbrev pub begin_at : List Text → Result LineValue ScriptFault
+begin_at (zxid ∷ time ∷ []) = do
+  number ← zxid_at zxid
+  moment ← time_at time
+  Ok (BeginLine number moment)
+begin_at words = Err Words
+
+abbrev pub create_at : List Text → Result LineValue ScriptFault
+create_at (path ∷ bytes ∷ owner ∷ []) = do
+  text ← text_at path
+  session ← time_at owner
+  content ← data_at bytes
+  place ← path_at text
+  Ok (ChangeLine (Creates (path_of place) content session))
+create_at words = Err Words
+
+abbrev pub set_at : List Text → Result LineValue ScriptFault
+set_at (path ∷ bytes ∷ []) = do
+  text ← text_at path
+  content ← data_at bytes
+  place ← path_at text
+  Ok (ChangeLine (Sets (path_of place) content))
+set_at words = Err Words
+
+abbrev pub delete_at : List Text → Result LineValue ScriptFault
+delete_at (path ∷ []) = do
+  text ← text_at path
+  place ← path_at text
+  Ok (ChangeLine (Deletes (path_of place)))
+delete_at words = Err Words
+
+unfoldable pub look_up_at : Text → Text → Text → Result LineValue ScriptFault
+look_up_at zxid side path = do
+  which ← side_read side
+  text ← text_at path
+  number ← time_at zxid
+  place ← path_at text
+  Ok (AskLine which number place)
+
+abbrev pub ask_at : List Text → Result LineValue ScriptFault
+ask_at (zxid ∷ side ∷ path ∷ []) = look_up_at zxid side path
+ask_at words = Err Words
+
+abbrev pub words_at : Keyword → List Text → Result LineValue ScriptFault
+words_at keyword.Node words = node_at words
+words_at keyword.Tx words = begin_at words
+words_at keyword.Create words = create_at words
+words_at keyword.Set words = set_at words
+words_at keyword.Delete words = delete_at words
+words_at keyword.Ask words = ask_at words
+
+-- what the words behind a keyword say
+abbrev pub line_at : Keyword → List Text → Result LineValue ScriptFault
+line_at word words = if list_all is_printed words then words_at word words else Err Words

@@ -1,0 +1,3 @@
+pub mod HistoryLines
+pub mod Answers
+pub mod Stories
