@@ -9,8 +9,7 @@ use crate::call_line::{Asked, call_at};
 use crate::reads::natural_at;
 use std::alloc::Allocator;
 use zk_history::{Path, Side};
-use zk_script::reads::side_at;
-use zk_script::reads::{are_printed, is_named, path_at, text_at};
+use zk_script::reads::{are_printed, is_named, path_at, side_at, text_at};
 use zk_script::script_fault::ScriptFault;
 
 /// What a line does with a client, by its first word.

@@ -15,10 +15,10 @@ use crate::client_line::ClientLine;
 use crate::drive_line::DriveLine;
 use crate::outputs::outputs_text;
 use crate::peeks::{data_line, last_line, names_line, saved_line};
-use zk_script::stop::Stop;
 use std::alloc::{AllocError, Allocator};
 use zk_client::{Client, Input};
 use zk_history::{Path, Side};
+use zk_script::stop::Stop;
 use zk_session::Saved;
 
 /// The client that a line makes.

@@ -11,8 +11,8 @@ use crate::words::push_spaced;
 use std::alloc::{AllocError, Allocator};
 use zk_client::{Fault, Outcome, Output};
 use zk_records::{Event, Side};
-use zk_script::values::{push_name, push_word};
 use zk_script::lines::push_line;
+use zk_script::values::{push_name, push_word};
 use zk_script::words::bytes_to_word;
 use zk_session::State;
 

@@ -12,13 +12,13 @@ ghost use Rattle.zk_script.specs.Stops.{IfHalted, IsDueBy};
 use crate::begin_line::{BeginKeyword, begin_line_at};
 use crate::drive_line::{DriveKeyword, drive_line_at};
 use crate::driven::{begun, replayed};
-use zk_script::stop::Stop;
 use std::alloc::Allocator;
 use zk_client::Client;
 use zk_script::pieces::words_of;
-use zk_script::script_fault::ScriptFault;
 use zk_script::reads::is_remark;
 use zk_script::script::LineReader;
+use zk_script::script_fault::ScriptFault;
+use zk_script::stop::Stop;
 
 /// What a line does, by its first word.
 #[derive(Clone, Copy)]
