@@ -236,7 +236,10 @@ fn numbered_at<A: Allocator + Copy>(
 }
 
 /// The call that the words behind `call` ask for: its number, its kind, and what the kind asks for.
-pub fn call_at<A: Allocator + Copy>(alloc: A, words: &[&[u8]]) -> Result<Asked<A>, ScriptFault>
+pub(crate) fn call_at<A: Allocator + Copy>(
+    alloc: A,
+    words: &[&[u8]],
+) -> Result<Asked<A>, ScriptFault>
     ensures { Reads asked_of result (call_at (map (λ w. w.now) words.now)) }
 {
     let Some((ticket, words)) = words.split_first() else {

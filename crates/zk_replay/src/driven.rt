@@ -106,7 +106,7 @@ pub fn driven<A: Allocator + Copy>(
 
 /// Does with a client what a line of a replay says, and gives what is to be printed. Where that is answered by a halt, the line
 /// is an input, and the client has halted at it.
-pub fn replayed<A: Allocator + Copy>(
+pub(crate) fn replayed<A: Allocator + Copy>(
     alloc: A,
     client: &mut Client<A>,
     line: DriveLine<A>,

@@ -8,14 +8,14 @@
 pub mod begin_line;
 pub mod call_line;
 pub mod client_line;
-pub mod drive_line;
+mod drive_line;
 pub mod driven;
 pub mod faults;
-pub mod names;
+mod names;
 pub mod outputs;
 pub mod peeks;
-pub mod player;
+mod player;
 pub mod reads;
 pub mod replay;
-pub mod results;
+mod results;
 pub mod words;

@@ -27,7 +27,7 @@ pub fn side_to_word(side: Side) -> &'static str
 }
 
 /// The word for an event.
-pub fn event_to_word(event: Event) -> &'static str
+fn event_to_word(event: Event) -> &'static str
     ensures { result.now ≡ event_word event }
 {
     match event {

@@ -173,7 +173,10 @@ fn push_saved<A: Allocator + Copy>(
 }
 
 /// The line of what a session can be taken up with.
-pub fn saved_line<A: Allocator + Copy>(alloc: A, saved: &Saved<'_>) -> Result<String<A>, AllocError>
+pub(crate) fn saved_line<A: Allocator + Copy>(
+    alloc: A,
+    saved: &Saved<'_>,
+) -> Result<String<A>, AllocError>
     ensures { IfOk result (λ text. string_bytes text ≡ saved_line saved.now.session saved.now.password.now saved.now.last_zxid) }
 {
     let mut text = String::new(alloc);

@@ -69,7 +69,7 @@ fn integer_of(word: &[u8], greatest: u64, least: u64) -> Option<i64>
 
 /// The number from -2^31 to 2^31 - 1 that a word stands for.
 #[tactic(auto, unfolding(crate::specs::Reads::version_at))]
-pub fn version_at(word: &[u8]) -> Result<i32, ScriptFault>
+pub(crate) fn version_at(word: &[u8]) -> Result<i32, ScriptFault>
     ensures { Reads (λ n. n) result (version_at word.now) }
 {
     match integer_of(word, 2_147_483_647, 2_147_483_648) {
@@ -80,7 +80,7 @@ pub fn version_at(word: &[u8]) -> Result<i32, ScriptFault>
 
 /// The number from -2^63 to 2^63 - 1 that a word stands for.
 #[tactic(auto, unfolding(crate::specs::Reads::session_at))]
-pub fn session_at(word: &[u8]) -> Result<i64, ScriptFault>
+pub(crate) fn session_at(word: &[u8]) -> Result<i64, ScriptFault>
     ensures { Reads (λ n. n) result (session_at word.now) }
 {
     integer_of(word, 9_223_372_036_854_775_807, 9_223_372_036_854_775_808).ok_or(
@@ -89,7 +89,7 @@ pub fn session_at(word: &[u8]) -> Result<i64, ScriptFault>
 }
 
 /// The last seen zxid that a word stands for, from 0 to 2^63 - 1.
-pub fn last_at(word: &[u8]) -> Result<i64, ScriptFault>
+pub(crate) fn last_at(word: &[u8]) -> Result<i64, ScriptFault>
     ensures value { Reads (λ n. n) result (time_at word.now) }
     ensures counts { IfOk result (λ n. pos 0 ≤ℤ n) }
 {
@@ -100,7 +100,7 @@ pub fn last_at(word: &[u8]) -> Result<i64, ScriptFault>
 }
 
 /// The boolean that a word is: 0 or 1.
-pub fn boolean_at(word: &[u8]) -> Result<bool, ScriptFault>
+pub(crate) fn boolean_at(word: &[u8]) -> Result<bool, ScriptFault>
     ensures { Reads (λ b. b) result (boolean_at word.now) }
 {
     match word {
@@ -112,7 +112,7 @@ pub fn boolean_at(word: &[u8]) -> Result<bool, ScriptFault>
 
 /// The mode of a create that a word stands for, by the flags of its request: 0 to 3.
 #[tactic(auto, unfolding(crate::specs::Reads::mode_at))]
-pub fn mode_at(word: &[u8]) -> Result<CreateMode, ScriptFault>
+pub(crate) fn mode_at(word: &[u8]) -> Result<CreateMode, ScriptFault>
     ensures { Reads mode_number result (mode_at word.now) }
 {
     match natural_of(word, 9) {
@@ -126,7 +126,10 @@ pub fn mode_at(word: &[u8]) -> Result<CreateMode, ScriptFault>
 
 /// The bytes that a word stands for. Null is none.
 #[tactic(auto, unfolding(crate::specs::Reads::bytes_at))]
-pub fn bytes_at<A: Allocator + Copy>(alloc: A, word: &[u8]) -> Result<Vec<u8, A>, ScriptFault>
+pub(crate) fn bytes_at<A: Allocator + Copy>(
+    alloc: A,
+    word: &[u8],
+) -> Result<Vec<u8, A>, ScriptFault>
     ensures { Reads (λ v. v.items) result (bytes_at word.now) }
 {
     match data_at(alloc, word) {
@@ -139,7 +142,7 @@ pub fn bytes_at<A: Allocator + Copy>(alloc: A, word: &[u8]) -> Result<Vec<u8, A>
 /// The password that a word stands for, and none where the word is no hex: that is told behind a number that is none. A
 /// password of more bytes than a server can bring is none of the words allowed.
 #[tactic(auto, unfolding(crate::specs::Reads::password_at))]
-pub fn password_at<A: Allocator + Copy>(
+pub(crate) fn password_at<A: Allocator + Copy>(
     alloc: A,
     word: &[u8],
 ) -> Result<Option<Vec<u8, A>>, ScriptFault>

@@ -9,6 +9,6 @@ pub mod reads;
 pub mod script;
 pub mod script_fault;
 pub mod stop;
-pub mod texts;
+mod texts;
 pub mod values;
 pub mod words;

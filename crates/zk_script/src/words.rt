@@ -9,7 +9,7 @@ use std::alloc::{AllocError, Allocator};
 pub const NULL: &str = "\\0";
 
 /// The word for no bytes and for the empty text.
-pub const EMPTY: &str = "\\e";
+pub(crate) const EMPTY: &str = "\\e";
 
 /// The word for a value that is missing.
 pub const NONE: &str = "-";

@@ -1,6 +1,6 @@
 //! A history, as the lines of a script tell it and ask it.
 #![tactic(auto)]
 
-pub mod answers;
+mod answers;
 pub mod history_line;
 pub mod story;
