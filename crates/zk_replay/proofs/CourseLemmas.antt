@@ -131,7 +131,7 @@ follows line course old new text s takes =
     let does = does_some takes.what course old new text s takes.does in
     record {
       next = does.0;
-      adds = record { what = takes.what; says = ap (says_at (words_of line)) (same_there course old s) ∙ takes.says; adds = does.1 };
+      adds = record { what = takes.what; says = ap (says_at (words_of line)) (same_there course old s) ∙ takes.says; does = does.1 };
       stands = does.2;
     }
 
@@ -143,21 +143,16 @@ followed line old new (Ok text) takes = λ course s. follows line course old new
 followed line old new (Err stop) takes = tt
 
 -- from a position that a player has to the next
-pub moved : {Y : Type 0} (line : Text) (old : Position) (before after : Option View) (r : Result (String Y) Stop)
-    → IfOk r (λ text. TakesLine line before after (string_bytes text))
-    → IfOk r (λ text. (course : Option Course) → StandsBy course before → Follows line course after (string_bytes text))
-    → before ≡ old.view → StandsBy old.course old.view
-    → IfOk r (λ text. (new : Position) × Moves line old new (string_bytes text) × (after ≡ new.view) × StandsBy new.course new.view)
-moved line old before after (Ok text) takes goes is s =
-    let follows : Follows line old.course after (string_bytes text) = goes old.course (rw is s) in
-    (record { view = after; course = follows.next }, record { takes = rw (← is) takes; adds = follows.adds; stands = follows.stands }, refl, follows.stands)
-moved line old before after (Err stop) takes goes is s = tt
+pub moved : (line : Text) (old : Position) (before after : Option View) (text : List ℕ) → TakesLine line before after text
+    → ((course : Option Course) → StandsBy course before → Follows line course after text) → before ≡ old.view → StandsBy old.course old.view
+    → (new : Position) × Moves line old new text × ((after ≡ new.view) × StandsBy new.course new.view)
+moved line old before after text takes goes is s =
+    let follows : Follows line old.course after text = goes old.course (rw is s) in
+    (record { view = after; course = follows.next }, record { takes = rw (← is) takes; adds = follows.adds; stands = follows.stands }, (refl, follows.stands))
 
 -- and why a line is not done there
-pub due : {X : Type 0} (line : Text) (old : Position) (before after : Option View) (r : Result X Stop)
-    → IfErr r (IsDueBy (says_at (words_of line) (is_some before))) → IfErr r (IfHalted (HaltsLine line before after)) → before ≡ old.view
-    → IfErr r (IsDue rules line old)
-due line old before after (Ok text) refused halted is = tt
-due line old before after (Err (stops.Refused fault)) refused halted is = rw (← is) refused
-due line old before after (Err stops.Halted) refused halted is = (after, rw (← is) halted)
-due line old before after (Err stops.Memory) refused halted is = tt
+pub due : (line : Text) (old : Position) (before after : Option View) (stop : Stop) → IsDueBy (says_at (words_of line) (is_some before)) stop
+    → IfHalted (HaltsLine line before after) stop → before ≡ old.view → IsDue rules line old stop
+due line old before after (stops.Refused fault) refused halted is = rw (← is) refused
+due line old before after stops.Halted refused halted is = (after, rw (← is) halted)
+due line old before after stops.Memory refused halted is = tt

@@ -1,5 +1,5 @@
 -- What the lines of a replay make of a client, and what they print.
-use Rattle.std.specs.Prelude.{◌≡◌, ⊤, unsigned_abs, is_some, ℕ, List, [], Option, Some, None, Result, Ok, Err}
+use Rattle.std.specs.Prelude.{◌≡◌, unsigned_abs, is_some, ℕ, List, [], Option, Some, None, Result, Ok, Err}
 use Rattle.std.specs.Option.{option_map}
 use Rattle.zk_history.specs.History.{Text}
 use Rattle.zk_history.specs.declared.side.Side.TheVariants.{Data, Child}

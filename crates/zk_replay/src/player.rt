@@ -134,8 +134,10 @@ impl<A: Allocator + Copy> LineReader<A> for Player<A> {
 
     ghost stands = { IsAt };
 
-    #[tactic(auto, using(crate::proofs::CourseLemmas::moved, crate::proofs::CourseLemmas::due))]
     fn read(&mut self, alloc: A, line: &[u8]) -> Result<String<A>, Stop> {
-        self.read_line(alloc, line)
+        match self.read_line(alloc, line) {
+            Ok(text) => Ok(text),
+            Err(stop) => Err(stop),
+        }
     }
 }

@@ -1,5 +1,5 @@
 -- What a line of a script makes of a history, and what it prints.
-use Rattle.std.specs.Prelude.{◌≡◌, ◌≢◌, ◌<ℤ◌, ⊤, ℕ, Bool, true, false, not, ◌&&◌, if◌then◌else◌, pos, List, [], ◌∷◌, Option, Some, None, Result, Ok, Err}
+use Rattle.std.specs.Prelude.{◌≡◌, ◌≢◌, ◌<ℤ◌, ⊤, ℕ, Bool, true, false, not, ◌&&◌, if◌then◌else◌, pos, List, [], Option, Some, None, Result, Ok, Err}
 use Rattle.zk_history.specs.History.{Text, Creates, newest, path_of, view, tree_at}
 use Rattle.zk_history.specs.Kept.{Kept, IsAccepted, empty_kept, history_of, natural, newest_tree, with_node, with_transaction, with_change}
 use Rattle.zk_history.specs.Refused.{NodeRefused, BeginRefused, ChangeRefused}
