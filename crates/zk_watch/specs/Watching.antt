@@ -7,7 +7,7 @@ use Rattle.zk_session.specs.declared.states.State.TheVariants.{Expired}
 use Rattle.zk_turns.specs.Turns.{Output, Answer, Enters, Drop, Turn, Start, Item, new_start}
 use Rattle.zk_turns.specs.View.{View, view_at}
 use Rattle.zk_turns.specs.Rule.{Rule, Stands}
-use Rattle.zk_script.specs.Answers.{spaced}
+use Rattle.zk_script.specs.Values.{spaced}
 use Rattle.zk_script.specs.Words.{text_word}
 use Rattle.zk_replay.specs.ClientLines.{PeekLine}
 use Rattle.zk_replay.specs.Played.{DoesClient}

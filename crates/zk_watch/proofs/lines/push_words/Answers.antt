@@ -1,7 +1,7 @@
 use Rattle.std.proofs.Common.{◌≡◌, ◌++◌, ◌∙◌, subst, ℤ, w64}
 use Rattle.std.proofs.lemmas.Int.{to_z-of_z}
 use Rattle.std.specs.Prelude.{string_bytes, Some}
-use Rattle.zk_script.specs.Answers.{spaced}
+use Rattle.zk_script.specs.Values.{spaced}
 use Rattle.zk_script.specs.Words.{text_word}
 use Rattle.zk_replay.specs.Shown.{last_line}
 use Rattle.zk_watch.proofs.WatchLemmas.{three_pieces}
