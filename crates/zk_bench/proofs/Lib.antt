@@ -1,3 +1,4 @@
+mod Fields
 pub mod Continuing
 pub mod Watched
 pub mod Placed

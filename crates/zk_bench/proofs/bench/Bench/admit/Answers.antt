@@ -7,45 +7,28 @@ use Rattle.zk_bench.specs.Linked.{linked_of}
 use Rattle.zk_bench.specs.Served.{Served}
 use Rattle.zk_bench.specs.declared.phase.Phase.TheVariants.{Opening, Accepted, Ended}
 use Rattle.zk_bench.specs.Stepping.{IsReady, ProcessesOne, shown_of}
+use Rattle.zk_bench.proofs.Fields.{bench_of}
 use Rattle.zk_bench.proofs.Stepped.{ready_admitted, admits_so, expires_so, not_ahead}
 use Rattle.zk_bench.proofs.bench.Bench.admit.Goals as goal
 
 pub returns-in_err-send_expired-clause-ready : goal.returns-in_err-send_expired-clause-ready
 returns-in_err-send_expired-clause-ready g c =
-    let b : Served = record {
-      history = c.self.inside.history;
-      taken = c.self.inside.taken;
-      server = c.self.inside.server;
-      connection = linked_of c.self.inside.connection;
-      expired = c.self.inside.expired;
-      time = c.self.inside.time;
-    } in
+    let i = c.self.inside in
+    let b : Served = bench_of i.history i.taken i.server i.connection i.expired i.time in
     subst (λ (old : Served). IsReady old → IsReady (record b { connection = linked_of (record c.self.inside.connection { output = c.send_expired.new.out }) })) c.self.view_is
     (λ ready. ready_admitted b (linked_of (record c.self.inside.connection { output = c.send_expired.new.out })) ready ready.unwatched)
 
 pub returns-in_err-send_accepted-clause-ready : goal.returns-in_err-send_accepted-clause-ready
 returns-in_err-send_accepted-clause-ready g c =
-    let b : Served = record {
-      history = c.self.inside.history;
-      taken = c.self.inside.taken;
-      server = c.self.inside.server;
-      connection = linked_of c.self.inside.connection;
-      expired = c.self.inside.expired;
-      time = c.self.inside.time;
-    } in
+    let i = c.self.inside in
+    let b : Served = bench_of i.history i.taken i.server i.connection i.expired i.time in
     subst (λ (old : Served). IsReady old → IsReady (record b { connection = linked_of (record c.self.inside.connection { output = c.send_accepted.new.out }) })) c.self.view_is
     (λ ready. ready_admitted b (linked_of (record c.self.inside.connection { output = c.send_accepted.new.out })) ready ready.unwatched)
 
 pub returns-then-self-clause-admits : goal.returns-then-self-clause-admits
 returns-then-self-clause-admits g c = λ seen xid ready opening last up.
-    let b : Served = record {
-      history = c.self.inside.history;
-      taken = c.self.inside.taken;
-      server = c.self.inside.server;
-      connection = linked_of c.self.inside.connection;
-      expired = c.self.inside.expired;
-      time = c.self.inside.time;
-    } in
+    let i = c.self.inside in
+    let b : Served = bench_of i.history i.taken i.server i.connection i.expired i.time in
     let old = c.args.self.now in
     let new = linked_of (record c.self.inside.connection { phase = Ended; output = c.send_expired.new.out }) in
     let held : to_z w64 (of_z w64 c.zxid.result) ≡ c.zxid.result = search rules in
@@ -59,14 +42,8 @@ returns-then-self-clause-admits g c = λ seen xid ready opening last up.
 
 pub returns-clause-admits : goal.returns-clause-admits
 returns-clause-admits g c = λ seen xid ready opening last up.
-    let b : Served = record {
-      history = c.self.inside.history;
-      taken = c.self.inside.taken;
-      server = c.self.inside.server;
-      connection = linked_of c.self.inside.connection;
-      expired = c.self.inside.expired;
-      time = c.self.inside.time;
-    } in
+    let i = c.self.inside in
+    let b : Served = bench_of i.history i.taken i.server i.connection i.expired i.time in
     let old = c.args.self.now in
     let new = linked_of (record c.self.inside.connection { phase = Accepted; output = c.send_accepted.new.out }) in
     let ranged : to_z w32 (of_z w32 c.args.request.now.time_out) ≡ c.args.request.now.time_out = search rules in

@@ -5,20 +5,15 @@ use Rattle.zk_history.specs.Kept.{history_of}
 use Rattle.zk_bench.specs.Linked.{linked_of}
 use Rattle.zk_bench.specs.Served.{Served}
 use Rattle.zk_bench.specs.Stepping.{HasClient, TakesSome, shown_of}
+use Rattle.zk_bench.proofs.Fields.{bench_of}
 use Rattle.zk_bench.proofs.Stepped.{ok_so}
 use Rattle.zk_bench.proofs.Processed.{shows_caught}
 use Rattle.zk_bench.proofs.bench.Bench.catch_up.Goals as goal
 
 pub returns-clause-takes : goal.returns-clause-takes
 returns-clause-takes g c = λ has.
-    let b : Served = record {
-      history = c.self.inside.history;
-      taken = c.self.inside.taken;
-      server = c.self.inside.server;
-      connection = linked_of c.self.inside.connection;
-      expired = c.self.inside.expired;
-      time = c.self.inside.time;
-    } in
+    let i = c.self.inside in
+    let b : Served = bench_of i.history i.taken i.server i.connection i.expired i.time in
     let old = c.self.inside.connection in
     let new = c.take_all.new.connection in
     let mine : HasClient b = subst HasClient (sym c.self.view_is) has in

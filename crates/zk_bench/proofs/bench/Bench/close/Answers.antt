@@ -1,25 +1,19 @@
 use Rattle.std.proofs.Common.{rules, ◌≡◌, sym, subst, ℤ, pos, to_z, of_z, w32}
 use Rattle.zk_conversation.specs.Calls.{Close}
 use Rattle.zk_laws.specs.Messages.{Ask}
-use Rattle.zk_bench.specs.Linked.{linked_of}
 use Rattle.zk_bench.specs.Served.{Served}
 use Rattle.zk_bench.specs.declared.phase.Phase.TheVariants.{Ended}
 use Rattle.zk_bench.specs.Stepping.{ProcessesOne, zxid_of, shown_of}
 use Rattle.zk_bench.specs.Serving.{SendsHeader}
+use Rattle.zk_bench.proofs.Fields.{bench_of}
 use Rattle.zk_bench.proofs.Processed.{closes_so}
 use Rattle.zk_bench.proofs.bench.Bench.close.Goals as goal
 
 pub returns-clause-answers : goal.returns-clause-answers
 returns-clause-answers g c = λ has.
     let old = c.args.self.now in
-    let b : Served = record {
-      history = c.self.inside.history;
-      taken = c.self.inside.taken;
-      server = c.self.inside.server;
-      connection = linked_of c.self.inside.connection;
-      expired = c.self.inside.expired;
-      time = c.self.inside.time;
-    } in
+    let i = c.self.inside in
+    let b : Served = bench_of i.history i.taken i.server i.connection i.expired i.time in
     let done = c.in_ok-send_err.ensures in
     let xid : to_z w32 (of_z w32 c.args.xid) ≡ c.args.xid = search rules in
     subst (λ (n : Served). ProcessesOne (Ask Close) c.args.xid (shown_of old) (shown_of (record n { connection = record n.connection { phase = Ended } }))) (sym c.self.view_is)

@@ -12,6 +12,7 @@ use Rattle.zk_bench.specs.Linked.{linked_of}
 use Rattle.zk_bench.specs.Served.{Served, linked}
 use Rattle.zk_bench.specs.Serving.{is_named, watches_of}
 use Rattle.zk_bench.specs.Stepping.{IsReady, shown_watches}
+use Rattle.zk_bench.proofs.Fields.{bench_of}
 use Rattle.zk_bench.proofs.bench.Bench.connect.Goals as goal
 
 none : (b c : Bool) → c ≡ false → (b && c) ≡ false
@@ -27,14 +28,8 @@ nothing_watched = fun_ext (λ side. fun_ext (λ path. nothing side path))
 
 pub returns-clause-ready : goal.returns-clause-ready
 returns-clause-ready g c =
-    let b : Served = record {
-      history = c.self.inside.history;
-      taken = c.self.inside.taken;
-      server = c.self.inside.server;
-      connection = linked_of c.self.inside.connection;
-      expired = c.self.inside.expired;
-      time = c.self.inside.time;
-    } in
+    let i = c.self.inside in
+    let b : Served = bench_of i.history i.taken i.server i.connection i.expired i.time in
     let there : c.args.n - 1 < length b.taken = omega arith in
     subst (λ (old : Served). IsReady old → IsReady (record b { server = c.args.n - 1; connection = linked_of c.new.result })) c.self.view_is
     (λ ready. record { taken = ready.taken; there = there; unwatched = λ e. ap shown_watches c.new.ensures ∙ nothing_watched })

@@ -6,48 +6,30 @@ use Rattle.zk_records.specs.Layouts.{connect_request}
 use Rattle.zk_records.specs.Views.{request_of}
 use Rattle.zk_laws.specs.Messages.{Connect}
 use Rattle.zk_laws.specs.Parsed.{IsRecord}
-use Rattle.zk_bench.specs.Linked.{linked_of}
 use Rattle.zk_bench.specs.Served.{Served}
 use Rattle.zk_bench.specs.declared.phase.Phase.TheVariants.{Opening}
 use Rattle.zk_bench.specs.Stepping.{IsReady, ProcessesOne, shown_of}
+use Rattle.zk_bench.proofs.Fields.{bench_of}
 use Rattle.zk_bench.proofs.Stepped.{ready_front, front_gone, ok_so}
 use Rattle.zk_bench.proofs.bench.Bench.process_first.Goals as goal
 
 pub returns-in_err-first-clause-ready : goal.returns-in_err-first-clause-ready
 returns-in_err-first-clause-ready g c =
-    let b : Served = record {
-      history = c.self.inside.history;
-      taken = c.self.inside.taken;
-      server = c.self.inside.server;
-      connection = linked_of c.self.inside.connection;
-      expired = c.self.inside.expired;
-      time = c.self.inside.time;
-    } in
+    let i = c.self.inside in
+    let b : Served = bench_of i.history i.taken i.server i.connection i.expired i.time in
     let rest = c.remove_front.new.bytes.items in
     subst (λ (old : Served). IsReady old → IsReady (record b { connection = record b.connection { requests = rest } })) c.self.view_is (λ ready. ready_front b rest ready)
 
 pub returns-clause-ready : goal.returns-clause-ready
 returns-clause-ready g c =
-    let b : Served = record {
-      history = c.self.inside.history;
-      taken = c.self.inside.taken;
-      server = c.self.inside.server;
-      connection = linked_of c.self.inside.connection;
-      expired = c.self.inside.expired;
-      time = c.self.inside.time;
-    } in
+    let i = c.self.inside in
+    let b : Served = bench_of i.history i.taken i.server i.connection i.expired i.time in
     subst (λ (old : Served). IsReady old → IsReady c.admit.new.self) c.self.view_is (λ ready. c.admit.ensures.ready (ready_front b c.remove_front.new.bytes.items ready))
 
 pub returns-clause-connects : goal.returns-clause-connects
 returns-clause-connects g c = λ seen timeout session password xid ready opening read up.
-    let b : Served = record {
-      history = c.self.inside.history;
-      taken = c.self.inside.taken;
-      server = c.self.inside.server;
-      connection = linked_of c.self.inside.connection;
-      expired = c.self.inside.expired;
-      time = c.self.inside.time;
-    } in
+    let i = c.self.inside in
+    let b : Served = bench_of i.history i.taken i.server i.connection i.expired i.time in
     let rest = c.remove_front.new.bytes.items in
     let value : Value connect_request = (pos 0, (pos seen, (timeout, (session, (Some password, false))))) in
     let found : request_of c.in_ok-first.field-0 ≡ value =

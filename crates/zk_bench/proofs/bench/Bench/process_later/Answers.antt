@@ -5,13 +5,13 @@ use Rattle.zk_records.specs.Operations.{request_layout}
 use Rattle.zk_records.specs.Asked.{asked_value}
 use Rattle.zk_records.specs.Codes.{code_number}
 use Rattle.zk_laws.specs.Parsed.{IsRecord}
-use Rattle.zk_bench.specs.Linked.{linked_of}
 use Rattle.zk_bench.specs.Served.{Served, ended}
 use Rattle.zk_bench.specs.declared.stop.Stop.{Stop}
 use Rattle.zk_bench.specs.declared.stop.Stop.TheVariants as stops
 use Rattle.zk_bench.specs.declared.stop.Refusal.{Refusal}
 use Rattle.zk_bench.specs.Serving.{SendsHeader}
 use Rattle.zk_bench.specs.Stepping.{HasClient, ProcessesOne, Declines, EndsBy, OwesTo, zxid_of, shown_of}
+use Rattle.zk_bench.proofs.Fields.{bench_of}
 use Rattle.zk_bench.proofs.Stepped.{ok_so, front_gone}
 use Rattle.zk_bench.proofs.Called.{found_so}
 use Rattle.zk_bench.proofs.Processed.{has_front, ready_sending, owed_to, owed_unsent}
@@ -19,14 +19,8 @@ use Rattle.zk_bench.proofs.bench.Bench.process_later.Goals as goal
 
 pub returns-in-Ok-clause-serves : goal.returns-in-Ok-clause-serves
 returns-in-Ok-clause-serves g c = λ asked xid has later read fit.
-    let b : Served = record {
-      history = c.self.inside.history;
-      taken = c.self.inside.taken;
-      server = c.self.inside.server;
-      connection = linked_of c.self.inside.connection;
-      expired = c.self.inside.expired;
-      time = c.self.inside.time;
-    } in
+    let i = c.self.inside in
+    let b : Served = bench_of i.history i.taken i.server i.connection i.expired i.time in
     let rest = c.remove_front.new.bytes.items in
     let payload = first c.args.length (drop 4 c.args.self.now.connection.requests) in
     let mid : Served = record b { connection = record b.connection { requests = rest } } in
@@ -42,14 +36,8 @@ returns-in-Ok-clause-serves g c = λ asked xid has later read fit.
 
 pub returns-in-Err-Stop-clause-ends : goal.returns-in-Err-Stop-clause-ends
 returns-in-Err-Stop-clause-ends g c = λ asked xid has later read fit over.
-    let b : Served = record {
-      history = c.self.inside.history;
-      taken = c.self.inside.taken;
-      server = c.self.inside.server;
-      connection = linked_of c.self.inside.connection;
-      expired = c.self.inside.expired;
-      time = c.self.inside.time;
-    } in
+    let i = c.self.inside in
+    let b : Served = bench_of i.history i.taken i.server i.connection i.expired i.time in
     let rest = c.remove_front.new.bytes.items in
     let payload = first c.args.length (drop 4 c.args.self.now.connection.requests) in
     let mid : Served = record b { connection = record b.connection { requests = rest } } in
@@ -68,14 +56,8 @@ returns-in-Err-Stop-clause-ends g c = λ asked xid has later read fit over.
 
 pub returns-in-Err-Code-clause-serves : goal.returns-in-Err-Code-clause-serves
 returns-in-Err-Code-clause-serves g c = λ asked xid has later read fit.
-    let b : Served = record {
-      history = c.self.inside.history;
-      taken = c.self.inside.taken;
-      server = c.self.inside.server;
-      connection = linked_of c.self.inside.connection;
-      expired = c.self.inside.expired;
-      time = c.self.inside.time;
-    } in
+    let i = c.self.inside in
+    let b : Served = bench_of i.history i.taken i.server i.connection i.expired i.time in
     let rest = c.remove_front.new.bytes.items in
     let payload = first c.args.length (drop 4 c.args.self.now.connection.requests) in
     let mid : Served = record b { connection = record b.connection { requests = rest } } in
@@ -98,14 +80,8 @@ returns-in-Err-Code-clause-serves g c = λ asked xid has later read fit.
 
 pub returns-in-Err-Code-clause-ends : goal.returns-in-Err-Code-clause-ends
 returns-in-Err-Code-clause-ends g c = λ asked xid has later read fit over.
-    let b : Served = record {
-      history = c.self.inside.history;
-      taken = c.self.inside.taken;
-      server = c.self.inside.server;
-      connection = linked_of c.self.inside.connection;
-      expired = c.self.inside.expired;
-      time = c.self.inside.time;
-    } in
+    let i = c.self.inside in
+    let b : Served = bench_of i.history i.taken i.server i.connection i.expired i.time in
     let rest = c.remove_front.new.bytes.items in
     let payload = first c.args.length (drop 4 c.args.self.now.connection.requests) in
     let mid : Served = record b { connection = record b.connection { requests = rest } } in
@@ -123,12 +99,6 @@ returns-in-Err-Code-clause-ends g c = λ asked xid has later read fit over.
 
 pub returns-in-Err-Code-clause-ready : goal.returns-in-Err-Code-clause-ready
 returns-in-Err-Code-clause-ready g c = λ has.
-    let b : Served = record {
-      history = c.self.inside.history;
-      taken = c.self.inside.taken;
-      server = c.self.inside.server;
-      connection = linked_of c.self.inside.connection;
-      expired = c.self.inside.expired;
-      time = c.self.inside.time;
-    } in
+    let i = c.self.inside in
+    let b : Served = bench_of i.history i.taken i.server i.connection i.expired i.time in
     ready_sending c.answer.new.self c.send_err.new.self (c.answer.ensures.ready (has_front b c.remove_front.new.bytes.items (subst HasClient (sym c.self.view_is) has))) c.send_err.ensures.only

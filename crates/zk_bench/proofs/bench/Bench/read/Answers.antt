@@ -10,6 +10,7 @@ use Rattle.zk_bench.specs.Served.{Served}
 use Rattle.zk_bench.specs.Answering.{AnswersRead, RefusesRead}
 use Rattle.zk_bench.specs.Restoring.{RestoresPart}
 use Rattle.zk_bench.specs.Stepping.{HasClient, ProcessesOne, Declines, shown_of}
+use Rattle.zk_bench.proofs.Fields.{bench_of}
 use Rattle.zk_bench.proofs.Stepped.{ok_so, reads_so}
 use Rattle.zk_bench.proofs.Called.{looks}
 use Rattle.zk_bench.proofs.Processed.{restores_so, declines_read, declines_part}
@@ -17,14 +18,8 @@ use Rattle.zk_bench.proofs.bench.Bench.read.Goals as goal
 
 pub returns-clause-answers : goal.returns-clause-answers
 returns-clause-answers g c = λ asked has look asks.
-    let b : Served = record {
-      history = c.self.inside.history;
-      taken = c.self.inside.taken;
-      server = c.self.inside.server;
-      connection = linked_of c.self.inside.connection;
-      expired = c.self.inside.expired;
-      time = c.self.inside.time;
-    } in
+    let i = c.self.inside in
+    let b : Served = bench_of i.history i.taken i.server i.connection i.expired i.time in
     let h = history_of b.history in
     let held = zxid_held h (slice_index b.taken b.server) in
     let old = c.self.inside.connection in
@@ -49,14 +44,8 @@ returns-clause-answers g c = λ asked has look asks.
 
 pub returns-clause-declines : goal.returns-clause-declines
 returns-clause-declines g c = λ asked has look asks.
-    let b : Served = record {
-      history = c.self.inside.history;
-      taken = c.self.inside.taken;
-      server = c.self.inside.server;
-      connection = linked_of c.self.inside.connection;
-      expired = c.self.inside.expired;
-      time = c.self.inside.time;
-    } in
+    let i = c.self.inside in
+    let b : Served = bench_of i.history i.taken i.server i.connection i.expired i.time in
     let h = history_of b.history in
     let held = zxid_held h (slice_index b.taken b.server) in
     let old = c.self.inside.connection in

@@ -7,24 +7,18 @@ use Rattle.zk_history.specs.StatLayout.{stat}
 use Rattle.zk_history.specs.declared.stat.Stat.{Stat}
 use Rattle.zk_jute.specs.Layout.{Value}
 use Rattle.zk_laws.specs.Server.{tree_held}
-use Rattle.zk_bench.specs.Linked.{linked_of}
 use Rattle.zk_bench.specs.Served.{Served}
 use Rattle.zk_bench.specs.Serving.{Sends}
 use Rattle.zk_bench.specs.Stepping.{zxid_of}
+use Rattle.zk_bench.proofs.Fields.{bench_of}
 use Rattle.zk_bench.proofs.Answered.{numbers_of}
 use Rattle.zk_bench.proofs.bench.Bench.send_stat.Goals as goal
 
 pub returns-clause-sends : goal.returns-clause-sends
 returns-clause-sends g c = λ ready all is.
     let old = c.args.self.now in
-    let b : Served = record {
-      history = c.self.inside.history;
-      taken = c.self.inside.taken;
-      server = c.self.inside.server;
-      connection = linked_of c.self.inside.connection;
-      expired = c.self.inside.expired;
-      time = c.self.inside.time;
-    } in
+    let i = c.self.inside in
+    let b : Served = bench_of i.history i.taken i.server i.connection i.expired i.time in
     let path = path_of c.args.text.now in
     let told = c.in-Some.stat in
     let value : Value stat = numbers_of told in

@@ -1,13 +1,13 @@
 use Rattle.std.proofs.Common.{◌≡◌, refl, sym, ap, ◌∙◌, subst}
 use Rattle.std.specs.Prelude.{IfErr}
 use Rattle.zk_history.specs.Made.{change_of}
-use Rattle.zk_bench.specs.Linked.{linked_of}
 use Rattle.zk_records.specs.declared.code.Code.TheVariants as codes
 use Rattle.zk_bench.specs.declared.stop.Refusal.{Refusal}
 use Rattle.zk_bench.specs.declared.stop.Refusal.TheVariants as refusals
 use Rattle.zk_bench.specs.Refusals.{IsCode}
 use Rattle.zk_bench.specs.Served.{Served, ended}
 use Rattle.zk_bench.specs.Stepping.{HasClient, TakesSome, LeavesUnmade, shown_of}
+use Rattle.zk_bench.proofs.Fields.{bench_of}
 use Rattle.zk_bench.proofs.Answered.{errs_so}
 use Rattle.zk_bench.proofs.Stepped.{continues_so}
 use Rattle.zk_bench.proofs.Processed.{has_later, takes_none, takes_then, leaves_append, wrote_so}
@@ -15,14 +15,8 @@ use Rattle.zk_bench.proofs.bench.Bench.write.Goals as goal
 
 pub returns-in_err-append_write-clause-refuses : goal.returns-in_err-append_write-clause-refuses
 returns-in_err-append_write-clause-refuses g c = λ has.
-    let b : Served = record {
-      history = c.self.inside.history;
-      taken = c.self.inside.taken;
-      server = c.self.inside.server;
-      connection = linked_of c.self.inside.connection;
-      expired = c.self.inside.expired;
-      time = c.self.inside.time;
-    } in
+    let i = c.self.inside in
+    let b : Served = bench_of i.history i.taken i.server i.connection i.expired i.time in
     let kept = c.append_write.new.history in
     let mine : HasClient b = subst HasClient (sym c.self.view_is) has in
     let goes = continues_so b.history kept c.append_write.ensures.goes_on in
@@ -31,27 +25,15 @@ returns-in_err-append_write-clause-refuses g c = λ has.
 
 pub returns-in_err-append_write-clause-has : goal.returns-in_err-append_write-clause-has
 returns-in_err-append_write-clause-has g c = λ has.
-    let b : Served = record {
-      history = c.self.inside.history;
-      taken = c.self.inside.taken;
-      server = c.self.inside.server;
-      connection = linked_of c.self.inside.connection;
-      expired = c.self.inside.expired;
-      time = c.self.inside.time;
-    } in
+    let i = c.self.inside in
+    let b : Served = bench_of i.history i.taken i.server i.connection i.expired i.time in
     let kept = c.append_write.new.history in
     has_later b kept (continues_so b.history kept c.append_write.ensures.goes_on) (subst HasClient (sym c.self.view_is) has)
 
 pub returns-in_err-catch_up-clause-refuses : goal.returns-in_err-catch_up-clause-refuses
 returns-in_err-catch_up-clause-refuses g c = λ has.
-    let b : Served = record {
-      history = c.self.inside.history;
-      taken = c.self.inside.taken;
-      server = c.self.inside.server;
-      connection = linked_of c.self.inside.connection;
-      expired = c.self.inside.expired;
-      time = c.self.inside.time;
-    } in
+    let i = c.self.inside in
+    let b : Served = bench_of i.history i.taken i.server i.connection i.expired i.time in
     let kept = c.append_write.new.history in
     let mid : Served = record b { history = kept } in
     let new = c.catch_up.new.self in
@@ -64,27 +46,15 @@ returns-in_err-catch_up-clause-refuses g c = λ has.
 
 pub returns-in_err-catch_up-clause-has : goal.returns-in_err-catch_up-clause-has
 returns-in_err-catch_up-clause-has g c = λ has.
-    let b : Served = record {
-      history = c.self.inside.history;
-      taken = c.self.inside.taken;
-      server = c.self.inside.server;
-      connection = linked_of c.self.inside.connection;
-      expired = c.self.inside.expired;
-      time = c.self.inside.time;
-    } in
+    let i = c.self.inside in
+    let b : Served = bench_of i.history i.taken i.server i.connection i.expired i.time in
     let kept = c.append_write.new.history in
     c.catch_up.ensures.has (has_later b kept (continues_so b.history kept c.append_write.ensures.goes_on) (subst HasClient (sym c.self.view_is) has))
 
 pub returns-clause-takes : goal.returns-clause-takes
 returns-clause-takes g c = λ has.
-    let b : Served = record {
-      history = c.self.inside.history;
-      taken = c.self.inside.taken;
-      server = c.self.inside.server;
-      connection = linked_of c.self.inside.connection;
-      expired = c.self.inside.expired;
-      time = c.self.inside.time;
-    } in
+    let i = c.self.inside in
+    let b : Served = bench_of i.history i.taken i.server i.connection i.expired i.time in
     let kept = c.append_write.new.history in
     let mid : Served = record b { history = kept } in
     let new = c.catch_up.new.self in
@@ -95,14 +65,8 @@ returns-clause-takes g c = λ has.
 
 pub returns-clause-wrote : goal.returns-clause-wrote
 returns-clause-wrote g c = λ has.
-    let b : Served = record {
-      history = c.self.inside.history;
-      taken = c.self.inside.taken;
-      server = c.self.inside.server;
-      connection = linked_of c.self.inside.connection;
-      expired = c.self.inside.expired;
-      time = c.self.inside.time;
-    } in
+    let i = c.self.inside in
+    let b : Served = bench_of i.history i.taken i.server i.connection i.expired i.time in
     let kept = c.append_write.new.history in
     let new = c.catch_up.new.self in
     let more = has_later b kept (continues_so b.history kept c.append_write.ensures.goes_on) (subst HasClient (sym c.self.view_is) has) in
@@ -110,26 +74,14 @@ returns-clause-wrote g c = λ has.
 
 pub returns-clause-all : goal.returns-clause-all
 returns-clause-all g c = λ has.
-    let b : Served = record {
-      history = c.self.inside.history;
-      taken = c.self.inside.taken;
-      server = c.self.inside.server;
-      connection = linked_of c.self.inside.connection;
-      expired = c.self.inside.expired;
-      time = c.self.inside.time;
-    } in
+    let i = c.self.inside in
+    let b : Served = bench_of i.history i.taken i.server i.connection i.expired i.time in
     let kept = c.append_write.new.history in
     c.in_ok-catch_up.ensures.all (has_later b kept (continues_so b.history kept c.append_write.ensures.goes_on) (subst HasClient (sym c.self.view_is) has))
 
 pub returns-clause-has : goal.returns-clause-has
 returns-clause-has g c = λ has.
-    let b : Served = record {
-      history = c.self.inside.history;
-      taken = c.self.inside.taken;
-      server = c.self.inside.server;
-      connection = linked_of c.self.inside.connection;
-      expired = c.self.inside.expired;
-      time = c.self.inside.time;
-    } in
+    let i = c.self.inside in
+    let b : Served = bench_of i.history i.taken i.server i.connection i.expired i.time in
     let kept = c.append_write.new.history in
     c.catch_up.ensures.has (has_later b kept (continues_so b.history kept c.append_write.ensures.goes_on) (subst HasClient (sym c.self.view_is) has))
