@@ -4,7 +4,7 @@ ghost use Rattle.std.specs.Prelude.{List, ℕ, OnOk};
 ghost use Rattle.std.specs.Io.KnownBytes.{Appends};
 ghost use Rattle.zk_replay.specs.declared.replay.End.{End};
 ghost use Rattle.zk_script.specs.Scripts.{lines_of};
-ghost use Rattle.zk_live.specs.Lives.{IsOutcome};
+ghost use Rattle.zk_live.specs.Lives.{IsTranscript};
 
 use std::alloc::Global;
 use std::io::{self, Write};
@@ -21,9 +21,9 @@ pub fn play<D: Dial, O: Write>(
     script: &[u8],
     out: &mut O,
 ) -> io::Result<()>
-    // What is written is the outcome of the script's lines.
-    ensures { OnOk result ((text : List ℕ) × (end : End) × IsOutcome (lines_of script.now) text end × Appends (O.contents out.old) (O.contents out.new) text) }
+    // What is written is the transcript of the script's lines.
+    ensures { OnOk result ((text : List ℕ) × (end : End) × IsTranscript (lines_of script.now) text end × Appends (O.contents out.old) (O.contents out.new) text) }
 {
-    let outcome = live(alloc, server, &[ADDRESS], script);
-    out.write_all(outcome.text.as_bytes())
+    let transcript = live(alloc, server, &[ADDRESS], script);
+    out.write_all(transcript.text.as_bytes())
 }

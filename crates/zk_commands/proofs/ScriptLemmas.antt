@@ -12,7 +12,7 @@ use Rattle.zk_script.specs.Scripts.{Progress, Answers, AnswersFirst, Goes, Stops
 use Rattle.zk_script.specs.Stories.{Standing, RefusesLine}
 use Rattle.zk_script.specs.declared.script_fault.ScriptFault.{ScriptFault}
 use Rattle.zk_script.specs.declared.script_fault.ScriptFault.TheVariants as why
-use Rattle.zk_commands.specs.History.{IsInput, IsOutcome, end_at}
+use Rattle.zk_commands.specs.History.{IsInput, IsTranscript, end_at}
 
 -- the bytes of lent lines
 abbrev texts : List (Bor Text) → List Text
@@ -44,7 +44,7 @@ parted lines at none within =
 pub stopped : (lines : List (Bor Text)) (at : ℕ) (none : Bor Text) (end : Standing) (text : List ℕ) (fault : ScriptFault) → at < length lines
     → FoldsTo Goes beginning (map (λ p. p.now) (take at lines)) (progress end text)
     → (fault ≢ why.Memory → RefusesLine (get_or lines at none).now end fault)
-    → IsOutcome (map (λ p. p.now) lines) text (end_at (at + 1) fault)
+    → IsTranscript (map (λ p. p.now) lines) text (end_at (at + 1) fault)
 stopped lines at none end text fault within taken refused = go fault refused
   where
     first : AnswersFirst (map (λ p. p.now) lines) text
@@ -67,7 +67,7 @@ stopped lines at none end text fault within taken refused = go fault refused
       refused = refuses;
     }
 
-    go : (f : ScriptFault) → (f ≢ why.Memory → RefusesLine (get_or lines at none).now end f) → IsOutcome (map (λ p. p.now) lines) text (end_at (at + 1) f)
+    go : (f : ScriptFault) → (f ≢ why.Memory → RefusesLine (get_or lines at none).now end f) → IsTranscript (map (λ p. p.now) lines) text (end_at (at + 1) f)
     go why.Unknown h = stops why.Unknown (h (λ e. cc))
     go why.Place h = stops why.Place (h (λ e. cc))
     go why.Words h = stops why.Words (h (λ e. cc))

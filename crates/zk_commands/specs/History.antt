@@ -17,7 +17,7 @@ end_at number why.Memory = Memory
 end_at number fault = Refused number fault
 
 -- what lines answered, by how they ended
-abbrev pub IsOutcome : List Text → List ℕ → End → Type 0
-IsOutcome lines text Taken = Answers lines text
-IsOutcome lines text (Refused number why) = StopsAt lines number why text
-IsOutcome lines text Memory = AnswersFirst lines text
+abbrev pub IsTranscript : List Text → List ℕ → End → Type 0
+IsTranscript lines text Taken = Answers lines text
+IsTranscript lines text (Refused number why) = StopsAt lines number why text
+IsTranscript lines text Memory = AnswersFirst lines text

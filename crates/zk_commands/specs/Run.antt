@@ -41,7 +41,7 @@ pub data IsDone (words : List Text) (input : Option (List ℕ)) (text : List ℕ
   plays : (script : List ℕ) → AsksFor words Replay → IsInput input script → replays.Prints (lines_of script) text → IsDone words input text
   rehearses : (script : List ℕ) → AsksFor words Rehearse → IsInput input script → rehearsals.Prints (lines_of script) text → IsDone words input text
   lives : (addresses : Vec (Bor Text)) (script : List ℕ) → AsksFor words (Live addresses) → IsInput input script
-      → sessions.IsOutcome (lines_of script) text ends.Taken → IsDone words input text
+      → sessions.IsTranscript (lines_of script) text ends.Taken → IsDone words input text
   watches : (addresses : Vec (Bor Text)) (subjects : Vec (Subject Global)) (timeout_ms : ℤ) (for_ms : Option ℕ)
       → AsksFor words (Watch addresses subjects timeout_ms for_ms) → IsPrinted (aims_of subjects.items) text → IsDone words input text
   helps : (fault : LineFault) → IsDue words fault → IsHelpText fault text → IsDone words input text
@@ -58,7 +58,7 @@ pub data IsFaulty (words : List Text) (input : Option (List ℕ)) (text told : L
   interrupted : (script : List ℕ) (number : ℕ) (why : ScriptFault) → AsksFor words Rehearse → IsInput input script
       → rehearsals.StopsAt (lines_of script) number why text → told ≡ refusal_text number why → IsFaulty words input text told
   broken : (addresses : Vec (Bor Text)) (script : List ℕ) (number : ℕ) (why : ScriptFault) → AsksFor words (Live addresses)
-      → IsInput input script → sessions.IsOutcome (lines_of script) text (ends.Refused number why) → told ≡ refusal_text number why
+      → IsInput input script → sessions.IsTranscript (lines_of script) text (ends.Refused number why) → told ≡ refusal_text number why
       → IsFaulty words input text told
 
 -- the words are refused
@@ -70,11 +70,11 @@ pub data IsWhole (words : List Text) (input : Option (List ℕ)) (text : List �
   nothing : text ≡ [] → IsWhole words input text
   first : (script : List ℕ) → AsksFor words History → IsInput input script → AnswersFirst (lines_of script) text → IsWhole words input text
   begins : (script printed told : List ℕ) (end : End) → AsksFor words Replay → IsInput input script
-      → replays.IsOutcome (lines_of script) printed end → RunsOut end told → text ≡ printed ++ told → IsWhole words input text
+      → replays.IsTranscript (lines_of script) printed end → RunsOut end told → text ≡ printed ++ told → IsWhole words input text
   breaks_off : (script printed told : List ℕ) (end : End) → AsksFor words Rehearse → IsInput input script
-      → rehearsals.IsOutcome (lines_of script) printed end → RunsOut end told → text ≡ printed ++ told → IsWhole words input text
+      → rehearsals.IsTranscript (lines_of script) printed end → RunsOut end told → text ≡ printed ++ told → IsWhole words input text
   halts : (addresses : Vec (Bor Text)) (script printed told : List ℕ) (end : End) → AsksFor words (Live addresses) → IsInput input script
-      → sessions.IsOutcome (lines_of script) printed end → RunsOut end told → text ≡ printed ++ told → IsWhole words input text
+      → sessions.IsTranscript (lines_of script) printed end → RunsOut end told → text ≡ printed ++ told → IsWhole words input text
   ceases : (addresses : Vec (Bor Text)) (subjects : Vec (Subject Global)) (timeout_ms : ℤ) (for_ms : Option ℕ) (printed told : List ℕ)
       → AsksFor words (Watch addresses subjects timeout_ms for_ms) → IsPrinted (aims_of subjects.items) printed → IsHalt told
       → text ≡ printed ++ told → IsWhole words input text

@@ -5,7 +5,7 @@ ghost use Rattle.std.specs.Io.KnownBytes.{Appends};
 ghost use Rattle.zk_script.specs.Scripts.{Answers, AnswersFirst, Goes, StopsAt, lines_of, progress, refusal_text};
 ghost use Rattle.zk_script.specs.Stories.{RefusesLine, standing_of};
 ghost use Rattle.zk_script.specs.declared.script_fault.ScriptFault.{ScriptFault as Why};
-ghost use Rattle.zk_commands.specs.History.{end_at, IsInput, IsOutcome};
+ghost use Rattle.zk_commands.specs.History.{end_at, IsInput, IsTranscript};
 
 use crate::status::Status;
 use std::alloc::Allocator;
@@ -28,7 +28,7 @@ pub enum End {
 
 /// What the lines of a script answered, and how they ended.
 #[derive(Drop)]
-struct Outcome<A: Allocator> {
+struct Transcript<A: Allocator> {
     text: String<A>,
     end: End,
 }
@@ -62,28 +62,28 @@ fn end_at(number: usize, why: ScriptFault) -> End
 }
 
 /// Reads lines up to the first that is refused.
-fn read_lines<A: Allocator + Copy>(alloc: A, lines: &[&[u8]]) -> Outcome<A>
-    ensures { IsOutcome (map (λ l. l.now) lines.now) (string_bytes result.text) result.end }
+fn read_lines<A: Allocator + Copy>(alloc: A, lines: &[&[u8]]) -> Transcript<A>
+    ensures { IsTranscript (map (λ l. l.now) lines.now) (string_bytes result.text) result.end }
 {
     let mut story = Story::new(alloc);
     let mut text = String::new(alloc);
     for (index, line) in lines.iter().enumerate() {
         if let Err(why) = read_line(alloc, &mut story, line, &mut text) {
             let end = end_at(index + 1, why);
-            return Outcome { text, end };
+            return Transcript { text, end };
         }
     }
     let end = End::Taken;
-    Outcome { text, end }
+    Transcript { text, end }
 }
 
 /// Reads the lines of a script up to the first that is refused.
-fn read_script<A: Allocator + Copy>(alloc: A, script: &[u8]) -> Outcome<A>
-    ensures { IsOutcome (lines_of script.now) (string_bytes result.text) result.end }
+fn read_script<A: Allocator + Copy>(alloc: A, script: &[u8]) -> Transcript<A>
+    ensures { IsTranscript (lines_of script.now) (string_bytes result.text) result.end }
 {
     match lines_of(alloc, script) {
         Ok(lines) => read_lines(alloc, lines.as_slice()),
-        Err(_) => Outcome {
+        Err(_) => Transcript {
             text: String::new(alloc),
             end: End::Memory,
         },
@@ -128,11 +128,11 @@ pub fn history<A: Allocator + Copy, I: Read, O: Write, E: Write>(
         Err(InputFault::Unread) => return Status::Stream,
         Err(InputFault::Memory) => return Status::Memory,
     };
-    let outcome = read_script(alloc, script.as_slice());
-    if out.write_all(outcome.text.as_bytes()).is_err() {
+    let transcript = read_script(alloc, script.as_slice());
+    if out.write_all(transcript.text.as_bytes()).is_err() {
         return Status::Stream;
     }
-    match outcome.end {
+    match transcript.end {
         End::Taken => Status::Done,
         End::Refused { number, why } => tell(errors, number, why),
         End::Memory => Status::Memory,

@@ -2,14 +2,14 @@
 
 ghost use Rattle.std.specs.Prelude.{◌≡◌, ◌≢◌, ◌⊎◌, ◌++◌, List, ℕ};
 ghost use Rattle.std.specs.Io.KnownBytes.{Appends};
-ghost use Rattle.zk_live.specs.Lives.{IsOutcome};
+ghost use Rattle.zk_live.specs.Lives.{IsTranscript};
 ghost use Rattle.zk_script.specs.Scripts.{lines_of, refusal_text};
 ghost use Rattle.zk_script.specs.declared.script_fault.ScriptFault.{ScriptFault as Why};
 ghost use Rattle.zk_commands.specs.History.{IsInput};
 ghost use Rattle.zk_commands.specs.Written.{RunsOut};
 
 use crate::status::Status;
-use crate::written::{unread, write_outcome};
+use crate::written::{unread, write_transcript};
 use std::alloc::Allocator;
 use std::io::{Read, Write};
 use zk_link::Dial;
@@ -31,15 +31,15 @@ pub fn live_over<D: Dial, A: Allocator + Copy, I: Read, O: Write, E: Write>(
     errors: &mut E,
 ) -> Status
     // Each line of the input is taken, and what is written is what the first connection and they print.
-    ensures done { result ≡ Status.Done → (script text : List ℕ) × IsInput (I.remaining input.old) script × IsOutcome (lines_of script) text End.Taken
+    ensures done { result ≡ Status.Done → (script text : List ℕ) × IsInput (I.remaining input.old) script × IsTranscript (lines_of script) text End.Taken
         × Appends (O.contents out.old) (O.contents out.new) text }
     // A line is refused: its number and the reason are told, and what is written is what stands before it.
     ensures fault { result ≡ Status.Fault → (script text : List ℕ) × (number : ℕ) × (why : Why) × IsInput (I.remaining input.old) script
-        × IsOutcome (lines_of script) text (End.Refused number why) × Appends (O.contents out.old) (O.contents out.new) text
+        × IsTranscript (lines_of script) text (End.Refused number why) × Appends (O.contents out.old) (O.contents out.new) text
         × Appends (E.contents errors.old) (E.contents errors.new) (refusal_text number why) }
     // What is written is what the first lines print: of no line a part. The line of a halt stands behind it where a step halted.
     ensures memory { result ≡ Status.Memory → (script text told : List ℕ) × (end : End) × IsInput (I.remaining input.old) script
-        × IsOutcome (lines_of script) text end × RunsOut end told × Appends (O.contents out.old) (O.contents out.new) (text ++ told) }
+        × IsTranscript (lines_of script) text end × RunsOut end told × Appends (O.contents out.old) (O.contents out.new) (text ++ told) }
     ensures silent { (result ≡ Status.Done) ⊎ (result ≡ Status.Memory) → errors.new ≡ errors.old }
     ensures usage { result ≢ Status.Usage }
 {
@@ -47,6 +47,6 @@ pub fn live_over<D: Dial, A: Allocator + Copy, I: Read, O: Write, E: Write>(
         Ok(script) => script,
         Err(fault) => return unread(fault),
     };
-    let outcome = live(alloc, dial, addresses, script.as_slice());
-    write_outcome(out, errors, &outcome)
+    let transcript = live(alloc, dial, addresses, script.as_slice());
+    write_transcript(out, errors, &transcript)
 }

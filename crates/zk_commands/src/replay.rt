@@ -2,14 +2,14 @@
 
 ghost use Rattle.std.specs.Prelude.{◌≡◌, ◌≢◌, ◌⊎◌, ◌++◌, List, ℕ};
 ghost use Rattle.std.specs.Io.KnownBytes.{Appends};
-ghost use Rattle.zk_replay.specs.Replays.{IsOutcome, Prints, StopsAt};
+ghost use Rattle.zk_replay.specs.Replays.{IsTranscript, Prints, StopsAt};
 ghost use Rattle.zk_script.specs.Scripts.{lines_of, refusal_text};
 ghost use Rattle.zk_script.specs.declared.script_fault.ScriptFault.{ScriptFault as Why};
 ghost use Rattle.zk_commands.specs.History.{IsInput};
 ghost use Rattle.zk_commands.specs.Written.{RunsOut};
 
 use crate::status::Status;
-use crate::written::{unread, write_outcome};
+use crate::written::{unread, write_transcript};
 use std::alloc::Allocator;
 use std::io::{Read, Write};
 use zk_replay::replay::{End, replayed_script};
@@ -34,7 +34,7 @@ pub fn replay<A: Allocator + Copy, I: Read, O: Write, E: Write>(
         × Appends (E.contents errors.old) (E.contents errors.new) (refusal_text number why) }
     // What is written is what the first lines print: of no line a part. The line of a halt stands behind it where a step halted.
     ensures memory { result ≡ Status.Memory → (script text told : List ℕ) × (end : End) × IsInput (I.remaining input.old) script
-        × IsOutcome (lines_of script) text end × RunsOut end told × Appends (O.contents out.old) (O.contents out.new) (text ++ told) }
+        × IsTranscript (lines_of script) text end × RunsOut end told × Appends (O.contents out.old) (O.contents out.new) (text ++ told) }
     ensures silent { (result ≡ Status.Done) ⊎ (result ≡ Status.Memory) → errors.new ≡ errors.old }
     ensures usage { result ≢ Status.Usage }
 {
@@ -42,6 +42,6 @@ pub fn replay<A: Allocator + Copy, I: Read, O: Write, E: Write>(
         Ok(script) => script,
         Err(fault) => return unread(fault),
     };
-    let outcome = replayed_script(alloc, script.as_slice());
-    write_outcome(out, errors, &outcome)
+    let transcript = replayed_script(alloc, script.as_slice());
+    write_transcript(out, errors, &transcript)
 }

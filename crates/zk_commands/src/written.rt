@@ -10,7 +10,7 @@ use crate::history::tell;
 use crate::status::Status;
 use std::alloc::Allocator;
 use std::io::Write;
-use zk_replay::replay::{End, Outcome};
+use zk_replay::replay::{End, Transcript};
 use zk_script::input::InputFault;
 
 /// How a command ends whose script was not read.
@@ -37,24 +37,24 @@ pub(crate) fn halt<O: Write>(out: &mut O) -> Status
 
 /// Writes what lines print, and tells how they ended: to `errors` the number of a line that is refused, and why. `Memory` where
 /// memory ran out, with the line `halt` behind the others where that was in a step of the client; `Stream` where a write failed.
-pub(crate) fn write_outcome<A: Allocator, O: Write, E: Write>(
+pub(crate) fn write_transcript<A: Allocator, O: Write, E: Write>(
     out: &mut O,
     errors: &mut E,
-    outcome: &Outcome<A>,
+    transcript: &Transcript<A>,
 ) -> Status
-    ensures done { result ≡ Status.Done → (outcome.now.end ≡ End.Taken) × Appends (O.contents out.old) (O.contents out.new) (string_bytes outcome.now.text) }
-    ensures fault { result ≡ Status.Fault → (number : ℕ) × (why : Why) × (outcome.now.end ≡ End.Refused number why)
-        × Appends (O.contents out.old) (O.contents out.new) (string_bytes outcome.now.text)
+    ensures done { result ≡ Status.Done → (transcript.now.end ≡ End.Taken) × Appends (O.contents out.old) (O.contents out.new) (string_bytes transcript.now.text) }
+    ensures fault { result ≡ Status.Fault → (number : ℕ) × (why : Why) × (transcript.now.end ≡ End.Refused number why)
+        × Appends (O.contents out.old) (O.contents out.new) (string_bytes transcript.now.text)
         × Appends (E.contents errors.old) (E.contents errors.new) (refusal_text number why) }
-    ensures memory { result ≡ Status.Memory → (told : List ℕ) × RunsOut outcome.now.end told
-        × Appends (O.contents out.old) (O.contents out.new) (string_bytes outcome.now.text ++ told) }
+    ensures memory { result ≡ Status.Memory → (told : List ℕ) × RunsOut transcript.now.end told
+        × Appends (O.contents out.old) (O.contents out.new) (string_bytes transcript.now.text ++ told) }
     ensures silent { (result ≡ Status.Done) ⊎ (result ≡ Status.Memory) → errors.new ≡ errors.old }
     ensures usage { result ≢ Status.Usage }
 {
-    if out.write_all(outcome.text.as_bytes()).is_err() {
+    if out.write_all(transcript.text.as_bytes()).is_err() {
         return Status::Stream;
     }
-    match outcome.end {
+    match transcript.end {
         End::Taken => Status::Done,
         End::Refused { number, why } => tell(errors, number, why),
         End::Halted => halt(out),

@@ -17,7 +17,7 @@ use Rattle.zk_live.specs.Heard.{tape, Connects, Tape}
 use Rattle.zk_replay.specs.Played.{start_of, IfHalted, IsDue, IsWant}
 use Rattle.zk_live.specs.Begins.{begun_by, end_at, Begins}
 use Rattle.zk_live.specs.LiveLines.{LiveValue, OpensLine, says_at}
-use Rattle.zk_live.specs.Lives.{DoesLive, EndsFrom, Goes, HaltsFirst, HaltsLine, HaltsLive, IsOutcome, IsUnread, Prints, PrintsFirst, Progress, TakesLine, progress}
+use Rattle.zk_live.specs.Lives.{DoesLive, EndsFrom, Goes, HaltsFirst, HaltsLine, HaltsLive, IsTranscript, IsUnread, Prints, PrintsFirst, Progress, TakesLine, progress}
 
 or_false : (b : Bool) → b ≡ (b || false)
 or_false true = refl
@@ -104,11 +104,11 @@ stopped here lines at none view after begun text stop within taken due halted = 
 -- a client that was connected
 pub lived : (lines : List Text) (start : BeginValue) (view : View) (told text : List ℕ) (end : End) → begun_by lines ≡ Begins start
     → Connects (tape (view_at (start_of start) []) []) (tape view told) → EndsFrom (progress view false told) lines text end
-    → IsOutcome lines text end
+    → IsTranscript lines text end
 lived lines start view told text end begins connects goes_on = inl (record { start = start; begins = begins; view = view; told = told; connects = connects; goes_on = goes_on })
 
 -- no client, and no text
-pub unlived : (lines : List Text) (text : List ℕ) (end : End) → text ≡ [] → IsUnread lines end → IsOutcome lines text end
+pub unlived : (lines : List Text) (text : List ℕ) (end : End) → text ≡ [] → IsUnread lines end → IsTranscript lines text end
 unlived lines text end none why = inr (none, why)
 
 -- a halt of a client that was made

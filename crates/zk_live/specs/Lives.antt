@@ -126,5 +126,5 @@ IsUnread lines Halted = HaltsFirst lines
 IsUnread lines end = Nothing lines end
 
 -- what lines printed, by how they ended
-abbrev pub IsOutcome : List Text → List ℕ → End → Type 0
-IsOutcome lines text end = Lives lines text end ⊎ ((text ≡ []) × IsUnread lines end)
+abbrev pub IsTranscript : List Text → List ℕ → End → Type 0
+IsTranscript lines text end = Lives lines text end ⊎ ((text ≡ []) × IsUnread lines end)

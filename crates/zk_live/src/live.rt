@@ -11,7 +11,7 @@ ghost use Rattle.zk_replay.specs.Played.{start_of, IfHalted, IsDue, IsWant};
 ghost use Rattle.zk_live.specs.Begins.{begun_by, Begins};
 ghost use Rattle.zk_live.specs.Lines.{live_value_of};
 ghost use Rattle.zk_live.specs.LiveLines.{DrivesLine, says_at};
-ghost use Rattle.zk_live.specs.Lives.{progress, DoesLive, EndsFrom, Goes, HaltsLine, HaltsLive, IsOutcome, TakesLine};
+ghost use Rattle.zk_live.specs.Lives.{progress, DoesLive, EndsFrom, Goes, HaltsLine, HaltsLive, IsTranscript, TakesLine};
 
 use crate::begun::{begin_of, end_at};
 use crate::link::Link;
@@ -21,8 +21,8 @@ use zk_client::Input;
 use zk_link::{Dial, Ring, Stream};
 use zk_replay::begin_line::BeginLine;
 use zk_replay::client_line::ClientLine;
-use zk_replay::driven::{begun, driven};
-use zk_replay::replay::{End, Outcome};
+use zk_replay::driven::{driven, make_client};
+use zk_replay::replay::{End, Transcript};
 use zk_replay::stop::Stop;
 use zk_script::pieces::lines_of;
 
@@ -123,18 +123,18 @@ fn read_lines<A: Allocator + Copy, D: Dial>(
     session: &mut Session<'_, A, D::Stream>,
     lines: &[&[u8]],
     told: String<A>,
-) -> Outcome<A>
+) -> Transcript<A>
     ensures { EndsFrom (progress (view_of session.old.link.joint.client) session.old.is_begun (string_bytes told)) (map (λ l. l.now) lines.now) (string_bytes result.text) result.end }
 {
     let mut text = told;
     for (index, line) in lines.iter().enumerate() {
         if let Err(stop) = session.read_line(alloc, dial, line, &mut text) {
             let end = end_at(index + 1, stop);
-            return Outcome { text, end };
+            return Transcript { text, end };
         }
     }
     let end = End::Taken;
-    Outcome { text, end }
+    Transcript { text, end }
 }
 
 /// The client that a line asks for, with no connection yet.
@@ -147,7 +147,7 @@ fn made<'a, A: Allocator + Copy, S: Stream>(
     ensures view { IfOk result (λ session. view_of session.link.joint.client ≡ view_at (start_of (begin_value_of begin)) []) }
     ensures begun { IfOk result (λ session. session.is_begun ≡ false) }
 {
-    let client = begun(alloc, begin)?;
+    let client = make_client(alloc, begin)?;
     Ok(Session {
         link: Link::new(alloc, client),
         ring: Ring::new(addresses),
@@ -156,12 +156,12 @@ fn made<'a, A: Allocator + Copy, S: Stream>(
 }
 
 /// Nothing is printed, and lines end so.
-fn nothing<A: Allocator + Copy>(alloc: A, end: End) -> Outcome<A>
+fn nothing<A: Allocator + Copy>(alloc: A, end: End) -> Transcript<A>
     ensures text { string_bytes result.text ≡ [] }
     ensures end { result.end ≡ end }
 {
     let text = String::new(alloc);
-    Outcome { text, end }
+    Transcript { text, end }
 }
 
 /// Connects a client, and reads lines.
@@ -170,10 +170,10 @@ fn connected<A: Allocator + Copy, D: Dial>(
     dial: &mut D,
     session: &mut Session<'_, A, D::Stream>,
     lines: &[&[u8]],
-) -> Outcome<A>
+) -> Transcript<A>
     requires { session.old.is_begun ≡ false }
     ensures { (begin : BeginValue) → begun_by (map (λ l. l.now) lines.now) ≡ Begins begin → view_of session.old.link.joint.client ≡ view_at (start_of begin) []
-        → IsOutcome (map (λ l. l.now) lines.now) (string_bytes result.text) result.end }
+        → IsTranscript (map (λ l. l.now) lines.now) (string_bytes result.text) result.end }
 {
     match session.act(alloc, dial, LiveLine::Open) {
         Ok(text) => read_lines(alloc, dial, session, lines, text),
@@ -188,16 +188,16 @@ fn live_from<A: Allocator + Copy, D: Dial>(
     addresses: &[&str],
     lines: &[&[u8]],
     begin: BeginLine<A>,
-) -> Outcome<A>
+) -> Transcript<A>
     requires can { CanBegin (begin_value_of begin) }
     requires first { begun_by (map (λ l. l.now) lines.now) ≡ Begins (begin_value_of begin) }
-    ensures { IsOutcome (map (λ l. l.now) lines.now) (string_bytes result.text) result.end }
+    ensures { IsTranscript (map (λ l. l.now) lines.now) (string_bytes result.text) result.end }
 {
     match made(alloc, addresses, begin) {
         Ok(mut session) => {
-            let outcome = connected(alloc, dial, &mut session, lines);
+            let transcript = connected(alloc, dial, &mut session, lines);
             drop(session);
-            outcome
+            transcript
         }
         Err(_) => nothing(alloc, End::Memory),
     }
@@ -209,8 +209,8 @@ fn live_lines<A: Allocator + Copy, D: Dial>(
     dial: &mut D,
     addresses: &[&str],
     lines: &[&[u8]],
-) -> Outcome<A>
-    ensures { IsOutcome (map (λ l. l.now) lines.now) (string_bytes result.text) result.end }
+) -> Transcript<A>
+    ensures { IsTranscript (map (λ l. l.now) lines.now) (string_bytes result.text) result.end }
 {
     match begin_of(alloc, lines) {
         Ok(begin) => live_from(alloc, dial, addresses, lines, begin),
@@ -223,14 +223,14 @@ fn live_lines<A: Allocator + Copy, D: Dial>(
 /// The client asks for 30,000 milliseconds, or takes up the session that the first line says. It is connected before the lines
 /// are read. After a call, bytes are read until its answer has come or the connection has ended. An address is dialled, and a read
 /// waits, for the session's timeout at most. A read or a write that fails, a read for which nothing comes in that time, and an end of
-/// the bytes is a cut, and so is a wait of more than 1,000,000 pieces. Text comes with the outcome.
+/// the bytes is a cut, and so is a wait of more than 1,000,000 pieces. Text comes with the transcript.
 pub fn live<A: Allocator + Copy, D: Dial>(
     alloc: A,
     dial: &mut D,
     addresses: &[&str],
     script: &[u8],
-) -> Outcome<A>
-    ensures { IsOutcome (lines_of script.now) (string_bytes result.text) result.end }
+) -> Transcript<A>
+    ensures { IsTranscript (lines_of script.now) (string_bytes result.text) result.end }
 {
     match lines_of(alloc, script) {
         Ok(lines) => live_lines(alloc, dial, addresses, lines.as_slice()),

@@ -12,7 +12,7 @@ use Rattle.zk_replay.specs.declared.stop.Stop.TheVariants as stops
 use Rattle.zk_replay.specs.Replays.{end_at}
 use Rattle.zk_replay.specs.Played.{IfHalted}
 use Rattle.zk_rehearse.specs.Rehearsed.{Standing, HaltsLine, IsDue, RefusesLine}
-use Rattle.zk_rehearse.specs.Scripts.{Progress, Prints, PrintsFirst, Goes, HaltsIn, StopsAt, IsOutcome, beginning, progress}
+use Rattle.zk_rehearse.specs.Scripts.{Progress, Prints, PrintsFirst, Goes, HaltsIn, StopsAt, IsTranscript, beginning, progress}
 
 -- one line further
 pub further : (lines : List (Bor Text)) (at : ℕ) (none : Bor Text) (old new : Progress) → at < length lines
@@ -41,7 +41,7 @@ pub stopped : (lines : List (Bor Text)) (at : ℕ) (none : Bor Text) (end after 
     → FoldsTo Goes beginning (map (λ p. p.now) (take at lines)) (progress end text)
     → IsDue (get_or lines at none).now end stop
     → IfHalted (HaltsLine (get_or lines at none).now end after) stop
-    → IsOutcome (map (λ p. p.now) lines) text (end_at (at + 1) stop)
+    → IsTranscript (map (λ p. p.now) lines) text (end_at (at + 1) stop)
 stopped lines at none end after text stop within taken due halted = go stop due halted
   where
     first : PrintsFirst (map (λ p. p.now) lines) text
@@ -76,7 +76,7 @@ stopped lines at none end after text stop within taken due halted = go stop due 
       halts = halts;
     }
 
-    go : (s : Stop) → IsDue (get_or lines at none).now end s → IfHalted (HaltsLine (get_or lines at none).now end after) s → IsOutcome (map (λ p. p.now) lines) text (end_at (at + 1) s)
+    go : (s : Stop) → IsDue (get_or lines at none).now end s → IfHalted (HaltsLine (get_or lines at none).now end after) s → IsTranscript (map (λ p. p.now) lines) text (end_at (at + 1) s)
     go (stops.Refused why) due none = stops_at why due
     go stops.Halted due halts = halts_in halts
     go stops.Memory due none = first

@@ -60,8 +60,8 @@ pub record PrintsFirst (lines : List Text) (text : List ℕ) : Type 0 where
   pub prints : Prints before text
 
 -- what lines printed, by how they ended
-abbrev pub IsOutcome : List Text → List ℕ → End → Type 0
-IsOutcome lines text Taken = Prints lines text
-IsOutcome lines text (Refused number why) = StopsAt lines number why text
-IsOutcome lines text Halted = HaltsIn lines text
-IsOutcome lines text Memory = PrintsFirst lines text
+abbrev pub IsTranscript : List Text → List ℕ → End → Type 0
+IsTranscript lines text Taken = Prints lines text
+IsTranscript lines text (Refused number why) = StopsAt lines number why text
+IsTranscript lines text Halted = HaltsIn lines text
+IsTranscript lines text Memory = PrintsFirst lines text

@@ -6,11 +6,11 @@ ghost use Rattle.zk_script.specs.Stories.{first_standing};
 ghost use Rattle.zk_replay.specs.Played.{IfHalted};
 ghost use Rattle.zk_replay.specs.Replays.{end_at};
 ghost use Rattle.zk_rehearse.specs.Rehearsed.{standing_of, Told, HaltsLine, IsDue, IsServedAt};
-ghost use Rattle.zk_rehearse.specs.Scripts.{progress, Goes, IsOutcome};
+ghost use Rattle.zk_rehearse.specs.Scripts.{progress, Goes, IsTranscript};
 
 use crate::rehearsal::Rehearsal;
 use std::alloc::Allocator;
-use zk_replay::replay::{End, Outcome};
+use zk_replay::replay::{End, Transcript};
 use zk_replay::stop::Stop;
 use zk_script::pieces::lines_of;
 
@@ -56,7 +56,7 @@ fn read_onto<A: Allocator + Copy>(
 ) -> End
     requires standing { standing_of rehearsal.now ≡ Told first_standing }
     requires nothing { string_bytes text.now ≡ [] }
-    ensures { IsOutcome (map (λ l. l.now) lines.now) (string_bytes text.new) result }
+    ensures { IsTranscript (map (λ l. l.now) lines.now) (string_bytes text.new) result }
 {
     for (index, line) in lines.iter().enumerate() {
         if let Err(stop) = read_line(alloc, rehearsal, line, text) {
@@ -67,23 +67,23 @@ fn read_onto<A: Allocator + Copy>(
 }
 
 /// Reads lines up to the first that is not done.
-fn read_lines<A: Allocator + Copy>(alloc: A, lines: &[&[u8]]) -> Outcome<A>
-    ensures { IsOutcome (map (λ l. l.now) lines.now) (string_bytes result.text) result.end }
+fn read_lines<A: Allocator + Copy>(alloc: A, lines: &[&[u8]]) -> Transcript<A>
+    ensures { IsTranscript (map (λ l. l.now) lines.now) (string_bytes result.text) result.end }
 {
     let mut rehearsal = Rehearsal::new(alloc);
     let mut text = String::new(alloc);
     let end = read_onto(alloc, &mut rehearsal, lines, &mut text);
     drop(rehearsal);
-    Outcome { text, end }
+    Transcript { text, end }
 }
 
 /// Rehearses a script up to the first line that is not done: what its lines print, and how they end.
-pub fn rehearsed_script<A: Allocator + Copy>(alloc: A, script: &[u8]) -> Outcome<A>
-    ensures { IsOutcome (lines_of script.now) (string_bytes result.text) result.end }
+pub fn rehearsed_script<A: Allocator + Copy>(alloc: A, script: &[u8]) -> Transcript<A>
+    ensures { IsTranscript (lines_of script.now) (string_bytes result.text) result.end }
 {
     match lines_of(alloc, script) {
         Ok(lines) => read_lines(alloc, lines.as_slice()),
-        Err(_) => Outcome {
+        Err(_) => Transcript {
             text: String::new(alloc),
             end: End::Memory,
         },

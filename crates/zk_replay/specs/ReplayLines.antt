@@ -38,8 +38,8 @@ new_at (timeout ∷ []) = do
   Ok (TimeoutLine number)
 new_at words = Err Words
 
-unfoldable pub taken_up_at : (timeout session password last : Text) → Result BeginValue ScriptFault
-taken_up_at timeout session password last = do
+unfoldable pub parse_session : (timeout session password last : Text) → Result BeginValue ScriptFault
+parse_session timeout session password last = do
   found ← password_at password
   number ← timeout_at timeout
   id ← session_at session
@@ -48,7 +48,7 @@ taken_up_at timeout session password last = do
   Ok (ResumeLine number id bytes zxid)
 
 abbrev pub resume_at : List Text → Result BeginValue ScriptFault
-resume_at (timeout ∷ session ∷ password ∷ last ∷ []) = taken_up_at timeout session password last
+resume_at (timeout ∷ session ∷ password ∷ last ∷ []) = parse_session timeout session password last
 resume_at words = Err Words
 
 abbrev pub begin_words_at : BeginKeyword → List Text → Result BeginValue ScriptFault
@@ -77,18 +77,18 @@ pub data DriveValue : Type 0 where
   BytesLine : List ℕ → DriveValue
   ClientValueLine : ClientValue → DriveValue
 
-abbrev pub came_at : List Text → Result DriveValue ScriptFault
-came_at (bytes ∷ []) = do
+abbrev pub parse_bytes : List Text → Result DriveValue ScriptFault
+parse_bytes (bytes ∷ []) = do
   came ← bytes_at bytes
   Ok (BytesLine came)
-came_at words = Err Words
+parse_bytes words = Err Words
 
-abbrev pub came_line_at : List Text → Result DriveValue ScriptFault
-came_line_at words = if list_all is_printed words then came_at words else Err Words
+abbrev pub parse_bytes_line : List Text → Result DriveValue ScriptFault
+parse_bytes_line words = if list_all is_printed words then parse_bytes words else Err Words
 
 abbrev pub drive_line_at : DriveKeyword → List Text → Result DriveValue ScriptFault
 drive_line_at drive_keyword.Opened words = alone OpenedLine words
-drive_line_at drive_keyword.Bytes words = came_line_at words
+drive_line_at drive_keyword.Bytes words = parse_bytes_line words
 drive_line_at (drive_keyword.Client word) words = client_line_at word words >>= λ value. Ok (ClientValueLine value)
 
 -- A line

@@ -3,7 +3,7 @@
 ghost use Rattle.std.specs.Prelude.{◌≡◌, IfOk, map};
 ghost use Rattle.zk_script.specs.Reads.{Reads};
 ghost use Rattle.zk_replay.specs.Lines.{begin_value_of};
-ghost use Rattle.zk_replay.specs.ReplayLines.{begin_keyword_of, new_at, taken_up_at, resume_at, begin_line_at, CanBegin};
+ghost use Rattle.zk_replay.specs.ReplayLines.{begin_keyword_of, new_at, parse_session, resume_at, begin_line_at, CanBegin};
 
 use crate::reads::{last_at, password_at, session_at, timeout_at};
 use std::alloc::Allocator;
@@ -57,15 +57,15 @@ fn new_at<A: Allocator + Copy>(words: &[&[u8]]) -> Result<BeginLine<A>, ScriptFa
     Ok(BeginLine::Timeout(timeout))
 }
 
-#[tactic(auto, unfolding(crate::specs::ReplayLines::taken_up_at))]
-fn taken_up_at<A: Allocator + Copy>(
+#[tactic(auto, unfolding(crate::specs::ReplayLines::parse_session))]
+fn parse_session<A: Allocator + Copy>(
     alloc: A,
     timeout: &[u8],
     session: &[u8],
     password: &[u8],
     last: &[u8],
 ) -> Result<BeginLine<A>, ScriptFault>
-    ensures value { Reads begin_value_of result (taken_up_at timeout.now session.now password.now last.now) }
+    ensures value { Reads begin_value_of result (parse_session timeout.now session.now password.now last.now) }
     ensures can { IfOk result (λ line. CanBegin (begin_value_of line)) }
 {
     let found = password_at(alloc, password)?;
@@ -90,7 +90,7 @@ fn resume_at<A: Allocator + Copy>(alloc: A, words: &[&[u8]]) -> Result<BeginLine
     let [timeout, session, password, last] = words else {
         return Err(ScriptFault::Words);
     };
-    taken_up_at(alloc, timeout, session, password, last)
+    parse_session(alloc, timeout, session, password, last)
 }
 
 /// The line of a keyword and the words behind it.

@@ -3,7 +3,7 @@
 ghost use Rattle.std.specs.Prelude.{◌≡◌, map};
 ghost use Rattle.zk_script.specs.Reads.{Reads};
 ghost use Rattle.zk_replay.specs.Lines.{drive_value_of};
-ghost use Rattle.zk_replay.specs.ReplayLines.{drive_keyword_of, came_at, came_line_at, drive_line_at};
+ghost use Rattle.zk_replay.specs.ReplayLines.{drive_keyword_of, parse_bytes, parse_bytes_line, drive_line_at};
 
 use crate::client_line::{ClientKeyword, ClientLine, client_line_at};
 use crate::reads::bytes_at;
@@ -48,8 +48,8 @@ pub enum DriveLine<A: Allocator> {
     Client(ClientLine<A>),
 }
 
-fn came_at<A: Allocator + Copy>(alloc: A, words: &[&[u8]]) -> Result<DriveLine<A>, ScriptFault>
-    ensures { Reads drive_value_of result (came_at (map (λ w. w.now) words.now)) }
+fn parse_bytes<A: Allocator + Copy>(alloc: A, words: &[&[u8]]) -> Result<DriveLine<A>, ScriptFault>
+    ensures { Reads drive_value_of result (parse_bytes (map (λ w. w.now) words.now)) }
 {
     let [bytes] = words else {
         return Err(ScriptFault::Words);
@@ -58,13 +58,16 @@ fn came_at<A: Allocator + Copy>(alloc: A, words: &[&[u8]]) -> Result<DriveLine<A
     Ok(DriveLine::Bytes(bytes))
 }
 
-fn came_line_at<A: Allocator + Copy>(alloc: A, words: &[&[u8]]) -> Result<DriveLine<A>, ScriptFault>
-    ensures { Reads drive_value_of result (came_line_at (map (λ w. w.now) words.now)) }
+fn parse_bytes_line<A: Allocator + Copy>(
+    alloc: A,
+    words: &[&[u8]],
+) -> Result<DriveLine<A>, ScriptFault>
+    ensures { Reads drive_value_of result (parse_bytes_line (map (λ w. w.now) words.now)) }
 {
     if !are_printed(words) {
         return Err(ScriptFault::Words);
     }
-    came_at(alloc, words)
+    parse_bytes(alloc, words)
 }
 
 /// The line of a keyword and the words behind it.
@@ -80,7 +83,7 @@ pub fn drive_line_at<A: Allocator + Copy>(
             [] => Ok(DriveLine::Opened),
             _ => Err(ScriptFault::Words),
         },
-        DriveKeyword::Bytes => came_line_at(alloc, words),
+        DriveKeyword::Bytes => parse_bytes_line(alloc, words),
         DriveKeyword::Client(word) => {
             let line = client_line_at(alloc, word, words)?;
             Ok(DriveLine::Client(line))

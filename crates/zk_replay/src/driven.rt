@@ -22,7 +22,10 @@ use zk_script::stop::Stop;
 use zk_session::Saved;
 
 /// The client that a line makes.
-pub fn begun<A: Allocator + Copy>(alloc: A, line: BeginLine<A>) -> Result<Client<A>, AllocError>
+pub fn make_client<A: Allocator + Copy>(
+    alloc: A,
+    line: BeginLine<A>,
+) -> Result<Client<A>, AllocError>
     requires { CanBegin (begin_value_of line) }
     ensures { IfOk result (λ client. view_of client ≡ view_at (start_of (begin_value_of line)) []) }
 {

@@ -11,7 +11,7 @@ ghost use Rattle.zk_script.specs.Stops.{IfHalted, IsDueBy};
 
 use crate::begin_line::{BeginKeyword, begin_line_at};
 use crate::drive_line::{DriveKeyword, drive_line_at};
-use crate::driven::{begun, replayed};
+use crate::driven::{make_client, replayed};
 use std::alloc::Allocator;
 use zk_client::Client;
 use zk_script::pieces::words_of;
@@ -66,7 +66,7 @@ impl<A: Allocator + Copy> Player<A> {
             return Err(Stop::Refused(ScriptFault::Place));
         }
         let line = begin_line_at(alloc, word, words)?;
-        self.client = Some(begun(alloc, line)?);
+        self.client = Some(make_client(alloc, line)?);
         Ok(String::new(alloc))
     }
 

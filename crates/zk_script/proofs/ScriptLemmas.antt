@@ -8,7 +8,7 @@ use Rattle.std.proofs.lemmas.List.{map-append, take_more, take_all, take-append-
 use Rattle.zk_history.specs.History.{Text}
 use Rattle.zk_script.specs.declared.stop.Stop.{Stop}
 use Rattle.zk_script.specs.declared.stop.Stop.TheVariants as stops
-use Rattle.zk_script.specs.Scripts.{Rules, Progress, Prints, PrintsFirst, Goes, IsDue, IsOutcome, progress, end_at}
+use Rattle.zk_script.specs.Scripts.{Rules, Progress, Prints, PrintsFirst, Goes, IsDue, IsTranscript, progress, end_at}
 
 -- the bytes of lent lines
 abbrev texts : List (Bor Text) → List Text
@@ -39,13 +39,13 @@ parted lines at none within =
 -- what stands when the line behind those is not done
 pub stopped : {S : Type 0} (rules : Rules S) (here : Progress S) (lines : List (Bor Text)) (at : ℕ) (none : Bor Text) (end : S) (text : List ℕ) (stop : Stop)
     → at < length lines → FoldsTo (Goes rules) here (texts (take at lines)) (progress end text) → IsDue rules (get_or lines at none).now end stop
-    → IsOutcome rules here (texts lines) text (end_at (at + 1) stop)
+    → IsTranscript rules here (texts lines) text (end_at (at + 1) stop)
 stopped {S} rules here lines at none end text stop within taken due = go stop due
   where
     prints : Prints rules here (texts (take at lines)) text
     prints = record { end = end; taken = taken }
 
-    go : (s : Stop) → IsDue rules (get_or lines at none).now end s → IsOutcome rules here (texts lines) text (end_at (at + 1) s)
+    go : (s : Stop) → IsDue rules (get_or lines at none).now end s → IsTranscript rules here (texts lines) text (end_at (at + 1) s)
     go (stops.Refused why) refuses = record {
       before = texts (take at lines);
       line = (get_or lines at none).now;

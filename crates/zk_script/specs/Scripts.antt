@@ -62,11 +62,11 @@ pub record HaltsIn {S : Type 0} (rules : Rules S) (here : Progress S) (lines : L
   pub halts : rules.Halts line prints.end
 
 -- what lines printed from here on, by how they ended
-abbrev pub IsOutcome : {S : Type 0} → Rules S → Progress S → List Text → List ℕ → End → Type 0
-IsOutcome rules here lines text ends.Taken = Prints rules here lines text
-IsOutcome rules here lines text (ends.Refused number why) = StopsAt rules here lines number why text
-IsOutcome rules here lines text ends.Halted = HaltsIn rules here lines text
-IsOutcome rules here lines text ends.Memory = PrintsFirst rules here lines text
+abbrev pub IsTranscript : {S : Type 0} → Rules S → Progress S → List Text → List ℕ → End → Type 0
+IsTranscript rules here lines text ends.Taken = Prints rules here lines text
+IsTranscript rules here lines text (ends.Refused number why) = StopsAt rules here lines number why text
+IsTranscript rules here lines text ends.Halted = HaltsIn rules here lines text
+IsTranscript rules here lines text ends.Memory = PrintsFirst rules here lines text
 
 -- why a line is not done, if memory did not run out elsewhere
 abbrev pub IsDue : {S : Type 0} → Rules S → Text → S → Stop → Type 0

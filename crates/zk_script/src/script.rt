@@ -1,7 +1,7 @@
 //! A script, read line by line up to the first that is not done.
 
 ghost use Rattle.std.specs.Prelude.{◌≡◌, [], IfErr, IfOk, OnErr, OnOk, map, string_bytes};
-ghost use Rattle.zk_script.specs.Scripts.{end_at, lines_of, progress, Goes, IsDue, IsOutcome, Rules};
+ghost use Rattle.zk_script.specs.Scripts.{end_at, lines_of, progress, Goes, IsDue, IsTranscript, Rules};
 
 use crate::pieces::lines_of;
 use crate::script_fault::ScriptFault;
@@ -23,7 +23,7 @@ pub enum End {
 
 /// What the lines of a script print, and how they ended.
 #[derive(Drop)]
-pub struct Outcome<A: Allocator> {
+pub struct Transcript<A: Allocator> {
     pub text: String<A>,
     pub end: End,
 }
@@ -81,27 +81,27 @@ pub fn read_lines<A: Allocator + Copy, R: LineReader<A>>(
     reader: &mut R,
     lines: &[&[u8]],
     told: String<A>,
-) -> Outcome<A>
-    ensures { (first : R.Position) → R.stands reader.old first → IsOutcome R.rules (progress first (string_bytes told)) (map (λ l. l.now) lines.now) (string_bytes result.text) result.end }
+) -> Transcript<A>
+    ensures { (first : R.Position) → R.stands reader.old first → IsTranscript R.rules (progress first (string_bytes told)) (map (λ l. l.now) lines.now) (string_bytes result.text) result.end }
 {
     let mut text = told;
     for (index, line) in lines.iter().enumerate() {
         if let Err(stop) = read_line(alloc, reader, line, &mut text) {
             let end = end_at(index + 1, stop);
-            return Outcome { text, end };
+            return Transcript { text, end };
         }
     }
     let end = End::Taken;
-    Outcome { text, end }
+    Transcript { text, end }
 }
 
 /// Nothing is printed, and lines end so.
-pub fn nothing<A: Allocator + Copy>(alloc: A, end: End) -> Outcome<A>
+pub fn nothing<A: Allocator + Copy>(alloc: A, end: End) -> Transcript<A>
     ensures text { string_bytes result.text ≡ [] }
     ensures end { result.end ≡ end }
 {
     let text = String::new(alloc);
-    Outcome { text, end }
+    Transcript { text, end }
 }
 
 /// Reads a script up to the first line that is not done: what its lines print, and how they end.
@@ -109,8 +109,8 @@ pub fn read_script<A: Allocator + Copy, R: LineReader<A>>(
     alloc: A,
     reader: &mut R,
     script: &[u8],
-) -> Outcome<A>
-    ensures { (first : R.Position) → R.stands reader.old first → IsOutcome R.rules (progress first []) (lines_of script.now) (string_bytes result.text) result.end }
+) -> Transcript<A>
+    ensures { (first : R.Position) → R.stands reader.old first → IsTranscript R.rules (progress first []) (lines_of script.now) (string_bytes result.text) result.end }
 {
     match lines_of(alloc, script) {
         Ok(lines) => read_lines(alloc, reader, lines.as_slice(), String::new(alloc)),
