@@ -11,9 +11,9 @@ use Rattle.std.specs.Prelude.{codes, if◌then◌else◌}
 use Rattle.zk_link.specs.declared.stop.Stop.{Stop as LinkStop}
 use Rattle.zk_link.specs.declared.stop.Stop.TheVariants as link
 use Rattle.zk_link.specs.Trails.{is_given, Fails, Hears as LinkHears, IsLoud, Trail}
-use Rattle.zk_replay.specs.declared.stop.Stop.{Stop}
-use Rattle.zk_replay.specs.declared.stop.Stop.TheVariants as stops
-use Rattle.zk_replay.specs.Played.{IfHalted, IsWant}
+use Rattle.zk_script.specs.declared.stop.Stop.{Stop}
+use Rattle.zk_script.specs.declared.stop.Stop.TheVariants as stops
+use Rattle.zk_script.specs.Stops.{IfHalted, IsWant}
 use Rattle.zk_live.specs.Heard.{is_waiting, tape, AllBrought, Awaits, Brings, Connects, Halts, HaltsAmong, HaltsAwaiting, HaltsBrought, HaltsConnecting, Hears, IsBrought, MayEnd, Takes, Tape, TellsEach, TellsHeard}
 use Rattle.zk_live.specs.Wants.{want_of}
 
