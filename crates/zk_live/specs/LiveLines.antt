@@ -5,7 +5,7 @@ use Rattle.zk_history.specs.History.{Text}
 use Rattle.zk_script.specs.declared.script_fault.ScriptFault.{ScriptFault}
 use Rattle.zk_script.specs.declared.script_fault.ScriptFault.TheVariants.{Unknown, Place, Words}
 use Rattle.zk_script.specs.Reads.{◌>>=◌}
-use Rattle.zk_script.specs.Said.{is_remark, says_by, something}
+use Rattle.zk_script.specs.Said.{says_by}
 use Rattle.zk_replay.specs.declared.begin_line.BeginKeyword.TheVariants as begin_keyword
 use Rattle.zk_replay.specs.ClientLines.{ClientValue, client_keyword_of, client_line_at, alone}
 use Rattle.zk_replay.specs.ReplayLines.{BeginValue, TimeoutLine, begin_line_at}
@@ -51,7 +51,4 @@ says_at words begun = says_by (λ first behind. known_at (keyword_of first) begu
 
 -- What the words of a line say of the client that is to be made, and nothing where there are none and for a remark.
 abbrev pub begins_at : List Text → Result (Option BeginValue) ScriptFault
-begins_at [] = Ok None
-begins_at (first ∷ words) =
-    if is_remark first then Ok None
-    else (if bytes_eq first (codes "resume") then something (resume_at words) else Ok (Some fresh))
+begins_at words = says_by (λ first behind. if bytes_eq first (codes "resume") then resume_at behind else Ok fresh) words

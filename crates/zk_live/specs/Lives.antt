@@ -3,6 +3,7 @@ use Rattle.std.specs.Prelude.{◌≡◌, ◌⊎◌, ℕ, Bool, true, false, List
 use Rattle.zk_history.specs.History.{Text}
 use Rattle.zk_turns.specs.Turns.{Cut, Now, Call}
 use Rattle.zk_turns.specs.View.{View, view_at}
+use Rattle.zk_client.specs.Clients.{view_of}
 use Rattle.zk_script.specs.Pieces.{words_of}
 use Rattle.zk_script.specs.Said.{TakesSaid}
 use Rattle.zk_script.specs.Scripts.{progress, Rules}
@@ -12,6 +13,7 @@ use Rattle.zk_script.specs.declared.script.End.TheVariants.{Halted}
 use Rattle.zk_replay.specs.ClientLines.{CutLine, NowLine, CallLine}
 use Rattle.zk_replay.specs.ReplayLines.{BeginValue}
 use Rattle.zk_replay.specs.Played.{start_of, DoesClient, HaltsAt}
+use Rattle.zk_live.specs.declared.live.Session.{Session}
 use Rattle.zk_live.specs.Begins.{begun_by, Begins, Nothing}
 use Rattle.zk_live.specs.Heard.{tape, Awaits, Connects, HaltsAmong, HaltsAwaiting, HaltsConnecting, Hears, Takes}
 use Rattle.zk_live.specs.LiveLines.{LiveValue, ResumesLine, OpensLine, DrivesLine, says_at}
@@ -47,6 +49,9 @@ pub record Position : Type 0 where
 
 abbrev pub position : View → Bool → Position
 position view begun = record { view = view; begun = begun }
+
+abbrev pub position_of : {A D S : Type 0} → Session A D S → Position
+position_of session = position (view_of session.link.joint.client) session.is_begun
 
 -- What a line makes of where a script stands, and what it prints. Behind the first that says something, lines have begun.
 abbrev pub Does : LiveValue → Position → Position → List ℕ → Type 0

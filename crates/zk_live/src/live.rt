@@ -12,7 +12,7 @@ ghost use Rattle.zk_replay.specs.Played.{start_of};
 ghost use Rattle.zk_live.specs.Begins.{begun_by, Begins};
 ghost use Rattle.zk_live.specs.Lines.{live_value_of};
 ghost use Rattle.zk_live.specs.LiveLines.{DrivesLine, says_at};
-ghost use Rattle.zk_live.specs.Lives.{position, rules, DoesLive, HaltsLine, HaltsLive, IsOutcome, Position, TakesLine};
+ghost use Rattle.zk_live.specs.Lives.{position_of, rules, DoesLive, HaltsLine, HaltsLive, IsOutcome, Position, TakesLine};
 
 use crate::begun::begin_of;
 use crate::link::Link;
@@ -66,7 +66,9 @@ impl<A: Allocator + Copy, D: Dial> Session<'_, A, D> {
         let mut text = String::new(alloc);
         match line {
             LiveLine::Resume(_) => {}
-            LiveLine::Open => self.link.connect(alloc, self.dial, &mut self.ring, &mut text)?,
+            LiveLine::Open => self
+                .link
+                .connect(alloc, self.dial, &mut self.ring, &mut text)?,
             LiveLine::Client(line) => return self.drive(alloc, line),
         }
         Ok(text)
@@ -75,7 +77,7 @@ impl<A: Allocator + Copy, D: Dial> Session<'_, A, D> {
     /// Does what a line says, and gives what is to be printed. The first reason that applies refuses a line.
     #[tactic(auto, using(crate::proofs::LiveLemmas::took_none, crate::proofs::LiveLemmas::took))]
     fn read_line(&mut self, alloc: A, line: &[u8]) -> Result<String<A>, Stop>
-        ensures ok { IfOk result (λ text. TakesLine line.now (position (view_of self.old.link.joint.client) self.old.is_begun) (position (view_of self.new.link.joint.client) self.new.is_begun) (string_bytes text)) }
+        ensures ok { IfOk result (λ text. TakesLine line.now (position_of self.old) (position_of self.new) (string_bytes text)) }
         ensures err { IfErr result (IsDueBy (says_at (words_of line.now) self.old.is_begun)) }
         ensures halt { IfErr result (IfHalted (HaltsLine line.now self.old.is_begun (view_of self.old.link.joint.client) (view_of self.new.link.joint.client))) }
     {
@@ -93,7 +95,7 @@ impl<A: Allocator + Copy, D: Dial> LineReader<A> for Session<'_, A, D> {
 
     ghost rules = { rules };
 
-    ghost stands = { λ session here. position (view_of session.link.joint.client) session.is_begun ≡ here };
+    ghost stands = { λ session here. position_of session ≡ here };
 
     fn read(&mut self, alloc: A, line: &[u8]) -> Result<String<A>, Stop> {
         match self.read_line(alloc, line) {

@@ -1,15 +1,12 @@
 use Rattle.std.specs.Prelude.{string_bytes}
 use Rattle.zk_client.specs.Clients.{view_of}
-use Rattle.zk_live.specs.Lives.{position}
+use Rattle.zk_live.specs.Lives.{position_of}
 use Rattle.zk_live.proofs.LiveLemmas.{due, goes}
 use Rattle.zk_live.proofs.live.SessionLineReader.read.Goals as goal
 
 pub returns-in-Ok-clause-ok : goal.returns-in-Ok-clause-ok
 returns-in-Ok-clause-ok g c = λ old is.
-    let before = c.args.self.now in
-    let after = c.read_line.new.self in
-    goes c.args.line.now old (position (view_of before.link.joint.client) before.is_begun) (position (view_of after.link.joint.client) after.is_begun)
-    (string_bytes c.in-Ok.text) c.in-Ok.ensures.ok is
+    goes c.args.line.now old (position_of c.args.self.now) (position_of c.read_line.new.self) (string_bytes c.in-Ok.text) c.in-Ok.ensures.ok is
 
 pub returns-in-Err-clause-err : goal.returns-in-Err-clause-err
 returns-in-Err-clause-err g c = λ old is.
