@@ -11,9 +11,9 @@ use Rattle.std.specs.Prelude.{codes, if◌then◌else◌}
 use Rattle.zk_link.specs.declared.stop.Stop.{Stop as LinkStop}
 use Rattle.zk_link.specs.declared.stop.Stop.TheVariants as link
 use Rattle.zk_link.specs.Trails.{is_given, Fails, Hears as LinkHears, IsLoud, Trail}
-use Rattle.zk_replay.specs.declared.stop.Stop.{Stop}
-use Rattle.zk_replay.specs.declared.stop.Stop.TheVariants as stops
-use Rattle.zk_replay.specs.Played.{IfHalted, IsWant}
+use Rattle.zk_script.specs.declared.stop.Stop.{Stop}
+use Rattle.zk_script.specs.declared.stop.Stop.TheVariants as stops
+use Rattle.zk_script.specs.Stops.{IfHalted, IsWant}
 use Rattle.zk_live.specs.Heard.{is_waiting, tape, AllBrought, Awaits, Brings, Connects, Halts, HaltsAmong, HaltsAwaiting, HaltsBrought, HaltsConnecting, Hears, IsBrought, MayEnd, Takes, Tape, TellsEach, TellsHeard}
 use Rattle.zk_live.specs.Wants.{want_of}
 
@@ -28,7 +28,7 @@ one_more (first ∷ outputs) output text told all tells =
 told_first : (output : Output) (given outputs : List Output) (text : List ℕ) → ((rest : List ℕ) → TellsEach given rest → TellsEach outputs rest)
     → TellsEach (if is_given output then output ∷ given else given) text → TellsEach (output ∷ outputs) text
 told_first (Send bytes) given outputs text all tells = ([], text, refl, all text tells, refl)
-told_first (Answer ticket transcript) given outputs text all tells = (tells.0, tells.1, tells.2, all tells.1 tells.3, tells.4)
+told_first (Answer ticket outcome) given outputs text all tells = (tells.0, tells.1, tells.2, all tells.1 tells.3, tells.4)
 told_first (Report path side event) given outputs text all tells = (tells.0, tells.1, tells.2, all tells.1 tells.3, tells.4)
 told_first (Enters state) given outputs text all tells = (tells.0, tells.1, tells.2, all tells.1 tells.3, tells.4)
 told_first (Drop fault) given outputs text all tells = (tells.0, tells.1, tells.2, all tells.1 tells.3, tells.4)

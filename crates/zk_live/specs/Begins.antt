@@ -2,12 +2,10 @@
 use Rattle.std.specs.Prelude.{◌≡◌, ⊤, ℕ, ◌+◌, List, [], ◌∷◌, Option, Some, None, Result, Ok, Err}
 use Rattle.zk_history.specs.History.{Text}
 use Rattle.zk_script.specs.Pieces.{words_of}
+use Rattle.zk_script.specs.declared.script.End.{End}
+use Rattle.zk_script.specs.declared.script.End.TheVariants.{Taken, Refused, Halted, Memory}
 use Rattle.zk_script.specs.declared.script_fault.ScriptFault.{ScriptFault}
 use Rattle.zk_replay.specs.ReplayLines.{BeginValue}
-use Rattle.zk_replay.specs.declared.replay.End.{End}
-use Rattle.zk_replay.specs.declared.replay.End.TheVariants.{Taken, Refused, Halted, Memory}
-use Rattle.zk_replay.specs.declared.stop.Stop.{Stop}
-use Rattle.zk_replay.specs.declared.stop.Stop.TheVariants as stops
 use Rattle.zk_live.specs.LiveLines.{begins_at, fresh}
 
 -- A client to make; or the line of this number, counted from 1, which is the first that stands, is refused.
@@ -28,12 +26,6 @@ begun_from number (line ∷ lines) = decided number (begins_at (words_of line)) 
 
 abbrev pub begun_by : List Text → Begun
 begun_by lines = begun_from 1 lines
-
--- how lines end at the line of this number, which is not done
-abbrev pub end_at : ℕ → Stop → End
-end_at number (stops.Refused why) = Refused number why
-end_at number stops.Halted = Halted
-end_at number stops.Memory = Memory
 
 -- Nothing was printed: the first line that stands is refused, so that there is no client, or memory ran out.
 abbrev pub Nothing : List Text → End → Type 0

@@ -5,7 +5,7 @@ use Rattle.zk_history.specs.History.{Text}
 use Rattle.zk_script.specs.declared.script_fault.ScriptFault.{ScriptFault}
 use Rattle.zk_script.specs.declared.script_fault.ScriptFault.TheVariants.{Unknown, Place, Words}
 use Rattle.zk_script.specs.Reads.{◌>>=◌}
-use Rattle.zk_script.specs.Stories.{is_remark}
+use Rattle.zk_script.specs.Said.{says_by}
 use Rattle.zk_replay.specs.declared.begin_line.BeginKeyword.TheVariants as begin_keyword
 use Rattle.zk_replay.specs.ClientLines.{ClientValue, client_keyword_of, client_line_at, alone}
 use Rattle.zk_replay.specs.ReplayLines.{BeginValue, TimeoutLine, begin_line_at}
@@ -44,19 +44,11 @@ abbrev pub known_at : Option LiveKeyword → (begun : Bool) → List Text → Re
 known_at None begun words = Err Unknown
 known_at (Some word) begun words = placed_at word begun words
 
-abbrev pub something : {X : Type 0} → Result X ScriptFault → Result (Option X) ScriptFault
-something (Ok value) = Ok (Some value)
-something (Err fault) = Err fault
-
 -- What the words of a line say, and nothing where there are none and for a remark; or the first fault of the words: no such
 -- line, a line that may not stand here, a fault of the words behind the first.
 abbrev pub says_at : List Text → (begun : Bool) → Result (Option LiveValue) ScriptFault
-says_at [] begun = Ok None
-says_at (first ∷ words) begun = if is_remark first then Ok None else something (known_at (keyword_of first) begun words)
+says_at words begun = says_by (λ first behind. known_at (keyword_of first) begun behind) words
 
 -- What the words of a line say of the client that is to be made, and nothing where there are none and for a remark.
 abbrev pub begins_at : List Text → Result (Option BeginValue) ScriptFault
-begins_at [] = Ok None
-begins_at (first ∷ words) =
-    if is_remark first then Ok None
-    else (if bytes_eq first (codes "resume") then something (resume_at words) else Ok (Some fresh))
+begins_at words = says_by (λ first behind. if bytes_eq first (codes "resume") then resume_at behind else Ok fresh) words

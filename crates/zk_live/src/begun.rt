@@ -3,24 +3,13 @@
 ghost use Rattle.std.specs.Prelude.{◌≡◌, IfErr, IfOk, map};
 ghost use Rattle.zk_replay.specs.Lines.{begin_value_of};
 ghost use Rattle.zk_replay.specs.ReplayLines.{CanBegin};
-ghost use Rattle.zk_live.specs.Begins.{begun_by, end_at, Begins, Nothing};
+ghost use Rattle.zk_live.specs.Begins.{begun_by, Begins, Nothing};
 
 use crate::live_line::{ASKED, begun_line};
 use std::alloc::Allocator;
 use zk_replay::begin_line::BeginLine;
-use zk_replay::replay::End;
-use zk_replay::stop::Stop;
-
-/// How lines end at the line of this number, which is not done.
-pub fn end_at(number: usize, stop: Stop) -> End
-    ensures { result ≡ end_at number stop }
-{
-    match stop {
-        Stop::Refused(why) => End::Refused { number, why },
-        Stop::Halted => End::Halted,
-        Stop::Memory => End::Memory,
-    }
-}
+use zk_script::script::{End, end_at};
+use zk_script::stop::Stop;
 
 /// The client that lines ask for: the first that is neither empty nor a remark says which. An error where that line is refused,
 /// and for memory.

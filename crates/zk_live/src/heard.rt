@@ -4,7 +4,7 @@ ghost use Rattle.std.specs.Prelude.{◌≡◌, ◌++◌, ℕ, List, IfOk, IfErr,
 ghost use Rattle.zk_turns.specs.Turns.{Cut};
 ghost use Rattle.zk_client.specs.Clients.{view_of};
 ghost use Rattle.zk_client.specs.Views.{input_view, output_view, said};
-ghost use Rattle.zk_replay.specs.Played.{IfHalted, IsWant};
+ghost use Rattle.zk_script.specs.Stops.{IfHalted, IsWant};
 ghost use Rattle.zk_live.specs.Heard.{tape, Halts, Hears, TellsEach, TellsHeard};
 ghost use Rattle.zk_live.specs.Wants.{want_of};
 
@@ -12,7 +12,7 @@ use std::alloc::{AllocError, Allocator};
 use zk_client::{Input, Output};
 use zk_link::{Joint, Stream};
 use zk_replay::outputs::push_output;
-use zk_replay::stop::Stop;
+use zk_script::stop::Stop;
 
 /// Adds the line of an output, and nothing where it goes to the server.
 fn push_heard<A: Allocator + Copy>(

@@ -2,8 +2,8 @@
 #![tactic(auto)]
 
 pub mod address;
-pub mod begun;
-pub mod heard;
+mod begun;
+mod heard;
 pub mod link;
 pub mod live;
-pub mod live_line;
+mod live_line;

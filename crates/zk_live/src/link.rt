@@ -5,7 +5,7 @@ ghost use Rattle.zk_conversation.specs.Views.{call_view};
 ghost use Rattle.zk_client.specs.Clients.{view_of};
 ghost use Rattle.zk_client.specs.Views.{input_view};
 ghost use Rattle.zk_turns.specs.Turns.{Call, Cut, Opened};
-ghost use Rattle.zk_replay.specs.Played.{IfHalted, IsWant};
+ghost use Rattle.zk_script.specs.Stops.{IfHalted, IsWant};
 ghost use Rattle.zk_live.specs.Heard.{is_waiting, tape, Awaits, Brings, Connects, Halts, HaltsAmong, HaltsAwaiting, HaltsBrought, HaltsConnecting, Hears, MayEnd, Takes};
 
 use crate::heard::{cut, hear};
@@ -13,7 +13,7 @@ use std::alloc::{AllocError, Allocator};
 use zk_client::{Client, Input, Output};
 use zk_link::{Brought, Dial, Joint, Ring, Stream};
 use zk_replay::call_line::Asked;
-use zk_replay::stop::Stop;
+use zk_script::stop::Stop;
 use zk_session::State;
 
 /// The most pieces that are read for one line.

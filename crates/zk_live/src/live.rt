@@ -1,40 +1,42 @@
 //! A live session of a whole script.
 
-ghost use Rattle.std.specs.Prelude.{◌≡◌, [], false, IfErr, IfOk, OnErr, OnOk, map, string_bytes};
+ghost use Rattle.std.specs.Prelude.{◌≡◌, [], false, IfErr, IfOk, map, string_bytes};
 ghost use Rattle.zk_turns.specs.View.{view_at};
 ghost use Rattle.zk_client.specs.Clients.{view_of};
 ghost use Rattle.zk_script.specs.Pieces.{words_of};
 ghost use Rattle.zk_script.specs.Scripts.{lines_of};
+ghost use Rattle.zk_script.specs.Stops.{IfHalted, IsDueBy, IsWant};
 ghost use Rattle.zk_replay.specs.Lines.{begin_value_of, client_value_of};
 ghost use Rattle.zk_replay.specs.ReplayLines.{BeginValue, CanBegin};
-ghost use Rattle.zk_replay.specs.Played.{start_of, IfHalted, IsDue, IsWant};
+ghost use Rattle.zk_replay.specs.Played.{start_of};
 ghost use Rattle.zk_live.specs.Begins.{begun_by, Begins};
 ghost use Rattle.zk_live.specs.Lines.{live_value_of};
 ghost use Rattle.zk_live.specs.LiveLines.{DrivesLine, says_at};
-ghost use Rattle.zk_live.specs.Lives.{progress, DoesLive, EndsFrom, Goes, HaltsLine, HaltsLive, IsTranscript, TakesLine};
+ghost use Rattle.zk_live.specs.Lives.{position_of, rules, DoesLive, HaltsLine, HaltsLive, IsOutcome, Position, TakesLine};
 
-use crate::begun::{begin_of, end_at};
+use crate::begun::begin_of;
 use crate::link::Link;
 use crate::live_line::{LiveLine, said_line};
 use std::alloc::{AllocError, Allocator};
 use zk_client::Input;
-use zk_link::{Dial, Ring, Stream};
+use zk_link::{Dial, Ring};
 use zk_replay::begin_line::BeginLine;
 use zk_replay::client_line::ClientLine;
-use zk_replay::driven::{driven, make_client};
-use zk_replay::replay::{End, Transcript};
-use zk_replay::stop::Stop;
+use zk_replay::driven::{begun, driven};
 use zk_script::pieces::lines_of;
+use zk_script::script::{End, LineReader, Outcome, end_at, nothing, read_lines};
+use zk_script::stop::Stop;
 
-/// A client with its connection, the addresses that are tried, and whether lines have begun.
+/// A client with its connection, what dials, the addresses that are tried, and whether lines have begun.
 #[derive(Drop)]
-struct Session<'a, A: Allocator + Copy, S: Drop> {
-    link: Link<A, S>,
+struct Session<'a, A: Allocator + Copy, D: Dial> {
+    link: Link<A, D::Stream>,
+    dial: &'a mut D,
     ring: Ring<'a>,
     is_begun: bool,
 }
 
-impl<'a, A: Allocator + Copy, S: Stream> Session<'a, A, S> {
+impl<A: Allocator + Copy, D: Dial> Session<'_, A, D> {
     /// Does what a line says that is the same whatever is at the other end.
     fn drive(&mut self, alloc: A, line: ClientLine<A>) -> Result<String<A>, Stop>
         ensures ok { IfOk result (λ text. DoesLive (DrivesLine (client_value_of line)) (view_of self.old.link.joint.client) (view_of self.new.link.joint.client) (string_bytes text)) }
@@ -55,12 +57,7 @@ impl<'a, A: Allocator + Copy, S: Stream> Session<'a, A, S> {
     }
 
     /// Does what a line says, and gives what is to be printed.
-    fn act<D: Dial<Stream = S>>(
-        &mut self,
-        alloc: A,
-        dial: &mut D,
-        line: LiveLine<A>,
-    ) -> Result<String<A>, Stop>
+    fn act(&mut self, alloc: A, line: LiveLine<A>) -> Result<String<A>, Stop>
         ensures ok { IfOk result (λ text. DoesLive (live_value_of line) (view_of self.old.link.joint.client) (view_of self.new.link.joint.client) (string_bytes text)) }
         ensures err { IfErr result IsWant }
         ensures halt { IfErr result (IfHalted (HaltsLive (live_value_of line) (view_of self.old.link.joint.client) (view_of self.new.link.joint.client))) }
@@ -69,7 +66,9 @@ impl<'a, A: Allocator + Copy, S: Stream> Session<'a, A, S> {
         let mut text = String::new(alloc);
         match line {
             LiveLine::Resume(_) => {}
-            LiveLine::Open => self.link.connect(alloc, dial, &mut self.ring, &mut text)?,
+            LiveLine::Open => self
+                .link
+                .connect(alloc, self.dial, &mut self.ring, &mut text)?,
             LiveLine::Client(line) => return self.drive(alloc, line),
         }
         Ok(text)
@@ -77,106 +76,67 @@ impl<'a, A: Allocator + Copy, S: Stream> Session<'a, A, S> {
 
     /// Does what a line says, and gives what is to be printed. The first reason that applies refuses a line.
     #[tactic(auto, using(crate::proofs::LiveLemmas::took_none, crate::proofs::LiveLemmas::took))]
-    fn read<D: Dial<Stream = S>>(
-        &mut self,
-        alloc: A,
-        dial: &mut D,
-        line: &[u8],
-    ) -> Result<String<A>, Stop>
-        ensures ok { IfOk result (λ text. TakesLine line.now self.old.is_begun (view_of self.old.link.joint.client) self.new.is_begun (view_of self.new.link.joint.client) (string_bytes text)) }
-        ensures err { IfErr result (IsDue (says_at (words_of line.now) self.old.is_begun)) }
+    fn read_line(&mut self, alloc: A, line: &[u8]) -> Result<String<A>, Stop>
+        ensures ok { IfOk result (λ text. TakesLine line.now (position_of self.old) (position_of self.new) (string_bytes text)) }
+        ensures err { IfErr result (IsDueBy (says_at (words_of line.now) self.old.is_begun)) }
         ensures halt { IfErr result (IfHalted (HaltsLine line.now self.old.is_begun (view_of self.old.link.joint.client) (view_of self.new.link.joint.client))) }
     {
         let Some(line) = said_line(alloc, line, self.is_begun)? else {
             return Ok(String::new(alloc));
         };
         self.is_begun = true;
-        let text = self.act(alloc, dial, line)?;
+        let text = self.act(alloc, line)?;
         Ok(text)
-    }
-
-    /// Adds what one line prints: all of it, or nothing where the line is not done.
-    fn read_line<D: Dial<Stream = S>>(
-        &mut self,
-        alloc: A,
-        dial: &mut D,
-        line: &[u8],
-        text: &mut String<A>,
-    ) -> Result<(), Stop>
-        ensures ok { OnOk result (Goes (progress (view_of self.old.link.joint.client) self.old.is_begun (string_bytes text.old)) line.now (progress (view_of self.new.link.joint.client) self.new.is_begun (string_bytes text.new))) }
-        ensures err { IfErr result (IsDue (says_at (words_of line.now) self.old.is_begun)) }
-        ensures halt { IfErr result (IfHalted (HaltsLine line.now self.old.is_begun (view_of self.old.link.joint.client) (view_of self.new.link.joint.client))) }
-        ensures same { OnErr result (string_bytes text.new ≡ string_bytes text.old) }
-    {
-        let printed = self.read(alloc, dial, line)?;
-        match text.push_str(printed.as_str()) {
-            Ok(()) => Ok(()),
-            Err(_) => Err(Stop::Memory),
-        }
     }
 }
 
-/// Reads lines up to the first that is not done. `told` is what was printed before them.
-fn read_lines<A: Allocator + Copy, D: Dial>(
-    alloc: A,
-    dial: &mut D,
-    session: &mut Session<'_, A, D::Stream>,
-    lines: &[&[u8]],
-    told: String<A>,
-) -> Transcript<A>
-    ensures { EndsFrom (progress (view_of session.old.link.joint.client) session.old.is_begun (string_bytes told)) (map (λ l. l.now) lines.now) (string_bytes result.text) result.end }
-{
-    let mut text = told;
-    for (index, line) in lines.iter().enumerate() {
-        if let Err(stop) = session.read_line(alloc, dial, line, &mut text) {
-            let end = end_at(index + 1, stop);
-            return Transcript { text, end };
+impl<A: Allocator + Copy, D: Dial> LineReader<A> for Session<'_, A, D> {
+    ghost Position = { Position };
+
+    ghost rules = { rules };
+
+    ghost stands = { λ session here. position_of session ≡ here };
+
+    fn read(&mut self, alloc: A, line: &[u8]) -> Result<String<A>, Stop> {
+        match self.read_line(alloc, line) {
+            Ok(text) => Ok(text),
+            Err(stop) => Err(stop),
         }
     }
-    let end = End::Taken;
-    Transcript { text, end }
 }
 
 /// The client that a line asks for, with no connection yet.
-fn made<'a, A: Allocator + Copy, S: Stream>(
+fn made<'a, A: Allocator + Copy, D: Dial>(
     alloc: A,
+    dial: &'a mut D,
     addresses: &'a [&'a str],
     begin: BeginLine<A>,
-) -> Result<Session<'a, A, S>, AllocError>
+) -> Result<Session<'a, A, D>, AllocError>
     requires { CanBegin (begin_value_of begin) }
     ensures view { IfOk result (λ session. view_of session.link.joint.client ≡ view_at (start_of (begin_value_of begin)) []) }
     ensures begun { IfOk result (λ session. session.is_begun ≡ false) }
 {
-    let client = make_client(alloc, begin)?;
+    let client = begun(alloc, begin)?;
     Ok(Session {
         link: Link::new(alloc, client),
+        dial,
         ring: Ring::new(addresses),
         is_begun: false,
     })
 }
 
-/// Nothing is printed, and lines end so.
-fn nothing<A: Allocator + Copy>(alloc: A, end: End) -> Transcript<A>
-    ensures text { string_bytes result.text ≡ [] }
-    ensures end { result.end ≡ end }
-{
-    let text = String::new(alloc);
-    Transcript { text, end }
-}
-
 /// Connects a client, and reads lines.
 fn connected<A: Allocator + Copy, D: Dial>(
     alloc: A,
-    dial: &mut D,
-    session: &mut Session<'_, A, D::Stream>,
+    session: &mut Session<'_, A, D>,
     lines: &[&[u8]],
-) -> Transcript<A>
+) -> Outcome<A>
     requires { session.old.is_begun ≡ false }
     ensures { (begin : BeginValue) → begun_by (map (λ l. l.now) lines.now) ≡ Begins begin → view_of session.old.link.joint.client ≡ view_at (start_of begin) []
-        → IsTranscript (map (λ l. l.now) lines.now) (string_bytes result.text) result.end }
+        → IsOutcome (map (λ l. l.now) lines.now) (string_bytes result.text) result.end }
 {
-    match session.act(alloc, dial, LiveLine::Open) {
-        Ok(text) => read_lines(alloc, dial, session, lines, text),
+    match session.act(alloc, LiveLine::Open) {
+        Ok(text) => read_lines(alloc, session, lines, text),
         Err(stop) => nothing(alloc, end_at(0, stop)),
     }
 }
@@ -188,16 +148,16 @@ fn live_from<A: Allocator + Copy, D: Dial>(
     addresses: &[&str],
     lines: &[&[u8]],
     begin: BeginLine<A>,
-) -> Transcript<A>
+) -> Outcome<A>
     requires can { CanBegin (begin_value_of begin) }
     requires first { begun_by (map (λ l. l.now) lines.now) ≡ Begins (begin_value_of begin) }
-    ensures { IsTranscript (map (λ l. l.now) lines.now) (string_bytes result.text) result.end }
+    ensures { IsOutcome (map (λ l. l.now) lines.now) (string_bytes result.text) result.end }
 {
-    match made(alloc, addresses, begin) {
+    match made(alloc, dial, addresses, begin) {
         Ok(mut session) => {
-            let transcript = connected(alloc, dial, &mut session, lines);
+            let outcome = connected(alloc, &mut session, lines);
             drop(session);
-            transcript
+            outcome
         }
         Err(_) => nothing(alloc, End::Memory),
     }
@@ -209,8 +169,8 @@ fn live_lines<A: Allocator + Copy, D: Dial>(
     dial: &mut D,
     addresses: &[&str],
     lines: &[&[u8]],
-) -> Transcript<A>
-    ensures { IsTranscript (map (λ l. l.now) lines.now) (string_bytes result.text) result.end }
+) -> Outcome<A>
+    ensures { IsOutcome (map (λ l. l.now) lines.now) (string_bytes result.text) result.end }
 {
     match begin_of(alloc, lines) {
         Ok(begin) => live_from(alloc, dial, addresses, lines, begin),
@@ -223,14 +183,14 @@ fn live_lines<A: Allocator + Copy, D: Dial>(
 /// The client asks for 30,000 milliseconds, or takes up the session that the first line says. It is connected before the lines
 /// are read. After a call, bytes are read until its answer has come or the connection has ended. An address is dialled, and a read
 /// waits, for the session's timeout at most. A read or a write that fails, a read for which nothing comes in that time, and an end of
-/// the bytes is a cut, and so is a wait of more than 1,000,000 pieces. Text comes with the transcript.
+/// the bytes is a cut, and so is a wait of more than 1,000,000 pieces. Text comes with the outcome.
 pub fn live<A: Allocator + Copy, D: Dial>(
     alloc: A,
     dial: &mut D,
     addresses: &[&str],
     script: &[u8],
-) -> Transcript<A>
-    ensures { IsTranscript (lines_of script.now) (string_bytes result.text) result.end }
+) -> Outcome<A>
+    ensures { IsOutcome (lines_of script.now) (string_bytes result.text) result.end }
 {
     match lines_of(alloc, script) {
         Ok(lines) => live_lines(alloc, dial, addresses, lines.as_slice()),

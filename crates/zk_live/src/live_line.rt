@@ -13,9 +13,8 @@ use std::alloc::Allocator;
 use zk_replay::begin_line::{BeginKeyword, BeginLine, begin_line_at};
 use zk_replay::client_line::{ClientKeyword, ClientLine, client_line_at};
 use zk_script::pieces::words_of;
-use zk_script::reads::is_named;
+use zk_script::reads::{is_named, is_remark};
 use zk_script::script_fault::ScriptFault;
-use zk_script::story::is_remark;
 
 /// The timeout that a client asks for, in milliseconds.
 pub const ASKED: i32 = 30_000;

@@ -1,12 +1,13 @@
-use Rattle.std.proofs.Common.{◌≡◌, ◌∙◌, List, [], false, map}
+use Rattle.std.proofs.Common.{◌≡◌, ◌∙◌, List, [], ap, false, map}
 use Rattle.std.specs.Prelude.{string_bytes}
 use Rattle.zk_history.specs.History.{Text}
 use Rattle.zk_turns.specs.View.{view_at}
 use Rattle.zk_client.specs.Clients.{view_of}
+use Rattle.zk_script.specs.Scripts.{end_at}
 use Rattle.zk_replay.specs.Played.{start_of}
-use Rattle.zk_live.specs.Begins.{end_at}
 use Rattle.zk_live.specs.Heard.{tape}
-use Rattle.zk_live.proofs.LiveLemmas.{lived, moved, unbegun, unlived, want}
+use Rattle.zk_live.specs.Lives.{position}
+use Rattle.zk_live.proofs.LiveLemmas.{lived, moved, unlived, want}
 use Rattle.zk_live.proofs.live.connected.Goals as goal
 
 pub returns-in-Ok : goal.returns-in-Ok
@@ -20,7 +21,7 @@ returns-in-Ok g c = λ begin first made.
     let same : new.is_begun ≡ false = c.in-Ok.ensures.begun ∙ c.requires in
     lived lines begin view told text end first
     (moved (view_of c.args.session.now.link.joint.client) (view_at (start_of begin) []) (tape view told) made c.in-Ok.ensures.ok)
-    (unbegun view new.is_begun told lines text end same c.read_lines.ensures)
+    (c.read_lines.ensures (position view false) (ap (position view) same))
 
 pub returns-in-Err : goal.returns-in-Err
 returns-in-Err g c = λ begin first made.
