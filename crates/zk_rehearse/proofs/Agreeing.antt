@@ -12,6 +12,7 @@ use Rattle.zk_cache.specs.declared.held.Mark.{Mark}
 use Rattle.zk_cache.specs.declared.held.Mark.TheVariants.{Good, Stale}
 use Rattle.zk_turns.specs.View.{View}
 use Rattle.zk_script.specs.Pieces.{words_of}
+use Rattle.zk_script.specs.Said.{DoesSome}
 use Rattle.zk_laws.specs.Messages.{from_zero}
 use Rattle.zk_laws.specs.Server.{Fits, FitsNames}
 use Rattle.zk_laws.specs.Headline.{IsCoherentWith, IsTrueOf}
@@ -23,7 +24,7 @@ use Rattle.zk_rehearse.specs.RehearseLines.{RehearseValue, BenchValueLine, says_
 use Rattle.zk_rehearse.specs.Good.{agrees, AreSame, same_content, sight, if_good, verdict_line, kept_verdict, agreeing, agreeing_path, agreeing_paths, TellsNamesLine, TellsKeptNames, TellsPath, TellsPaths}
 use Rattle.zk_rehearse.specs.Stages.{Scene, TellsGood, TellsAgreeing}
 use Rattle.zk_rehearse.specs.Coherent.{IsServed}
-use Rattle.zk_rehearse.specs.Rehearsed.{Standing, Told, Staged, TakesLine, DoesSome, Agrees, IsServedAt}
+use Rattle.zk_rehearse.specs.Rehearsed.{Position, Told, Staged, Does, TakesLine, Agrees, IsServedAt}
 
 -- One answer
 
@@ -101,17 +102,17 @@ good_agrees scene text s g = record {
 }
 
 -- so it is at a line of a rehearsal
-pub line_agrees : (line : Text) (old new : Standing) (text : List ℕ) → TakesLine line old new text → IsServedAt old → Agrees line old text
+pub line_agrees : (line : Text) (old new : Position) (text : List ℕ) → TakesLine line old new text → IsServedAt old → Agrees line old text
 line_agrees line (Told told) new text t served = tt
 line_agrees line (Staged scene) new text t served = λ says. by t.what new t.does t.says says
   where
-    here : (to : Standing) → DoesSome line (Some (BenchValueLine GoodLine)) (Staged scene) to text → TellsAgreeing scene text
+    here : (to : Position) → DoesSome (Does line) (Some (BenchValueLine GoodLine)) (Staged scene) to text → TellsAgreeing scene text
     here (Staged after) does = good_agrees scene text served does.1
     here (Told told) does = absurd does
 
-    by : (what : Option RehearseValue) (to : Standing) → DoesSome line what (Staged scene) to text → says_at (words_of line) true ≡ Ok what → says_at (words_of line) true ≡ Ok (Some (BenchValueLine GoodLine))
+    by : (what : Option RehearseValue) (to : Position) → DoesSome (Does line) what (Staged scene) to text → says_at (words_of line) true ≡ Ok what → says_at (words_of line) true ≡ Ok (Some (BenchValueLine GoodLine))
         → TellsAgreeing scene text
-    by what to does first second = here to (subst (λ (said : Option RehearseValue). DoesSome line said (Staged scene) to text) (same_said what first second) does)
+    by what to does first second = here to (subst (λ (said : Option RehearseValue). DoesSome (Does line) said (Staged scene) to text) (same_said what first second) does)
       where
         same_said : (said : Option RehearseValue) → says_at (words_of line) true ≡ Ok said → says_at (words_of line) true ≡ Ok (Some (BenchValueLine GoodLine)) → said ≡ Some (BenchValueLine GoodLine)
         same_said said a b = cc

@@ -1,85 +1,81 @@
 -- Why a line is not done, and what it does else.
-use Rattle.std.proofs.Common.{◌≡◌, ◌≢◌, ℕ, Bool, true, false, List, refl, sym, ap, subst, ◌∙◌}
+use Rattle.std.proofs.Common.{◌≡◌, false, IfErr, IfOk}
 use Rattle.std.proofs.lemmas.Bool.{true≢false}
-use Rattle.std.specs.Prelude.{Option, Some, None, Ok, Err}
+use Rattle.std.specs.Prelude.{String, string_bytes, Option, Some, None, Result, Ok, Err}
 use Rattle.zk_history.specs.History.{Text}
 use Rattle.zk_script.specs.Pieces.{words_of}
-use Rattle.zk_script.specs.Stories as story
-use Rattle.zk_script.specs.declared.script_fault.ScriptFault.{ScriptFault}
-use Rattle.zk_script.specs.declared.script_fault.ScriptFault.TheVariants as fault
-use Rattle.zk_replay.specs.declared.stop.Stop.{Stop}
-use Rattle.zk_replay.specs.declared.stop.Stop.TheVariants.{Refused, Halted, Memory}
-use Rattle.zk_replay.specs.Played.{stop_of, IfHalted}
+use Rattle.zk_script.specs.Scripts.{IsDue}
+use Rattle.zk_script.specs.Stops.{IfHalted, IsDueBy}
+use Rattle.zk_script.specs.declared.stop.Stop.{Stop}
+use Rattle.zk_script.specs.declared.stop.Stop.TheVariants.{Refused, Halted, Memory}
+use Rattle.zk_story.specs.Stories as story
 use Rattle.zk_rehearse.specs.RehearseLines.{RehearseValue, HistoryLine, BeginLine, BenchValueLine, says_at}
 use Rattle.zk_rehearse.specs.Stages.{Scene}
-use Rattle.zk_rehearse.specs.Rehearsed.{Standing, Told, standing_by, is_begun, by_words, by_history, HaltsLine, HaltsSaid, IsDue, IsDueOf, TakesLine, Does}
+use Rattle.zk_rehearse.specs.Rehearsed.{Position, position_by, is_begun, by_words, by_history, Does, DoesHistory, HaltsLine, HaltsSaid, IsDueOf, TakesLine}
+use Rattle.zk_rehearse.specs.Scripts.{rules}
 
-abbrev is_memory : ScriptFault → Bool
-is_memory fault.Memory = true
-is_memory _ = false
+-- A line of the history, where no client was made
 
-other : (e : ScriptFault) → is_memory e ≡ false → e ≢ fault.Memory
-other e not same = true≢false (sym (ap is_memory same) ∙ not)
+pub told : {Y : Type 0} (line : Text) (old new : story.Position) (scene : Option Scene) (r : Result (String Y) Stop) → is_begun (position_by old scene) ≡ false
+    → IfOk r (λ text. (next : story.Position) × story.TakesLine line old next (string_bytes text) × (new ≡ next))
+    → IfOk r (λ text. DoesHistory line (position_by old scene) (position_by new scene) (string_bytes text))
+told line old new None (Ok text) first takes = rw takes.2 takes.1
+told line old new None (Err stop) first takes = tt
+told line old new (Some scene) r first takes = absurd (true≢false first)
 
-history_due : (line : Text) (told : story.Standing) (e : ScriptFault) → (e ≢ fault.Memory → story.RefusesLine line told e) → IsDueOf line HistoryLine (Told told) (stop_of e)
-history_due line told fault.Unknown h = h (other fault.Unknown refl)
-history_due line told fault.Place h = h (other fault.Place refl)
-history_due line told fault.Words h = h (other fault.Words refl)
-history_due line told fault.Number h = h (other fault.Number refl)
-history_due line told fault.Hex h = h (other fault.Hex refl)
-history_due line told (fault.Path why) h = h (other (fault.Path why) refl)
-history_due line told fault.Order h = h (other fault.Order refl)
-history_due line told fault.Illegal h = h (other fault.Illegal refl)
-history_due line told fault.Memory h = tt
+pub history_due : {X : Type 0} (line : Text) (old : story.Position) (scene : Option Scene) (r : Result X Stop) → is_begun (position_by old scene) ≡ false
+    → IfErr r (IsDue story.rules line old) → IfErr r (IsDueOf line HistoryLine (position_by old scene))
+history_due line old None (Ok x) first due = tt
+history_due line old None (Err (Refused fault)) first due = due
+history_due line old None (Err Halted) first due = tt
+history_due line old None (Err Memory) first due = tt
+history_due line old (Some scene) r first due = absurd (true≢false first)
 
--- the same where no client was made
-pub still_due : (line : Text) (told : story.Standing) (scene : Option Scene) (e : ScriptFault) (stop : Stop) → is_begun (standing_by told scene) ≡ false
-    → (e ≢ fault.Memory → story.RefusesLine line told e) → stop ≡ stop_of e → IsDueOf line HistoryLine (standing_by told scene) stop
-still_due line told None e stop first refused is = subst (IsDueOf line HistoryLine (Told told)) (sym is) (history_due line told e refused)
-still_due line told (Some scene) e stop first refused is = absurd (true≢false first)
+-- it is never a halt
+pub never_halts : {X : Type 0} (line : Text) (old : story.Position) (r : Result X Stop) → IfErr r (IsDue story.rules line old) → IfErr r (IfHalted ⊥)
+never_halts line old (Ok x) due = tt
+never_halts line old (Err (Refused fault)) due = tt
+never_halts line old (Err Halted) due = absurd due
+never_halts line old (Err Memory) due = tt
 
-pub says_due : (line : Text) (old : Standing) (e : ScriptFault) → (e ≢ fault.Memory → says_at (words_of line) (is_begun old) ≡ Err e) → IsDue line old (stop_of e)
-says_due line old fault.Unknown h = by_words (h (other fault.Unknown refl))
-says_due line old fault.Place h = by_words (h (other fault.Place refl))
-says_due line old fault.Words h = by_words (h (other fault.Words refl))
-says_due line old fault.Number h = by_words (h (other fault.Number refl))
-says_due line old fault.Hex h = by_words (h (other fault.Hex refl))
-says_due line old (fault.Path why) h = by_words (h (other (fault.Path why) refl))
-says_due line old fault.Order h = by_words (h (other fault.Order refl))
-says_due line old fault.Illegal h = by_words (h (other fault.Illegal refl))
-says_due line old fault.Memory h = tt
+-- Any line
 
-pub due_by : (line : Text) (value : RehearseValue) (old : Standing) (stop : Stop) → says_at (words_of line) (is_begun old) ≡ Ok (Some value) → IsDueOf line value old stop → IsDue line old stop
-due_by line HistoryLine old (Refused e) says due = by_history says due
-due_by line (BeginLine timeout) old (Refused e) says due = absurd due
-due_by line (BenchValueLine value) old (Refused e) says due = absurd due
-due_by line value old Halted says due = tt
-due_by line value old Memory says due = tt
+pub taken : {Y : Type 0} (line : Text) (value : RehearseValue) (old new : Position) (r : Result (String Y) Stop) → says_at (words_of line) (is_begun old) ≡ Ok (Some value)
+    → IfOk r (λ text. Does line value old new (string_bytes text)) → IfOk r (λ text. TakesLine line old new (string_bytes text))
+taken line value old new (Ok text) says does = record { what = Some value; says = says; does = does }
+taken line value old new (Err stop) says does = tt
 
-pub taken : (line : Text) (value : RehearseValue) (old new : Standing) (text : List ℕ) → says_at (words_of line) (is_begun old) ≡ Ok (Some value) → Does line value old new text → TakesLine line old new text
-taken line value old new text says does = record { what = Some value; says = says; does = does }
+-- a line that is refused by its words
+pub words_due : (line : Text) (old : Position) (stop : Stop) → IsDueBy (says_at (words_of line) (is_begun old)) stop → IfHalted ⊥ stop → IsDue rules line old stop
+words_due line old (Refused fault) refused none = by_words refused
+words_due line old Halted refused none = absurd none
+words_due line old Memory refused none = tt
 
--- no fault of a script is a halt
-pub never_halts : (e : ScriptFault) → IfHalted ⊥ (stop_of e)
-never_halts fault.Unknown = tt
-never_halts fault.Place = tt
-never_halts fault.Words = tt
-never_halts fault.Number = tt
-never_halts fault.Hex = tt
-never_halts (fault.Path why) = tt
-never_halts fault.Order = tt
-never_halts fault.Illegal = tt
-never_halts fault.Memory = tt
+-- one at which the client halts
+halts_line : (line : Text) (value : RehearseValue) (old new : Position) → says_at (words_of line) (is_begun old) ≡ Ok (Some value) → HaltsSaid value old new → HaltsLine line old new
+halts_line line HistoryLine old new says halts = absurd halts
+halts_line line (BeginLine timeout) old new says halts = absurd halts
+halts_line line (BenchValueLine value) old new says halts = record { value = value; says = says; halts = halts }
 
+pub halts_so : {X : Type 0} (line : Text) (value : RehearseValue) (old new : Position) (r : Result X Stop) → says_at (words_of line) (is_begun old) ≡ Ok (Some value)
+    → IfErr r (IfHalted (HaltsSaid value old new)) → IfErr r (IfHalted (HaltsLine line old new))
+halts_so line value old new (Ok x) says halts = tt
+halts_so line value old new (Err (Refused fault)) says halts = tt
+halts_so line value old new (Err Halted) says halts = halts_line line value old new says halts
+halts_so line value old new (Err Memory) says halts = tt
+
+-- one that is not done by what its words say
+pub due : {X : Type 0} (line : Text) (value : RehearseValue) (old new : Position) (r : Result X Stop) → says_at (words_of line) (is_begun old) ≡ Ok (Some value)
+    → IfErr r (IsDueOf line value old) → IfErr r (IfHalted (HaltsSaid value old new)) → IfErr r (IsDue rules line old)
+due line value old new (Ok x) says refused halts = tt
+due line HistoryLine old new (Err (Refused fault)) says refused halts = by_history says refused
+due line (BeginLine timeout) old new (Err (Refused fault)) says refused halts = absurd refused
+due line (BenchValueLine value) old new (Err (Refused fault)) says refused halts = absurd refused
+due line value old new (Err Halted) says refused halts = (new, halts_line line value old new says halts)
+due line value old new (Err Memory) says refused halts = tt
+
+-- no fault of words is a halt
 pub none_halts : (halts : Type 0) (stop : Stop) → IfHalted ⊥ stop → IfHalted halts stop
-none_halts halts (Refused e) none = tt
+none_halts halts (Refused fault) none = tt
 none_halts halts Halted none = absurd none
 none_halts halts Memory none = tt
-
-pub halts_so : (line : Text) (value : RehearseValue) (old new : Standing) (stop : Stop) → says_at (words_of line) (is_begun old) ≡ Ok (Some value) → IfHalted (HaltsSaid value old new) stop
-    → IfHalted (HaltsLine line old new) stop
-halts_so line value old new (Refused e) says halts = tt
-halts_so line HistoryLine old new Halted says halts = absurd halts
-halts_so line (BeginLine timeout) old new Halted says halts = absurd halts
-halts_so line (BenchValueLine value) old new Halted says halts = record { value = value; says = says; halts = halts }
-halts_so line value old new Memory says halts = tt

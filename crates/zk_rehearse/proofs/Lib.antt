@@ -1,8 +1,8 @@
 pub mod GoodLemmas
 pub mod HeardLemmas
 pub mod DueLemmas
-pub mod ScriptLemmas
-pub mod StageLemmas
+pub mod RigLemmas
 pub mod Hearing
 pub mod Serving
 pub mod Agreeing
+mod ScriptLemmas

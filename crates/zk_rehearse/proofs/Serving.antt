@@ -25,6 +25,7 @@ use Rattle.zk_bench.specs.Front.{IsShort}
 use Rattle.zk_bench.specs.Served.{Served, Linked, started, is_open, connected, disconnected, advanced_by, without_output, Continues}
 use Rattle.zk_bench.specs.Stepping.{IsReady, phase_of, stage_of, shown_of, shown_watches}
 use Rattle.zk_bench.proofs.Stepped.{ready_disconnected, same_history}
+use Rattle.zk_script.specs.Said.{DoesSome}
 use Rattle.zk_replay.specs.CallLines.{Asked}
 use Rattle.zk_replay.specs.ClientLines.{ClientValue, CutLine, NowLine, CallLine, PeekLine, LastLine, ForgetLine, SavedLine}
 use Rattle.zk_rehearse.specs.BenchLines.{BenchValue, OpenLine, TakeLine, ProcessLine, DeliverLine, ExpireLine, GoodLine, RejoinLine, ClientValueLine}
@@ -32,7 +33,7 @@ use Rattle.zk_rehearse.specs.Heard.{heard_all}
 use Rattle.zk_rehearse.specs.Stages.{Scene, first_scene, with_bench, Plays, Opens, TakesNext, Processes, Come, Delivers, Calls, Rejoins, taken_up, DoesClientLine, DoesBench}
 use Rattle.zk_rehearse.specs.Coherent.{IsServed}
 use Rattle.zk_rehearse.specs.RehearseLines.{RehearseValue, HistoryLine, BeginLine, BenchValueLine}
-use Rattle.zk_rehearse.specs.Rehearsed.{Standing, Told, Staged, TakesLine, DoesSome, IsServedAt}
+use Rattle.zk_rehearse.specs.Rehearsed.{Position, Told, Staged, Does, TakesLine, IsServedAt}
 use Rattle.zk_rehearse.proofs.Hearing.{hears_all, ready_all}
 
 -- Phases, and numbers above 0
@@ -307,10 +308,10 @@ module _ (old new : Scene) (s : IsServed old) where
   bench_line_served (ClientValueLine value) text does = client_served value text does
 
 -- any line
-pub line_served : (line : Text) (old new : Standing) (text : List ℕ) → TakesLine line old new text → IsServedAt old → IsServedAt new
+pub line_served : (line : Text) (old new : Position) (text : List ℕ) → TakesLine line old new text → IsServedAt old → IsServedAt new
 line_served line old new text t served = by t.what old new t.does served
   where
-    by : (what : Option RehearseValue) (from to : Standing) → DoesSome line what from to text → IsServedAt from → IsServedAt to
+    by : (what : Option RehearseValue) (from to : Position) → DoesSome (Does line) what from to text → IsServedAt from → IsServedAt to
     by None from to does s = subst IsServedAt (sym does.0) s
     by (Some HistoryLine) (Told told) (Told after) does s = tt
     by (Some HistoryLine) (Told told) (Staged after) does s = absurd does

@@ -11,7 +11,7 @@ use Rattle.zk_cache.specs.declared.held.Kept.{Kept}
 use Rattle.zk_cache.specs.declared.held.Mark.{Mark}
 use Rattle.zk_cache.specs.declared.held.Mark.TheVariants.{Good, Stale}
 use Rattle.zk_turns.specs.View.{View}
-use Rattle.zk_script.specs.Answers.{name_text}
+use Rattle.zk_script.specs.Values.{name_text}
 
 -- both null, or the same bytes
 abbrev pub same_content : Option (List ℕ) → Option (List ℕ) → Bool

@@ -5,11 +5,11 @@ use Rattle.std.specs.Option.{option_map}
 use Rattle.zk_history.specs.History.{Text}
 use Rattle.zk_script.specs.declared.script_fault.ScriptFault.{ScriptFault}
 use Rattle.zk_script.specs.declared.script_fault.ScriptFault.TheVariants.{Unknown, Place, Words}
-use Rattle.zk_script.specs.declared.history_line.Keyword.{Keyword as HistoryKeyword}
-use Rattle.zk_script.specs.declared.history_line.Keyword.TheVariants.{Ask}
-use Rattle.zk_script.specs.HistoryLines.{keyword_of as history_keyword_of}
+use Rattle.zk_story.specs.declared.history_line.Keyword.{Keyword as HistoryKeyword}
+use Rattle.zk_story.specs.declared.history_line.Keyword.TheVariants.{Ask}
+use Rattle.zk_story.specs.HistoryLines.{keyword_of as history_keyword_of}
 use Rattle.zk_script.specs.Reads.{◌>>=◌, is_printed}
-use Rattle.zk_script.specs.Stories.{is_remark}
+use Rattle.zk_script.specs.Said.{says_by}
 use Rattle.zk_replay.specs.Reads.{timeout_at}
 use Rattle.zk_rehearse.specs.declared.said.Keyword.{Keyword}
 use Rattle.zk_rehearse.specs.declared.said.Keyword.TheVariants as keyword
@@ -69,6 +69,4 @@ known_at (Some word) begun words = placed_at word begun words
 -- line, a line that may not stand here, a fault of the words behind the first. The words of a line of the history are not looked
 -- at here.
 abbrev pub says_at : List Text → (begun : Bool) → Result (Option RehearseValue) ScriptFault
-says_at [] begun = Ok None
-says_at (first ∷ words) begun =
-    if is_remark first then Ok None else (known_at (keyword_of first) begun words >>= λ value. Ok (Some value))
+says_at words begun = says_by (λ first behind. known_at (keyword_of first) begun behind) words

@@ -17,12 +17,12 @@ use Rattle.zk_client.specs.Clients.{view_of}
 use Rattle.zk_bench.specs.Front.{IsShort, IsWhole}
 use Rattle.zk_bench.specs.Stepping.{shown_of, IsReady, TakesSome, ProcessesFirst}
 use Rattle.zk_bench.specs.Served.{Served, started, connected, disconnected, ended, is_open, advanced, without_output, Continues}
-use Rattle.zk_script.specs.Answers.{AreNames}
+use Rattle.zk_script.specs.Values.{AreNames}
 use Rattle.zk_replay.specs.CallLines.{Asked}
 use Rattle.zk_replay.specs.ClientLines.{ClientValue, CutLine, NowLine, CallLine}
 use Rattle.zk_replay.specs.Played.{DoesClient, HaltsAt, HaltsClient}
 use Rattle.zk_replay.specs.Shown.{TellsAll}
-use Rattle.zk_rehearse.specs.declared.stage.Stage.{Stage}
+use Rattle.zk_rehearse.specs.declared.rig.Rig.{Rig}
 use Rattle.zk_rehearse.specs.BenchLines.{BenchValue, OpenLine, TakeLine, ProcessLine, DeliverLine, ExpireLine, GoodLine, RejoinLine, ClientValueLine}
 use Rattle.zk_rehearse.specs.Good.{TellsPaths, agreeing_paths}
 use Rattle.zk_rehearse.specs.Heard.{heard_all}
@@ -34,8 +34,8 @@ pub record Scene : Type 0 where
   pub bench : Served
   pub called : Texts
 
-abbrev pub scene_of : {A : Type 0} → Stage A → Scene
-scene_of stage = record { timeout = stage.timeout; view = view_of stage.client; bench = stage.bench; called = names_of stage.called }
+abbrev pub scene_of : {A : Type 0} → Rig A → Scene
+scene_of rig = record { timeout = rig.timeout; view = view_of rig.client; bench = rig.bench; called = names_of rig.called }
 
 -- a new client, and servers over a history
 abbrev pub first_scene : ℤ → Kept → Scene

@@ -20,7 +20,7 @@ use std::collections::BTreeSet;
 use zk_cache::{DataAnswer, Mark};
 use zk_client::Client;
 use zk_history::{Data, DataStat, History, Names, Path, Side};
-use zk_script::answers::push_name;
+use zk_script::values::push_name;
 
 /// Whether data are the same: both null, or the same bytes.
 fn same_content<A: Allocator>(kept: &Option<Vec<u8, A>>, told: &Option<Vec<u8, A>>) -> bool

@@ -8,10 +8,9 @@ ghost use Rattle.zk_rehearse.specs.RehearseLines.{keyword_of, begin_at, placed_a
 use crate::bench_line::{BenchKeyword, BenchLine, bench_line_at};
 use std::alloc::Allocator;
 use zk_replay::reads::timeout_at;
-use zk_script::history_line::Keyword as HistoryKeyword;
-use zk_script::reads::{are_printed, is_named};
+use zk_script::reads::{are_printed, is_named, is_remark};
 use zk_script::script_fault::ScriptFault;
-use zk_script::story::is_remark;
+use zk_story::history_line::Keyword as HistoryKeyword;
 
 /// What a line does, by its first word.
 #[derive(Clone, Copy)]

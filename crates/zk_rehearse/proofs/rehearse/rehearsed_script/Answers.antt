@@ -1,6 +1,5 @@
-use Rattle.zk_script.specs.Scripts.{lines_of}
-use Rattle.zk_rehearse.proofs.ScriptLemmas.{none_yet}
+use Rattle.zk_rehearse.specs.Scripts.{first_position}
 use Rattle.zk_rehearse.proofs.rehearse.rehearsed_script.Goals as goal
 
-pub returns-in-Err : goal.returns-in-Err
-returns-in-Err g c = rw c.new.ensures.bytes (none_yet (lines_of c.args.script.now))
+pub returns : goal.returns
+returns g c = c.read_script-outcome.ensures first_position (c.new-rehearsal.ensures, tt)

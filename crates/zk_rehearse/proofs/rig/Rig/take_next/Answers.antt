@@ -1,5 +1,5 @@
 use Rattle.std.proofs.Common.{refl}
-use Rattle.zk_rehearse.proofs.stage.Stage.take_next.Goals as goal
+use Rattle.zk_rehearse.proofs.rig.Rig.take_next.Goals as goal
 
 pub returns-clause-ok : goal.returns-clause-ok
 returns-clause-ok g c =

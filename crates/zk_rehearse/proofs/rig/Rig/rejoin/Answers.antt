@@ -5,8 +5,8 @@ use Rattle.zk_client.specs.Clients.{view_of, saved_start}
 use Rattle.zk_turns.specs.Ranges.{IsResumable}
 use Rattle.zk_turns.specs.View.{view_at}
 use Rattle.zk_rehearse.specs.Stages.{scene_of}
-use Rattle.zk_rehearse.proofs.StageLemmas.{rejoins, resumes}
-use Rattle.zk_rehearse.proofs.stage.Stage.rejoin.Goals as goal
+use Rattle.zk_rehearse.proofs.RigLemmas.{rejoins, resumes}
+use Rattle.zk_rehearse.proofs.rig.Rig.rejoin.Goals as goal
 
 pub returns-clause-ok : goal.returns-clause-ok
 returns-clause-ok g c =

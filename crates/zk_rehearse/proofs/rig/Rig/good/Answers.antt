@@ -8,18 +8,18 @@ use Rattle.zk_history.specs.Kept.{history_of}
 use Rattle.zk_rehearse.specs.Good.{TellsPaths}
 use Rattle.zk_script.proofs.NamesLemmas.{sorted_map}
 use Rattle.zk_replay.proofs.SetLemmas.{same_members}
-use Rattle.zk_rehearse.proofs.stage.Stage.good.Goals as goal
+use Rattle.zk_rehearse.proofs.rig.Rig.good.Goals as goal
 
 pub returns : goal.returns
 returns g c =
-    let stage = c.args.self.now in
+    let rig = c.args.self.now in
     let told = c.in_ok-push_paths.ensures.told in
     record {
-      each = map string_bytes stage.called.keys;
-      are = record { ascending = sorted_map string_bytes (slice_cmp nat_cmp) stage.called.keys c.in_ok-push_paths.ensures.ordered; same = same_members stage.called };
+      each = map string_bytes rig.called.keys;
+      are = record { ascending = sorted_map string_bytes (slice_cmp nat_cmp) rig.called.keys c.in_ok-push_paths.ensures.ordered; same = same_members rig.called };
       told =
-          subst (λ text. TellsPaths (view_of stage.client) stage.bench.history (map string_bytes stage.called.keys) text)
+          subst (λ text. TellsPaths (view_of rig.client) rig.bench.history (map string_bytes rig.called.keys) text)
           (sym (told.2 ∙ ap (λ text. text ++ told.0) c.new-text.ensures.bytes))
-          (subst (λ history. TellsPaths (view_of stage.client) history (map string_bytes stage.called.keys) told.0) c.history-history.ensures told.1);
+          (subst (λ history. TellsPaths (view_of rig.client) history (map string_bytes rig.called.keys) told.0) c.history-history.ensures told.1);
       history = subst (λ history. IsHistory (history_of history)) c.history-history.ensures c.last_zxid-last.ensures.history;
     }

@@ -16,11 +16,11 @@ use zk_replay::call_line::Asked;
 use zk_replay::client_line::ClientLine;
 use zk_replay::driven::driven;
 use zk_replay::outputs::outputs_text;
-use zk_replay::stop::Stop;
+use zk_script::stop::Stop;
 
 /// A client that asks for a timeout in milliseconds, the servers over a history, and the paths that calls named.
 #[derive(Drop)]
-pub struct Stage<A: Allocator + Copy> {
+pub struct Rig<A: Allocator + Copy> {
     timeout: i32,
     client: Client<A>,
     bench: Bench<A>,
@@ -28,25 +28,26 @@ pub struct Stage<A: Allocator + Copy> {
     ghost above: { pos 0 <ℤ timeout },
 }
 
-impl<A: Allocator + Copy> Stage<A> {
+impl<A: Allocator + Copy> Rig<A> {
     ghost use Rattle.std.specs.Prelude.{◌≡◌, ◌≤◌, ◌<ℤ◌, pos, unsigned_abs, ℕ, List, IfOk, IfErr, take, string_bytes};
     ghost use Rattle.zk_client.specs.Views.{input_view};
     ghost use Rattle.zk_turns.specs.Turns.{Bytes, Call, new_start};
     ghost use Rattle.zk_turns.specs.Ranges.{IsResumable};
     ghost use Rattle.zk_replay.specs.ClientLines.{ClientValue};
     ghost use Rattle.zk_replay.specs.Lines.{client_value_of, asked_of};
-    ghost use Rattle.zk_replay.specs.Played.{HaltsAt, HaltsClient, IfHalted, IsWant};
+    ghost use Rattle.zk_replay.specs.Played.{HaltsAt, HaltsClient};
+    ghost use Rattle.zk_script.specs.Stops.{IfHalted, IsWant};
     ghost use Rattle.zk_rehearse.specs.BenchLines.{TakeLine, ProcessLine, bench_value_of, CanServe, IsServer};
     ghost use Rattle.zk_rehearse.specs.Good.{TellsPaths};
     ghost use Rattle.zk_rehearse.specs.Stages.{scene_of, first_scene, Plays, Delivers, Processes, TakesNext, Calls, Rejoins, TellsGood, DoesBench, DoesClientLine, HaltsBench};
 
     /// A new client, and servers over a history. None is connected.
-    pub fn new(alloc: A, timeout: i32, history: History<A>) -> Stage<A>
+    pub fn new(alloc: A, timeout: i32, history: History<A>) -> Rig<A>
         requires { pos 0 <ℤ timeout }
         ensures first { scene_of result ≡ first_scene timeout history }
         ensures resumable { IsResumable (new_start (unsigned_abs timeout)) }
     {
-        Stage {
+        Rig {
             timeout,
             client: Client::new(alloc, timeout),
             bench: Bench::new(alloc, history),
@@ -60,7 +61,9 @@ impl<A: Allocator + Copy> Stage<A> {
         ensures err { IfErr result IsWant }
         ensures halt { IfErr result (IfHalted (HaltsAt (input_view input) (scene_of self.old).view (scene_of self.new).view)) }
     {
-        let outputs = self.client.step(input)?;
+        let Ok(outputs) = self.client.step(input) else {
+            return Err(Stop::Halted);
+        };
         hear_all(&mut self.bench, outputs.as_slice())?;
         let text = outputs_text(alloc, outputs.as_slice())?;
         Ok(text)

@@ -5,12 +5,12 @@ use Rattle.std.specs.Prelude.{◌<ℤ◌, unsigned_abs, Option, Some, None}
 use Rattle.zk_bench.specs.Served.{Served, disconnected}
 use Rattle.zk_client.specs.Clients.{saved_start, Tells}
 use Rattle.zk_history.specs.Kept.{Kept}
-use Rattle.zk_script.specs.Stories as story
+use Rattle.zk_story.specs.Stories as story
 use Rattle.zk_session.specs.declared.fields.Saved.{Saved}
 use Rattle.zk_turns.specs.Ranges.{IsResumable}
 use Rattle.zk_turns.specs.Turns.{new_start}
 use Rattle.zk_turns.specs.View.{View, view_at}
-use Rattle.zk_rehearse.specs.Rehearsed.{Staged, Begins, is_begun, standing_by}
+use Rattle.zk_rehearse.specs.Rehearsed.{Staged, Begins, is_begun, position_by}
 use Rattle.zk_rehearse.specs.Stages.{Scene, first_scene, rejoined, taken_up}
 
 -- the scene that is made, in other words for the timeout and the history
@@ -18,8 +18,8 @@ pub made_so : (scene : Scene) (first timeout : ℤ) (told history : Kept) → sc
 made_so scene first timeout told history made asked same = made ∙ (ap (λ n. first_scene n told) asked ∙ ap (first_scene timeout) same)
 
 -- where no client was made, one is made over the history so far
-pub begins : (timeout : ℤ) (told : story.Standing) (old : Option Scene) (new : Scene) → is_begun (standing_by told old) ≡ false → pos 0 <ℤ timeout → IsResumable (new_start (unsigned_abs timeout))
-    → new ≡ first_scene timeout told.history → Begins timeout (standing_by told old) (Staged new)
+pub begins : (timeout : ℤ) (told : story.Position) (old : Option Scene) (new : Scene) → is_begun (position_by told old) ≡ false → pos 0 <ℤ timeout → IsResumable (new_start (unsigned_abs timeout))
+    → new ≡ first_scene timeout told.history → Begins timeout (position_by told old) (Staged new)
 begins timeout told None new first above resumable made = (ap Staged made, above, resumable)
 begins timeout told (Some scene) new first above resumable made = absurd (true≢false first)
 
