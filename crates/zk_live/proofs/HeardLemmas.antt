@@ -28,7 +28,7 @@ one_more (first ∷ outputs) output text told all tells =
 told_first : (output : Output) (given outputs : List Output) (text : List ℕ) → ((rest : List ℕ) → TellsEach given rest → TellsEach outputs rest)
     → TellsEach (if is_given output then output ∷ given else given) text → TellsEach (output ∷ outputs) text
 told_first (Send bytes) given outputs text all tells = ([], text, refl, all text tells, refl)
-told_first (Answer ticket outcome) given outputs text all tells = (tells.0, tells.1, tells.2, all tells.1 tells.3, tells.4)
+told_first (Answer ticket transcript) given outputs text all tells = (tells.0, tells.1, tells.2, all tells.1 tells.3, tells.4)
 told_first (Report path side event) given outputs text all tells = (tells.0, tells.1, tells.2, all tells.1 tells.3, tells.4)
 told_first (Enters state) given outputs text all tells = (tells.0, tells.1, tells.2, all tells.1 tells.3, tells.4)
 told_first (Drop fault) given outputs text all tells = (tells.0, tells.1, tells.2, all tells.1 tells.3, tells.4)

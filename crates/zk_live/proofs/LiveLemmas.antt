@@ -15,7 +15,7 @@ use Rattle.zk_replay.specs.Played.{start_of}
 use Rattle.zk_live.specs.Begins.{begun_by, Begins}
 use Rattle.zk_live.specs.Heard.{tape, Connects, Tape}
 use Rattle.zk_live.specs.LiveLines.{LiveValue, OpensLine, says_at}
-use Rattle.zk_live.specs.Lives.{position, rules, DoesLive, HaltsFirst, HaltsLine, HaltsLive, IsOutcome, IsUnread, Position, TakesLine}
+use Rattle.zk_live.specs.Lives.{position, rules, DoesLive, HaltsFirst, HaltsLine, HaltsLive, IsTranscript, IsUnread, Position, TakesLine}
 
 -- a line that says nothing
 pub took_none : (line : Text) (begun : Bool) (view : View) (text : List ℕ) → says_at (words_of line) begun ≡ Ok None → text ≡ []
@@ -41,12 +41,12 @@ due line old view after begun stops.Memory refused halted is = tt
 
 -- a client that was connected
 pub lived : (lines : List Text) (start : BeginValue) (view : View) (told text : List ℕ) (end : End) → begun_by lines ≡ Begins start
-    → Connects (tape (view_at (start_of start) []) []) (tape view told) → scripts.IsOutcome rules (progress (position view false) told) lines text end
-    → IsOutcome lines text end
+    → Connects (tape (view_at (start_of start) []) []) (tape view told) → scripts.IsTranscript rules (progress (position view false) told) lines text end
+    → IsTranscript lines text end
 lived lines start view told text end begins connects goes_on = inl (record { start = start; begins = begins; view = view; told = told; connects = connects; goes_on = goes_on })
 
 -- no client, and no text
-pub unlived : (lines : List Text) (text : List ℕ) (end : End) → text ≡ [] → IsUnread lines end → IsOutcome lines text end
+pub unlived : (lines : List Text) (text : List ℕ) (end : End) → text ≡ [] → IsUnread lines end → IsTranscript lines text end
 unlived lines text end none why = inr (none, why)
 
 -- a halt of a client that was made

@@ -76,7 +76,7 @@ pub record Lives (lines : List Text) (text : List ℕ) (end : End) : Type 0 wher
   pub view : View
   pub told : List ℕ
   pub connects : Connects (tape (view_at (start_of start) []) []) (tape view told)
-  pub goes_on : scripts.IsOutcome rules (progress (position view false) told) lines text end
+  pub goes_on : scripts.IsTranscript rules (progress (position view false) told) lines text end
 
 -- The client that lines ask for halts while it is connected.
 pub record HaltsFirst (lines : List Text) : Type 0 where
@@ -91,5 +91,5 @@ IsUnread lines Halted = HaltsFirst lines
 IsUnread lines end = Nothing lines end
 
 -- what lines printed, by how they ended
-abbrev pub IsOutcome : List Text → List ℕ → End → Type 0
-IsOutcome lines text end = Lives lines text end ⊎ ((text ≡ []) × IsUnread lines end)
+abbrev pub IsTranscript : List Text → List ℕ → End → Type 0
+IsTranscript lines text end = Lives lines text end ⊎ ((text ≡ []) × IsUnread lines end)

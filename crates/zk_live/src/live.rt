@@ -12,7 +12,7 @@ ghost use Rattle.zk_replay.specs.Played.{start_of};
 ghost use Rattle.zk_live.specs.Begins.{begun_by, Begins};
 ghost use Rattle.zk_live.specs.Lines.{live_value_of};
 ghost use Rattle.zk_live.specs.LiveLines.{DrivesLine, says_at};
-ghost use Rattle.zk_live.specs.Lives.{position_of, rules, DoesLive, HaltsLine, HaltsLive, IsOutcome, Position, TakesLine};
+ghost use Rattle.zk_live.specs.Lives.{position_of, rules, DoesLive, HaltsLine, HaltsLive, IsTranscript, Position, TakesLine};
 
 use crate::begun::begin_of;
 use crate::link::Link;
@@ -22,9 +22,9 @@ use zk_client::Input;
 use zk_link::{Dial, Ring};
 use zk_replay::begin_line::BeginLine;
 use zk_replay::client_line::ClientLine;
-use zk_replay::driven::{begun, driven};
+use zk_replay::driven::{driven, make_client};
 use zk_script::pieces::lines_of;
-use zk_script::script::{End, LineReader, Outcome, end_at, nothing, read_lines};
+use zk_script::script::{End, LineReader, Transcript, end_at, nothing, read_lines};
 use zk_script::stop::Stop;
 
 /// A client with its connection, what dials, the addresses that are tried, and whether lines have begun.
@@ -116,7 +116,7 @@ fn made<'a, A: Allocator + Copy, D: Dial>(
     ensures view { IfOk result (λ session. view_of session.link.joint.client ≡ view_at (start_of (begin_value_of begin)) []) }
     ensures begun { IfOk result (λ session. session.is_begun ≡ false) }
 {
-    let client = begun(alloc, begin)?;
+    let client = make_client(alloc, begin)?;
     Ok(Session {
         link: Link::new(alloc, client),
         dial,
@@ -130,10 +130,10 @@ fn connected<A: Allocator + Copy, D: Dial>(
     alloc: A,
     session: &mut Session<'_, A, D>,
     lines: &[&[u8]],
-) -> Outcome<A>
+) -> Transcript<A>
     requires { session.old.is_begun ≡ false }
     ensures { (begin : BeginValue) → begun_by (map (λ l. l.now) lines.now) ≡ Begins begin → view_of session.old.link.joint.client ≡ view_at (start_of begin) []
-        → IsOutcome (map (λ l. l.now) lines.now) (string_bytes result.text) result.end }
+        → IsTranscript (map (λ l. l.now) lines.now) (string_bytes result.text) result.end }
 {
     match session.act(alloc, LiveLine::Open) {
         Ok(text) => read_lines(alloc, session, lines, text),
@@ -148,16 +148,16 @@ fn live_from<A: Allocator + Copy, D: Dial>(
     addresses: &[&str],
     lines: &[&[u8]],
     begin: BeginLine<A>,
-) -> Outcome<A>
+) -> Transcript<A>
     requires can { CanBegin (begin_value_of begin) }
     requires first { begun_by (map (λ l. l.now) lines.now) ≡ Begins (begin_value_of begin) }
-    ensures { IsOutcome (map (λ l. l.now) lines.now) (string_bytes result.text) result.end }
+    ensures { IsTranscript (map (λ l. l.now) lines.now) (string_bytes result.text) result.end }
 {
     match made(alloc, dial, addresses, begin) {
         Ok(mut session) => {
-            let outcome = connected(alloc, &mut session, lines);
+            let transcript = connected(alloc, &mut session, lines);
             drop(session);
-            outcome
+            transcript
         }
         Err(_) => nothing(alloc, End::Memory),
     }
@@ -169,8 +169,8 @@ fn live_lines<A: Allocator + Copy, D: Dial>(
     dial: &mut D,
     addresses: &[&str],
     lines: &[&[u8]],
-) -> Outcome<A>
-    ensures { IsOutcome (map (λ l. l.now) lines.now) (string_bytes result.text) result.end }
+) -> Transcript<A>
+    ensures { IsTranscript (map (λ l. l.now) lines.now) (string_bytes result.text) result.end }
 {
     match begin_of(alloc, lines) {
         Ok(begin) => live_from(alloc, dial, addresses, lines, begin),
@@ -183,14 +183,14 @@ fn live_lines<A: Allocator + Copy, D: Dial>(
 /// The client asks for 30,000 milliseconds, or takes up the session that the first line says. It is connected before the lines
 /// are read. After a call, bytes are read until its answer has come or the connection has ended. An address is dialled, and a read
 /// waits, for the session's timeout at most. A read or a write that fails, a read for which nothing comes in that time, and an end of
-/// the bytes is a cut, and so is a wait of more than 1,000,000 pieces. Text comes with the outcome.
+/// the bytes is a cut, and so is a wait of more than 1,000,000 pieces. Text comes with the transcript.
 pub fn live<A: Allocator + Copy, D: Dial>(
     alloc: A,
     dial: &mut D,
     addresses: &[&str],
     script: &[u8],
-) -> Outcome<A>
-    ensures { IsOutcome (lines_of script.now) (string_bytes result.text) result.end }
+) -> Transcript<A>
+    ensures { IsTranscript (lines_of script.now) (string_bytes result.text) result.end }
 {
     match lines_of(alloc, script) {
         Ok(lines) => live_lines(alloc, dial, addresses, lines.as_slice()),

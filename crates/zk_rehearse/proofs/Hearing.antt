@@ -26,7 +26,7 @@ hears_all (Send bytes ∷ outputs) bench =
     let later = hears_all outputs (heard (Send bytes) bench) in
     let new : Shown = shown_of (heard_all outputs (heard (Send bytes) bench)) in
     hears_bytes bytes outputs (shown_of bench) new (subst (λ (old : Shown). Hears outputs old new) (sent_shown bench bytes bench.connection.phase) later)
-hears_all (Answer ticket outcome ∷ outputs) bench = hears_other (Answer ticket outcome) outputs (shown_of bench) (shown_of (heard_all outputs bench)) (λ bytes e. absurd cc) (hears_all outputs bench)
+hears_all (Answer ticket transcript ∷ outputs) bench = hears_other (Answer ticket transcript) outputs (shown_of bench) (shown_of (heard_all outputs bench)) (λ bytes e. absurd cc) (hears_all outputs bench)
 hears_all (Report path side event ∷ outputs) bench = hears_other (Report path side event) outputs (shown_of bench) (shown_of (heard_all outputs bench)) (λ bytes e. absurd cc) (hears_all outputs bench)
 hears_all (Enters Idle ∷ outputs) bench = hears_other (Enters Idle) outputs (shown_of bench) (shown_of (heard_all outputs bench)) (λ bytes e. absurd cc) (hears_all outputs bench)
 hears_all (Enters Connecting ∷ outputs) bench = hears_other (Enters Connecting) outputs (shown_of bench) (shown_of (heard_all outputs bench)) (λ bytes e. absurd cc) (hears_all outputs bench)
@@ -43,7 +43,7 @@ ready_sent bench bytes false ready = ready
 
 ready_heard : (output : Output) (bench : Served) → IsReady bench → IsReady (heard output bench)
 ready_heard (Send bytes) bench ready = ready_sent bench bytes (is_open bench.connection.phase) ready
-ready_heard (Answer ticket outcome) bench ready = ready
+ready_heard (Answer ticket transcript) bench ready = ready
 ready_heard (Report path side event) bench ready = ready
 ready_heard (Enters Idle) bench ready = ready
 ready_heard (Enters Connecting) bench ready = ready
