@@ -2,8 +2,8 @@
 
 ghost use Rattle.std.specs.Prelude.{List, ℕ, OnOk};
 ghost use Rattle.std.specs.Io.KnownBytes.{Appends};
-ghost use Rattle.zk_replay.specs.declared.replay.End.{End};
 ghost use Rattle.zk_script.specs.Scripts.{lines_of};
+ghost use Rattle.zk_script.specs.declared.script.End.{End};
 ghost use Rattle.zk_live.specs.Lives.{IsTranscript};
 
 use std::alloc::Global;

@@ -8,11 +8,9 @@ use refusing::Refusing;
 use std::alloc::{Allocator, Global};
 use std::io::{Read, Write};
 use zk_commands::command::Command;
-use zk_commands::history::history;
-use zk_commands::live::live_over;
-use zk_commands::rehearse::rehearse;
-use zk_commands::replay::replay;
+use zk_commands::plays::{LiveClient, RehearsedClient, ReplayedClient, ToldHistory};
 use zk_commands::run::run;
+use zk_commands::script::script_over;
 use zk_commands::show::show;
 use zk_commands::status::Status;
 use zk_link::{Clock, Dial};
@@ -60,11 +58,15 @@ fn perform<A: Allocator + Copy, D: Dial, I: Read, O: Write>(
 ) -> Status {
     match command {
         Command::Show { kind, hex } => show(alloc, out, errors, *kind, hex),
-        Command::History => history(alloc, input, out, errors),
-        Command::Replay => replay(alloc, input, out, errors),
-        Command::Rehearse => rehearse(alloc, input, out, errors),
+        Command::History => script_over(alloc, ToldHistory, input, out, errors),
+        Command::Replay => script_over(alloc, ReplayedClient, input, out, errors),
+        Command::Rehearse => script_over(alloc, RehearsedClient, input, out, errors),
         Command::Live { addresses } => {
-            live_over(alloc, dial, addresses.as_slice(), input, out, errors)
+            let plays = LiveClient {
+                dial,
+                addresses: addresses.as_slice(),
+            };
+            script_over(alloc, plays, input, out, errors)
         }
         Command::Watch { .. } => Status::Usage,
     }

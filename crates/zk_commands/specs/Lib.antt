@@ -5,6 +5,6 @@ pub mod Frame
 pub mod Kinds
 pub mod CommandLine
 pub mod Show
-pub mod History
+pub mod Scripts
 pub mod Written
 pub mod Run

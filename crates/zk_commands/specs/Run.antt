@@ -3,22 +3,20 @@ use Rattle.std.specs.Prelude.{◌≡◌, ℕ, ℤ, List, [], ◌∷◌, ◌++◌
 use Rattle.std.specs.Borrow.{Bor}
 use Rattle.std.specs.Global.{Global, Vec}
 use Rattle.clap.specs.Words.{Text}
-use Rattle.zk_script.specs.Scripts.{Answers, AnswersFirst, StopsAt, lines_of, refusal_text}
+use Rattle.zk_script.specs.Scripts.{lines_of, refusal_text}
+use Rattle.zk_script.specs.declared.script.End.{End}
+use Rattle.zk_script.specs.declared.script.End.TheVariants as ends
 use Rattle.zk_script.specs.declared.script_fault.ScriptFault.{ScriptFault}
-use Rattle.zk_commands.specs.declared.command.Command.TheVariants.{Show, History, Replay, Rehearse, Live, Watch}
+use Rattle.zk_commands.specs.declared.command.Command.{Command}
+use Rattle.zk_commands.specs.declared.command.Command.TheVariants.{Show, Watch}
 use Rattle.zk_commands.specs.declared.line_fault.LineFault.{LineFault}
 use Rattle.zk_commands.specs.declared.line_fault.LineFault.TheVariants.{Help, Refused}
 use Rattle.zk_commands.specs.declared.fault.ShowFault.{ShowFault}
 use Rattle.zk_commands.specs.declared.kind.Kind.{Kind}
 use Rattle.zk_commands.specs.CommandLine.{AsksFor, IsDue}
-use Rattle.zk_live.specs.Lives as sessions
 use Rattle.zk_watch.specs.Watching.{aims_of, IsPrinted}
 use Rattle.zk_watch.specs.declared.plan.Subject.{Subject}
-use Rattle.zk_rehearse.specs.Scripts as rehearsals
-use Rattle.zk_replay.specs.Replays as replays
-use Rattle.zk_replay.specs.declared.replay.End.{End}
-use Rattle.zk_replay.specs.declared.replay.End.TheVariants as ends
-use Rattle.zk_commands.specs.History.{IsInput}
+use Rattle.zk_commands.specs.Scripts.{IsInput, IsTranscriptOf}
 use Rattle.zk_commands.specs.Written.{IsHalt, RunsOut}
 use Rattle.zk_commands.specs.Show.{ShowsFrame, IsFault, fault_text}
 
@@ -32,49 +30,33 @@ abbrev pub IsRefusalText : LineFault → List ℕ → Type 0
 IsRefusalText (Refused text) told = told ≡ string_bytes text
 IsRefusalText fault told = ⊥
 
--- The words ask for a frame, and the text is what is shown of it; or for a history, and the text is the answers of all lines of
--- the input; or for a replay, a rehearsal or a session over connections, and it is what all its lines print; or for a watch, and it is
--- what that prints; or for help.
+-- The words ask for a frame, and the text is what is shown of it; or for a command that takes a script, and it is what all lines of
+-- the input print; or for a watch, and it is what that prints; or for help.
 pub data IsDone (words : List Text) (input : Option (List ℕ)) (text : List ℕ) : Type 0 where
   shows : (kind : Kind) (hex : Bor Text) → AsksFor words (Show kind hex) → ShowsFrame kind hex.now text → IsDone words input text
-  answers : (script : List ℕ) → AsksFor words History → IsInput input script → Answers (lines_of script) text → IsDone words input text
-  plays : (script : List ℕ) → AsksFor words Replay → IsInput input script → replays.Prints (lines_of script) text → IsDone words input text
-  rehearses : (script : List ℕ) → AsksFor words Rehearse → IsInput input script → rehearsals.Prints (lines_of script) text → IsDone words input text
-  lives : (addresses : Vec (Bor Text)) (script : List ℕ) → AsksFor words (Live addresses) → IsInput input script
-      → sessions.IsTranscript (lines_of script) text ends.Taken → IsDone words input text
+  plays : (command : Command) (script : List ℕ) → AsksFor words command → IsInput input script → IsTranscriptOf command (lines_of script) text ends.Taken
+      → IsDone words input text
   watches : (addresses : Vec (Bor Text)) (subjects : Vec (Subject Global)) (timeout_ms : ℤ) (for_ms : Option ℕ)
       → AsksFor words (Watch addresses subjects timeout_ms for_ms) → IsPrinted (aims_of subjects.items) text → IsDone words input text
   helps : (fault : LineFault) → IsDue words fault → IsHelpText fault text → IsDone words input text
 
--- The words ask for a frame that is refused, and nothing is written; or for a history, a replay, a rehearsal or a session with a line that is
--- refused, and the text is what stands before that line is answered or printed. What is told is the first fault.
+-- The words ask for a frame that is refused, and nothing is written; or for a command that takes a script, with a line that is refused, and
+-- the text is what stands before what that line would print. What is told is the first fault.
 pub data IsFaulty (words : List Text) (input : Option (List ℕ)) (text told : List ℕ) : Type 0 where
   unshown : (kind : Kind) (hex : Bor Text) (fault : ShowFault) → AsksFor words (Show kind hex) → IsFault kind hex.now fault → text ≡ []
       → told ≡ fault_text fault ++ 10 ∷ [] → IsFaulty words input text told
-  stopped : (script : List ℕ) (number : ℕ) (why : ScriptFault) → AsksFor words History → IsInput input script
-      → StopsAt (lines_of script) number why text → told ≡ refusal_text number why → IsFaulty words input text told
-  ended : (script : List ℕ) (number : ℕ) (why : ScriptFault) → AsksFor words Replay → IsInput input script
-      → replays.StopsAt (lines_of script) number why text → told ≡ refusal_text number why → IsFaulty words input text told
-  interrupted : (script : List ℕ) (number : ℕ) (why : ScriptFault) → AsksFor words Rehearse → IsInput input script
-      → rehearsals.StopsAt (lines_of script) number why text → told ≡ refusal_text number why → IsFaulty words input text told
-  broken : (addresses : Vec (Bor Text)) (script : List ℕ) (number : ℕ) (why : ScriptFault) → AsksFor words (Live addresses)
-      → IsInput input script → sessions.IsTranscript (lines_of script) text (ends.Refused number why) → told ≡ refusal_text number why
-      → IsFaulty words input text told
+  stopped : (command : Command) (script : List ℕ) (number : ℕ) (why : ScriptFault) → AsksFor words command → IsInput input script
+      → IsTranscriptOf command (lines_of script) text (ends.Refused number why) → told ≡ refusal_text number why → IsFaulty words input text told
 
 -- the words are refused
 abbrev pub IsRefusal : List Text → List ℕ → Type 0
 IsRefusal words told = (fault : LineFault) × IsDue words fault × IsRefusalText fault told
 
--- No answer is cut, and no line's print. The line of a halt stands behind them where a step of the client halted.
+-- No line's print is cut. The line of a halt stands behind them where a step of the client halted.
 pub data IsWhole (words : List Text) (input : Option (List ℕ)) (text : List ℕ) : Type 0 where
   nothing : text ≡ [] → IsWhole words input text
-  first : (script : List ℕ) → AsksFor words History → IsInput input script → AnswersFirst (lines_of script) text → IsWhole words input text
-  begins : (script printed told : List ℕ) (end : End) → AsksFor words Replay → IsInput input script
-      → replays.IsTranscript (lines_of script) printed end → RunsOut end told → text ≡ printed ++ told → IsWhole words input text
-  breaks_off : (script printed told : List ℕ) (end : End) → AsksFor words Rehearse → IsInput input script
-      → rehearsals.IsTranscript (lines_of script) printed end → RunsOut end told → text ≡ printed ++ told → IsWhole words input text
-  halts : (addresses : Vec (Bor Text)) (script printed told : List ℕ) (end : End) → AsksFor words (Live addresses) → IsInput input script
-      → sessions.IsTranscript (lines_of script) printed end → RunsOut end told → text ≡ printed ++ told → IsWhole words input text
+  begins : (command : Command) (script printed told : List ℕ) (end : End) → AsksFor words command → IsInput input script
+      → IsTranscriptOf command (lines_of script) printed end → RunsOut end told → text ≡ printed ++ told → IsWhole words input text
   ceases : (addresses : Vec (Bor Text)) (subjects : Vec (Subject Global)) (timeout_ms : ℤ) (for_ms : Option ℕ) (printed told : List ℕ)
       → AsksFor words (Watch addresses subjects timeout_ms for_ms) → IsPrinted (aims_of subjects.items) printed → IsHalt told
       → text ≡ printed ++ told → IsWhole words input text

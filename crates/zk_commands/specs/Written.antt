@@ -1,9 +1,9 @@
 -- What is written behind what the lines of a script print, by how they ended.
 use Rattle.std.specs.Prelude.{◌≡◌, ◌⊎◌, ℕ, List, [], codes}
-use Rattle.zk_replay.specs.declared.replay.End.{End}
-use Rattle.zk_replay.specs.declared.replay.End.TheVariants.{Halted, Memory}
 use Rattle.zk_script.specs.declared.input.InputFault.{InputFault}
 use Rattle.zk_script.specs.declared.input.InputFault.TheVariants as faults
+use Rattle.zk_script.specs.declared.script.End.{End}
+use Rattle.zk_script.specs.declared.script.End.TheVariants.{Halted, Memory}
 use Rattle.zk_commands.specs.declared.status.Status.{Status}
 use Rattle.zk_commands.specs.declared.status.Status.TheVariants as status
 

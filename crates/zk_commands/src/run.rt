@@ -7,11 +7,9 @@ ghost use Rattle.zk_commands.specs.CommandLine.{AsksFor};
 ghost use Rattle.zk_commands.specs.Run.{IsDone, IsFaulty, IsHelpText, IsRefusal, IsRefusalText, IsWhole};
 
 use crate::command::{Command, command_of};
-use crate::history::history;
 use crate::line_fault::LineFault;
-use crate::live::live_over;
-use crate::rehearse::rehearse;
-use crate::replay::replay;
+use crate::plays::{LiveClient, RehearsedClient, ReplayedClient, ToldHistory};
+use crate::script::script_over;
 use crate::show::show;
 use crate::status::Status;
 use crate::watch::watch_over;
@@ -50,11 +48,15 @@ fn perform<D: Dial + Drop, C: Clock + Drop, I: Read, O: Write, E: Write>(
 {
     match command {
         Command::Show { kind, hex } => show(alloc, out, errors, kind, hex),
-        Command::History => history(alloc, input, out, errors),
-        Command::Replay => replay(alloc, input, out, errors),
-        Command::Rehearse => rehearse(alloc, input, out, errors),
+        Command::History => script_over(alloc, ToldHistory, input, out, errors),
+        Command::Replay => script_over(alloc, ReplayedClient, input, out, errors),
+        Command::Rehearse => script_over(alloc, RehearsedClient, input, out, errors),
         Command::Live { addresses } => {
-            live_over(alloc, &mut dial, addresses.as_slice(), input, out, errors)
+            let plays = LiveClient {
+                dial: &mut dial,
+                addresses: addresses.as_slice(),
+            };
+            script_over(alloc, plays, input, out, errors)
         }
         Command::Watch {
             addresses,

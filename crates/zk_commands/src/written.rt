@@ -6,12 +6,12 @@ ghost use Rattle.zk_script.specs.Scripts.{refusal_text};
 ghost use Rattle.zk_script.specs.declared.script_fault.ScriptFault.{ScriptFault as Why};
 ghost use Rattle.zk_commands.specs.Written.{unread, RunsOut};
 
-use crate::history::tell;
 use crate::status::Status;
 use std::alloc::Allocator;
 use std::io::Write;
-use zk_replay::replay::{End, Transcript};
 use zk_script::input::InputFault;
+use zk_script::script::{End, Transcript};
+use zk_script::script_fault::ScriptFault;
 
 /// How a command ends whose script was not read.
 pub(crate) fn unread(fault: InputFault) -> Status
@@ -21,6 +21,17 @@ pub(crate) fn unread(fault: InputFault) -> Status
     match fault {
         InputFault::Unread => Status::Stream,
         InputFault::Memory => Status::Memory,
+    }
+}
+
+/// Tells which line is refused and why.
+fn tell<E: Write>(errors: &mut E, number: usize, why: ScriptFault) -> Status
+    ensures fault { result ≡ Status.Fault → Appends (E.contents errors.old) (E.contents errors.new) (refusal_text number why) }
+    ensures only { (result ≡ Status.Fault) ⊎ (result ≡ Status.Stream) }
+{
+    match writeln!(errors, "line {number}: {why}") {
+        Ok(()) => Status::Fault,
+        Err(_) => Status::Stream,
     }
 }
 

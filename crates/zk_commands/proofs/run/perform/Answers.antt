@@ -1,6 +1,7 @@
 use Rattle.std.proofs.Common.{[], ◌∷◌, ◌++◌, refl, inl, inr}
 use Rattle.zk_script.specs.Scripts.{refusal_text}
-use Rattle.zk_commands.specs.Run.{shows, answers, plays, rehearses, lives, watches, unshown, stopped, ended, interrupted, broken, nothing, first, begins, breaks_off, halts, ceases}
+use Rattle.zk_commands.specs.declared.command.Command.TheVariants.{History, Replay, Rehearse, Live}
+use Rattle.zk_commands.specs.Run.{shows, plays, watches, unshown, stopped, nothing, begins, ceases}
 use Rattle.zk_commands.specs.Show.{fault_text}
 use Rattle.zk_commands.proofs.ScriptLemmas.{appends_nothing}
 use Rattle.zk_commands.proofs.run.perform.Goals as goal
@@ -27,79 +28,78 @@ returns-in-Show-clause-memory g c = λ is words asks.
 
 pub returns-in-History-clause-done : goal.returns-in-History-clause-done
 returns-in-History-clause-done g c = λ is words asks.
-    let told = c.history.ensures.done is in
-    (told.1, answers told.0 (rw c.in-History.is at asks) told.2 told.3, told.4, c.history.ensures.silent (inl is))
+    let told = c.script_over.ensures.done is in
+    (told.1, plays History told.0 (rw c.in-History.is at asks) told.2 told.3, told.4, c.script_over.ensures.silent (inl is))
 
 pub returns-in-History-clause-fault : goal.returns-in-History-clause-fault
 returns-in-History-clause-fault g c = λ is words asks.
-    let told = c.history.ensures.fault is in
-    (told.1, refusal_text told.2 told.3, stopped told.0 told.2 told.3 (rw c.in-History.is at asks) told.4 told.5 refl, told.6, told.7)
+    let told = c.script_over.ensures.fault is in
+    (told.1, refusal_text told.2 told.3, stopped History told.0 told.2 told.3 (rw c.in-History.is at asks) told.4 told.5 refl, told.6, told.7)
 
 pub returns-in-History-clause-memory : goal.returns-in-History-clause-memory
 returns-in-History-clause-memory g c = λ is words asks.
-    let told = c.history.ensures.memory is in
-    (told.1, first told.0 (rw c.in-History.is at asks) told.2 told.3, told.4, c.history.ensures.silent (inr is))
+    let told = c.script_over.ensures.memory is in (
+      told.1 ++ told.2,
+      begins History told.0 told.1 told.2 told.3 (rw c.in-History.is at asks) told.4 told.5 told.6 refl,
+      told.7,
+      c.script_over.ensures.silent (inr is),
+    )
 
 pub returns-in-Replay-clause-done : goal.returns-in-Replay-clause-done
 returns-in-Replay-clause-done g c = λ is words asks.
-    let told = c.replay.ensures.done is in
-    (told.1, plays told.0 (rw c.in-Replay.is at asks) told.2 told.3, told.4, c.replay.ensures.silent (inl is))
+    let told = c.script_over.ensures.done is in
+    (told.1, plays Replay told.0 (rw c.in-Replay.is at asks) told.2 told.3, told.4, c.script_over.ensures.silent (inl is))
 
 pub returns-in-Replay-clause-fault : goal.returns-in-Replay-clause-fault
 returns-in-Replay-clause-fault g c = λ is words asks.
-    let told = c.replay.ensures.fault is in
-    (told.1, refusal_text told.2 told.3, ended told.0 told.2 told.3 (rw c.in-Replay.is at asks) told.4 told.5 refl, told.6, told.7)
+    let told = c.script_over.ensures.fault is in
+    (told.1, refusal_text told.2 told.3, stopped Replay told.0 told.2 told.3 (rw c.in-Replay.is at asks) told.4 told.5 refl, told.6, told.7)
 
 pub returns-in-Replay-clause-memory : goal.returns-in-Replay-clause-memory
 returns-in-Replay-clause-memory g c = λ is words asks.
-    let told = c.replay.ensures.memory is in (
+    let told = c.script_over.ensures.memory is in (
       told.1 ++ told.2,
-      begins told.0 told.1 told.2 told.3 (rw c.in-Replay.is at asks) told.4 told.5 told.6 refl,
+      begins Replay told.0 told.1 told.2 told.3 (rw c.in-Replay.is at asks) told.4 told.5 told.6 refl,
       told.7,
-      c.replay.ensures.silent (inr is),
+      c.script_over.ensures.silent (inr is),
     )
 
 pub returns-in-Rehearse-clause-done : goal.returns-in-Rehearse-clause-done
 returns-in-Rehearse-clause-done g c = λ is words asks.
-    let told = c.rehearse.ensures.done is in
-    (told.1, rehearses told.0 (rw c.in-Rehearse.is at asks) told.2 told.3, told.4, c.rehearse.ensures.silent (inl is))
+    let told = c.script_over.ensures.done is in
+    (told.1, plays Rehearse told.0 (rw c.in-Rehearse.is at asks) told.2 told.3, told.4, c.script_over.ensures.silent (inl is))
 
 pub returns-in-Rehearse-clause-fault : goal.returns-in-Rehearse-clause-fault
 returns-in-Rehearse-clause-fault g c = λ is words asks.
-    let told = c.rehearse.ensures.fault is in
-    (told.1, refusal_text told.2 told.3, interrupted told.0 told.2 told.3 (rw c.in-Rehearse.is at asks) told.4 told.5 refl, told.6, told.7)
+    let told = c.script_over.ensures.fault is in
+    (told.1, refusal_text told.2 told.3, stopped Rehearse told.0 told.2 told.3 (rw c.in-Rehearse.is at asks) told.4 told.5 refl, told.6, told.7)
 
 pub returns-in-Rehearse-clause-memory : goal.returns-in-Rehearse-clause-memory
 returns-in-Rehearse-clause-memory g c = λ is words asks.
-    let told = c.rehearse.ensures.memory is in (
+    let told = c.script_over.ensures.memory is in (
       told.1 ++ told.2,
-      breaks_off told.0 told.1 told.2 told.3 (rw c.in-Rehearse.is at asks) told.4 told.5 told.6 refl,
+      begins Rehearse told.0 told.1 told.2 told.3 (rw c.in-Rehearse.is at asks) told.4 told.5 told.6 refl,
       told.7,
-      c.rehearse.ensures.silent (inr is),
+      c.script_over.ensures.silent (inr is),
     )
 
 pub returns-in-Live-clause-done : goal.returns-in-Live-clause-done
 returns-in-Live-clause-done g c = λ is words asks.
-    let told = c.live_over.ensures.done is in
-    (told.1, lives c.in-Live.addresses told.0 (rw c.in-Live.is at asks) told.2 told.3, told.4, c.live_over.ensures.silent (inl is))
+    let told = c.script_over.ensures.done is in
+    (told.1, plays (Live c.in-Live.addresses) told.0 (rw c.in-Live.is at asks) told.2 told.3, told.4, c.script_over.ensures.silent (inl is))
 
 pub returns-in-Live-clause-fault : goal.returns-in-Live-clause-fault
 returns-in-Live-clause-fault g c = λ is words asks.
-    let told = c.live_over.ensures.fault is in (
-      told.1,
-      refusal_text told.2 told.3,
-      broken c.in-Live.addresses told.0 told.2 told.3 (rw c.in-Live.is at asks) told.4 told.5 refl,
-      told.6,
-      told.7,
-    )
+    let told = c.script_over.ensures.fault is in
+    (told.1, refusal_text told.2 told.3, stopped (Live c.in-Live.addresses) told.0 told.2 told.3 (rw c.in-Live.is at asks) told.4 told.5 refl, told.6, told.7)
 
 pub returns-in-Live-clause-memory : goal.returns-in-Live-clause-memory
 returns-in-Live-clause-memory g c = λ is words asks.
-    let told = c.live_over.ensures.memory is in (
+    let told = c.script_over.ensures.memory is in (
       told.1 ++ told.2,
-      halts c.in-Live.addresses told.0 told.1 told.2 told.3 (rw c.in-Live.is at asks) told.4 told.5 told.6 refl,
+      begins (Live c.in-Live.addresses) told.0 told.1 told.2 told.3 (rw c.in-Live.is at asks) told.4 told.5 told.6 refl,
       told.7,
-      c.live_over.ensures.silent (inr is),
+      c.script_over.ensures.silent (inr is),
     )
 
 pub returns-in-Watch-clause-done : goal.returns-in-Watch-clause-done
