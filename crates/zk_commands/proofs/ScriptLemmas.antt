@@ -1,5 +1,5 @@
 -- What a command comes to that reads and writes nothing.
-use Rattle.std.proofs.Common.{◌≡◌, ℕ, List, [], refl, sym}
+use Rattle.std.proofs.Common.{ℕ, List, [], refl, sym}
 use Rattle.std.specs.Prelude.{Option, Some, None}
 use Rattle.std.specs.Io.KnownBytes.{Appends}
 use Rattle.std.proofs.lemmas.List.{append-nil}

@@ -47,59 +47,59 @@ returns-in-History-clause-memory g c = λ is words asks.
 
 pub returns-in-Replay-clause-done : goal.returns-in-Replay-clause-done
 returns-in-Replay-clause-done g c = λ is words asks.
-    let told = c.script_over.ensures.done is in
-    (told.1, plays Replay told.0 (rw c.in-Replay.is at asks) told.2 told.3, told.4, c.script_over.ensures.silent (inl is))
+    let told = c.script_over-in-Replay.ensures.done is in
+    (told.1, plays Replay told.0 (rw c.in-Replay.is at asks) told.2 told.3, told.4, c.script_over-in-Replay.ensures.silent (inl is))
 
 pub returns-in-Replay-clause-fault : goal.returns-in-Replay-clause-fault
 returns-in-Replay-clause-fault g c = λ is words asks.
-    let told = c.script_over.ensures.fault is in
+    let told = c.script_over-in-Replay.ensures.fault is in
     (told.1, refusal_text told.2 told.3, stopped Replay told.0 told.2 told.3 (rw c.in-Replay.is at asks) told.4 told.5 refl, told.6, told.7)
 
 pub returns-in-Replay-clause-memory : goal.returns-in-Replay-clause-memory
 returns-in-Replay-clause-memory g c = λ is words asks.
-    let told = c.script_over.ensures.memory is in (
+    let told = c.script_over-in-Replay.ensures.memory is in (
       told.1 ++ told.2,
       begins Replay told.0 told.1 told.2 told.3 (rw c.in-Replay.is at asks) told.4 told.5 told.6 refl,
       told.7,
-      c.script_over.ensures.silent (inr is),
+      c.script_over-in-Replay.ensures.silent (inr is),
     )
 
 pub returns-in-Rehearse-clause-done : goal.returns-in-Rehearse-clause-done
 returns-in-Rehearse-clause-done g c = λ is words asks.
-    let told = c.script_over.ensures.done is in
-    (told.1, plays Rehearse told.0 (rw c.in-Rehearse.is at asks) told.2 told.3, told.4, c.script_over.ensures.silent (inl is))
+    let told = c.script_over-in-Rehearse.ensures.done is in
+    (told.1, plays Rehearse told.0 (rw c.in-Rehearse.is at asks) told.2 told.3, told.4, c.script_over-in-Rehearse.ensures.silent (inl is))
 
 pub returns-in-Rehearse-clause-fault : goal.returns-in-Rehearse-clause-fault
 returns-in-Rehearse-clause-fault g c = λ is words asks.
-    let told = c.script_over.ensures.fault is in
+    let told = c.script_over-in-Rehearse.ensures.fault is in
     (told.1, refusal_text told.2 told.3, stopped Rehearse told.0 told.2 told.3 (rw c.in-Rehearse.is at asks) told.4 told.5 refl, told.6, told.7)
 
 pub returns-in-Rehearse-clause-memory : goal.returns-in-Rehearse-clause-memory
 returns-in-Rehearse-clause-memory g c = λ is words asks.
-    let told = c.script_over.ensures.memory is in (
+    let told = c.script_over-in-Rehearse.ensures.memory is in (
       told.1 ++ told.2,
       begins Rehearse told.0 told.1 told.2 told.3 (rw c.in-Rehearse.is at asks) told.4 told.5 told.6 refl,
       told.7,
-      c.script_over.ensures.silent (inr is),
+      c.script_over-in-Rehearse.ensures.silent (inr is),
     )
 
 pub returns-in-Live-clause-done : goal.returns-in-Live-clause-done
 returns-in-Live-clause-done g c = λ is words asks.
-    let told = c.script_over.ensures.done is in
-    (told.1, plays (Live c.in-Live.addresses) told.0 (rw c.in-Live.is at asks) told.2 told.3, told.4, c.script_over.ensures.silent (inl is))
+    let told = c.script_over-in-Live.ensures.done is in
+    (told.1, plays (Live c.in-Live.addresses) told.0 (rw c.in-Live.is at asks) told.2 told.3, told.4, c.script_over-in-Live.ensures.silent (inl is))
 
 pub returns-in-Live-clause-fault : goal.returns-in-Live-clause-fault
 returns-in-Live-clause-fault g c = λ is words asks.
-    let told = c.script_over.ensures.fault is in
+    let told = c.script_over-in-Live.ensures.fault is in
     (told.1, refusal_text told.2 told.3, stopped (Live c.in-Live.addresses) told.0 told.2 told.3 (rw c.in-Live.is at asks) told.4 told.5 refl, told.6, told.7)
 
 pub returns-in-Live-clause-memory : goal.returns-in-Live-clause-memory
 returns-in-Live-clause-memory g c = λ is words asks.
-    let told = c.script_over.ensures.memory is in (
+    let told = c.script_over-in-Live.ensures.memory is in (
       told.1 ++ told.2,
       begins (Live c.in-Live.addresses) told.0 told.1 told.2 told.3 (rw c.in-Live.is at asks) told.4 told.5 told.6 refl,
       told.7,
-      c.script_over.ensures.silent (inr is),
+      c.script_over-in-Live.ensures.silent (inr is),
     )
 
 pub returns-in-Watch-clause-done : goal.returns-in-Watch-clause-done
