@@ -3,7 +3,7 @@
 ghost use Rattle.std.specs.Prelude.{◌≡◌, ◌≤◌, map, OnOk};
 ghost use Rattle.zk_history.specs.History.{path_of};
 ghost use Rattle.zk_history.specs.PathFault.{IsPath};
-ghost use Rattle.zk_history.specs.Replay.{children_after, children_after_all, children_at, count_after, count_after_all, count_at, IsCounted, IsCountedAt};
+ghost use Rattle.zk_history.specs.Replay.{children_after, children_after_all, children_at, count_after};
 ghost use Rattle.zk_history.specs.Made.{change_of, transaction_of};
 ghost use Rattle.zk_history.specs.NamesKept.{names_of};
 ghost use Rattle.std.specs.FinSet as set;
@@ -91,7 +91,8 @@ pub(crate) fn names_after_transactions<A: Allocator + Copy>(
     Ok(())
 }
 
-fn counted_after<A: Allocator>(change: &Change<A>, at: &str, count: u32) -> u32
+// How many children a path has after a change.
+pub(crate) fn counted_after<A: Allocator>(change: &Change<A>, at: &str, count: u32) -> u32
     requires path { IsPath at.now }
     requires fits { count ≤ 2147483647 }
     ensures { result ≡ count_after (path_of at.now) (change_of change.now) count }
@@ -113,35 +114,4 @@ fn counted_after<A: Allocator>(change: &Change<A>, at: &str, count: u32) -> u32
             }
         }
     }
-}
-
-fn counted_after_changes<A: Allocator>(changes: &[Change<A>], at: &str, count: u32) -> u32
-    requires path { IsPath at.now }
-    requires fits { IsCounted (path_of at.now) (map change_of changes.now) count }
-    ensures { result ≡ count_after_all (path_of at.now) (map change_of changes.now) count }
-{
-    let mut n = count;
-    for change in changes {
-        n = counted_after(change, at, n);
-    }
-    n
-}
-
-pub(crate) fn counted_after_transactions<A: Allocator>(
-    z: u64,
-    transactions: &[Transaction<A>],
-    at: &str,
-    count: u32,
-) -> u32
-    requires path { IsPath at.now }
-    requires fits { IsCountedAt z (path_of at.now) (map transaction_of transactions.now) count }
-    ensures { result ≡ count_at z (path_of at.now) (map transaction_of transactions.now) count }
-{
-    let mut n = count;
-    for transaction in transactions {
-        if transaction.zxid <= z {
-            n = counted_after_changes(transaction.changes.as_slice(), at, n);
-        }
-    }
-    n
 }

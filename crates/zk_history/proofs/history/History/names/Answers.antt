@@ -22,5 +22,5 @@ returns g c = λ name.
     c.in_ok-names_after_transactions-2.ensures ∙ ap (λ (xs : List (Transaction g.row.A.Denot)). children_at c.args.z p (map transaction_of xs) (names_of c.names_after_transactions.new.names)) c.as_slice-2.ensures.value ∙ ap (children_at c.args.z p kept.transactions) first in
     sym (contains-names_of c.names_after_transactions-2.new.names name)
     ∙ ap (λ (s : Names). set.contains s name) all
-    ∙ names_later-children kept c.args.z p c.self.invariant name
+    ∙ names_later-children kept c.args.z p c.self.invariant.0 name
     ∙ ap (λ (k : Kept). is_some (tree_at (history_of k) c.args.z (name ∷ p))) c.self.view_is
