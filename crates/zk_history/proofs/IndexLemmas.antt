@@ -1,5 +1,5 @@
 -- What the versions of each path tell of a history, and what one more change does to them.
-use Rattle.std.proofs.Common.{◌≡◌, ℕ, zero, suc, ◌+◌, ◌-◌, ◌<◌, ◌≤◌, ◌^◌, ℤ, pos, Bool, true, false, ◌||◌, cond, leb, eqb, List, [], ◌∷◌, ◌++◌, length, map, option_map, Option, Some, None, refl, sym, ap, subst, ◌∙◌, arith}
+use Rattle.std.proofs.Common.{◌≡◌, ℕ, zero, suc, ◌+◌, ◌-◌, ◌<◌, ◌≤◌, ◌^◌, ℤ, pos, Bool, true, false, ◌||◌, cond, leb, eqb, List, [], ◌∷◌, ◌++◌, length, map, option_map, Option, Some, None, is_some, refl, sym, ap, subst, ◌∙◌, arith}
 use Rattle.std.proofs.lemmas.Bool.{cond-true, cond-false, leb-true, eqb-true, false≢true}
 use Rattle.std.proofs.lemmas.Bool.Decides.{nat_tests}
 use Rattle.std.specs.Prelude.{slice_get}
@@ -8,13 +8,13 @@ use Rattle.std.specs.List.{list_all}
 use Rattle.std.specs.FinSet as set
 use Rattle.zk_history.specs.History.{Text, NodePath, Node, Tree, Change, Creates, Sets, Deletes, Transaction, path_eq, path_of, made, written, regrouped, apply_all, after, tree_at, size_of, newest, AreRising}
 use Rattle.zk_history.specs.PathFault.{IsPath}
-use Rattle.zk_history.specs.Replay.{node_after, node_after_all, node_at, count_after, count_after_all, count_at, children_at, CanRise, CanRiseAll, CanRiseAt}
+use Rattle.zk_history.specs.Replay.{node_after, node_after_all, node_at, count_after, count_after_all, count_at, Names, children_after, children_after_all, children_at, CanRise, CanRiseAll, CanRiseAt}
 use Rattle.zk_history.specs.Kept.{Kept, IsSound, history_of, first_tree, newest_tree, root_tree, empty_kept, IsAccepted, is_first, made_transaction, last_with, with_one, with_change, with_transaction, with_node, first_node}
 use Rattle.zk_history.specs.declared.version.Entry.{Entry}
 use Rattle.zk_history.specs.declared.version.Version.{Version}
 use Rattle.zk_history.specs.declared.version.Origin.{Origin}
 use Rattle.zk_history.specs.declared.version.Origin.TheVariants.{Root, First, Later}
-use Rattle.zk_history.specs.Versions.{version_at, last_version, AreOrdered, first_entry, entry_of, children_of, entry_made, entry_written, entry_regrouped, entry_after, version_after, with_version, versions_after, versions_before, without_last, touches, CanBeNoted, CanBeWritten, content_in, nth_change, last_transaction, next_origin, change_at, content_at, node_with, node_told, Tells, IsIndexed}
+use Rattle.zk_history.specs.Versions.{version_at, last_version, AreOrdered, first_entry, entry_of, children_of, entry_made, entry_written, entry_regrouped, entry_after, version_after, with_version, versions_after, versions_before, without_last, touches, CanBeNoted, CanBeWritten, content_in, nth_change, last_transaction, next_origin, change_at, content_at, node_with, node_told, Tells, names_by, names_told, ArePlaced, IsIndexed}
 use Rattle.zk_history.proofs.PathTexts.{path_eq-true}
 use Rattle.zk_history.proofs.TreeLemmas.{apply_all-node}
 use Rattle.zk_history.proofs.KeptLemmas.{later_node, names_first, count_first, count_later, first_rises, later_rises, newest-tree_at}
@@ -69,6 +69,17 @@ count-walk : (p : NodePath) (z : ℕ) (ts : List Transaction) (n : ℕ) → coun
 count-walk p z [] n = refl
 count-walk p z (one ∷ more) n = ap (λ h. count_at z p more (cond (leb one.zxid z) h n)) (count_all-walk p one.zxid one.time one.changes n) ∙ count-walk p z more (cond (leb one.zxid z) (walk_all (step_count p) one.zxid one.time one.changes n) n)
 
+abbrev step_names : NodePath → ℕ → ℤ → Change → Names → Names
+step_names p z t c names = children_after p c names
+
+names_all-walk : (p : NodePath) (z : ℕ) (t : ℤ) (cs : List Change) (names : Names) → children_after_all p cs names ≡ walk_all (step_names p) z t cs names
+names_all-walk p z t [] names = refl
+names_all-walk p z t (c ∷ cs) names = names_all-walk p z t cs (children_after p c names)
+
+names-walk : (p : NodePath) (z : ℕ) (ts : List Transaction) (names : Names) → children_at z p ts names ≡ walk (step_names p) z ts names
+names-walk p z [] names = refl
+names-walk p z (one ∷ more) names = ap (λ h. children_at z p more (cond (leb one.zxid z) h names)) (names_all-walk p one.zxid one.time one.changes names) ∙ names-walk p z more (cond (leb one.zxid z) (walk_all (step_names p) one.zxid one.time one.changes names) names)
+
 same_either : {S : Type 0} (b : Bool) (s : S) → cond b s s ≡ s
 same_either true s = refl
 same_either false s = refl
@@ -88,6 +99,13 @@ count-change z p (a ∷ ts) c n some =
     count-walk p z (last_with (a ∷ ts) c) n ∙ walk-change (step_count p) z a ts c n
     ∙ ap (λ h. cond (leb (last_transaction (a ∷ ts)).zxid z) (count_after p c h) h) (sym (count-walk p z (a ∷ ts) n))
 
+pub names-change : (z : ℕ) (p : NodePath) (ts : List Transaction) (c : Change) (names : Names) → (ts ≡ [] → ⊥)
+    → children_at z p (last_with ts c) names ≡ cond (leb (last_transaction ts).zxid z) (children_after p c (children_at z p ts names)) (children_at z p ts names)
+names-change z p [] c names some = absurd (some refl)
+names-change z p (a ∷ ts) c names some =
+    names-walk p z (last_with (a ∷ ts) c) names ∙ walk-change (step_names p) z a ts c names
+    ∙ ap (λ h. cond (leb (last_transaction (a ∷ ts)).zxid z) (children_after p c h) h) (sym (names-walk p z (a ∷ ts) names))
+
 -- one transaction more, with no change
 pub node-empty : (z : ℕ) (p : NodePath) (ts : List Transaction) (zxid : ℕ) (t : ℤ) (held : Option Node) → node_at z p (ts ++ made_transaction zxid t [] ∷ []) held ≡ node_at z p ts held
 node-empty z p ts zxid t held =
@@ -97,7 +115,15 @@ pub count-empty : (z : ℕ) (p : NodePath) (ts : List Transaction) (zxid : ℕ) 
 count-empty z p ts zxid t n =
     count-walk p z (ts ++ made_transaction zxid t [] ∷ []) n ∙ walk-push (step_count p) z ts (made_transaction zxid t []) n ∙ same_either (leb zxid z) (walk (step_count p) z ts n) ∙ sym (count-walk p z ts n)
 
+pub names-empty : (z : ℕ) (p : NodePath) (ts : List Transaction) (zxid : ℕ) (t : ℤ) (names : Names) → children_at z p (ts ++ made_transaction zxid t [] ∷ []) names ≡ children_at z p ts names
+names-empty z p ts zxid t names =
+    names-walk p z (ts ++ made_transaction zxid t [] ∷ []) names ∙ walk-push (step_names p) z ts (made_transaction zxid t []) names ∙ same_either (leb zxid z) (walk (step_names p) z ts names) ∙ sym (names-walk p z ts names)
+
 -- one node of the first tree more
+pub names-node : (p : NodePath) (ts : List Transaction) (t : ℤ) (c : Change) (names : Names) → children_at 0 p (ts ++ made_transaction 0 t (c ∷ []) ∷ []) names ≡ children_after p c (children_at 0 p ts names)
+names-node p ts t c names =
+    names-walk p 0 (ts ++ made_transaction 0 t (c ∷ []) ∷ []) names ∙ walk-push (step_names p) 0 ts (made_transaction 0 t (c ∷ [])) names ∙ ap (children_after p c) (sym (names-walk p 0 ts names))
+
 pub count-node : (p : NodePath) (ts : List Transaction) (t : ℤ) (c : Change) (n : ℕ) → count_at 0 p (ts ++ made_transaction 0 t (c ∷ []) ∷ []) n ≡ count_after p c (count_at 0 p ts n)
 count-node p ts t c n =
     count-walk p 0 (ts ++ made_transaction 0 t (c ∷ []) ∷ []) n ∙ walk-push (step_count p) 0 ts (made_transaction 0 t (c ∷ [])) n ∙ ap (count_after p c) (sym (count-walk p 0 ts n))
@@ -252,35 +278,79 @@ count_untouched p (Sets path content) n e = refl
 count_untouched p (Deletes []) n e = refl
 count_untouched p (Deletes (name ∷ path)) n e = cond-false (path_eq p path) (n - 1) n (or_false (path_eq p (name ∷ path)) (path_eq p path) e).1
 
+pub names_untouched : (p : NodePath) (c : Change) (names : Names) → touches p c ≡ false → children_after p c names ≡ names
+names_untouched p (Creates [] content owner) names e = refl
+names_untouched p (Creates (name ∷ path) content owner) names e = cond-false (path_eq p path) (set.insert names name) names (or_false (path_eq p (name ∷ path)) (path_eq p path) e).1
+names_untouched p (Sets path content) names e = refl
+names_untouched p (Deletes []) names e = refl
+names_untouched p (Deletes (name ∷ path)) names e = cond-false (path_eq p path) (set.remove names name) names (or_false (path_eq p (name ∷ path)) (path_eq p path) e).1
+
+-- the changes that versions name
+
+placed_some : (kept : Kept) (s : Origin) → is_some (change_at kept s) ≡ true → (c : Change) × (change_at kept s ≡ Some c)
+placed_some kept s h = go (change_at kept s) refl h where
+  go : (o : Option Change) → change_at kept s ≡ o → is_some o ≡ true → (c : Change) × (change_at kept s ≡ Some c)
+  go None is h = absurd (false≢true h)
+  go (Some c) is h = (c, is)
+
+pub ArePlaced-grows : (kept more : Kept) (vs : List Version) → Grows kept more → ArePlaced kept vs → ArePlaced more vs
+ArePlaced-grows kept more [] grows h = tt
+ArePlaced-grows kept more (v ∷ vs) grows h =
+    let c = placed_some kept v.origin h.0 in
+    (ap is_some (grows v.origin c.0 c.1), ArePlaced-grows kept more vs grows h.1)
+
+pub ArePlaced-push : (kept : Kept) (vs : List Version) (v : Version) → ArePlaced kept vs → is_some (change_at kept v.origin) ≡ true → ArePlaced kept (vs ++ v ∷ [])
+ArePlaced-push kept [] v h k = (k, tt)
+ArePlaced-push kept (w ∷ vs) v h k = (h.0, ArePlaced-push kept vs v h.1 k)
+
+names_told-grows : (kept more : Kept) (p : NodePath) (z : ℕ) (vs : List Version) (names : Names) → Grows kept more → ArePlaced kept vs → names_told more p z vs names ≡ names_told kept p z vs names
+names_told-grows kept more p z [] names grows h = refl
+names_told-grows kept more p z (v ∷ vs) names grows h =
+    let c = placed_some kept v.origin h.0 in
+    let same : names_by p (change_at more v.origin) names ≡ names_by p (change_at kept v.origin) names = ap (λ o. names_by p o names) (grows v.origin c.0 c.1 ∙ sym c.1) in
+    ap (λ n. names_told more p z vs (cond (leb v.zxid z) n names)) same ∙ names_told-grows kept more p z vs (cond (leb v.zxid z) (names_by p (change_at kept v.origin) names) names) grows h.1
+
+names_told-push : (kept : Kept) (p : NodePath) (z : ℕ) (vs : List Version) (v : Version) (names : Names)
+    → names_told kept p z (vs ++ v ∷ []) names ≡ cond (leb v.zxid z) (names_by p (change_at kept v.origin) (names_told kept p z vs names)) (names_told kept p z vs names)
+names_told-push kept p z [] v names = refl
+names_told-push kept p z (w ∷ vs) v names = names_told-push kept p z vs v (cond (leb w.zxid z) (names_by p (change_at kept w.origin) names) names)
+
 -- what one path's versions tell
 
 pub record Told_at (kept : Kept) (versions : List Version) (p : NodePath) (z : ℕ) : Type 0 where
   pub node : Tells kept (entry_of p (version_at z versions None)) (tree_at (history_of kept) z p)
   pub count : children_of (version_at z versions None) ≡ count_at z p kept.transactions (count_at 0 p kept.nodes 0)
+  pub names : names_told kept p z versions set.empty ≡ children_at z p kept.transactions (children_at 0 p kept.nodes set.empty)
 
 -- what a change does to the history at a path and a zxid
 pub record Changes_at (kept more : Kept) (zxid : ℕ) (t : ℤ) (c : Change) (p : NodePath) (z : ℕ) : Type 0 where
   pub node : tree_at (history_of more) z p ≡ cond (leb zxid z) (node_after zxid t p c (tree_at (history_of kept) z p)) (tree_at (history_of kept) z p)
   pub count : count_at z p more.transactions (count_at 0 p more.nodes 0) ≡ cond (leb zxid z) (count_after p c (count_at z p kept.transactions (count_at 0 p kept.nodes 0))) (count_at z p kept.transactions (count_at 0 p kept.nodes 0))
+  pub names : children_at z p more.transactions (children_at 0 p more.nodes set.empty)
+      ≡ cond (leb zxid z) (children_after p c (children_at z p kept.transactions (children_at 0 p kept.nodes set.empty))) (children_at z p kept.transactions (children_at 0 p kept.nodes set.empty))
 
 -- where nothing happens to a path
-unchanged : (kept more : Kept) (zxid : ℕ) (t : ℤ) (c : Change) (p : NodePath) (z : ℕ) (versions : List Version) → Grows kept more → Changes_at kept more zxid t c p z → touches p c ≡ false
+unchanged : (kept more : Kept) (zxid : ℕ) (t : ℤ) (c : Change) (p : NodePath) (z : ℕ) (versions : List Version) → Grows kept more → Changes_at kept more zxid t c p z → touches p c ≡ false → ArePlaced kept versions
     → Told_at kept versions p z → Told_at more versions p z
-unchanged kept more zxid t c p z versions grows changes far told =
+unchanged kept more zxid t c p z versions grows changes far placed told =
     let node : tree_at (history_of more) z p ≡ tree_at (history_of kept) z p =
     changes.node ∙ ap (λ n. cond (leb zxid z) n (tree_at (history_of kept) z p)) (node_untouched zxid t p c (tree_at (history_of kept) z p) far) ∙ same_either (leb zxid z) (tree_at (history_of kept) z p) in
     let n = count_at z p kept.transactions (count_at 0 p kept.nodes 0) in
     let count : count_at z p more.transactions (count_at 0 p more.nodes 0) ≡ count_at z p kept.transactions (count_at 0 p kept.nodes 0) =
     changes.count ∙ ap (λ m. cond (leb zxid z) m n) (count_untouched p c n far) ∙ same_either (leb zxid z) n in
+    let all = children_at z p kept.transactions (children_at 0 p kept.nodes set.empty) in
+    let names : children_at z p more.transactions (children_at 0 p more.nodes set.empty) ≡ all =
+    changes.names ∙ ap (λ m. cond (leb zxid z) m all) (names_untouched p c all far) ∙ same_either (leb zxid z) all in
     record {
+      names = names_told-grows kept more p z versions set.empty grows placed ∙ told.names ∙ sym names;
       node = subst (Tells more (entry_of p (version_at z versions None))) (sym node) (Tells-grows kept more (entry_of p (version_at z versions None)) (tree_at (history_of kept) z p) grows told.node);
       count = told.count ∙ sym count;
     }
 
 -- where a version is added
 changed : (kept more : Kept) (zxid high : ℕ) (t : ℤ) (s : Origin) (c : Change) (p : NodePath) (z : ℕ) (versions : List Version) → Grows kept more → change_at more s ≡ Some c → Changes_at kept more zxid t c p z
-    → AreOrdered 0 versions high → high ≤ zxid → Told_at kept versions p z → Told_at more (versions ++ version_after zxid t s p c (last_version versions) ∷ []) p z
-changed kept more zxid high t s c p z versions grows is changes ordered low told =
+    → AreOrdered 0 versions high → high ≤ zxid → ArePlaced kept versions → Told_at kept versions p z → Told_at more (versions ++ version_after zxid t s p c (last_version versions) ∷ []) p z
+changed kept more zxid high t s c p z versions grows is changes ordered low placed told =
     let v = version_after zxid t s p c (last_version versions) in
     let old = version_at z versions None in
     let tree = tree_at (history_of kept) z p in
@@ -298,7 +368,12 @@ changed kept more zxid high t s c p z versions grows is changes ordered low told
           )
       | false ↦ λ e. (Tells-grows kept more (entry_of p old) tree grows told.node, told.count)
     ] refl in
+    let before : names_told more p z versions set.empty ≡ children_at z p kept.transactions (children_at 0 p kept.nodes set.empty) = names_told-grows kept more p z versions set.empty grows placed ∙ told.names in
     record {
+      names =
+          names_told-push more p z versions v set.empty
+          ∙ ap (λ o. cond (leb zxid z) (names_by p o (names_told more p z versions set.empty)) (names_told more p z versions set.empty)) is
+          ∙ ap (λ n. cond (leb zxid z) (children_after p c n) n) before ∙ sym changes.names;
       node = subst (λ o. Tells more (entry_of p o) (tree_at (history_of more) z p)) (sym here) (subst (Tells more (entry_of p (cond (leb zxid z) (Some v) old))) (sym changes.node) both.0);
       count = ap children_of here ∙ both.1 ∙ sym changes.count;
     }
@@ -309,15 +384,23 @@ pub IsIndexed-step : (kept more : Kept) (zxid : ℕ) (t : ℤ) (s : Origin) (c :
     → ((text : Text) → IsPath text → new text ≡ versions_after zxid t s text c (old text)) → IsIndexed kept old → IsIndexed more new
 IsIndexed-step kept more zxid t s c old new grows is changes low top next indexed =
     let told : (text : Text) → IsPath text → (z : ℕ) → Told_at more (new text) (path_of text) z = λ text path z.
-        let before : Told_at kept (old text) (path_of text) z = record { node = indexed.nodes text path z; count = indexed.counts text path z } in
+        let before : Told_at kept (old text) (path_of text) z = record { node = indexed.nodes text path z; count = indexed.counts text path z; names = indexed.names text path z } in
         subst (λ vs. Told_at more vs (path_of text) z) (sym (next text path))
         (elim (touches (path_of text) c) as (λ b. touches (path_of text) c ≡ b → Told_at more (cond b (with_version zxid t s text c (old text)) (old text)) (path_of text) z) [
-          | true ↦ λ e. changed kept more zxid (newest 0 kept.transactions) t s c (path_of text) z (old text) grows is (changes (path_of text) z) (indexed.ordered text path) low before
-          | false ↦ λ e. unchanged kept more zxid t c (path_of text) z (old text) grows (changes (path_of text) z) e before
+          | true ↦ λ e. changed kept more zxid (newest 0 kept.transactions) t s c (path_of text) z (old text) grows is (changes (path_of text) z) (indexed.ordered text path) low (indexed.placed text path) before
+          | false ↦ λ e. unchanged kept more zxid t c (path_of text) z (old text) grows (changes (path_of text) z) e (indexed.placed text path) before
         ] refl) in
     record {
       nodes = λ text path z. (told text path z).node;
       counts = λ text path z. (told text path z).count;
+      names = λ text path z. (told text path z).names;
+      placed = λ text path.
+          let kept_placed = ArePlaced-grows kept more (old text) grows (indexed.placed text path) in
+          subst (ArePlaced more) (sym (next text path))
+          (elim (touches (path_of text) c) as (λ b. ArePlaced more (cond b (with_version zxid t s text c (old text)) (old text))) [
+            | true ↦ ArePlaced-push more (old text) (version_after zxid t s (path_of text) c (last_version (old text))) kept_placed (ap is_some is)
+            | false ↦ kept_placed
+          ]);
       ordered = λ text path.
           subst (λ high. AreOrdered 0 (new text) high) (sym top) (subst (λ vs. AreOrdered 0 vs zxid) (sym (next text path))
           (elim (touches (path_of text) c) as (λ b. AreOrdered 0 (cond b (with_version zxid t s text c (old text)) (old text)) zxid) [
@@ -330,6 +413,8 @@ pub IsIndexed-same : (kept : Kept) (old new : Text → List Version) → ((text 
 IsIndexed-same kept old new same indexed = record {
   nodes = λ text path z. subst (λ vs. Tells kept (entry_of (path_of text) (version_at z vs None)) (tree_at (history_of kept) z (path_of text))) (sym (same text path)) (indexed.nodes text path z);
   counts = λ text path z. subst (λ vs. children_of (version_at z vs None) ≡ count_at z (path_of text) kept.transactions (count_at 0 (path_of text) kept.nodes 0)) (sym (same text path)) (indexed.counts text path z);
+  names = λ text path z. subst (λ vs. names_told kept (path_of text) z vs set.empty ≡ children_at z (path_of text) kept.transactions (children_at 0 (path_of text) kept.nodes set.empty)) (sym (same text path)) (indexed.names text path z);
+  placed = λ text path. subst (ArePlaced kept) (sym (same text path)) (indexed.placed text path);
   ordered = λ text path. subst (λ vs. AreOrdered 0 vs (newest 0 kept.transactions)) (sym (same text path)) (indexed.ordered text path);
 }
 
@@ -338,6 +423,8 @@ pub IsIndexed-empty : (versions : Text → List Version) → ((text : Text) → 
 IsIndexed-empty versions none = record {
   nodes = λ text path z. subst (λ vs. Tells empty_kept (entry_of (path_of text) (version_at z vs None)) (root_tree (path_of text))) (sym (none text)) (tells_first empty_kept (path_of text));
   counts = λ text path z. ap (λ vs. children_of (version_at z vs None)) (none text);
+  names = λ text path z. ap (λ vs. names_told empty_kept (path_of text) z vs set.empty) (none text);
+  placed = λ text path. subst (ArePlaced empty_kept) (sym (none text)) tt;
   ordered = λ text path. subst (λ vs. AreOrdered 0 vs 0) (sym (none text)) (omega arith);
 }
 
@@ -377,6 +464,7 @@ IsIndexed-change kept c old new some next indexed =
       node = sym (later_node (with_change kept c) z p) ∙ node-change z p kept.transactions c (first_tree kept p) some
           ∙ ap (λ n. cond (leb last.zxid z) (node_after last.zxid last.time p c n) n) (later_node kept z p);
       count = count-change z p kept.transactions c (count_at 0 p kept.nodes 0) some;
+      names = names-change z p kept.transactions c (children_at 0 p kept.nodes set.empty) some;
     })
     (omega (arith, top)) (newest_with 0 kept.transactions c ∙ top) next indexed
 
@@ -391,6 +479,10 @@ IsIndexed-transaction kept zxid t versions low indexed =
           subst (Tells more (entry_of p (version_at z (versions text) None))) same
           (Tells-grows kept more (entry_of p (version_at z (versions text) None)) (tree_at (history_of kept) z p) (grows-transaction kept zxid t) (indexed.nodes text path z));
       counts = λ text path z. indexed.counts text path z ∙ sym (count-empty z (path_of text) kept.transactions zxid t (count_at 0 (path_of text) kept.nodes 0));
+      names = λ text path z.
+          names_told-grows kept more (path_of text) z (versions text) set.empty (grows-transaction kept zxid t) (indexed.placed text path) ∙ indexed.names text path z
+          ∙ sym (names-empty z (path_of text) kept.transactions zxid t (children_at 0 (path_of text) kept.nodes set.empty));
+      placed = λ text path. ArePlaced-grows kept more (versions text) (grows-transaction kept zxid t) (indexed.placed text path);
       ordered = λ text path.
           let top = newest_push 0 kept.transactions (made_transaction zxid t []) in
           AreOrdered-higher 0 (newest 0 kept.transactions) (newest 0 more.transactions) (versions text) (indexed.ordered text path) (omega (arith, top, low));
@@ -414,6 +506,10 @@ IsIndexed-node kept p content t old new none next indexed =
           ap (λ ts. count_at z q ts (count_at 0 q more.nodes 0)) none ∙ count-node q kept.nodes t c 0
           ∙ ap (count_after q c) (ap (λ ts. count_at z q ts (count_at 0 q kept.nodes 0)) (sym none))
           ∙ sym (cond-true (leb 0 z) (count_after q c (count_at z q kept.transactions (count_at 0 q kept.nodes 0))) (count_at z q kept.transactions (count_at 0 q kept.nodes 0)) (zero_low z));
+      names =
+          ap (λ ts. children_at z q ts (children_at 0 q more.nodes set.empty)) none ∙ names-node q kept.nodes t c set.empty
+          ∙ ap (children_after q c) (ap (λ ts. children_at z q ts (children_at 0 q kept.nodes set.empty)) (sym none))
+          ∙ sym (cond-true (leb 0 z) (children_after q c (children_at z q kept.transactions (children_at 0 q kept.nodes set.empty))) (children_at z q kept.transactions (children_at 0 q kept.nodes set.empty)) (zero_low z));
     })
     (omega (arith, low)) low next indexed
 

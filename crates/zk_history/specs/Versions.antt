@@ -1,11 +1,12 @@
 -- What a history knows of each path: the versions of its node, in the order of the changes that made them.
-use Rattle.std.specs.Prelude.{ℕ, ℤ, pos, ◌≡◌, ◌<◌, ◌≤◌, ◌+◌, ◌-◌, nat_le, Bool, true, false, ◌||◌, if◌then◌else◌, List, [], ◌∷◌, ◌++◌, length, take, Option, Some, None, option_map, bytes_eq, slice_get, ⊤, String}
+use Rattle.std.specs.Prelude.{ℕ, ℤ, pos, ◌≡◌, ◌<◌, ◌≤◌, ◌+◌, ◌-◌, nat_le, Bool, true, false, ◌||◌, if◌then◌else◌, List, [], ◌∷◌, ◌++◌, length, take, Option, Some, None, option_map, bytes_eq, slice_get, is_some, ⊤, String}
+use Rattle.std.specs.FinSet as set
 use Rattle.std.specs.Option.{option_map_or}
 use Rattle.std.specs.BTreeMap.{BTreeMap, get_by_text}
 use Rattle.std.specs.declared.vec.Vec.{Vec}
 use Rattle.zk_history.specs.History.{Text, NodePath, path_eq, path_of, Node, Change, Creates, Sets, Deletes, Transaction, tree_at, newest}
 use Rattle.zk_history.specs.PathFault.{IsPath}
-use Rattle.zk_history.specs.Replay.{count_after, count_at}
+use Rattle.zk_history.specs.Replay.{Names, children_after, children_at, count_after, count_at}
 use Rattle.zk_history.specs.Kept.{Kept, history_of, made_transaction}
 use Rattle.zk_history.specs.declared.version.Entry.{Entry}
 use Rattle.zk_history.specs.declared.version.Version.{Version}
@@ -169,8 +170,25 @@ node_told kept e = option_map (node_with e) (content_at kept e.origin)
 abbrev pub Tells : Kept → Option Entry → Option Node → Type 0
 Tells kept entry node = option_map (node_told kept) entry ≡ option_map Some node
 
+-- a set of children's names after a change, if there is one
+abbrev pub names_by : NodePath → Option Change → Names → Names
+names_by p None names = names
+names_by p (Some change) names = children_after p change names
+
+-- the same after the changes that made versions, up to a zxid
+abbrev pub names_told : Kept → NodePath → ℕ → List Version → Names → Names
+names_told kept p z [] names = names
+names_told kept p z (one ∷ more) names = names_told kept p z more (if nat_le one.zxid z then names_by p (change_at kept one.origin) names else names)
+
+-- the changes that made versions stand where these say
+abbrev pub ArePlaced : Kept → List Version → Type 0
+ArePlaced kept [] = ⊤
+ArePlaced kept (one ∷ more) = (is_some (change_at kept one.origin) ≡ true) × ArePlaced kept more
+
 -- The versions of each path tell what the history has there at each zxid.
 pub record IsIndexed (kept : Kept) (versions : Text → List Version) : Type 0 where
   pub nodes : (text : Text) → IsPath text → (z : ℕ) → Tells kept (entry_of (path_of text) (version_at z (versions text) None)) (tree_at (history_of kept) z (path_of text))
   pub counts : (text : Text) → IsPath text → (z : ℕ) → children_of (version_at z (versions text) None) ≡ count_at z (path_of text) kept.transactions (count_at 0 (path_of text) kept.nodes 0)
+  pub names : (text : Text) → IsPath text → (z : ℕ) → names_told kept (path_of text) z (versions text) set.empty ≡ children_at z (path_of text) kept.transactions (children_at 0 (path_of text) kept.nodes set.empty)
+  pub placed : (text : Text) → IsPath text → ArePlaced kept (versions text)
   pub ordered : (text : Text) → IsPath text → AreOrdered 0 (versions text) (newest 0 kept.transactions)

@@ -19,7 +19,7 @@ use crate::answer::{Data, Names};
 use crate::change::{Change, Transaction};
 use crate::found::Found;
 use crate::history_fault::HistoryFault;
-use crate::names::names_after_transactions;
+use crate::names::names_after_versions;
 use crate::path::Path;
 use crate::replay::{children_of, entry_of};
 use crate::stat::Stat;
@@ -220,8 +220,15 @@ impl<A: Allocator + Copy> History<A> {
         ensures { IfOk result (λ names. (name : Name) → contains_text names name ≡ is_some (tree_at (history_of self.now) z (name ∷ path_of at.now))) }
     {
         let mut names = BTreeSet::new(self.alloc);
-        names_after_transactions(self.alloc, 0, self.nodes.as_slice(), at, &mut names)?;
-        names_after_transactions(self.alloc, z, self.transactions.as_slice(), at, &mut names)?;
+        names_after_versions(
+            self.alloc,
+            z,
+            self.nodes.as_slice(),
+            self.transactions.as_slice(),
+            versions_at(&self.versions, at),
+            at,
+            &mut names,
+        )?;
         Ok(names)
     }
 

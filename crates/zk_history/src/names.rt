@@ -1,14 +1,16 @@
 //! The names of a path's children, change by change.
 
-ghost use Rattle.std.specs.Prelude.{◌≡◌, ◌≤◌, map, OnOk};
+ghost use Rattle.std.specs.Prelude.{◌≡◌, ◌≤◌, map, slice_get, OnOk};
 ghost use Rattle.zk_history.specs.History.{path_of};
 ghost use Rattle.zk_history.specs.PathFault.{IsPath};
-ghost use Rattle.zk_history.specs.Replay.{children_after, children_after_all, children_at, count_after};
+ghost use Rattle.zk_history.specs.Replay.{children_after, count_after};
 ghost use Rattle.zk_history.specs.Made.{change_of, transaction_of};
 ghost use Rattle.zk_history.specs.NamesKept.{names_of};
+ghost use Rattle.zk_history.specs.Versions.{nth_change, change_at, names_by, names_told};
 ghost use Rattle.std.specs.FinSet as set;
 
 use crate::change::{Change, Transaction};
+use crate::version::{Origin, Version};
 use std::alloc::{AllocError, Allocator};
 use std::collections::BTreeSet;
 
@@ -58,34 +60,59 @@ fn names_after<A: Allocator + Copy>(
     Ok(())
 }
 
-fn names_after_changes<A: Allocator + Copy>(
+fn names_after_nth<A: Allocator + Copy>(
     alloc: A,
-    changes: &[Change<A>],
+    transactions: &[Transaction<A>],
+    i: usize,
+    j: usize,
     at: &str,
     names: &mut BTreeSet<String<A>, A>,
 ) -> Result<(), AllocError>
     requires { IsPath at.now }
-    ensures { OnOk result (names_of names.new ≡ children_after_all (path_of at.now) (map change_of changes.now) (names_of names.old)) }
+    ensures { OnOk result (names_of names.new ≡ names_by (path_of at.now) (nth_change (slice_get (map transaction_of transactions.now) i) j) (names_of names.old)) }
 {
-    for change in changes {
-        names_after(alloc, change, at, names)?;
+    if let Some(transaction) = transactions.get(i) {
+        if let Some(change) = transaction.changes.get(j) {
+            return names_after(alloc, change, at, names);
+        }
     }
     Ok(())
 }
 
-pub(crate) fn names_after_transactions<A: Allocator + Copy>(
+fn names_after_origin<A: Allocator + Copy>(
     alloc: A,
-    z: u64,
+    nodes: &[Transaction<A>],
     transactions: &[Transaction<A>],
+    origin: Origin,
     at: &str,
     names: &mut BTreeSet<String<A>, A>,
 ) -> Result<(), AllocError>
     requires { IsPath at.now }
-    ensures { OnOk result (names_of names.new ≡ children_at z (path_of at.now) (map transaction_of transactions.now) (names_of names.old)) }
+    ensures { OnOk result (names_of names.new ≡ names_by (path_of at.now) (change_at (record { nodes = map transaction_of nodes.now; transactions = map transaction_of transactions.now }) origin) (names_of names.old)) }
 {
-    for transaction in transactions {
-        if transaction.zxid <= z {
-            names_after_changes(alloc, transaction.changes.as_slice(), at, names)?;
+    match origin {
+        Origin::Root => Ok(()),
+        Origin::First(i) => names_after_nth(alloc, nodes, i, 0, at, names),
+        Origin::Later(i, j) => names_after_nth(alloc, transactions, i, j, at, names),
+    }
+}
+
+// The names of a path's children after the changes that made its versions, up to a zxid.
+pub(crate) fn names_after_versions<A: Allocator + Copy>(
+    alloc: A,
+    z: u64,
+    nodes: &[Transaction<A>],
+    transactions: &[Transaction<A>],
+    versions: &[Version],
+    at: &str,
+    names: &mut BTreeSet<String<A>, A>,
+) -> Result<(), AllocError>
+    requires { IsPath at.now }
+    ensures { OnOk result (names_of names.new ≡ names_told (record { nodes = map transaction_of nodes.now; transactions = map transaction_of transactions.now }) (path_of at.now) z versions.now (names_of names.old)) }
+{
+    for version in versions {
+        if version.zxid <= z {
+            names_after_origin(alloc, nodes, transactions, version.origin, at, names)?;
         }
     }
     Ok(())
