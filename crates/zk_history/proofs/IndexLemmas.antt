@@ -357,13 +357,13 @@ changed kept more zxid high t s c p z versions grows is changes ordered low plac
     let n = count_at z p kept.transactions (count_at 0 p kept.nodes 0) in
     let here : version_at z (versions ++ v ∷ []) None ≡ cond (leb zxid z) (Some v) old = version_at-push z versions v None in
     let both : Tells more (entry_of p (cond (leb zxid z) (Some v) old)) (cond (leb zxid z) (node_after zxid t p c tree) tree)
-        × (children_of (cond (leb zxid z) (Some v) old) ≡ cond (leb zxid z) (count_after p c n) n) =
+    × (children_of (cond (leb zxid z) (Some v) old) ≡ cond (leb zxid z) (count_after p c n) n) =
     elim (leb zxid z) as (λ b. leb zxid z ≡ b → Tells more (entry_of p (cond b (Some v) old)) (cond b (node_after zxid t p c tree) tree) × (children_of (cond b (Some v) old) ≡ cond b (count_after p c n) n)) [
       | true ↦ λ e.
           let le = leb-true zxid z e in
           let last : old ≡ last_version versions = version_at-last z 0 high versions ordered (omega (arith, low, le)) in (
             tells_after more zxid t s p c (entry_of p (last_version versions)) tree is
-            (Tells-grows kept more (entry_of p (last_version versions)) tree grows (subst (λ o. Tells kept (entry_of p o) tree) last told.node)),
+                (Tells-grows kept more (entry_of p (last_version versions)) tree grows (subst (λ o. Tells kept (entry_of p o) tree) last told.node)),
             ap (count_after p c) (ap children_of (sym last) ∙ told.count),
           )
       | false ↦ λ e. (Tells-grows kept more (entry_of p old) tree grows told.node, told.count)
@@ -384,12 +384,12 @@ pub IsIndexed-step : (kept more : Kept) (zxid : ℕ) (t : ℤ) (s : Origin) (c :
     → ((text : Text) → IsPath text → new text ≡ versions_after zxid t s text c (old text)) → IsIndexed kept old → IsIndexed more new
 IsIndexed-step kept more zxid t s c old new grows is changes low top next indexed =
     let told : (text : Text) → IsPath text → (z : ℕ) → Told_at more (new text) (path_of text) z = λ text path z.
-        let before : Told_at kept (old text) (path_of text) z = record { node = indexed.nodes text path z; count = indexed.counts text path z; names = indexed.names text path z } in
-        subst (λ vs. Told_at more vs (path_of text) z) (sym (next text path))
-        (elim (touches (path_of text) c) as (λ b. touches (path_of text) c ≡ b → Told_at more (cond b (with_version zxid t s text c (old text)) (old text)) (path_of text) z) [
-          | true ↦ λ e. changed kept more zxid (newest 0 kept.transactions) t s c (path_of text) z (old text) grows is (changes (path_of text) z) (indexed.ordered text path) low (indexed.placed text path) before
-          | false ↦ λ e. unchanged kept more zxid t c (path_of text) z (old text) grows (changes (path_of text) z) e (indexed.placed text path) before
-        ] refl) in
+    let before : Told_at kept (old text) (path_of text) z = record { node = indexed.nodes text path z; count = indexed.counts text path z; names = indexed.names text path z } in
+    subst (λ vs. Told_at more vs (path_of text) z) (sym (next text path))
+    (elim (touches (path_of text) c) as (λ b. touches (path_of text) c ≡ b → Told_at more (cond b (with_version zxid t s text c (old text)) (old text)) (path_of text) z) [
+      | true ↦ λ e. changed kept more zxid (newest 0 kept.transactions) t s c (path_of text) z (old text) grows is (changes (path_of text) z) (indexed.ordered text path) low (indexed.placed text path) before
+      | false ↦ λ e. unchanged kept more zxid t c (path_of text) z (old text) grows (changes (path_of text) z) e (indexed.placed text path) before
+    ] refl) in
     record {
       nodes = λ text path z. (told text path z).node;
       counts = λ text path z. (told text path z).count;
@@ -538,14 +538,14 @@ can_be_noted kept versions c sound indexed accepted text path =
     let tells : Tells kept (entry_of p (last_version (versions text))) (newest_tree kept p) =
     subst (λ o. Tells kept (entry_of p o) (newest_tree kept p)) last (subst (λ (tree : Tree). Tells kept (entry_of p (version_at z (versions text) None)) (tree p)) (newest-tree_at kept sound) (indexed.nodes text path z)) in
     (count, go c accepted tells) where
-  go : (c : Change) → IsAccepted c (newest_tree kept) → Tells kept (entry_of (path_of text) (last_version (versions text))) (newest_tree kept (path_of text)) → CanBeWritten (path_of text) c (last_version (versions text))
-  go (Creates path content owner) accepted tells = tt
-  go (Deletes path) accepted tells = tt
-  go (Sets path content) accepted tells = λ same e is.
-      let there : newest_tree kept (path_of text) ≡ Some accepted.0.0 = ap (newest_tree kept) (path_eq-true (path_of text) path same) ∙ accepted.0.1 in
-      let both : Tells kept (Some e) (Some accepted.0.0) = subst (Tells kept (Some e)) there (subst (λ o. Tells kept o (newest_tree kept (path_of text))) is tells) in
-      let told = from_tells kept e accepted.0.0 both in
-      subst (λ (m : Node). m.version < 2147483647) (sym told.2) accepted.0.2
+      go : (c : Change) → IsAccepted c (newest_tree kept) → Tells kept (entry_of (path_of text) (last_version (versions text))) (newest_tree kept (path_of text)) → CanBeWritten (path_of text) c (last_version (versions text))
+      go (Creates path content owner) accepted tells = tt
+      go (Deletes path) accepted tells = tt
+      go (Sets path content) accepted tells = λ same e is.
+          let there : newest_tree kept (path_of text) ≡ Some accepted.0.0 = ap (newest_tree kept) (path_eq-true (path_of text) path same) ∙ accepted.0.1 in
+          let both : Tells kept (Some e) (Some accepted.0.0) = subst (Tells kept (Some e)) there (subst (λ o. Tells kept o (newest_tree kept (path_of text))) is tells) in
+          let told = from_tells kept e accepted.0.0 both in
+          subst (λ (m : Node). m.version < 2147483647) (sym told.2) accepted.0.2
 
 -- the numbers of a node are small
 

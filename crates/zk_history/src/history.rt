@@ -44,7 +44,8 @@ const LAST_VERSION: u32 = 2147483647;
 /// and all its other fields 0, and the nodes that are added to it.
 ///
 /// Zxids run from 1 to 2^63 - 1 and rise (Programmer's Guide, "Time in ZooKeeper"); times are milliseconds since the
-/// epoch. A look-up takes a search of the path and of its changes, and the names of children a replay of those changes.
+/// epoch. For each path the versions of its node are kept, one for each change of the node or of its children: a look-up
+/// searches the paths and then the versions of one, and names are told by the changes that made those versions.
 #[derive(Drop)]
 pub struct History<A: Allocator + Copy> {
     alloc: A,
@@ -113,7 +114,12 @@ impl<A: Allocator + Copy> History<A> {
         let change = Change::Create(path, bytes, 0);
         let origin = Origin::First(self.nodes.len());
         let zxid = 0;
-        note(self.alloc, &mut self.versions, Spot { zxid, time, origin }, &change)?;
+        note(
+            self.alloc,
+            &mut self.versions,
+            Spot { zxid, time, origin },
+            &change,
+        )?;
         if let Err(failed) = push_node(self.alloc, &mut self.nodes, time, change) {
             forget(&mut self.versions, &failed.value);
             return Err(HistoryFault::Memory);

@@ -1,4 +1,4 @@
-//! The names of a path's children, change by change.
+//! The names of a path's children, change by change, and their number.
 
 ghost use Rattle.std.specs.Prelude.{◌≡◌, ◌≤◌, map, slice_get, OnOk};
 ghost use Rattle.zk_history.specs.History.{path_of};
@@ -60,6 +60,7 @@ fn names_after<A: Allocator + Copy>(
     Ok(())
 }
 
+// The names of a path's children after the change at a place of a transaction.
 fn names_after_nth<A: Allocator + Copy>(
     alloc: A,
     transactions: &[Transaction<A>],
@@ -79,6 +80,7 @@ fn names_after_nth<A: Allocator + Copy>(
     Ok(())
 }
 
+// The names of a path's children after the change that stands at an origin.
 fn names_after_origin<A: Allocator + Copy>(
     alloc: A,
     nodes: &[Transaction<A>],

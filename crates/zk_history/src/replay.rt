@@ -58,19 +58,19 @@ pub(crate) fn children_of(held: Option<Version>) -> u32
 }
 
 // A node whose children changed.
-fn regrouped(zxid: u64, held: Option<Entry>) -> Option<Entry>
-    ensures { result ≡ option_map (entry_regrouped zxid) held }
+fn regrouped(zxid: u64, found: Option<Entry>) -> Option<Entry>
+    ensures { result ≡ option_map (entry_regrouped zxid) found }
 {
-    match held {
-        Some(entry) => Some(Entry {
-            origin: entry.origin,
-            czxid: entry.czxid,
-            mzxid: entry.mzxid,
+    match found {
+        Some(found) => Some(Entry {
+            origin: found.origin,
+            czxid: found.czxid,
+            mzxid: found.mzxid,
             pzxid: zxid,
-            ctime: entry.ctime,
-            mtime: entry.mtime,
-            version: entry.version,
-            owner: entry.owner,
+            ctime: found.ctime,
+            mtime: found.mtime,
+            version: found.version,
+            owner: found.owner,
         }),
         None => None,
     }
@@ -84,13 +84,13 @@ fn after_create<A: Allocator>(
     path: &Path<A>,
     owner: i64,
     at: &str,
-    held: Option<Entry>,
+    found: Option<Entry>,
 ) -> Option<Entry>
     requires { IsPath at.now }
-    ensures { (content : Option (List ℕ)) → result ≡ entry_after zxid time origin (path_of at.now) (Creates (path_of path.now) content owner) held }
+    ensures { (content : Option (List ℕ)) → result ≡ entry_after zxid time origin (path_of at.now) (Creates (path_of path.now) content owner) found }
 {
     if path.is_root() {
-        held
+        found
     } else if path.is_at(at) {
         Some(Entry {
             origin,
@@ -103,9 +103,9 @@ fn after_create<A: Allocator>(
             owner,
         })
     } else if path.has_parent_at(at) {
-        regrouped(zxid, held)
+        regrouped(zxid, found)
     } else {
-        held
+        found
     }
 }
 
@@ -116,25 +116,25 @@ fn after_set<A: Allocator>(
     origin: Origin,
     path: &Path<A>,
     at: &str,
-    held: Option<Entry>,
+    found: Option<Entry>,
 ) -> Option<Entry>
     requires path { IsPath at.now }
-    requires version { path_eq (path_of at.now) (path_of path.now) ≡ true → (e : EntryOf) → held ≡ Some e → e.version < 2147483647 }
-    ensures { (content : Option (List ℕ)) → result ≡ entry_after zxid time origin (path_of at.now) (Sets (path_of path.now) content) held }
+    requires version { path_eq (path_of at.now) (path_of path.now) ≡ true → (e : EntryOf) → found ≡ Some e → e.version < 2147483647 }
+    ensures { (content : Option (List ℕ)) → result ≡ entry_after zxid time origin (path_of at.now) (Sets (path_of path.now) content) found }
 {
     if !path.is_at(at) {
-        return held;
+        return found;
     }
-    match held {
-        Some(entry) => Some(Entry {
+    match found {
+        Some(found) => Some(Entry {
             origin,
-            czxid: entry.czxid,
+            czxid: found.czxid,
             mzxid: zxid,
-            pzxid: entry.pzxid,
-            ctime: entry.ctime,
+            pzxid: found.pzxid,
+            ctime: found.ctime,
             mtime: time,
-            version: entry.version + 1,
-            owner: entry.owner,
+            version: found.version + 1,
+            owner: found.owner,
         }),
         None => None,
     }
@@ -145,21 +145,21 @@ fn after_delete<A: Allocator>(
     zxid: u64,
     path: &Path<A>,
     at: &str,
-    held: Option<Entry>,
+    found: Option<Entry>,
 ) -> Option<Entry>
     requires { IsPath at.now }
-    ensures { (time : ℤ) (origin : OriginOf) → result ≡ entry_after zxid time origin (path_of at.now) (Deletes (path_of path.now)) held }
+    ensures { (time : ℤ) (origin : OriginOf) → result ≡ entry_after zxid time origin (path_of at.now) (Deletes (path_of path.now)) found }
 {
     if path.is_root() {
-        return held;
+        return found;
     }
     if path.is_at(at) {
         return None;
     }
     if path.has_parent_at(at) {
-        return regrouped(zxid, held);
+        return regrouped(zxid, found);
     }
-    held
+    found
 }
 
 // The version of a path that a change makes, which stands at a spot.

@@ -45,8 +45,8 @@ invariant_of-self-in-Err g c =
     let kept : Kept = record { nodes = map transaction_of c.self.inside.nodes.items; transactions = map transaction_of c.self.inside.transactions.items } in
     let s = c.next_spot-spot.result in
     let P : List model.Transaction → Type 0 = λ ts.
-        IsSound (record { nodes = map transaction_of c.self.inside.nodes.items; transactions = ts })
-        × IsIndexed (record { nodes = map transaction_of c.self.inside.nodes.items; transactions = ts }) (versions_of c.forget.new.versions) in
+    IsSound (record { nodes = map transaction_of c.self.inside.nodes.items; transactions = ts })
+    × IsIndexed (record { nodes = map transaction_of c.self.inside.nodes.items; transactions = ts }) (versions_of c.forget.new.versions) in
     let same = IsIndexed-same kept (versions_of c.self.inside.versions) (versions_of c.forget.new.versions)
     (λ text is. noted_forgotten s.zxid s.time s.origin text (change_of c.args.change) (versions_of c.self.inside.versions text) (versions_of c.note.new.versions text) (versions_of c.forget.new.versions text)
     (c.in_ok-note.ensures.ok text is) (c.forget.ensures text is ∙ ap (λ change. versions_before text (change_of change) (versions_of c.note.new.versions text)) c.in-Err.ensures.back))
@@ -75,8 +75,8 @@ invariant_of-self-in_default g c =
     let time = c.next_spot-spot.ensures.time ∙ ap (λ (xs : List (Transaction g.row.A.Denot)). (last_transaction (map transaction_of xs)).time) c.as_slice.ensures.value in
     let origin = c.next_spot-spot.ensures.origin ∙ ap (λ (xs : List (Transaction g.row.A.Denot)). next_origin (map transaction_of xs)) c.as_slice.ensures.value in
     let P : List model.Transaction → Type 0 = λ ts.
-        IsSound (record { nodes = map transaction_of c.self.inside.nodes.items; transactions = ts })
-        × IsIndexed (record { nodes = map transaction_of c.self.inside.nodes.items; transactions = ts }) (versions_of c.note.new.versions) in
+    IsSound (record { nodes = map transaction_of c.self.inside.nodes.items; transactions = ts })
+    × IsIndexed (record { nodes = map transaction_of c.self.inside.nodes.items; transactions = ts }) (versions_of c.note.new.versions) in
     let indexed = IsIndexed-change kept change old (versions_of c.note.new.versions) some
     (λ text is. c.in_ok-note.ensures.ok text is
     ∙ ap (λ z. versions_after z s.time s.origin text change (old text)) zxid

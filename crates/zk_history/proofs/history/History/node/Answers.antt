@@ -48,8 +48,8 @@ pub invariant_of-self-in-Err : goal.invariant_of-self-in-Err
 invariant_of-self-in-Err g c =
     let kept : Kept = record { nodes = map transaction_of c.self.inside.nodes.items; transactions = map transaction_of c.self.inside.transactions.items } in
     let P : List model.Transaction → Type 0 = λ ns.
-        IsSound (record { nodes = ns; transactions = map transaction_of c.self.inside.transactions.items })
-        × IsIndexed (record { nodes = ns; transactions = map transaction_of c.self.inside.transactions.items }) (versions_of c.forget.new.versions) in
+    IsSound (record { nodes = ns; transactions = map transaction_of c.self.inside.transactions.items })
+    × IsIndexed (record { nodes = ns; transactions = map transaction_of c.self.inside.transactions.items }) (versions_of c.forget.new.versions) in
     let same = IsIndexed-same kept (versions_of c.self.inside.versions) (versions_of c.forget.new.versions)
     (λ text is. noted_forgotten 0 _ (First c.len.result) text (Creates (path_of c.args.path) (option_map (λ v. v.items) c.args.bytes) (pos 0)) (versions_of c.self.inside.versions text) (versions_of c.note.new.versions text) (versions_of c.forget.new.versions text)
     (c.in_ok-note.ensures.ok text is) (c.forget.ensures text is ∙ ap (λ change. versions_before text (change_of change) (versions_of c.note.new.versions text)) c.in-Err.ensures.back))
@@ -74,8 +74,8 @@ invariant_of-self-in_default g c =
     let old = versions_of c.self.inside.versions in
     let len : c.len.result ≡ length (map transaction_of c.self.inside.nodes.items) = grind (arith, nat_tests, length-map c.self.inside.nodes.items transaction_of) in
     let P : List model.Transaction → Type 0 = λ ns.
-        IsSound (record { nodes = ns; transactions = map transaction_of c.self.inside.transactions.items })
-        × IsIndexed (record { nodes = ns; transactions = map transaction_of c.self.inside.transactions.items }) (versions_of c.note.new.versions) in
+    IsSound (record { nodes = ns; transactions = map transaction_of c.self.inside.transactions.items })
+    × IsIndexed (record { nodes = ns; transactions = map transaction_of c.self.inside.transactions.items }) (versions_of c.note.new.versions) in
     let indexed = IsIndexed-node kept (path_of c.args.path) content _ old (versions_of c.note.new.versions) none
     (λ text is. c.in_ok-note.ensures.ok text is ∙ ap (λ n. versions_after 0 (to_z w64 (of_z w64 c.args.time)) (First n) text (Creates (path_of c.args.path) (option_map (λ v. v.items) c.args.bytes) (pos 0)) (old text)) len)
     c.self.invariant.1 in
