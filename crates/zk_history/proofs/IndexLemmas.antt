@@ -1,5 +1,5 @@
 -- What the versions of each path tell of a history, and what one more change does to them.
-use Rattle.std.proofs.Common.{◌≡◌, ℕ, zero, suc, ◌+◌, ◌-◌, ◌<◌, ◌≤◌, ◌^◌, ℤ, pos, Bool, true, false, ◌||◌, cond, leb, eqb, List, [], ◌∷◌, ◌++◌, length, map, option_map, Option, Some, None, is_some, refl, sym, ap, subst, ◌∙◌, arith}
+use Rattle.std.proofs.Common.{◌≡◌, ℕ, zero, suc, ◌+◌, ◌-◌, ◌<◌, ◌≤◌, ◌^◌, ℤ, pos, Bool, true, false, ◌||◌, cond, leb, eqb, List, [], ◌∷◌, ◌++◌, length, option_map, Option, Some, None, is_some, refl, sym, ap, subst, ◌∙◌, arith}
 use Rattle.std.proofs.lemmas.Bool.{cond-true, cond-false, leb-true, eqb-true, false≢true}
 use Rattle.std.proofs.lemmas.Bool.Decides.{nat_tests}
 use Rattle.std.specs.Prelude.{slice_get}
@@ -9,12 +9,12 @@ use Rattle.std.specs.FinSet as set
 use Rattle.zk_history.specs.History.{Text, NodePath, Node, Tree, Change, Creates, Sets, Deletes, Transaction, path_eq, path_of, made, written, regrouped, apply_all, after, tree_at, size_of, newest, AreRising}
 use Rattle.zk_history.specs.PathFault.{IsPath}
 use Rattle.zk_history.specs.Replay.{node_after, node_after_all, node_at, count_after, count_after_all, count_at, Names, children_after, children_after_all, children_at, CanRise, CanRiseAll, CanRiseAt}
-use Rattle.zk_history.specs.Kept.{Kept, IsSound, history_of, first_tree, newest_tree, root_tree, empty_kept, IsAccepted, is_first, made_transaction, last_with, with_one, with_change, with_transaction, with_node, first_node}
+use Rattle.zk_history.specs.Kept.{Kept, IsSound, history_of, first_tree, newest_tree, root_tree, empty_kept, IsAccepted, is_first, made_transaction, last_with, with_change, with_transaction, with_node, first_node}
 use Rattle.zk_history.specs.declared.version.Entry.{Entry}
 use Rattle.zk_history.specs.declared.version.Version.{Version}
 use Rattle.zk_history.specs.declared.version.Origin.{Origin}
 use Rattle.zk_history.specs.declared.version.Origin.TheVariants.{Root, First, Later}
-use Rattle.zk_history.specs.Versions.{version_at, last_version, AreOrdered, first_entry, entry_of, children_of, entry_made, entry_written, entry_regrouped, entry_after, version_after, with_version, versions_after, versions_before, without_last, touches, CanBeNoted, CanBeWritten, content_in, nth_change, last_transaction, next_origin, change_at, content_at, node_with, node_told, Tells, names_by, names_told, ArePlaced, IsIndexed}
+use Rattle.zk_history.specs.Versions.{version_at, last_version, AreOrdered, first_entry, entry_of, children_of, entry_made, entry_written, entry_regrouped, entry_after, version_after, with_version, versions_after, versions_before, without_last, touches, CanBeNoted, CanBeWritten, content_in, nth_change, last_transaction, next_origin, change_at, content_at, node_with, Tells, names_by, names_told, ArePlaced, IsIndexed}
 use Rattle.zk_history.proofs.PathTexts.{path_eq-true}
 use Rattle.zk_history.proofs.TreeLemmas.{apply_all-node}
 use Rattle.zk_history.proofs.KeptLemmas.{later_node, names_first, count_first, count_later, first_rises, later_rises, newest-tree_at}

@@ -1,8 +1,7 @@
-use Rattle.std.proofs.Common.{◌≡◌, List, Option, Some, None, map, option_map, length, refl, sym, ap, ◌∙◌}
+use Rattle.std.proofs.Common.{◌≡◌, List, Some, None, map, option_map, length, refl, sym, ap, ◌∙◌}
 use Rattle.std.proofs.lemmas.Option.{slice_get-map, slice_get_read, slice_get_past}
 use Rattle.std.specs.Prelude.{slice_get}
 use Rattle.zk_history.specs.declared.change.Change.{Change}
-use Rattle.zk_history.specs.declared.change.Transaction.{Transaction}
 use Rattle.zk_history.specs.History.{path_of}
 use Rattle.zk_history.specs.Made.{change_of, transaction_of}
 use Rattle.zk_history.specs.NamesKept.{names_of}

@@ -1,4 +1,4 @@
-use Rattle.std.proofs.Common.{sym, ◌∙◌, ap}
+use Rattle.std.proofs.Common.{sym, ◌∙◌}
 use Rattle.zk_history.proofs.VersionsLemmas.{first_absent}
 use Rattle.zk_history.proofs.replay.first_entry.Goals as goal
 

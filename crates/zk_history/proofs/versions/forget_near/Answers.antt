@@ -1,5 +1,5 @@
-use Rattle.std.proofs.Common.{◌≡◌, ◌||◌, cond, sym, ap, subst, ◌∙◌, Some}
-use Rattle.zk_history.specs.History.{Text, path_of}
+use Rattle.std.proofs.Common.{◌≡◌, cond, sym, ap, subst, ◌∙◌, Some}
+use Rattle.zk_history.specs.History.{path_of}
 use Rattle.zk_history.specs.Path.{parent_of}
 use Rattle.zk_history.specs.PathFault.{IsPath}
 use Rattle.zk_history.specs.Versions.{versions_of, without_last, is_near}

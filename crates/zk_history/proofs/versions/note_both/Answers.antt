@@ -1,4 +1,4 @@
-use Rattle.std.proofs.Common.{◌≡◌, ◌∷◌, ◌++◌, [], if◌then◌else◌, bytes_eq, sym, subst, ◌∙◌}
+use Rattle.std.proofs.Common.{◌≡◌, bytes_eq, sym, subst, ◌∙◌}
 use Rattle.std.proofs.lemmas.Bool.{cond-false}
 use Rattle.zk_history.specs.History.{path_of}
 use Rattle.zk_history.specs.Made.{change_of}

@@ -1,5 +1,5 @@
-use Rattle.std.proofs.Common.{◌≡◌, cond, false, sym, ap, subst, ◌∙◌, Some, None, Option}
-use Rattle.zk_history.specs.History.{NodePath, Text, path_of}
+use Rattle.std.proofs.Common.{◌≡◌, cond, false, sym, ap, subst, ◌∙◌, Some}
+use Rattle.zk_history.specs.History.{path_of}
 use Rattle.zk_history.specs.Path.{parent_of}
 use Rattle.zk_history.specs.PathFault.{IsPath}
 use Rattle.zk_history.specs.Made.{change_of}

@@ -1,10 +1,10 @@
-use Rattle.std.proofs.Common.{◌≡◌, ◌≤◌, ℕ, List, Option, Some, sym, subst, ◌∙◌, rules, ap}
+use Rattle.std.proofs.Common.{◌≤◌, ℕ, List, Option, Some, sym, subst, ◌∙◌, rules}
 use Rattle.std.specs.Option.{option_copied}
-use Rattle.zk_history.specs.History.{path_of, size_of, tree_at, Node}
+use Rattle.zk_history.specs.History.{path_of, size_of, tree_at}
 use Rattle.zk_history.specs.Kept.{history_of}
-use Rattle.zk_history.specs.Versions.{Tells, entry_of, node_with}
+use Rattle.zk_history.specs.Versions.{Tells, node_with}
 use Rattle.zk_history.specs.declared.version.Entry.{Entry}
-use Rattle.zk_history.proofs.IndexLemmas.{found_told, none_told, node_small}
+use Rattle.zk_history.proofs.IndexLemmas.{found_told, node_small}
 use Rattle.zk_history.proofs.history.History.found.Goals as goal
 
 pub invariant_of-result : goal.invariant_of-result
