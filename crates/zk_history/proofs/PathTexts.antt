@@ -1,5 +1,5 @@
 -- Texts and paths of good names are the same, and the last slash parts a path from its last name.
-use Rattle.std.proofs.Common.{◌≡◌, ℕ, zero, suc, ◌+◌, ◌-◌, ◌<◌, ◌==◌, Bool, true, false, ◌&&◌, not, cond, List, [], ◌∷◌, ◌++◌, length, get_or, take, drop, Option, Some, None, refl, sym, ap, ◌∙◌, arith, inl, inr, Decides, subst, option_map}
+use Rattle.std.proofs.Common.{◌≡◌, ℕ, zero, suc, ◌+◌, ◌-◌, ◌<◌, ◌==◌, Bool, true, false, ◌&&◌, not, cond, List, [], ◌∷◌, ◌++◌, length, get_or, take, drop, Option, Some, refl, sym, ap, ◌∙◌, arith, inl, inr, Decides, subst, option_map}
 use Rattle.std.proofs.lemmas.List.{length-append, append-nil}
 use Rattle.std.proofs.Common.{append_assoc}
 use Rattle.std.proofs.Math.ListN.{get_or-append}
@@ -13,7 +13,6 @@ use Rattle.std.specs.Prelude.{fold, bytes_eq, IsUtf8, IsAscii}
 use Rattle.zk_history.specs.History.{Name, NodePath, path_eq, text_of, byte_more, path_of, IsPathText}
 use Rattle.zk_history.specs.Path.{has_no_slash, is_empty, are_names, parent_of, parent_text, name_of, is_below}
 use Rattle.zk_history.specs.PathFault.{IsPath}
-use Rattle.zk_history.specs.Kept.{root_tree}
 use Rattle.zk_history.proofs.PathLemmas.{text_of-path_of, joined, text_of-joined, IsPath-parts, IsPath-text, IsPath-names, IsPath-front}
 
 -- names that are good, one by one
@@ -182,13 +181,6 @@ slash_ascii (suc i) = omega arith
 
 pub IsPath-root : IsPath (47 ∷ [])
 IsPath-root = rw (chars-IsAscii (47 ∷ []) slash_ascii) refl
-
--- another path than the root's is not in the tree that has the root alone
-pub root_absent : (t : List ℕ) → IsPath t → bytes_eq (47 ∷ []) t ≡ false → None ≡ root_tree (path_of t)
-root_absent t is e = go (path_of t) (root_text t is) where
-  go : (p : NodePath) → (p ≡ [] → t ≡ 47 ∷ []) → None ≡ root_tree p
-  go [] h = let same : bytes_eq (47 ∷ []) t ≡ true = (bytes_eq-Decides (47 ∷ []) t).1 (sym (h refl)) in cc
-  go (name ∷ p) h = refl
 
 -- a text that begins with a slash is the text of its path
 pub text_path : (text : List ℕ) → IsPathText text → text_of (path_of text) ≡ text

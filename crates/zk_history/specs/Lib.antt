@@ -10,5 +10,6 @@ pub mod Accepting
 pub mod Shown
 pub mod Refused
 pub mod StatLayout
+pub mod Versions
 pub mod DataStats
 pub mod Laws

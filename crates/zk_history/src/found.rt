@@ -4,7 +4,7 @@ ghost use Rattle.std.specs.Prelude.{◌<◌, ◌≤◌, ◌^◌};
 ghost use Rattle.std.specs.Option.{option_copied};
 ghost use Rattle.zk_history.specs.History.{size_of};
 
-// A node as it was found in a history: what a replay keeps of one path.
+// A node as it was found in a history, with its data lent.
 #[derive(Clone, Copy, Debug)]
 pub(crate) struct Found<'a> {
     pub(crate) bytes: Option<&'a [u8]>,

@@ -1,12 +1,13 @@
 //! The history of a data tree, and what each path held at each zxid.
 
-ghost use Rattle.std.specs.Prelude.{◌≡◌, ◌≢◌, ◌≤◌, ◌<◌, ◌<ℤ◌, ◌^◌, IfErr, pos, [], ◌∷◌, map, IfOk, OnOk, OnErr, MatchOption, Some, None, is_some, ℤ, slice_get};
-ghost use Rattle.std.specs.Option.{option_map};
+ghost use Rattle.std.specs.Prelude.{◌≡◌, ◌≢◌, ◌≤◌, ◌<◌, ◌<ℤ◌, ◌^◌, IfErr, pos, [], ◌∷◌, map, List, IfOk, OnOk, OnErr, MatchOption, Some, None, is_some, ℤ, ℕ, Option, slice_get};
+ghost use Rattle.std.specs.Option.{option_map, option_copied};
 ghost use Rattle.zk_history.specs.History.{path_of, view as view_of, tree_at, IsHistory, newest, Name, Creates};
 ghost use Rattle.zk_history.specs.declared.side.Side.TheVariants.{Data as OnData, Child};
 ghost use Rattle.zk_history.specs.PathFault.{IsPath};
-ghost use Rattle.zk_history.specs.Replay.{Names as NameSet};
-ghost use Rattle.zk_history.specs.Kept.{history_of, empty_kept, newest_tree, newest_count, IsAccepted, with_change, with_transaction, with_node, natural, root_tree, HasChildren, IsSound};
+ghost use Rattle.zk_history.specs.Replay.{Names as NameSet, count_at};
+ghost use Rattle.zk_history.specs.Kept.{history_of, empty_kept, newest_tree, newest_count, IsAccepted, with_change, with_transaction, with_node, natural, HasChildren, IsSound};
+ghost use Rattle.zk_history.specs.Versions.{Tells, entry_of, children_of, content_at as content_told};
 ghost use Rattle.zk_history.specs.Accepting.{accepts, can_rise};
 ghost use Rattle.zk_history.specs.Refused.{ChangeRefused, NodeRefused, BeginRefused};
 ghost use Rattle.zk_history.specs.Made.{change_of, transaction_of, node_of, transaction_told};
@@ -18,14 +19,16 @@ use crate::answer::{Data, Names};
 use crate::change::{Change, Transaction};
 use crate::found::Found;
 use crate::history_fault::HistoryFault;
-use crate::names::{counted_after_transactions, names_after_transactions};
+use crate::names::names_after_versions;
 use crate::path::Path;
-use crate::replay::after_transactions;
+use crate::replay::{children_of, entry_of};
 use crate::stat::Stat;
 use crate::told::{data_stat, full_stat, has_length, owned};
-use crate::transactions::{push_change, push_empty, push_node};
+use crate::transactions::{content_at, next_spot, push_change, push_empty, push_node};
+use crate::version::{Origin, Spot, Version};
+use crate::versions::{Versions, forget, last_up_to, note, versions_at};
 use std::alloc::{AllocError, Allocator};
-use std::collections::BTreeSet;
+use std::collections::{BTreeMap, BTreeSet};
 use std::marker::Model;
 
 // Above every zxid.
@@ -41,25 +44,30 @@ const LAST_VERSION: u32 = 2147483647;
 /// and all its other fields 0, and the nodes that are added to it.
 ///
 /// Zxids run from 1 to 2^63 - 1 and rise (Programmer's Guide, "Time in ZooKeeper"); times are milliseconds since the
-/// epoch. A look-up replays the changes of one path from the beginning.
+/// epoch. For each path the versions of its node are kept, one for each change of the node or of its children: a look-up
+/// searches the paths and then the versions of one, and names are told by the changes that made those versions.
 #[derive(Drop)]
 pub struct History<A: Allocator + Copy> {
     alloc: A,
     // The nodes of the first tree: a creation at zxid 0 each.
     nodes: Vec<Transaction<A>, A>,
     transactions: Vec<Transaction<A>, A>,
+    // What became of each path by each change of it.
+    versions: Versions<A>,
 }
 
 impl<A: Allocator + Copy> Model for History<A> {
     ghost use Rattle.std.specs.Prelude.{map};
     ghost use Rattle.zk_history.specs.Kept.{Kept, IsSound};
     ghost use Rattle.zk_history.specs.Made.{transaction_of};
+    ghost use Rattle.zk_history.specs.Versions.{IsIndexed, versions_of};
 
     ghost Value = { Kept };
 
     ghost view = { λ h. record { nodes = map transaction_of h.nodes.items; transactions = map transaction_of h.transactions.items } };
 
-    ghost invariant = { λ h. IsSound (record { nodes = map transaction_of h.nodes.items; transactions = map transaction_of h.transactions.items }) };
+    ghost invariant = { λ h. IsSound (record { nodes = map transaction_of h.nodes.items; transactions = map transaction_of h.transactions.items })
+        × IsIndexed (record { nodes = map transaction_of h.nodes.items; transactions = map transaction_of h.transactions.items }) (versions_of h.versions) };
 }
 
 fn natural(z: i64) -> u64
@@ -67,26 +75,6 @@ fn natural(z: i64) -> u64
     ensures small { result < 2 ^ 63 }
 {
     if z < 0 { 0 } else { z as u64 }
-}
-
-fn root_found(at: &str) -> Option<Found<'static>>
-    requires { IsPath at.now }
-    ensures { option_map node_of result ≡ root_tree (path_of at.now) }
-{
-    if "/" == at {
-        Some(Found {
-            bytes: Some(&[]),
-            czxid: 0,
-            mzxid: 0,
-            pzxid: 0,
-            ctime: 0,
-            mtime: 0,
-            version: 0,
-            owner: 0,
-        })
-    } else {
-        None
-    }
 }
 
 impl<A: Allocator + Copy> History<A> {
@@ -98,6 +86,7 @@ impl<A: Allocator + Copy> History<A> {
             alloc,
             nodes: Vec::new(alloc),
             transactions: Vec::new(alloc),
+            versions: BTreeMap::new(alloc),
         }
     }
 
@@ -122,7 +111,19 @@ impl<A: Allocator + Copy> History<A> {
         if !self.takes_create(&path, &bytes) {
             return Err(HistoryFault::Illegal);
         }
-        push_node(self.alloc, &mut self.nodes, path, bytes, time)?;
+        let change = Change::Create(path, bytes, 0);
+        let origin = Origin::First(self.nodes.len());
+        let zxid = 0;
+        note(
+            self.alloc,
+            &mut self.versions,
+            Spot { zxid, time, origin },
+            &change,
+        )?;
+        if let Err(failed) = push_node(self.alloc, &mut self.nodes, time, change) {
+            forget(&mut self.versions, &failed.value);
+            return Err(HistoryFault::Memory);
+        }
         Ok(())
     }
 
@@ -158,8 +159,34 @@ impl<A: Allocator + Copy> History<A> {
         if !self.takes(&change) {
             return Err(HistoryFault::Illegal);
         }
-        push_change(&mut self.transactions, change)?;
+        let spot = next_spot(self.transactions.as_slice());
+        note(self.alloc, &mut self.versions, spot, &change)?;
+        if let Err(failed) = push_change(&mut self.transactions, change) {
+            forget(&mut self.versions, &failed.value);
+            return Err(HistoryFault::Memory);
+        }
         Ok(())
+    }
+
+    // The last version of a path up to a zxid.
+    fn version(&self, z: u64, at: &str) -> Option<Version>
+        requires { IsPath at.now }
+        ensures node { Tells self.now (entry_of (path_of at.now) result) (tree_at (history_of self.now) z (path_of at.now)) }
+        ensures count { children_of result ≡ count_at z (path_of at.now) self.now.transactions (count_at 0 (path_of at.now) self.now.nodes 0) }
+        ensures sound { IsSound self.now }
+    {
+        last_up_to(z, versions_at(&self.versions, at))
+    }
+
+    // The bytes that the change at an origin writes.
+    fn bytes(&self, origin: Origin) -> Option<&[u8]>
+        ensures { (content : Option (List ℕ)) → content_told self.now origin ≡ Some content → option_copied result ≡ content }
+    {
+        match origin {
+            Origin::Root => Some(&[]),
+            Origin::First(i) => content_at(self.nodes.as_slice(), i, 0),
+            Origin::Later(i, j) => content_at(self.transactions.as_slice(), i, j),
+        }
     }
 
     // The node at a path, after the transactions up to a zxid.
@@ -168,8 +195,19 @@ impl<A: Allocator + Copy> History<A> {
         ensures node { option_map node_of result ≡ tree_at (history_of self.now) z (path_of at.now) }
         ensures sound { IsSound self.now }
     {
-        let first = after_transactions(0, self.nodes.as_slice(), at, root_found(at));
-        after_transactions(z, self.transactions.as_slice(), at, first)
+        match entry_of(at, self.version(z, at)) {
+            Some(entry) => Some(Found {
+                bytes: self.bytes(entry.origin),
+                czxid: entry.czxid,
+                mzxid: entry.mzxid,
+                pzxid: entry.pzxid,
+                ctime: entry.ctime,
+                mtime: entry.mtime,
+                version: entry.version,
+                owner: entry.owner,
+            }),
+            None => None,
+        }
     }
 
     // How many children a path has after the transactions up to a zxid.
@@ -179,8 +217,7 @@ impl<A: Allocator + Copy> History<A> {
         ensures few { result ≤ 2147483647 }
         ensures sound { IsSound self.now }
     {
-        let first = counted_after_transactions(0, self.nodes.as_slice(), at, 0);
-        counted_after_transactions(z, self.transactions.as_slice(), at, first)
+        children_of(self.version(z, at))
     }
 
     // The names of a path's children after the transactions up to a zxid.
@@ -189,8 +226,15 @@ impl<A: Allocator + Copy> History<A> {
         ensures { IfOk result (λ names. (name : Name) → contains_text names name ≡ is_some (tree_at (history_of self.now) z (name ∷ path_of at.now))) }
     {
         let mut names = BTreeSet::new(self.alloc);
-        names_after_transactions(self.alloc, 0, self.nodes.as_slice(), at, &mut names)?;
-        names_after_transactions(self.alloc, z, self.transactions.as_slice(), at, &mut names)?;
+        names_after_versions(
+            self.alloc,
+            z,
+            self.nodes.as_slice(),
+            self.transactions.as_slice(),
+            versions_at(&self.versions, at),
+            at,
+            &mut names,
+        )?;
         Ok(names)
     }
 

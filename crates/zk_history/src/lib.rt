@@ -19,6 +19,8 @@ mod side;
 mod stat;
 mod told;
 mod transactions;
+mod version;
+mod versions;
 
 pub use answer::{Data, Names};
 pub use change::Change;

@@ -1,14 +1,16 @@
-//! The names of a path's children, change by change.
+//! The names of a path's children, change by change, and their number.
 
-ghost use Rattle.std.specs.Prelude.{◌≡◌, ◌≤◌, map, OnOk};
+ghost use Rattle.std.specs.Prelude.{◌≡◌, ◌≤◌, map, slice_get, OnOk};
 ghost use Rattle.zk_history.specs.History.{path_of};
 ghost use Rattle.zk_history.specs.PathFault.{IsPath};
-ghost use Rattle.zk_history.specs.Replay.{children_after, children_after_all, children_at, count_after, count_after_all, count_at, IsCounted, IsCountedAt};
+ghost use Rattle.zk_history.specs.Replay.{children_after, count_after};
 ghost use Rattle.zk_history.specs.Made.{change_of, transaction_of};
 ghost use Rattle.zk_history.specs.NamesKept.{names_of};
+ghost use Rattle.zk_history.specs.Versions.{nth_change, change_at, names_by, names_told};
 ghost use Rattle.std.specs.FinSet as set;
 
 use crate::change::{Change, Transaction};
+use crate::version::{Origin, Version};
 use std::alloc::{AllocError, Allocator};
 use std::collections::BTreeSet;
 
@@ -58,40 +60,68 @@ fn names_after<A: Allocator + Copy>(
     Ok(())
 }
 
-fn names_after_changes<A: Allocator + Copy>(
+// The names of a path's children after the change at a place of a transaction.
+fn names_after_nth<A: Allocator + Copy>(
     alloc: A,
-    changes: &[Change<A>],
-    at: &str,
-    names: &mut BTreeSet<String<A>, A>,
-) -> Result<(), AllocError>
-    requires { IsPath at.now }
-    ensures { OnOk result (names_of names.new ≡ children_after_all (path_of at.now) (map change_of changes.now) (names_of names.old)) }
-{
-    for change in changes {
-        names_after(alloc, change, at, names)?;
-    }
-    Ok(())
-}
-
-pub(crate) fn names_after_transactions<A: Allocator + Copy>(
-    alloc: A,
-    z: u64,
     transactions: &[Transaction<A>],
+    i: usize,
+    j: usize,
     at: &str,
     names: &mut BTreeSet<String<A>, A>,
 ) -> Result<(), AllocError>
     requires { IsPath at.now }
-    ensures { OnOk result (names_of names.new ≡ children_at z (path_of at.now) (map transaction_of transactions.now) (names_of names.old)) }
+    ensures { OnOk result (names_of names.new ≡ names_by (path_of at.now) (nth_change (slice_get (map transaction_of transactions.now) i) j) (names_of names.old)) }
 {
-    for transaction in transactions {
-        if transaction.zxid <= z {
-            names_after_changes(alloc, transaction.changes.as_slice(), at, names)?;
+    if let Some(transaction) = transactions.get(i) {
+        if let Some(change) = transaction.changes.get(j) {
+            return names_after(alloc, change, at, names);
         }
     }
     Ok(())
 }
 
-fn counted_after<A: Allocator>(change: &Change<A>, at: &str, count: u32) -> u32
+// The names of a path's children after the change that stands at an origin.
+fn names_after_origin<A: Allocator + Copy>(
+    alloc: A,
+    nodes: &[Transaction<A>],
+    transactions: &[Transaction<A>],
+    origin: Origin,
+    at: &str,
+    names: &mut BTreeSet<String<A>, A>,
+) -> Result<(), AllocError>
+    requires { IsPath at.now }
+    ensures { OnOk result (names_of names.new ≡ names_by (path_of at.now) (change_at (record { nodes = map transaction_of nodes.now; transactions = map transaction_of transactions.now }) origin) (names_of names.old)) }
+{
+    match origin {
+        Origin::Root => Ok(()),
+        Origin::First(i) => names_after_nth(alloc, nodes, i, 0, at, names),
+        Origin::Later(i, j) => names_after_nth(alloc, transactions, i, j, at, names),
+    }
+}
+
+// The names of a path's children after the changes that made its versions, up to a zxid.
+pub(crate) fn names_after_versions<A: Allocator + Copy>(
+    alloc: A,
+    z: u64,
+    nodes: &[Transaction<A>],
+    transactions: &[Transaction<A>],
+    versions: &[Version],
+    at: &str,
+    names: &mut BTreeSet<String<A>, A>,
+) -> Result<(), AllocError>
+    requires { IsPath at.now }
+    ensures { OnOk result (names_of names.new ≡ names_told (record { nodes = map transaction_of nodes.now; transactions = map transaction_of transactions.now }) (path_of at.now) z versions.now (names_of names.old)) }
+{
+    for version in versions {
+        if version.zxid <= z {
+            names_after_origin(alloc, nodes, transactions, version.origin, at, names)?;
+        }
+    }
+    Ok(())
+}
+
+// How many children a path has after a change.
+pub(crate) fn counted_after<A: Allocator>(change: &Change<A>, at: &str, count: u32) -> u32
     requires path { IsPath at.now }
     requires fits { count ≤ 2147483647 }
     ensures { result ≡ count_after (path_of at.now) (change_of change.now) count }
@@ -113,35 +143,4 @@ fn counted_after<A: Allocator>(change: &Change<A>, at: &str, count: u32) -> u32
             }
         }
     }
-}
-
-fn counted_after_changes<A: Allocator>(changes: &[Change<A>], at: &str, count: u32) -> u32
-    requires path { IsPath at.now }
-    requires fits { IsCounted (path_of at.now) (map change_of changes.now) count }
-    ensures { result ≡ count_after_all (path_of at.now) (map change_of changes.now) count }
-{
-    let mut n = count;
-    for change in changes {
-        n = counted_after(change, at, n);
-    }
-    n
-}
-
-pub(crate) fn counted_after_transactions<A: Allocator>(
-    z: u64,
-    transactions: &[Transaction<A>],
-    at: &str,
-    count: u32,
-) -> u32
-    requires path { IsPath at.now }
-    requires fits { IsCountedAt z (path_of at.now) (map transaction_of transactions.now) count }
-    ensures { result ≡ count_at z (path_of at.now) (map transaction_of transactions.now) count }
-{
-    let mut n = count;
-    for transaction in transactions {
-        if transaction.zxid <= z {
-            n = counted_after_changes(transaction.changes.as_slice(), at, n);
-        }
-    }
-    n
 }

@@ -1,34 +1,69 @@
-//! The node at one path, change by change.
+//! What one change makes of the node at a path, and of its children.
 
-ghost use Rattle.std.specs.Prelude.{◌≡◌, ◌<◌, ◌≤◌, ◌^◌, ℤ, map};
-ghost use Rattle.std.specs.Option.{option_map, option_copied};
-ghost use Rattle.zk_history.specs.History.{regrouped as node_regrouped, path_of, size_of, Creates, Sets, Deletes};
+ghost use Rattle.std.specs.Prelude.{◌≡◌, ◌<◌, ℤ, ℕ, List, Option, Some, true};
+ghost use Rattle.std.specs.Option.{option_map};
+ghost use Rattle.zk_history.specs.History.{path_eq, path_of, Creates, Sets, Deletes};
 ghost use Rattle.zk_history.specs.PathFault.{IsPath};
-ghost use Rattle.zk_history.specs.Replay.{node_after, node_after_all, node_at, CanRise, CanRiseAll, CanRiseAt};
-ghost use Rattle.zk_history.specs.Made.{change_of, transaction_of, node_of};
+ghost use Rattle.zk_history.specs.Made.{change_of};
+ghost use Rattle.zk_history.specs.declared.version.Origin.{Origin as OriginOf};
+ghost use Rattle.zk_history.specs.declared.version.Entry.{Entry as EntryOf};
+ghost use Rattle.zk_history.specs.Versions.{entry_regrouped, entry_after, entry_of, children_of, first_entry, version_after, CanBeNoted};
 
-use crate::change::{Change, Transaction};
-use crate::found::Found;
+use crate::change::Change;
+use crate::names::counted_after;
 use crate::path::Path;
+use crate::version::{Entry, Origin, Spot, Version};
 use std::alloc::Allocator;
 
-fn lent<A: Allocator>(bytes: &Option<Vec<u8, A>>) -> Option<&[u8]>
-    ensures { option_copied result ≡ option_map (λ v. v.items) bytes.now }
+// The root as it is before all changes.
+fn first_entry(at: &str) -> Option<Entry>
+    requires { IsPath at.now }
+    ensures { result ≡ first_entry (path_of at.now) }
 {
-    match bytes {
-        Some(bytes) => Some(bytes.as_slice()),
-        None => None,
+    if "/" == at {
+        Some(Entry {
+            origin: Origin::Root,
+            czxid: 0,
+            mzxid: 0,
+            pzxid: 0,
+            ctime: 0,
+            mtime: 0,
+            version: 0,
+            owner: 0,
+        })
+    } else {
+        None
+    }
+}
+
+// The node at a path at a version, or before all.
+pub(crate) fn entry_of(at: &str, held: Option<Version>) -> Option<Entry>
+    requires { IsPath at.now }
+    ensures { result ≡ entry_of (path_of at.now) held }
+{
+    match held {
+        Some(version) => version.entry,
+        None => first_entry(at),
+    }
+}
+
+// How many children a path has at a version, or before all.
+pub(crate) fn children_of(held: Option<Version>) -> u32
+    ensures { result ≡ children_of held }
+{
+    match held {
+        Some(version) => version.children,
+        None => 0,
     }
 }
 
 // A node whose children changed.
-fn regrouped(zxid: u64, found: Option<Found<'_>>) -> Option<Found<'_>>
-    requires { zxid < 2 ^ 63 }
-    ensures { option_map node_of result ≡ option_map (node_regrouped zxid) (option_map node_of found.entry) }
+fn regrouped(zxid: u64, found: Option<Entry>) -> Option<Entry>
+    ensures { result ≡ option_map (entry_regrouped zxid) found }
 {
     match found {
-        Some(found) => Some(Found {
-            bytes: found.bytes,
+        Some(found) => Some(Entry {
+            origin: found.origin,
             czxid: found.czxid,
             mzxid: found.mzxid,
             pzxid: zxid,
@@ -42,25 +77,23 @@ fn regrouped(zxid: u64, found: Option<Found<'_>>) -> Option<Found<'_>>
 }
 
 // What a creation makes of the node at a path.
-fn after_create<'a, A: Allocator>(
+fn after_create<A: Allocator>(
     zxid: u64,
     time: i64,
+    origin: Origin,
     path: &Path<A>,
-    bytes: &'a Option<Vec<u8, A>>,
     owner: i64,
     at: &str,
-    found: Option<Found<'a>>,
-) -> Option<Found<'a>>
-    requires path { IsPath at.now }
-    requires zxid { zxid < 2 ^ 63 }
-    requires bytes { size_of (option_map (λ v. v.items) bytes.now) ≤ 2147483647 }
-    ensures { option_map node_of result ≡ node_after zxid time (path_of at.now) (Creates (path_of path.now) (option_map (λ v. v.items) bytes.now) owner) (option_map node_of found.entry) }
+    found: Option<Entry>,
+) -> Option<Entry>
+    requires { IsPath at.now }
+    ensures { (content : Option (List ℕ)) → result ≡ entry_after zxid time origin (path_of at.now) (Creates (path_of path.now) content owner) found }
 {
     if path.is_root() {
         found
     } else if path.is_at(at) {
-        Some(Found {
-            bytes: lent(bytes),
+        Some(Entry {
+            origin,
             czxid: zxid,
             mzxid: zxid,
             pzxid: zxid,
@@ -77,25 +110,24 @@ fn after_create<'a, A: Allocator>(
 }
 
 // What a write of data makes of the node at a path.
-fn after_set<'a, A: Allocator>(
+fn after_set<A: Allocator>(
     zxid: u64,
     time: i64,
+    origin: Origin,
     path: &Path<A>,
-    bytes: &'a Option<Vec<u8, A>>,
     at: &str,
-    found: Option<Found<'a>>,
-) -> Option<Found<'a>>
+    found: Option<Entry>,
+) -> Option<Entry>
     requires path { IsPath at.now }
-    requires zxid { zxid < 2 ^ 63 }
-    requires version { CanRise (path_of at.now) (Sets (path_of path.now) (option_map (λ v. v.items) bytes.now)) (option_map node_of found) }
-    ensures { option_map node_of result ≡ node_after zxid time (path_of at.now) (Sets (path_of path.now) (option_map (λ v. v.items) bytes.now)) (option_map node_of found.entry) }
+    requires version { path_eq (path_of at.now) (path_of path.now) ≡ true → (e : EntryOf) → found ≡ Some e → e.version < 2147483647 }
+    ensures { (content : Option (List ℕ)) → result ≡ entry_after zxid time origin (path_of at.now) (Sets (path_of path.now) content) found }
 {
     if !path.is_at(at) {
         return found;
     }
     match found {
-        Some(found) => Some(Found {
-            bytes: lent(bytes),
+        Some(found) => Some(Entry {
+            origin,
             czxid: found.czxid,
             mzxid: zxid,
             pzxid: found.pzxid,
@@ -109,15 +141,14 @@ fn after_set<'a, A: Allocator>(
 }
 
 // What a deletion makes of the node at a path.
-fn after_delete<'a, A: Allocator>(
+fn after_delete<A: Allocator>(
     zxid: u64,
     path: &Path<A>,
     at: &str,
-    found: Option<Found<'a>>,
-) -> Option<Found<'a>>
-    requires path { IsPath at.now }
-    requires zxid { zxid < 2 ^ 63 }
-    ensures { (time : ℤ) → option_map node_of result ≡ node_after zxid time (path_of at.now) (Deletes (path_of path.now)) (option_map node_of found.entry) }
+    found: Option<Entry>,
+) -> Option<Entry>
+    requires { IsPath at.now }
+    ensures { (time : ℤ) (origin : OriginOf) → result ≡ entry_after zxid time origin (path_of at.now) (Deletes (path_of path.now)) found }
 {
     if path.is_root() {
         return found;
@@ -131,70 +162,31 @@ fn after_delete<'a, A: Allocator>(
     found
 }
 
-// What a change makes of the node at a path.
-fn after_change<'a, A: Allocator>(
-    zxid: u64,
-    time: i64,
-    change: &'a Change<A>,
+// The version of a path that a change makes, which stands at a spot.
+pub(crate) fn version_after<A: Allocator>(
+    spot: Spot,
+    change: &Change<A>,
     at: &str,
-    found: Option<Found<'a>>,
-) -> Option<Found<'a>>
+    held: Option<Version>,
+) -> Version
     requires path { IsPath at.now }
-    requires zxid { zxid < 2 ^ 63 }
-    requires version { CanRise (path_of at.now) (change_of change.now) (option_map node_of found) }
-    ensures { option_map node_of result ≡ node_after zxid time (path_of at.now) (change_of change.now) (option_map node_of found.entry) }
+    requires fits { CanBeNoted (path_of at.now) (change_of change.now) held }
+    ensures { result ≡ version_after spot.zxid spot.time spot.origin (path_of at.now) (change_of change.now) held }
 {
-    match change {
-        Change::Create(path, bytes, owner) => {
-            after_create(zxid, time, path, bytes, *owner, at, found)
+    let Spot { zxid, time, origin } = spot;
+    let before = entry_of(at, held);
+    let entry = match change {
+        Change::Create(path, _, owner) => {
+            after_create(zxid, time, origin, path, *owner, at, before)
         }
-        Change::Set(path, bytes) => after_set(zxid, time, path, bytes, at, found),
-        Change::Delete(path) => after_delete(zxid, path, at, found),
+        Change::Set(path, _) => after_set(zxid, time, origin, path, at, before),
+        Change::Delete(path) => after_delete(zxid, path, at, before),
+    };
+    let children = counted_after(change, at, children_of(held));
+    Version {
+        zxid,
+        origin,
+        entry,
+        children,
     }
-}
-
-// What changes make of the node at a path.
-fn after_changes<'a, A: Allocator>(
-    zxid: u64,
-    time: i64,
-    changes: &'a [Change<A>],
-    at: &str,
-    found: Option<Found<'a>>,
-) -> Option<Found<'a>>
-    requires path { IsPath at.now }
-    requires zxid { zxid < 2 ^ 63 }
-    requires version { CanRiseAll zxid time (path_of at.now) (map change_of changes.now) (option_map node_of found) }
-    ensures { option_map node_of result ≡ node_after_all zxid time (path_of at.now) (map change_of changes.now) (option_map node_of found.entry) }
-{
-    let mut node = found;
-    for change in changes {
-        node = after_change(zxid, time, change, at, node);
-    }
-    node
-}
-
-// What the transactions up to a zxid make of the node at a path.
-pub(crate) fn after_transactions<'a, A: Allocator>(
-    z: u64,
-    transactions: &'a [Transaction<A>],
-    at: &str,
-    found: Option<Found<'a>>,
-) -> Option<Found<'a>>
-    requires path { IsPath at.now }
-    requires version { CanRiseAt z (path_of at.now) (map transaction_of transactions.now) (option_map node_of found) }
-    ensures { option_map node_of result ≡ node_at z (path_of at.now) (map transaction_of transactions.now) (option_map node_of found.entry) }
-{
-    let mut node = found;
-    for transaction in transactions {
-        if transaction.zxid <= z {
-            node = after_changes(
-                transaction.zxid,
-                transaction.time,
-                transaction.changes.as_slice(),
-                at,
-                node,
-            );
-        }
-    }
-    node
 }

@@ -18,7 +18,7 @@ returns-clause-value g c =
     ∙ ap (λ (k : Kept). pos (newest 0 k.transactions)) c.self.view_is
 
 pub returns-then-is_empty-clause-history : goal.returns-then-is_empty-clause-history
-returns-then-is_empty-clause-history g c = subst (λ (k : Kept). IsHistory (history_of k)) c.self.view_is (IsHistory-sound _ c.self.invariant)
+returns-then-is_empty-clause-history g c = subst (λ (k : Kept). IsHistory (history_of k)) c.self.view_is (IsHistory-sound _ c.self.invariant.0)
 
 pub returns-clause-history : goal.returns-clause-history
-returns-clause-history g c = subst (λ (k : Kept). IsHistory (history_of k)) c.self.view_is (IsHistory-sound _ c.self.invariant)
+returns-clause-history g c = subst (λ (k : Kept). IsHistory (history_of k)) c.self.view_is (IsHistory-sound _ c.self.invariant.0)
