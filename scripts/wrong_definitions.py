@@ -37,7 +37,7 @@ TOP = Path(__file__).resolve().parent.parent
 TURNS, LAWS, CLIENT = "zk_turns", "zk_laws", "zk_client"
 # the crates of laws above one
 ABOVE = {TURNS: ["zk_rules"], LAWS: ["zk_serving", "zk_receptive"]}
-KEPT, RULE, TAKEN, SENT = (f"specs/{name}.antt" for name in ("Kept", "Rule", "Taken", "Sent"))
+PAST, RULE, TAKEN, SENT = (f"specs/{name}.antt" for name in ("Past", "Rule", "Taken", "Sent"))
 SERVER, SERVER_STEPS, SERVED, HEADLINE = (f"specs/{name}.antt" for name in ("Server", "ServerSteps", "Served", "Headline"))
 MESSAGES, PARSED, TRUTHS, RUNS = (f"specs/{name}.antt" for name in ("Messages", "Parsed", "Laws", "Runs"))
 # the sections of docs/DEFINITIONS.md that speak of servers
@@ -93,20 +93,20 @@ EDITS = [
     ("the relative zxid is 0", TURNS, RULE,
      "map (part_frame view.saved.last) (parts view.lists)", "map (part_frame (pos 0)) (parts view.lists)"),
     # what is looked back for
-    ("all parts count", TURNS, KEPT,
+    ("all parts count", TURNS, PAST,
      "last_of start (Took (Watches_set true zxid) ∷ past) =", "last_of start (Took (Watches_set last zxid) ∷ past) ="),
-    ("data stay whatever fields come", TURNS, KEPT,
+    ("data stay whatever fields come", TURNS, PAST,
      "data_by (Says (Known others)) fields before = if same_fields others fields then before else None",
      "data_by (Says (Known others)) fields before = before"),
-    ("an unwatched read is kept", TURNS, KEPT,
+    ("an unwatched read is kept", TURNS, PAST,
      "leaves_data (GetData path true) (Read bytes stat)", "leaves_data (GetData path watch) (Read bytes stat)"),
-    ("getData of an absent node leaves a watch", TURNS, KEPT,
+    ("getData of an absent node leaves a watch", TURNS, PAST,
      "leaves_data _ _ = None", "leaves_data (GetData path true) NoNode = Some (record { path = path; says = Absent })\nleaves_data _ _ = None"),
     # what is refused and given up
     ("a call behind a close is sent", TURNS, TAKEN,
      "if is_close_pending view.pending then Some SessionClosed", "if false then Some SessionClosed"),
     ("one call too many is pending", TURNS, TAKEN,
-     "if nat_le 1024 (calls_pending view.pending)", "if nat_le 1025 (calls_pending view.pending)"),
+     "if nat_le MOST_PENDING (calls_pending view.pending)", "if nat_le (MOST_PENDING + 1) (calls_pending view.pending)"),
     ("silence is due after half of the timeout", TURNS, TAKEN,
      "if nat_le (2 * timeout_of view) (3 * (now - view.moments.heard)) then", "if nat_le (timeout_of view) (2 * (now - view.moments.heard)) then"),
     ("a reply that is behind is taken", TURNS, TAKEN,
@@ -155,7 +155,7 @@ EDITS = [
     ("a connection begins at place 1 alone", LAWS, SERVED,
      "Opening ↦ place ≤ length h.transactions", "Opening ↦ place ≡ 1"),
     ("what was sent is received whole", LAWS, SERVED,
-     "(rest : List ℕ) × (line.coming ≡ bytes ++ rest)", "line.coming ≡ bytes"),
+     "(rest : List ℕ) × (wire.coming ≡ bytes ++ rest)", "wire.coming ≡ bytes"),
     ("no server refuses a client", LAWS, SERVER_STEPS,
      "MayDo h (Refuses seen) server requests = (server.stage ≡ Waiting) ×", "MayDo h (Refuses seen) server requests = (server.stage ≡ Ended) ×"),
     ("a client is admitted where nothing is left to take alone", LAWS, SERVER_STEPS,
@@ -166,7 +166,7 @@ EDITS = [
     ("a write is accepted at the beginning of the history alone", LAWS, SERVER,
      "Gives h place (call.SetData path content version) (Found stat) = LastHolds", "Gives h place (call.SetData path content version) (Found stat) = (place ≡ 0) × LastHolds"),
     ("nothing is quiet", LAWS, HEADLINE,
-     "pub received : (line_of h entries).coming ≡ []", "pub received : length (line_of h entries).coming ≡ 1"),
+     "pub received : (wire_of h entries).coming ≡ []", "pub received : length (wire_of h entries).coming ≡ 1"),
 ]
 
 
@@ -288,26 +288,26 @@ NARROWER = [
     ("nothing stands behind a pong", LAWS, SERVED, "IsHeaded ping_xid zxid err payload behind", "IsHeaded ping_xid zxid err payload []"),
     ("payloads have less than 1,024 bytes", LAWS, SERVED, "(length payload < 2 ^ 31)", "(length payload < 2 ^ 10)"),
     # section 14: lines and schedules
-    ("connections begin at the beginning of the history", LAWS, SERVED, "new_line place = record { server = record { place = place;", "new_line place = record { server = record { place = 0;"),
-    ("before any connection a server has gone on", LAWS, SERVED, "no_line = record { server = record { place = 0;", "no_line = record { server = record { place = 1;"),
+    ("connections begin at the beginning of the history", LAWS, SERVED, "new_wire place = record { server = record { place = place;", "new_wire place = record { server = record { place = 0;"),
+    ("before any connection a server has gone on", LAWS, SERVED, "no_wire = record { server = record { place = 0;", "no_wire = record { server = record { place = 1;"),
     ("no connection is open while a client goes on", LAWS, SERVED, "is_open (state_of past) && not (has_halted past)", "is_open (state_of past) && has_halted past"),
-    ("a server skips a request", LAWS, SERVED, "drop line.processed (requests start past)", "drop (line.processed + 1) (requests start past)"),
+    ("a server skips a request", LAWS, SERVED, "drop wire.processed (requests start past)", "drop (wire.processed + 1) (requests start past)"),
     ("each first request has the xid 1", LAWS, SERVED, "first_xid (sent ∷ more) = sent.xid", "first_xid (sent ∷ more) = pos 1"),
     ("a server steps where all that it sent was received alone", LAWS, SERVED,
-     "  pub going : is_going past ≡ true\n  pub may", "  pub going : is_going past ≡ true\n  pub received : line.coming ≡ []\n  pub may"),
+     "  pub going : is_going past ≡ true\n  pub may", "  pub going : is_going past ≡ true\n  pub received : wire.coming ≡ []\n  pub may"),
     ("a server steps where no connection is open", LAWS, SERVED, "  pub going : is_going past ≡ true\n  pub may", "  pub going : is_going past ≡ false\n  pub may"),
     ("two requests are processed at once", LAWS, SERVED, "[ Advances sent ↦ 0 | _ ↦ 1 ]", "[ Advances sent ↦ 0 | _ ↦ 2 ]"),
-    ("what was not received yet is lost as a server sends more", LAWS, SERVED, "coming = line.coming ++ flat_map frame payloads", "coming = flat_map frame payloads"),
+    ("what was not received yet is lost as a server sends more", LAWS, SERVED, "coming = wire.coming ++ flat_map frame payloads", "coming = flat_map frame payloads"),
     ("what a server does hides the items before it", LAWS, SERVED, "items_in (Serves step payloads ∷ earlier) = items_in earlier", "items_in (Serves step payloads ∷ earlier) = []"),
-    ("what is not received at once is lost", LAWS, SERVED, "record line { coming = drop (length bytes) line.coming }", "record line { coming = [] }"),
-    ("a server does not move", LAWS, SERVED, "line_of h (Serves step payloads ∷ earlier) = line_on h step payloads (line_of h earlier)", "line_of h (Serves step payloads ∷ earlier) = line_of h earlier"),
+    ("what is not received at once is lost", LAWS, SERVED, "record wire { coming = drop (length bytes) wire.coming }", "record wire { coming = [] }"),
+    ("a server does not move", LAWS, SERVED, "wire_of h (Serves step payloads ∷ earlier) = wire_on h step payloads (wire_of h earlier)", "wire_of h (Serves step payloads ∷ earlier) = wire_of h earlier"),
     ("nothing was sent", LAWS, SERVED, "Among payload payloads ⊎ WasSent earlier payload", "WasSent earlier payload"),
-    ("no connection is cut, and nobody asks", LAWS, SERVED, "(line.coming ≡ bytes ++ rest) | _ ↦ ⊤ ]", "(line.coming ≡ bytes ++ rest) | _ ↦ ⊥ ]"),
-    ("nothing is forgotten, and no client halts", LAWS, SERVED, "MayEnter h start (Goes_on place _) past line = ⊤", "MayEnter h start (Goes_on place _) past line = ⊥"),
+    ("no connection is cut, and nobody asks", LAWS, SERVED, "(wire.coming ≡ bytes ++ rest) | _ ↦ ⊤ ]", "(wire.coming ≡ bytes ++ rest) | _ ↦ ⊥ ]"),
+    ("nothing is forgotten, and no client halts", LAWS, SERVED, "MayEnter h start (Goes_on place _) past wire = ⊤", "MayEnter h start (Goes_on place _) past wire = ⊥"),
     ("no connection begins at the newest place", LAWS, SERVED, "Opening ↦ place ≤ length h.transactions", "Opening ↦ place < length h.transactions"),
     ("one byte comes at a time", LAWS, SERVED, "Bytes bytes ↦ is_going past ≡ true → (rest", "Bytes bytes ↦ is_going past ≡ true → (length bytes ≤ 1) × (rest"),
     ("schedules begin with an empty history", LAWS, SERVED, "IsServing h start [] = ⊤", "IsServing h start [] = h.transactions ≡ []"),
-    ("schedules have less than 100 entries", LAWS, SERVED, "(line_of h earlier) × IsServing h start earlier", "(line_of h earlier) × IsServing h start earlier × (length earlier < 100)"),
+    ("schedules have less than 100 entries", LAWS, SERVED, "(wire_of h earlier) × IsServing h start earlier", "(wire_of h earlier) × IsServing h start earlier × (length earlier < 100)"),
     ("schedules that serve have no entries", LAWS, SERVED, "  pub may : IsServing h start entries", "  pub may : IsServing h start entries\n  pub few : entries ≡ []"),
     # section 14: what a server finds in bytes
     ("nothing was sent to a server", LAWS, PARSED, "stream_of items = flat_map (λ bytes. bytes) (sends (outputs_of items))", "stream_of items = []"),
@@ -326,12 +326,12 @@ NARROWER = [
     ("watches are set again where no request waits alone", LAWS, TRUTHS, "AreRestored (_ ∷ requests) = AreRestored requests", "AreRestored (_ ∷ requests) = ⊥"),
     ("a client counts no watch as left", LAWS, TRUTHS, "sets_at (Some left) path = path_eq path (path_of left.path)", "sets_at (Some left) path = false"),
     ("a connection is quiet where no request waits alone", LAWS, HEADLINE,
-     "  pub restored : AreRestored", "  pub processed : unread start (past_of start (items_in entries)) (line_of h entries) ≡ []\n  pub restored : AreRestored"),
+     "  pub restored : AreRestored", "  pub processed : unread start (past_of start (items_in entries)) (wire_of h entries) ≡ []\n  pub restored : AreRestored"),
     ("a quiet connection has a server at the beginning of the history", LAWS, HEADLINE,
-     "  pub received : (line_of h entries).coming ≡ []", "  pub first : (line_of h entries).server.place < 1\n  pub received : (line_of h entries).coming ≡ []"),
+     "  pub received : (wire_of h entries).coming ≡ []", "  pub first : (wire_of h entries).server.place < 1\n  pub received : (wire_of h entries).coming ≡ []"),
     ("a client is quiet before anything happened alone", LAWS, HEADLINE,
      "  pub talking : is_talking", "  pub begun : entries ≡ []\n  pub talking : is_talking"),
-    ("quiet answers are those of the first tree", LAWS, HEADLINE, "tree_of h entries = tree_held h (line_of h entries).server.place", "tree_of h entries = tree_held h 0"),
+    ("quiet answers are those of the first tree", LAWS, HEADLINE, "tree_of h entries = tree_held h (wire_of h entries).server.place", "tree_of h entries = tree_held h 0"),
 ]
 
 # promises that say less
@@ -346,7 +346,7 @@ WEAKER = [
     ("answers may be to calls that nobody asked", LAWS, HEADLINE, "→ (call : Call) × Among (Asked ticket call) (past_of start items) × Among", "→ (call : Call) × Among"),
     ("a connection may be given up for any message that is too long", LAWS, HEADLINE, "WasSent entries payload × (LONGEST_INCOMING < length payload)", "(LONGEST_INCOMING < length payload)"),
     ("a connection may be given up for any fault", LAWS, HEADLINE, "(fault ≡ Silent) ⊎ ((fault ≡ Framed TooLong) ×", "(fault ≡ Silent) ⊎ ("),
-    ("nothing is quiet while a request waits", LAWS, HEADLINE, "pub received : (line_of h entries).coming ≡ []", "pub received : ((line_of h entries).coming ≡ []) × (unread start (past_of start (items_in entries)) (line_of h entries) ≡ [])"),
+    ("nothing is quiet while a request waits", LAWS, HEADLINE, "pub received : (wire_of h entries).coming ≡ []", "pub received : ((wire_of h entries).coming ≡ []) × (unread start (past_of start (items_in entries)) (wire_of h entries) ≡ [])"),
     ("served by a schedule of no entries", LAWS, SERVED, "  pub whole : items_in entries ≡ items", "  pub whole : (items_in entries ≡ items) × (entries ≡ [])"),
     ("a schedule has no moves of servers", LAWS, SERVED, "IsServing h start (entry ∷ earlier) = MayEnter h start entry", "IsServing h start (entry ∷ earlier) = (entry ∷ earlier ≡ []) × MayEnter h start entry"),
     # section 15: what holds of a client
@@ -380,7 +380,7 @@ DATA = "it names data: a field or a case fewer cannot be read where they are mad
 OUTSIDES = "it says what a run's outside tells of its turns, and nothing of servers: wrong_bodies/zk_client turns it"
 # definitions of these sections that have no such edit
 EXCEPTIONS = {
-    **dict.fromkeys("Notice Watches Message Request Stage ServerEnd ServerStep Sent Line Entry".split(), DATA),
+    **dict.fromkeys("Notice Watches Message Request Stage ServerEnd ServerStep Sent Wire Entry".split(), DATA),
     **dict.fromkeys("Told HandsOut IsGiven tells_turn inputs_then TellsAll NoneIsLeft".split(), OUTSIDES),
 }
 

@@ -3,7 +3,7 @@
 use std::alloc::{AllocError, Allocator};
 use zk_client::Input;
 use zk_conversation::Call;
-use zk_history::Path;
+use zk_nodes::Path;
 
 // The frame of a response with timeout 30,000, session 2748 and the password 0 to 15, without readOnly.
 pub(crate) const ACCEPTED: &[u8] = &[

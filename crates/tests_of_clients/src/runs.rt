@@ -7,7 +7,7 @@ use std::alloc::{AllocError, Allocator, Global};
 use std::process::Abort;
 use zk_cache::{DataAnswer, Mark};
 use zk_client::{Client, Input, Recorded, RecordedTurn, run};
-use zk_history::Path;
+use zk_nodes::Path;
 use zk_session::State;
 
 // A connection on which a path is found absent, watched, and made; and how much is said at each step.

@@ -4,7 +4,8 @@ use crate::happens::path_of;
 use crate::scripts::{Line, Makes, Move, Row, Script};
 use std::alloc::{AllocError, Allocator, Global};
 use zk_bench::Bench;
-use zk_history::{Change, History, HistoryFault, Path};
+use zk_history::{Change, History, HistoryFault};
+use zk_nodes::Path;
 
 // A path, with its data.
 fn node<A: Allocator + Copy>(

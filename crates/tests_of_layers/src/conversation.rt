@@ -11,7 +11,7 @@ use zk_conversation::{
     Arrival, Asked, Call, Connect, Conversation, CreateMode, Pending, Phase, TalkFault,
 };
 use zk_frames::{FrameReader, put_frame};
-use zk_history::Path;
+use zk_nodes::Path;
 use zk_records::SetWatchesRef;
 
 // The response with timeout 30,000, session 2748 and the password 0 to 15, without readOnly.

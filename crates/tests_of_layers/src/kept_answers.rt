@@ -5,8 +5,8 @@ use refusing::Refusing;
 use std::alloc::{Allocator, Global};
 use std::collections::BTreeSet;
 use zk_cache::{Cache, DataAnswer, Mark};
-use zk_history::{DataStat, Path, Side};
 use zk_jute::TextRef;
+use zk_nodes::{DataStat, Path, Side};
 
 const BYTES: [u8; 2] = [104, 105];
 

@@ -3,8 +3,8 @@ use crate::refusals::{Course, refuse_each};
 use crate::rows::{Follow, follow_each};
 use refusing::Refusing;
 use std::alloc::{Allocator, Global};
-use zk_history::{Path, Side};
 use zk_jute::Record;
+use zk_nodes::{Path, Side};
 use zk_records::{Event, SetWatchesRef};
 use zk_watches::{InOrder, RegisterFault, Registry};
 

@@ -4,8 +4,9 @@ use crate::checks::{holds, prints};
 use std::fmt::Display;
 use std::process::Abort;
 use zk_frames::{FrameFault, PutFault};
-use zk_history::{HistoryFault, PathFault};
+use zk_history::HistoryFault;
 use zk_jute::{PutError, TakeError};
+use zk_nodes::PathFault;
 use zk_records::RequestFault;
 
 static READING: [(TakeError, &str, &str); 5] = [

@@ -5,7 +5,8 @@ use crate::refused_memory::{Steps, refuse_each};
 use refusing::Refusing;
 use std::alloc::{AllocError, Allocator, Global};
 use std::process::Abort;
-use zk_frames::{FrameFault, FrameReader, LONGEST_OUTGOING, PutFault, put_frame, seal_frame};
+use zk_frames::{FrameFault, FrameReader, PutFault, put_frame, seal_frame};
+use zk_limits::LONGEST_OUTGOING;
 
 // The frames of `hi`, of nothing and of `abc`, and the first byte of another.
 static STREAM: [u8; 18] = [

@@ -5,7 +5,8 @@ use crate::refused_memory::{Steps, refuse_each};
 use refusing::Refusing;
 use std::alloc::{AllocError, Allocator, Global};
 use std::process::Abort;
-use zk_history::{Change, Data, DataStat, History, HistoryFault, Names, Path};
+use zk_history::{Change, Data, History, HistoryFault};
+use zk_nodes::{DataStat, Names, Path};
 
 // What a line does at its path.
 enum What {

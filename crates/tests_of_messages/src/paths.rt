@@ -5,7 +5,7 @@ use crate::refused_memory::{Steps, refuse_each};
 use refusing::Refusing;
 use std::alloc::{Allocator, Global};
 use std::process::Abort;
-use zk_history::{Path, PathFault};
+use zk_nodes::{Path, PathFault};
 
 // Texts that are no paths, and the codes of their faults.
 static FAULTS: [(&str, &str); 14] = [

@@ -6,7 +6,7 @@ use std::alloc::{Allocator, Global};
 use std::process::Abort;
 use zk_jute::{Cursor, Nothing, Readable, TakeError};
 use zk_records::{
-    CreateRef, CreateResponse, GetChildren2Ref, GetChildren2Response, GetChildrenRef,
+    CreateRef, CreateResponse, GetChildren2Ref, GetChildren2Response,
     GetChildrenResponse, GetDataRef, GetDataResponse, Stat, take_reply,
 };
 
@@ -65,7 +65,6 @@ fn data_replies_are_written_as_they_were_read(rt: HostRuntime) {
 fn name_replies_are_written_as_they_were_read(rt: HostRuntime) {
     let names = bytes(&rt, NAMES);
     again::<GetChildrenResponse<_>>(&rt, names, "names");
-    again::<GetChildrenRef<_>>(&rt, names, "lent names");
     let names_2 = bytes(&rt, NAMES_2);
     again::<GetChildren2Response<_>>(&rt, names_2, "names with a Stat");
     again::<GetChildren2Ref<_>>(&rt, names_2, "lent names with a Stat");

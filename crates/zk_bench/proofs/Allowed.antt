@@ -10,14 +10,14 @@ use Rattle.std.specs.FinSet as set
 use Rattle.std.proofs.lemmas.List.{take_all, append-nil}
 use Rattle.std.proofs.lemmas.Slice.Eq.{bytes_eq-Decides}
 use borrow.Author.Tests.{ltb-true, ltb-false, ne_eqb}
-use Rattle.zk_history.specs.History.{Text, Name, NodePath, Node, Tree, Creates, Sets, Deletes, byte_more, Transaction, AreRising, up_to, newest, after, path_of, size_of}
-use Rattle.zk_history.specs.Kept.{Kept, HasChildren, IsAccepted, first_tree, newest_tree}
-use Rattle.zk_history.specs.Path.{has_no_slash}
-use Rattle.zk_history.specs.PathFault.{fault_of, IsPath}
-use Rattle.zk_history.specs.declared.path_fault.PathFault.{PathFault}
-use Rattle.zk_history.specs.Replay.{Names, name_cmp}
-use Rattle.zk_history.proofs.KeptLemmas.{same_count}
-use Rattle.zk_history.proofs.PathTexts.{root_text}
+use Rattle.zk_nodes.specs.Path.{Text, Name, NodePath, byte_more, path_of, has_no_slash}
+use Rattle.zk_nodes.specs.History.{Node, Tree, Creates, Sets, Deletes, Transaction, AreRising, up_to, newest, after, size_of}
+use Rattle.zk_history.specs.HistoryView.{HistoryView, HasChildren, IsAccepted, first_tree, newest_tree}
+use Rattle.zk_nodes.specs.PathFault.{fault_of, IsPath}
+use Rattle.zk_nodes.specs.declared.path_fault.PathFault.{PathFault}
+use Rattle.zk_nodes.specs.Names.{Names, name_cmp}
+use Rattle.zk_history.proofs.ViewLemmas.{same_count}
+use Rattle.zk_nodes.proofs.PathTexts.{root_text}
 use Rattle.zk_records.specs.declared.code.Code.{Code}
 use Rattle.zk_records.specs.declared.code.Code.TheVariants as codes
 use Rattle.zk_laws.proofs.Stamps.{up_to_newest}
@@ -25,7 +25,7 @@ use Rattle.zk_bench.specs.Writing.{tree_of, text_unless, path_told, node_of, nod
 use Rattle.zk_bench.proofs.Written.{path_told-some}
 
 -- The tree at the last zxid is that after all transactions.
-pub newest_seen : (kept : Kept) → AreRising 0 kept.transactions → tree_of kept (pos (newest 0 kept.transactions)) ≡ newest_tree kept
+pub newest_seen : (kept : HistoryView) → AreRising 0 kept.transactions → tree_of kept (pos (newest 0 kept.transactions)) ≡ newest_tree kept
 newest_seen kept rising =
     let ts = kept.transactions in
     let whole : take (length ts) ts ≡ ts = take_all (length ts) ts (omega arith) in

@@ -8,21 +8,21 @@ use Rattle.std.specs.Prelude.{Result as Outcome}
 use Rattle.std.specs.Result.{IsErrAnd}
 use Rattle.std.specs.BTreeSet.{BTreeSet, contains_text}
 use Rattle.std.specs.FinSet as set
-use Rattle.zk_jute.specs.Layout.{Value}
+use Rattle.zk_jute.specs.Layout.{Layout, Value}
 use Rattle.zk_jute.specs.Spelling.{spelling}
-use Rattle.zk_history.specs.History.{Text, NodePath, Node, Tree, path_eq, text_of, path_of, IsPathText, Name, View, Contents, Absence, Children, view, contents_of, children_of}
-use Rattle.zk_history.specs.Replay.{Names}
+use Rattle.zk_nodes.specs.Path.{Text, NodePath, path_eq, text_of, path_of, IsPathText, Name}
+use Rattle.zk_nodes.specs.History.{Node, Tree, View, Contents, Absence, Children, view, contents_of, children_of}
+use Rattle.zk_nodes.specs.Names.{Names, names_of as names_in}
 use Rattle.zk_history.specs.Shown.{IsStat, stat_of as stat_told}
-use Rattle.zk_history.specs.declared.side.Side.{Side}
-use Rattle.zk_history.specs.declared.side.Side.TheVariants.{Data, Child}
-use Rattle.zk_history.specs.declared.stat.Stat.{Stat}
-use Rattle.zk_history.specs.DataStats.{data_stat_of}
-use Rattle.zk_history.specs.declared.data_stat.DataStat.{DataStat}
+use Rattle.zk_nodes.specs.declared.side.Side.{Side}
+use Rattle.zk_nodes.specs.declared.side.Side.TheVariants.{Data, Child}
+use Rattle.zk_nodes.specs.declared.stat.Stat.{Stat}
+use Rattle.zk_nodes.specs.DataStats.{data_stat_of}
+use Rattle.zk_nodes.specs.declared.data_stat.DataStat.{DataStat}
 use Rattle.zk_cache.specs.Kept.{Full, Absent, Known}
-use Rattle.zk_turns.specs.Kept.{names_of as listed}
-use Rattle.zk_history.specs.StatLayout.{stat}
-use Rattle.zk_history.specs.NamesKept.{names_of as names_in}
-use Rattle.zk_history.proofs.NamesLemmas.{tested, contains-names_of}
+use Rattle.zk_turns.specs.Past.{names_of as listed}
+use Rattle.zk_nodes.specs.StatLayout.{stat}
+use Rattle.zk_nodes.proofs.NamesLemmas.{tested, contains-names_of}
 use Rattle.zk_records.specs.Layouts.{reply_header, get_data_response, get_children2_response}
 use Rattle.zk_conversation.specs.Questions.{Question, Exists, GetData, GetChildren}
 use Rattle.zk_conversation.specs.Results.{Result, Read, Found, Listing, NoNode, stat_of, texts_of}
@@ -34,8 +34,8 @@ use Rattle.zk_bench.specs.Serving.{is_named, watches_of, Sends}
 use Rattle.zk_bench.specs.Answering.{name_set, ListsChildren, IsReadOf}
 use Rattle.zk_conversation.specs.Calls.{Call}
 use Rattle.zk_conversation.specs.Calls as call
-use Rattle.zk_history.specs.PathFault.{IsPath}
-use Rattle.zk_records.specs.declared.ask.ReadRequest.{ReadRequest}
+use Rattle.zk_nodes.specs.PathFault.{IsPath}
+use Rattle.zk_records.specs.declared.read_request.ReadRequest.{ReadRequest}
 use Rattle.zk_records.specs.declared.request.Request.TheVariants as requests
 use Rattle.zk_bench.proofs.Watched.{named, other_text}
 
@@ -75,33 +75,6 @@ added texts text path h = ap (λ (b : Bool). is_named path && b) left ∙ go (pa
         absurd cc
     go false e true f = seen (bytes_eq (text_of path) text) (set.contains texts (text_of path)) (other_text path text e f) ∙ sym (or-false (set.contains texts (text_of path)))
     go false e false f = refl
-
--- a getData that is answered with the data, and was to leave a watch
-pub watch_left : (nodes parents : Names) (text : Text) (bytes : Option (List ℕ)) (told : Stat) → IsPathText text
-    → watches_of (set.insert nodes text) parents ≡ both (watches_of nodes parents) (sets (GetData text true) (Read bytes told))
-watch_left nodes parents text bytes told h = fun_ext each
-  where
-    each : (side : Side) → watches_of (set.insert nodes text) parents side ≡ both (watches_of nodes parents) (sets (GetData text true) (Read bytes told)) side
-    each Data = fun_ext (λ path. added nodes text path h)
-    each Child = fun_ext (λ path. sym (or-false (is_named path && set.contains parents (text_of path))))
-
-nothing_set : (text : Text) (result : Result) (side : Side) (path : NodePath) → sets (GetData text false) result side path ≡ false
-nothing_set text result Data path = refl
-nothing_set text result Child path = refl
-
--- one that was not to leave one
-pub no_watch_left : (w : Watches) (text : Text) (result : Result) → w ≡ both w (sets (GetData text false) result)
-no_watch_left w text result = fun_ext (λ side. fun_ext (λ path. sym (ap (λ (b : Bool). w side path || b) (nothing_set text result side path) ∙ or-false (w side path))))
-
-none_set : (text : Text) (watch : Bool) (side : Side) (path : NodePath) → sets (GetData text watch) NoNode side path ≡ false
-none_set text true Data path = refl
-none_set text true Child path = refl
-none_set text false Data path = refl
-none_set text false Child path = refl
-
--- one that finds no node
-pub none_left : (w : Watches) (text : Text) (watch : Bool) → w ≡ both w (sets (GetData text watch) NoNode)
-none_left w text watch = fun_ext (λ side. fun_ext (λ path. sym (ap (λ (b : Bool). w side path || b) (none_set text watch side path) ∙ or-false (w side path))))
 
 -- What is told
 
@@ -147,13 +120,7 @@ data_payload xid zxid text watch bytes told value old new s same = (
 pub stat_found : (tree : Tree) (path text : Text) (told : Option Stat) → Some path ≡ Some text → IsStat tree (path_of path) told → IsStat tree (path_of text) told
 stat_found tree path text told e is = subst (λ (t : Text). IsStat tree (path_of t) told) (ap (λ (o : Option Text). elim o [ None ↦ path | Some t ↦ t ]) e) is
 
--- the watch of a getData that is answered with the data
-pub left_by : (nodes parents : Names) (text : Text) (watch : Bool) (bytes : Option (List ℕ)) (told : Stat) → IsPathText text
-    → watches_of (cond watch (set.insert nodes text) nodes) parents ≡ both (watches_of nodes parents) (sets (GetData text watch) (Read bytes told))
-left_by nodes parents text true bytes told h = watch_left nodes parents text bytes told h
-left_by nodes parents text false bytes told h = no_watch_left (watches_of nodes parents) text (Read bytes told)
-
--- exists and getChildren
+-- What is watched
 
 -- a data watch more
 data_watch_left : (nodes parents : Names) (text : Text) (question : Question) (result : Result) → IsPathText text
@@ -176,44 +143,46 @@ child_watch_left nodes parents text question result h d c = fun_ext each
     each Child = fun_ext (λ path. added parents text path h ∙ ap (λ (b : Bool). (is_named path && set.contains parents (text_of path)) || b) (sym (c path)))
 
 -- no watch more
-pub unwatched : (w : Watches) (question : Question) (result : Result) → ((side : Side) (path : NodePath) → sets question result side path ≡ false) → w ≡ both w (sets question result)
-unwatched w question result h = fun_ext (λ side. fun_ext (λ path. sym (ap (λ (b : Bool). w side path || b) (h side path) ∙ or-false (w side path))))
+unwatched : (w : Watches) (question : Question) (result : Result) → ((path : NodePath) → sets question result Data path ≡ false) → ((path : NodePath) → sets question result Child path ≡ false) → w ≡ both w (sets question result)
+unwatched w question result d c = fun_ext (λ side. fun_ext (λ path. sym (ap (λ (b : Bool). w side path || b) (at side path) ∙ or-false (w side path))))
+  where
+    at : (side : Side) (path : NodePath) → sets question result side path ≡ false
+    at Data path = d path
+    at Child path = c path
 
-exists_unset : (text : Text) (result : Result) (side : Side) (path : NodePath) → sets (Exists text false) result side path ≡ false
-exists_unset text result Data path = refl
-exists_unset text result Child path = refl
+-- the watch of a getData that is answered with the data
+pub left_by : (nodes parents : Names) (text : Text) (watch : Bool) (bytes : Option (List ℕ)) (told : Stat) → IsPathText text
+    → watches_of (cond watch (set.insert nodes text) nodes) parents ≡ both (watches_of nodes parents) (sets (GetData text watch) (Read bytes told))
+left_by nodes parents text true bytes told h = data_watch_left nodes parents text (GetData text true) (Read bytes told) h (λ path. refl) (λ path. refl)
+left_by nodes parents text false bytes told h = unwatched (watches_of nodes parents) (GetData text false) (Read bytes told) (λ path. refl) (λ path. refl)
+
+-- and of one that finds no node
+pub none_left : (w : Watches) (text : Text) (watch : Bool) → w ≡ both w (sets (GetData text watch) NoNode)
+none_left w text true = unwatched w (GetData text true) NoNode (λ path. refl) (λ path. refl)
+none_left w text false = unwatched w (GetData text false) NoNode (λ path. refl) (λ path. refl)
 
 -- the watch of an exists that finds a node
 pub exists_left : (nodes parents : Names) (text : Text) (watch : Bool) (told : Stat) → IsPathText text
     → watches_of (cond watch (set.insert nodes text) nodes) parents ≡ both (watches_of nodes parents) (sets (Exists text watch) (Found told))
 exists_left nodes parents text true told h = data_watch_left nodes parents text (Exists text true) (Found told) h (λ path. refl) (λ path. refl)
-exists_left nodes parents text false told h = unwatched (watches_of nodes parents) (Exists text false) (Found told) (exists_unset text (Found told))
+exists_left nodes parents text false told h = unwatched (watches_of nodes parents) (Exists text false) (Found told) (λ path. refl) (λ path. refl)
 
 -- and of one that finds none
 pub absence_left : (nodes parents : Names) (text : Text) (watch : Bool) → IsPathText text
     → watches_of (cond watch (set.insert nodes text) nodes) parents ≡ both (watches_of nodes parents) (sets (Exists text watch) NoNode)
 absence_left nodes parents text true h = data_watch_left nodes parents text (Exists text true) NoNode h (λ path. refl) (λ path. refl)
-absence_left nodes parents text false h = unwatched (watches_of nodes parents) (Exists text false) NoNode (exists_unset text NoNode)
-
-children_unset : (text : Text) (result : Result) (side : Side) (path : NodePath) → sets (GetChildren text false) result side path ≡ false
-children_unset text result Data path = refl
-children_unset text result Child path = refl
+absence_left nodes parents text false h = unwatched (watches_of nodes parents) (Exists text false) NoNode (λ path. refl) (λ path. refl)
 
 -- the watch of a getChildren that finds the node
 pub children_left : (nodes parents : Names) (text : Text) (watch : Bool) (names : List Text) (told : Stat) → IsPathText text
     → watches_of nodes (cond watch (set.insert parents text) parents) ≡ both (watches_of nodes parents) (sets (GetChildren text watch) (Listing names told))
 children_left nodes parents text true names told h = child_watch_left nodes parents text (GetChildren text true) (Listing names told) h (λ path. refl) (λ path. refl)
-children_left nodes parents text false names told h = unwatched (watches_of nodes parents) (GetChildren text false) (Listing names told) (children_unset text (Listing names told))
-
-none_listed : (text : Text) (watch : Bool) (side : Side) (path : NodePath) → sets (GetChildren text watch) NoNode side path ≡ false
-none_listed text true Data path = refl
-none_listed text true Child path = refl
-none_listed text false Data path = refl
-none_listed text false Child path = refl
+children_left nodes parents text false names told h = unwatched (watches_of nodes parents) (GetChildren text false) (Listing names told) (λ path. refl) (λ path. refl)
 
 -- and of one that finds none
 pub no_children_left : (w : Watches) (text : Text) (watch : Bool) → w ≡ both w (sets (GetChildren text watch) NoNode)
-no_children_left w text watch = unwatched w (GetChildren text watch) NoNode (none_listed text watch)
+no_children_left w text true = unwatched w (GetChildren text true) NoNode (λ path. refl) (λ path. refl)
+no_children_left w text false = unwatched w (GetChildren text false) NoNode (λ path. refl) (λ path. refl)
 
 -- the node that a Stat was told of
 told_node : (tree : Tree) (path : NodePath) (told : Stat) (P : Option Node → Type 0) → IsStat tree path (Some told) → ((children : ℕ) (node : Node) → told ≡ stat_told children node → P (Some node)) → P (tree path)
@@ -284,6 +253,13 @@ names_found tree path names pzxid e name = contains-names_of names name ∙ go (
 -- a Stat as eleven numbers in wire order
 abbrev pub numbers_of : Stat → Value stat
 numbers_of told = (told.czxid, (told.mzxid, (told.ctime, (told.mtime, (told.version, (told.cversion, (told.aversion, (told.ephemeral_owner, (told.data_length, (told.num_children, told.pzxid))))))))))
+
+-- what is sent under the xid and the zxid as they are read
+pub sends_for : (layout : Layout) (read xid at : ℤ) (zxid : ℕ) (given value : Value layout) (old new : List ℕ) → read ≡ xid → at ≡ pos zxid → given ≡ value
+    → Sends (read, (at, pos 0)) layout given old new → Sends (xid, (pos zxid, pos 0)) layout value old new
+sends_for layout read xid at zxid given value old new x z v sends =
+    subst (λ (k : ℤ). Sends (k, (pos zxid, pos 0)) layout value old new) x
+    (subst (λ (k : ℤ). Sends (read, (k, pos 0)) layout value old new) z (subst (λ (w : Value layout). Sends (read, (at, pos 0)) layout w old new) v sends))
 
 -- the payload of an answer to exists
 pub stat_payload : (xid : ℤ) (zxid : ℕ) (text : Text) (watch : Bool) (told : Stat) (value : Value stat) (old new : List ℕ) → Sends (xid, (pos zxid, pos 0)) stat value old new

@@ -1,16 +1,16 @@
 -- Which request stands in a payload.
-use Rattle.std.proofs.Common.{ℕ, ℤ, pos, ◌≡◌, refl, sym, ap, subst, ◌∙◌, Bool, List, Some, Option}
+use Rattle.std.proofs.Common.{ℕ, ℤ, pos, ◌≡◌, refl, sym, ap, subst, ◌∙◌, Bool, List, Some, Option, take, drop}
 use Rattle.std.specs.Prelude.{◌≤◌, option_map, unwrap_or}
 use Rattle.zk_jute.specs.Layout.{Value}
-use Rattle.zk_history.specs.History.{Text}
-use Rattle.zk_history.specs.PathFault.{IsPath}
+use Rattle.zk_nodes.specs.Path.{Text}
+use Rattle.zk_nodes.specs.PathFault.{IsPath}
 use Rattle.zk_records.specs.declared.operation.Operation.{Operation}
 use Rattle.zk_records.specs.declared.operation.Operation.TheVariants as operation
 use Rattle.zk_records.specs.declared.request.Request.{Request}
 use Rattle.zk_records.specs.declared.request.Request.TheVariants as requests
-use Rattle.zk_records.specs.declared.create.CreateRequest.{CreateRequest}
-use Rattle.zk_records.specs.declared.ask.SetDataRequest.{SetDataRequest}
-use Rattle.zk_records.specs.declared.ask.DeleteRequest.{DeleteRequest}
+use Rattle.zk_records.specs.declared.create_request.CreateRequest.{CreateRequest}
+use Rattle.zk_records.specs.declared.set_data_request.SetDataRequest.{SetDataRequest}
+use Rattle.zk_records.specs.declared.delete_request.DeleteRequest.{DeleteRequest}
 use Rattle.zk_records.specs.Operations.{operation_number, body_layout, request_layout}
 use Rattle.zk_records.specs.Asked.{Asked, asked_of, asked_value}
 use Rattle.zk_records.specs.Request.{operation_of, body_of}
@@ -21,10 +21,11 @@ use Rattle.zk_turns.specs.Ranges.{IsTyped}
 use Rattle.zk_laws.specs.Messages as wanted
 use Rattle.zk_laws.specs.Parsed.{IsRecord, IsReadAs}
 use Rattle.zk_laws.specs.ServerSteps.{Serving}
-use Rattle.zk_serving.specs.Lines.{IsPathCall, IsFit, IsFor}
+use Rattle.zk_serving.specs.Wires.{IsPathCall, IsFit, IsFor}
 use Rattle.zk_bench.specs.Answering.{IsRead, IsReadOf, IsRestoring}
 use Rattle.zk_bench.specs.Asking.{Wants, IsBodyOf, IsPartOf, Asks, IsLook}
 use Rattle.zk_laws.specs.Server.{is_sequential}
+use Rattle.zk_bench.specs.Served.{Served}
 use Rattle.zk_bench.specs.Writing.{mode_of}
 use Rattle.zk_bench.proofs.Written.{mode_of-low}
 use Rattle.zk_bench.proofs.Answered.{no_copy}
@@ -247,9 +248,19 @@ pings_asked P (wanted.Ask (call.Delete text version)) asks p = absurd asks
 pings_asked P (wanted.Ask call.Close) asks p = absurd asks
 
 -- The request that is read asks for what was asked, under its xid.
-pub found_so : {A : Type 0} (asked : wanted.Request) (xid found : ℤ) (payload : List ℕ) (request : Request A) → IsFor asked Serving → IsReadAs asked xid payload → IsFit asked payload
+found_so : {A : Type 0} (asked : wanted.Request) (xid found : ℤ) (payload : List ℕ) (request : Request A) → IsFor asked Serving → IsReadAs asked xid payload → IsFit asked payload
     → ((a : Asked) → IsRecord (request_layout a.operation) (asked_value a) payload → asked_of found request ≡ a) → Asks request asked × (found ≡ xid)
 found_so asked xid found payload request later read fit is =
     let t = told_so asked xid payload (λ seen e. subst (λ (a : wanted.Request). IsFor a Serving) e later refl) read fit in
     let same = is (record { xid = xid; operation = t.named; body = t.body }) t.read in
     (asks_so asked xid found payload t request same, ap (λ (a : Asked). a.xid) same)
+
+-- and so does the one that is read from the front of a bench
+pub found_front : {A : Type 0} (b old : Served) (count : ℕ) (bytes : List ℕ) (asked : wanted.Request) (xid read found : ℤ) (request : Request A) → b ≡ old → bytes ≡ b.connection.requests → read ≡ found → IsFor asked Serving
+    → IsReadAs asked xid (take count (drop 4 old.connection.requests)) → IsFit asked (take count (drop 4 old.connection.requests))
+    → ((a : Asked) → IsRecord (request_layout a.operation) (asked_value a) (take count (drop 4 bytes)) → asked_of found request ≡ a) → Asks request asked × (read ≡ xid)
+found_front b old count bytes asked xid read found request same field ranged later is fit gives =
+    let at : old.connection.requests ≡ bytes = ap (λ (s : Served). s.connection.requests) (sym same) ∙ sym field in
+    let told = found_so asked xid found (take count (drop 4 old.connection.requests)) request later is fit
+    (λ a whole. gives a (subst (λ (bs : List ℕ). IsRecord (request_layout a.operation) (asked_value a) (take count (drop 4 bs))) at whole)) in
+    (told.0, ranged ∙ told.1)

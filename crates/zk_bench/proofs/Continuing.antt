@@ -3,16 +3,16 @@ use Rattle.std.proofs.Common.{◌≡◌, ◌<◌, ◌+◌, ◌^◌, ℕ, zero, s
 use Rattle.std.specs.Prelude.{unwrap_or, slice_get}
 use Rattle.std.proofs.lemmas.List.{append-nil}
 use Rattle.std.proofs.lemmas.Option.{none-some}
-use Rattle.zk_history.specs.History.{Transaction, Change, AreRising}
-use Rattle.zk_history.specs.Kept.{Kept, with_change, with_transaction, with_one, last_with, made_transaction}
+use Rattle.zk_nodes.specs.History.{Transaction, Change, AreRising}
+use Rattle.zk_history.specs.HistoryView.{HistoryView, with_change, with_transaction, with_one, last_with, made_transaction}
 use Rattle.zk_bench.specs.Served.{Continues}
 
 -- what stays as it was goes on
-pub same_goes_on : (old new : Kept) → new ≡ old → Continues old new
+pub same_goes_on : (old new : HistoryView) → new ≡ old → Continues old new
 same_goes_on old new same = record {
-  nodes = ap (λ (k : Kept). k.nodes) same;
+  nodes = ap (λ (k : HistoryView). k.nodes) same;
   more = [];
-  transactions = ap (λ (k : Kept). k.transactions) same ∙ sym (append-nil old.transactions);
+  transactions = ap (λ (k : HistoryView). k.transactions) same ∙ sym (append-nil old.transactions);
 }
 
 -- a change goes into the last transaction
@@ -22,21 +22,21 @@ last_with-append (a ∷ []) t c = refl
 last_with-append (a ∷ b ∷ ts) t c = ap (λ (xs : List Transaction). a ∷ xs) (last_with-append (b ∷ ts) t c)
 
 -- a transaction more, with no change yet
-pub begun_goes_on : (old new : Kept) (zxid : ℕ) (time : ℤ) → new ≡ with_transaction old zxid time → Continues old new
+pub begun_goes_on : (old new : HistoryView) (zxid : ℕ) (time : ℤ) → new ≡ with_transaction old zxid time → Continues old new
 begun_goes_on old new zxid time is = record {
-  nodes = ap (λ (k : Kept). k.nodes) is;
+  nodes = ap (λ (k : HistoryView). k.nodes) is;
   more = made_transaction zxid time [] ∷ [];
-  transactions = ap (λ (k : Kept). k.transactions) is;
+  transactions = ap (λ (k : HistoryView). k.transactions) is;
 }
 
 -- a transaction more, with one change
-pub changed_goes_on : (old mid new : Kept) (zxid : ℕ) (time : ℤ) (c : Change) → mid ≡ with_transaction old zxid time → new ≡ with_change mid c → Continues old new
+pub changed_goes_on : (old mid new : HistoryView) (zxid : ℕ) (time : ℤ) (c : Change) → mid ≡ with_transaction old zxid time → new ≡ with_change mid c → Continues old new
 changed_goes_on old mid new zxid time c begun changed =
-    let is : new ≡ with_change (with_transaction old zxid time) c = changed ∙ ap (λ (k : Kept). with_change k c) begun in
+    let is : new ≡ with_change (with_transaction old zxid time) c = changed ∙ ap (λ (k : HistoryView). with_change k c) begun in
     record {
-      nodes = ap (λ (k : Kept). k.nodes) is;
+      nodes = ap (λ (k : HistoryView). k.nodes) is;
       more = with_one (made_transaction zxid time []) c ∷ [];
-      transactions = ap (λ (k : Kept). k.transactions) is ∙ last_with-append old.transactions (made_transaction zxid time []) c;
+      transactions = ap (λ (k : HistoryView). k.transactions) is ∙ last_with-append old.transactions (made_transaction zxid time []) c;
     }
 
 -- The n-th of rising transactions has a zxid above n more than the bound.

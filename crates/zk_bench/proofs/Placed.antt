@@ -5,11 +5,11 @@ use Rattle.std.specs.Int.{w64}
 use Rattle.zk_bench.proofs.Continuing.{above}
 use Rattle.std.proofs.lemmas.Option.{none-some}
 use Rattle.std.proofs.lemmas.List.{take_all}
-use Rattle.zk_history.specs.History.{Transaction, AreRising, newest, History, after, tree_at}
+use Rattle.zk_nodes.specs.History.{Transaction, AreRising, newest, History, after, tree_at}
 use Rattle.zk_laws.specs.Server.{zxid_held, tree_held}
 use Rattle.zk_laws.proofs.Stamps.{up_to_newest}
 use Rattle.zk_laws.specs.ServerSteps.{changes_next}
-use Rattle.zk_history.specs.Kept.{natural}
+use Rattle.zk_history.specs.HistoryView.{natural}
 
 -- the zxid of the first n + 1 transactions is that of the one after n
 newest_at : (ts : List Transaction) (low n : ℕ) (t : Transaction) → slice_get ts n ≡ Some t → newest low (take (suc n) ts) ≡ t.zxid

@@ -5,16 +5,17 @@ use Rattle.std.proofs.lemmas.List.{append-nil, length-append, take_all}
 use Rattle.std.proofs.lemmas.Bool.Decides.{nat_tests}
 use Rattle.zk_frames.specs.Frame.{frame, joined, IsNegative}
 use Rattle.zk_records.specs.Layouts.{reply_header, create_response, connect_request}
-use Rattle.zk_history.specs.StatLayout.{stat}
+use Rattle.zk_nodes.specs.StatLayout.{stat}
 use Rattle.zk_records.specs.Codes.{code_number}
 use Rattle.zk_records.specs.declared.code.Code.{Code}
 use Rattle.zk_records.specs.declared.code.Code.TheVariants as codes
 use Rattle.zk_jute.specs.Spelling.{spelling}
-use Rattle.zk_history.specs.History.{Text, path_of, History, Transaction, Change, Creates, Sets, Deletes, newest}
+use Rattle.zk_nodes.specs.Path.{Text, path_of}
+use Rattle.zk_nodes.specs.History.{History, Transaction, Change, Creates, Sets, Deletes, newest}
 use Rattle.zk_conversation.specs.Calls.{Call, ping_xid}
 use Rattle.zk_conversation.specs.Calls as call
 use Rattle.zk_watches.specs.Lists.{Lists}
-use Rattle.zk_history.specs.Kept.{Kept, history_of, made_transaction}
+use Rattle.zk_history.specs.HistoryView.{HistoryView, history_of, made_transaction}
 use Rattle.std.specs.Prelude.{◌^◌, ⊤, int_lt, Option, Some, slice_index, slice_set, Ok, Err, IfErr, IsErrOf}
 use Rattle.std.specs.Prelude.{Result as Outcome}
 use Rattle.zk_conversation.specs.Pending.{closes}
@@ -23,7 +24,7 @@ use Rattle.zk_conversation.specs.Results.{Result, NoNode, Refused, Done, Found, 
 use Rattle.zk_laws.specs.Server.{Watches, both, sets, zxid_held, tree_held, IsOther, IsMadeOf, is_sequential, Gives}
 use Rattle.zk_laws.specs.Messages.{Request, Connect, Ask, Restore, Ping, Replies}
 use Rattle.zk_laws.specs.Parsed.{IsRecord}
-use Rattle.zk_serving.specs.Lines.{IsFit, IsFor}
+use Rattle.zk_serving.specs.Wires.{IsFit, IsFor}
 use Rattle.zk_serving.proofs.Fronts.{front_field}
 use Rattle.zk_laws.specs.ServerSteps.{ServerEnd, Stage, Waiting, Serving, Ended as Silent, Answers, Restores, Pongs, MayDo, messages_by, end_after}
 use Rattle.zk_laws.specs.Served.{ArePayloads, IsPayload, code_of}
@@ -40,7 +41,7 @@ use Rattle.zk_bench.specs.declared.stop.Stop.TheVariants as stops
 use Rattle.zk_bench.specs.declared.stop.Refusal.{Refusal}
 use Rattle.zk_bench.specs.declared.stop.Refusal.TheVariants as refusals
 use Rattle.zk_bench.specs.Refusals.{IsCode}
-use Rattle.zk_bench.specs.Served.{Served, Linked, is_open, ended}
+use Rattle.zk_bench.specs.Served.{Served, Linked, is_open, ended, Continues}
 use Rattle.zk_bench.specs.Linked.{linked_of}
 use Rattle.zk_bench.specs.Serving.{watched, Sends, SendsHeader}
 use Rattle.zk_bench.specs.Answering.{IsRead, FindsNone, RefusesRead}
@@ -49,7 +50,7 @@ use Rattle.zk_bench.specs.Stepping.{Catches, CatchesUp, IsReady, TakesSome, Proc
 use Rattle.zk_bench.specs.Writing.{IsAnswer, appended}
 use Rattle.zk_bench.proofs.Answered.{or-false, stat_read}
 use Rattle.zk_bench.proofs.Written.{appended-transactions}
-use Rattle.zk_bench.proofs.Stepped.{shows_same, shows_ended, same_history, set_there, length_set, is_going_on, gives_read, goes_on}
+use Rattle.zk_bench.proofs.Stepped.{continues_so, shows_same, shows_ended, same_history, set_there, length_set, is_going_on, gives_read, goes_on}
 
 grown : (h later : History) (n : ℕ) → GoesOn h later → n ≤ length h.transactions → n ≤ length later.transactions
 grown h later n g low =
@@ -226,7 +227,7 @@ closes_so old output xid has s =
 pub ends_unsent : (request : Request) (xid : ℤ) (old new : Served) → new.history ≡ old.history → new.connection.output ≡ old.connection.output → ProcessesOne request xid (shown_of old) (shown_of (ended new))
 ends_unsent request xid old new same unsent =
     ends_after request xid (shown_of old) (shown_of (ended new))
-    (shows_ended old (ended new) (subst (λ (k : Kept). GoesOn (history_of old.history) (history_of k)) (sym same) (same_history (history_of old.history))) refl unsent) (λ still. absurd cc)
+    (shows_ended old (ended new) (subst (λ (k : HistoryView). GoesOn (history_of old.history) (history_of k)) (sym same) (same_history (history_of old.history))) refl unsent) (λ still. absurd cc)
 
 -- ---- reads, and parts of setWatches
 
@@ -371,11 +372,14 @@ takes_none old new goes has rest = record {
 }
 
 -- and it holds a beginning of the history still
-pub has_later : (old : Served) (history : Kept) → GoesOn (history_of old.history) (history_of history) → HasClient old → HasClient (record old { history = history })
+has_later : (old : Served) (history : HistoryView) → GoesOn (history_of old.history) (history_of history) → HasClient old → HasClient (record old { history = history })
 has_later old history goes has = record {
   ready = record { taken = taken_later (history_of old.history) (history_of history) old.taken goes has.ready.taken; there = has.ready.there; unwatched = has.ready.unwatched };
   accepted = has.accepted;
 }
+
+pub client_later : (b old : Served) (history : HistoryView) → b ≡ old → Continues b.history history → HasClient old → HasClient (record b { history = history })
+client_later b old history same goes has = has_later b history (continues_so b.history history goes) (subst HasClient (sym same) has)
 
 -- it stands at a place of the history
 low_place : (old : Served) → HasClient old → (end_of old).place ≤ length old.history.transactions
@@ -383,6 +387,15 @@ low_place old has = taken_at (history_of old.history) old.taken old.server has.r
 
 pub takes_then : (old mid new : Served) → HasClient old → HasClient mid → TakesSome (shown_of old) (shown_of mid) → TakesSome (shown_of mid) (shown_of new) → TakesSome (shown_of old) (shown_of new)
 takes_then old mid new has more a b = takes_more (shown_of old) (shown_of mid) (shown_of new) a (opened mid more) (low_place old has) b
+
+-- what is taken of a history that has gone on
+pub takes_later : (b old : Served) (history : HistoryView) (new : Served) → b ≡ old → Continues b.history history → HasClient old → TakesSome (shown_of (record b { history = history })) (shown_of new)
+    → TakesSome (shown_of old) (shown_of new)
+takes_later b old history new same goes has takes =
+    let mine : HasClient b = subst HasClient (sym same) has in
+    let on = continues_so b.history history goes in
+    subst (λ (s : Served). TakesSome (shown_of s) (shown_of new)) same
+    (takes_then b (record b { history = history }) new mine (has_later b history on mine) (takes_none b (record b { history = history }) on mine refl) takes)
 
 pub processes_then : (request : Request) (xid : ℤ) (old mid new : Served) → HasClient old → HasClient mid → TakesSome (shown_of old) (shown_of mid) → ProcessesOne request xid (shown_of mid) (shown_of new)
     → ProcessesOne request xid (shown_of old) (shown_of new)
@@ -413,17 +426,17 @@ declines_then one xid old mid new (refusals.Stop stops.Memory) has more a d = tt
 -- ---- writes
 
 -- a change that is not appended
-pub leaves_append : (old : Served) (history : Kept) (refusal : Refusal) → HasClient old → GoesOn (history_of old.history) (history_of history) → (IsCode refusal → (refusal ≡ refusals.Code codes.BadArguments) × (history ≡ old.history))
+pub leaves_append : (old : Served) (history : HistoryView) (refusal : Refusal) → HasClient old → GoesOn (history_of old.history) (history_of history) → (IsCode refusal → (refusal ≡ refusals.Code codes.BadArguments) × (history ≡ old.history))
     → LeavesUnmade old (record old { history = history }) refusal
 leaves_append old history (refusals.Code code) has goes told = (subst IsAnswer (sym (told tt).0) tt, takes_none old (record old { history = history }) goes has refl)
 leaves_append old history (refusals.Stop stop) has goes told = takes_ended old (record old { history = history }) (takes_none old (record old { history = history }) goes has refl)
 
 -- one that is appended and taken
-pub wrote_so : (kept : Kept) (time : ℕ) (change : Change) (new : Served) → new.history ≡ appended kept time change → HasAll new → HasWritten change new
+pub wrote_so : (kept : HistoryView) (time : ℕ) (change : Change) (new : Served) → new.history ≡ appended kept time change → HasAll new → HasWritten change new
 wrote_so kept time change new is all = (
   kept.transactions,
   made_transaction (newest 0 kept.transactions + 1) (pos time) (change ∷ []),
-  take_all (slice_index new.taken new.server) new.history.transactions all ∙ ap (λ (k : Kept). k.transactions) is ∙ appended-transactions kept time change,
+  take_all (slice_index new.taken new.server) new.history.transactions all ∙ ap (λ (k : HistoryView). k.transactions) is ∙ appended-transactions kept time change,
   inl refl,
 )
 
@@ -553,7 +566,7 @@ answers_made one result xid old mid output payload is has took gives small spell
 pub ends_sending : (request : Request) (xid : ℤ) (old mid new : Served) → HasClient old → HasClient mid → TakesSome (shown_of old) (shown_of mid) → IsSending mid new → new.connection.output ≡ mid.connection.output
     → ProcessesOne request xid (shown_of old) (shown_of (ended new))
 ends_sending request xid old mid new has more took only unsent =
-    let goes = subst (λ (k : Kept). GoesOn (history_of mid.history) (history_of k)) (ap (λ (s : Served). s.history) (sym only)) (same_history (history_of mid.history)) in
+    let goes = subst (λ (k : HistoryView). GoesOn (history_of mid.history) (history_of k)) (ap (λ (s : Served). s.history) (sym only)) (same_history (history_of mid.history)) in
     ends_then request xid old new (takes_then old mid (ended new) has more took (shows_ended mid (ended new) goes refl unsent))
 
 -- a stop is no code
@@ -604,8 +617,8 @@ declines_unsent text content version xid old mid new (refusals.Stop stops.Memory
 -- ---- a request that stands first
 
 -- the bytes of the request are taken away
-pub has_front : (b : Served) (requests : List ℕ) → HasClient b → HasClient (record b { connection = record b.connection { requests = requests } })
-has_front b requests has = record { ready = record { taken = has.ready.taken; there = has.ready.there; unwatched = has.ready.unwatched }; accepted = has.accepted }
+pub has_front : (b old : Served) (requests : List ℕ) → b ≡ old → HasClient old → HasClient (record b { connection = record b.connection { requests = requests } })
+has_front b old requests same was = let has : HasClient b = subst HasClient (sym same) was in record { ready = record { taken = has.ready.taken; there = has.ready.there; unwatched = has.ready.unwatched }; accepted = has.accepted }
 
 pub ready_sending : (mid new : Served) → IsReady mid → IsSending mid new → IsReady new
 ready_sending mid new ready only = subst IsReady (sym only) (record { taken = ready.taken; there = ready.there; unwatched = ready.unwatched })

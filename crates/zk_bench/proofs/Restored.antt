@@ -10,12 +10,14 @@ use Rattle.zk_jute.specs.Layout.{Value}
 use Rattle.zk_jute.specs.Lenient.{or_empty}
 use Rattle.zk_jute.specs.Spelling.{spelling}
 use Rattle.zk_frames.specs.Frame.{frame}
-use Rattle.zk_history.specs.History.{Text, NodePath, Node, Tree, path_eq, text_of, path_of, IsPathText}
-use Rattle.zk_history.specs.Replay.{Names}
+use Rattle.zk_nodes.specs.Path.{Text, NodePath, path_eq, text_of, path_of, IsPathText}
+use Rattle.zk_nodes.specs.History.{Node, Tree}
+use Rattle.zk_nodes.specs.Names.{Names}
+use Rattle.zk_nodes.specs.PathFault.{IsPath}
 use Rattle.zk_history.specs.Shown.{IsStat, stat_of}
-use Rattle.zk_history.specs.declared.side.Side.{Side}
-use Rattle.zk_history.specs.declared.side.Side.TheVariants as sides
-use Rattle.zk_history.specs.declared.stat.Stat.{Stat}
+use Rattle.zk_nodes.specs.declared.side.Side.{Side}
+use Rattle.zk_nodes.specs.declared.side.Side.TheVariants as sides
+use Rattle.zk_nodes.specs.declared.stat.Stat.{Stat}
 use Rattle.zk_records.specs.declared.event.Event.{Event}
 use Rattle.zk_records.specs.Events.{event_number}
 use Rattle.zk_records.specs.Layouts.{watcher_event, reply_header}
@@ -42,8 +44,10 @@ node_missed Child children since None = refl
 node_missed Child children since (Some node) = refl
 
 -- what was missed at a path is its check
-pub missed_is : (list : Watched) (told : Option Stat) (since : ℕ) (tree : Tree) (path : NodePath) → IsStat tree path told → missed_of list told (pos since) ≡ check_of list since (tree path)
-missed_is list told since tree path is = ap (λ (t : Option Stat). missed_of list t (pos since)) is.2 ∙ node_missed list (set.len is.0) since (tree path)
+pub missed_is : (list : Watched) (told : Option Stat) (relative : ℤ) (since : ℕ) (tree : Tree) (path : NodePath) (event : Option Event) → IsStat tree path told → relative ≡ pos since
+    → event ≡ missed_of list told relative → check_of list since (tree path) ≡ event
+missed_is list told relative since tree path event is from missed =
+    sym (missed ∙ ap (missed_of list told) from ∙ ap (λ (t : Option Stat). missed_of list t (pos since)) is.2 ∙ node_missed list (set.len is.0) since (tree path))
 
 -- a watch more among the texts of a side
 pub watch_more : (nodes parents : Names) (text : Text) → IsPathText text → watches_of (set.insert nodes text) parents ≡ with_watch sides.Data (path_of text) (watches_of nodes parents)
@@ -162,9 +166,16 @@ text_has P [] i x all low e = absurd (omega (arith, low))
 text_has P (y ∷ ys) zero x all low e = subst (λ (z : Option (List ℕ)). P (or_empty z)) (sym e) all.0
 text_has P (y ∷ ys) (suc i) x all low e = text_has P ys i x all.1 (omega (arith, low)) e
 
-pub texts_told : (texts : List Text) → texts_in (map Some texts) ≡ texts
+texts_told : (texts : List Text) → texts_in (map Some texts) ≡ texts
 texts_told [] = refl
 texts_told (t ∷ ts) = ap (λ (us : List Text). t ∷ us) (texts_told ts)
+
+-- what is said of the texts as they are read holds of those that were sent
+pub of_texts : (P : List Text → Type 0) (read : List (Option (List ℕ))) (sent : Option (List (Option (List ℕ)))) (texts : List Text) → read ≡ or_empty sent → sent ≡ Some (map Some texts)
+    → AllByRecursion IsPath texts → (AllByRecursion IsPath (texts_in read) → P (texts_in read)) → P texts
+of_texts P read sent texts is told paths f =
+    let same : texts_in read ≡ texts = ap texts_in is ∙ ap (λ (ts : Option (List (Option (List ℕ)))). texts_in (or_empty ts)) told ∙ texts_told texts in
+    subst P same (f (subst (AllByRecursion IsPath) (sym same) paths))
 
 -- The watches of a part
 

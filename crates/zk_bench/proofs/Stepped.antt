@@ -1,21 +1,21 @@
 -- Steps of a server that takes transactions.
 use Rattle.std.proofs.Common.{ℕ, zero, suc, ℤ, pos, ◌≡◌, ◌≢◌, ◌<◌, ◌≤◌, ◌+◌, refl, ap, sym, ◌∙◌, subst, arith, List, [], ◌∷◌, ◌++◌, length, take, drop, ◌^◌, append_assoc, Bool, true, false, ◌&&◌, if◌then◌else◌}
 use mathlib.Core.Path.{fun_ext}
-use Rattle.std.specs.Prelude.{slice_index, slice_set, slice_get, Option, Some, None, Ok, Err, OnOk, OnErr, IfErr, IsErrOf, int_lt}
+use Rattle.std.specs.Prelude.{slice_index, slice_set, slice_get, Option, Some, None, Ok, Err, OnOk, OnErr, IfErr, IsErrOf, int_lt, Vec}
 use Rattle.std.proofs.lemmas.Bool.Decides.{nat_tests}
 use Rattle.std.specs.Prelude.{Result as Outcome}
 use Rattle.std.specs.declared.alloc.AllocError.{AllocError}
 use Rattle.std.proofs.lemmas.List.{append-nil}
 use Rattle.std.specs.List.{flat_map}
 use Rattle.zk_frames.specs.Frame.{frame}
-use Rattle.zk_history.specs.History.{History, Change}
-use Rattle.zk_history.specs.History.{Transaction, after, NodePath, path_eq, Creates, Sets, Deletes}
-use Rattle.zk_history.specs.Kept.{Kept, history_of, root_tree}
-use Rattle.zk_history.specs.declared.side.Side.{Side}
-use Rattle.zk_history.specs.declared.side.Side.TheVariants.{Data, Child}
+use Rattle.zk_nodes.specs.History.{History, Change, Transaction, after, Creates, Sets, Deletes}
+use Rattle.zk_nodes.specs.Path.{NodePath, path_eq}
+use Rattle.zk_history.specs.HistoryView.{HistoryView, history_of, root_tree}
+use Rattle.zk_nodes.specs.declared.side.Side.{Side}
+use Rattle.zk_nodes.specs.declared.side.Side.TheVariants.{Data, Child}
 use Rattle.zk_serving.specs.GoingOn.{GoesOn}
 use Rattle.zk_laws.specs.Server.{Watches, Notice, AreSent, fires, leaves_set, fires_all, leaves_set_all, no_watches, without, same_side, zxid_held, tree_held, Reads, Gives, both, sets}
-use Rattle.zk_laws.specs.Messages.{Notifies, Connect, Request, Ask}
+use Rattle.zk_laws.specs.Messages.{Connect, Request, Ask}
 use Rattle.zk_conversation.specs.Calls.{Call}
 use Rattle.zk_conversation.specs.Calls as call
 use Rattle.zk_conversation.specs.Questions.{question_of}
@@ -36,6 +36,8 @@ use Rattle.zk_serving.proofs.Later.{taken_set}
 use Rattle.zk_bench.specs.Served.{Served, Linked, is_open, advanced, advanced_by, ended, disconnected, Continues}
 use Rattle.zk_bench.specs.declared.stop.Stop.{Stop}
 use Rattle.zk_bench.specs.declared.stop.Stop.TheVariants as stops
+use Rattle.zk_bench.specs.declared.bench.Bench.TheInside.{Inside}
+use Rattle.zk_bench.proofs.Fields.{bench_of}
 use Rattle.zk_bench.proofs.Placed.{no_room}
 use Rattle.zk_bench.specs.Linked.{linked_of}
 use Rattle.zk_bench.specs.Stepping.{stage_of, end_at, Catches, CatchesUp, shown_watches, phase_of, end_of, shown_of, IsReady, TakesSome, ProcessesOne, ProcessesFirst}
@@ -202,12 +204,19 @@ ready_taken b server connection ready room unwatched = record {
 }
 
 -- nothing is watched yet, where nothing was told
-pub still_unwatched : {A : Type 0} (old new : Connection A) → (old.phase ≢ Accepted → new ≡ old) → new ≡ record old { watches = new.watches; output = new.output }
+still_unwatched : {A : Type 0} (old new : Connection A) → (old.phase ≢ Accepted → new ≡ old) → new ≡ record old { watches = new.watches; output = new.output }
     → (old.phase ≡ Opening → shown_watches (linked_of old) ≡ no_watches) → new.phase ≡ Opening → shown_watches (linked_of new) ≡ no_watches
 still_unwatched {A} old new idle rest before opening =
     let at : old.phase ≡ Opening = sym (ap (λ k. k.phase) rest) ∙ opening in
     let same : new ≡ old = idle (λ e. let f : Opening ≡ Accepted = sym at ∙ e in absurd cc) in
     ap {A = Connection A} {B = Watches} (λ k. shown_watches (linked_of k)) same ∙ before at
+
+pub ready_told : {A : Type 0} (i : Inside A) (before : Served) (server : ℕ) (new : Connection A) → bench_of i ≡ before → slice_index i.taken server < length i.history.transactions
+    → (i.connection.phase ≢ Accepted → new ≡ i.connection) → new ≡ record i.connection { watches = new.watches; output = new.output } → IsReady before
+    → IsReady (record (bench_of i) { taken = slice_set i.taken server (slice_index i.taken server + 1); connection = linked_of new })
+ready_told i before server new same room idle rest was_ready =
+    let ready : IsReady (bench_of i) = subst IsReady (sym same) was_ready in
+    ready_taken (bench_of i) server (linked_of new) ready room (still_unwatched i.connection new idle rest ready.unwatched)
 
 -- an end, where nothing was sent, is no step
 pub shows_ended : (old new : Served) → GoesOn (history_of old.history) (history_of new.history) → new.connection.phase ≡ Ended → new.connection.output ≡ old.connection.output → TakesSome (shown_of old) (shown_of new)
@@ -344,20 +353,23 @@ expires_so b new seen xid opening low s over =
     twice bs = sym (append-nil (bs ++ []) ∙ append-nil bs)
 
 -- A client that has seen no more than the server has.
-pub not_ahead : (held seen : ℕ) → int_lt (pos held) (pos seen) ≡ false → seen ≤ held
-not_ahead held seen e = grind (arith, nat_tests)
+seen_by : (held seen : ℕ) → int_lt (pos held) (pos seen) ≡ false → seen ≤ held
+seen_by held seen e = grind (arith, nat_tests)
 
-pub ready_admitted : (b : Served) (connection : Linked) → IsReady b → (connection.phase ≡ Opening → shown_watches connection ≡ no_watches) → IsReady (record b { connection = connection })
-ready_admitted b connection ready h = record { taken = ready.taken; there = ready.there; unwatched = h }
+pub not_ahead : (held seen : ℕ) (kept last : ℤ) → kept ≡ pos held → last ≡ pos seen → int_lt kept last ≡ false → seen ≤ held
+not_ahead held seen kept last is asked e = seen_by held seen (ap (λ (z : ℤ). int_lt z (pos seen)) (sym is) ∙ ap (int_lt kept) (sym asked) ∙ e)
+
+pub ready_answered : {A : Type 0} (i : Inside A) (before : Served) (out : Vec ℕ A) → bench_of i ≡ before → IsReady before → IsReady (record (bench_of i) { connection = linked_of (record i.connection { output = out }) })
+ready_answered i before out same was_ready = let ready : IsReady (bench_of i) = subst IsReady (sym same) was_ready in record { taken = ready.taken; there = ready.there; unwatched = ready.unwatched }
 
 -- the bytes of the request do not count
-pub front_gone : (b : Served) (requests : List ℕ) (request : Request) (xid : ℤ) (new : Shown) → ProcessesOne request xid (shown_of (record b { connection = record b.connection { requests = requests } })) new
-    → ProcessesOne request xid (shown_of b) new
-front_gone b requests request xid new p = record {
+pub front_gone : (b old : Served) (requests : List ℕ) (request : Request) (xid : ℤ) (new : Shown) → b ≡ old → ProcessesOne request xid (shown_of (record b { connection = record b.connection { requests = requests } })) new
+    → ProcessesOne request xid (shown_of old) new
+front_gone b old requests request xid new same p = subst (λ (s : Served). ProcessesOne request xid (shown_of s) new) same (record {
   steps = p.steps;
   goes = record { history = p.goes.history; moves = p.goes.moves; sent = p.goes.sent; there = p.goes.there; ended = p.goes.ended };
   done = p.done;
-}
+})
 
 pub ready_front : (b : Served) (requests : List ℕ) → IsReady b → IsReady (record b { connection = record b.connection { requests = requests } })
 ready_front b requests ready = record { taken = ready.taken; there = ready.there; unwatched = ready.unwatched }
@@ -416,7 +428,7 @@ ends_first old new request xid payload goes over same = record {
   };
 }
 
-pub continues_so : (old new : Kept) → Continues old new → GoesOn (history_of old) (history_of new)
+pub continues_so : (old new : HistoryView) → Continues old new → GoesOn (history_of old) (history_of new)
 continues_so old new c = record { first = ap (λ (ts : List Transaction). after ts root_tree) c.nodes; more = c.more; transactions = c.transactions }
 
 -- A read that is answered

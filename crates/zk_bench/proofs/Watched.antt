@@ -1,6 +1,6 @@
 -- What an event does to the watches of two sets of texts, and how what is told joins.
 use Rattle.std.proofs.Common.{ℕ, zero, suc, ℤ, pos, negsuc, ◌≡◌, ◌<◌, ◌+◌, Bool, true, false, not, ◌&&◌, ◌||◌, if◌then◌else◌, List, [], ◌∷◌, ◌++◌, refl, ap, sym, ◌∙◌, subst, arith, map, append_assoc, length, take, drop, Option, Some, None, inl, inr, ◌⊎◌}
-use Rattle.zk_history.specs.Path.{parent_of}
+use Rattle.zk_nodes.specs.Path.{parent_of, Text, Name, NodePath, path_eq, text_of, path_of, IsPathText}
 use Rattle.std.proofs.lemmas.List.{append-nil}
 use Rattle.std.proofs.lemmas.Cmp.{nat_list_cmp_total}
 use mathlib.Core.Path.{fun_ext}
@@ -12,11 +12,11 @@ use Rattle.std.specs.FinSet as set
 use Rattle.zk_jute.specs.Layout.{Value}
 use Rattle.zk_jute.specs.Spelling.{spelling}
 use Rattle.zk_frames.specs.Frame.{frame}
-use Rattle.zk_history.specs.History.{Text, Name, NodePath, path_eq, text_of, path_of, IsPathText, Change, Creates, Sets, Deletes}
-use Rattle.zk_history.specs.Replay.{Names}
-use Rattle.zk_history.specs.declared.side.Side.{Side}
-use Rattle.zk_history.specs.declared.side.Side.TheVariants.{Data, Child}
-use Rattle.zk_history.proofs.NamesLemmas.{tested}
+use Rattle.zk_nodes.specs.History.{Change, Creates, Sets, Deletes}
+use Rattle.zk_nodes.specs.Names.{Names}
+use Rattle.zk_nodes.specs.declared.side.Side.{Side}
+use Rattle.zk_nodes.specs.declared.side.Side.TheVariants.{Data, Child}
+use Rattle.zk_nodes.proofs.NamesLemmas.{tested}
 use Rattle.zk_records.specs.declared.event.Event.{Event}
 use Rattle.zk_records.specs.declared.event.Event.TheVariants.{Created, Deleted, DataChanged, ChildrenChanged}
 use Rattle.zk_records.specs.Events.{concerns, event_number}

@@ -10,19 +10,20 @@ use Rattle.std.specs.Fmt.{styled_decimal, padded_integral, char_count, format_sp
 use borrow.Author.Tests.{le-ltb, lt-leb}
 use Rattle.std.specs.FinSet as set
 use Rattle.std.specs.Option.{option_map}
-use Rattle.zk_history.specs.History.{Text, NodePath, Node, Tree, Change, Transaction, AreRising, newest, path_of}
-use Rattle.zk_history.specs.Path.{parent_of}
-use Rattle.zk_history.specs.Kept.{Kept, IsAccepted, made_transaction, with_transaction, first_tree, newest_tree, HasChildren}
+use Rattle.zk_nodes.specs.Path.{Text, NodePath, path_of, parent_of}
+use Rattle.zk_nodes.specs.History.{Node, Tree, Change, Transaction, AreRising, newest}
+use Rattle.zk_history.specs.HistoryView.{HistoryView, IsAccepted, made_transaction, with_transaction, first_tree, newest_tree, HasChildren}
 use Rattle.zk_history.specs.Refused.{ChangeRefused}
 use Rattle.zk_history.specs.declared.history_fault.HistoryFault.{HistoryFault}
 use Rattle.zk_history.specs.declared.history_fault.HistoryFault.TheVariants.{Place, Order, Illegal, Memory}
-use Rattle.zk_history.specs.PathFault.{fault_of, fault_told, IsPath}
-use Rattle.zk_history.specs.declared.path_fault.PathFault.{PathFault}
-use Rattle.zk_history.specs.declared.path_fault.PathFault.TheVariants as path_faults
-use Rattle.zk_history.specs.declared.stat.Stat.{Stat}
-use Rattle.zk_history.specs.Replay.{Names}
+use Rattle.zk_nodes.specs.PathFault.{fault_of, fault_told, IsPath}
+use Rattle.zk_nodes.specs.declared.path_fault.PathFault.{PathFault}
+use Rattle.zk_nodes.specs.declared.path_fault.PathFault.TheVariants as path_faults
+use Rattle.zk_nodes.specs.declared.stat.Stat.{Stat}
+use Rattle.zk_nodes.specs.Names.{Names}
 use Rattle.zk_history.specs.Shown.{IsStat, stat_of}
-use Rattle.zk_history.proofs.KeptLemmas.{same_count}
+use Rattle.zk_history.proofs.ViewLemmas.{same_count}
+use Rattle.zk_records.specs.declared.code.Code.{Code}
 use Rattle.zk_records.specs.declared.code.Code.TheVariants as codes
 use Rattle.zk_laws.specs.Server.{is_sequential}
 use Rattle.zk_laws.proofs.Stamps.{after-append}
@@ -34,7 +35,7 @@ use Rattle.zk_bench.proofs.Continuing.{last_with-append}
 use Rattle.zk_bench.proofs.Placed.{is_room}
 
 -- A change that is appended is the last transaction.
-pub appended-transactions : (kept : Kept) (time : ℕ) (change : Change) → (appended kept time change).transactions ≡ kept.transactions ++ made_transaction (newest 0 kept.transactions + 1) (pos time) (change ∷ []) ∷ []
+pub appended-transactions : (kept : HistoryView) (time : ℕ) (change : Change) → (appended kept time change).transactions ≡ kept.transactions ++ made_transaction (newest 0 kept.transactions + 1) (pos time) (change ∷ []) ∷ []
 appended-transactions kept time change = last_with-append kept.transactions (made_transaction (newest 0 kept.transactions + 1) (pos time) []) change
 
 -- The flags 0 to 3 have a mode, and tell whether it is sequential.
@@ -70,20 +71,28 @@ data_at_stat : (node : Option Node) (count : ℕ) (told : Stat) (asked : ℤ) �
 data_at_stat None count told asked is = absurd cc
 data_at_stat (Some node) count told asked is = ap (λ (o : Option Stat). data_refusal asked (unwrap_or o told).version) (sym is)
 
-pub set-at : (tree : Tree) (text : Text) (told : Stat) (asked : ℤ) → IsStatAt tree text (Some told) → set_refusal (node_at tree text) asked ≡ data_refusal asked told.version
-set-at tree text told asked is = data_at_stat (node_at tree text) (set.len is.0) told asked is.2
+pub set-at : (tree : Tree) (text : Text) (told : Stat) (asked given held : ℤ) (refused : Option Code) → IsStatAt tree text (Some told) → given ≡ asked → held ≡ told.version
+    → refused ≡ data_refusal given held → set_refusal (node_at tree text) asked ≡ refused
+set-at tree text told asked given held refused is same version by =
+    data_at_stat (node_at tree text) (set.len is.0) told asked is.2 ∙ sym (by ∙ ap (λ (z : ℤ). data_refusal z held) same ∙ ap (data_refusal asked) version)
 
 -- A node is kept as its Stat says.
 kept_at_stat : (node : Option Node) (count : ℕ) (told : Stat) (asked : ℤ) → Some told ≡ option_map (stat_of count) node → absence_refusal node count asked ≡ removal_refusal asked told.version told.num_children
 kept_at_stat None count told asked is = absurd cc
 kept_at_stat (Some node) count told asked is = ap (λ (o : Option Stat). removal_refusal asked (unwrap_or o told).version (unwrap_or o told).num_children) (sym is)
 
-pub kept-at : (tree : Tree) (text : Text) (told : Stat) (names : Names) (asked : ℤ) → IsStatAt tree text (Some told) → HasChildren tree (path_of text) names
+kept_below : (tree : Tree) (text : Text) (told : Stat) (names : Names) (asked : ℤ) → IsStatAt tree text (Some told) → HasChildren tree (path_of text) names
     → bytes_eq text (47 ∷ []) ≡ false → deletion_refusal tree text (set.len names) asked ≡ removal_refusal asked told.version told.num_children
-kept-at tree text told names asked is children below =
+kept_below tree text told names asked is children below =
     let same : set.len is.0 ≡ set.len names = same_count tree (path_of text) is.0 names is.1 children in
     ap (λ (root : Bool). cond root (Some codes.BadArguments) (absence_refusal (node_at tree text) (set.len names) asked)) below
     ∙ kept_at_stat (node_at tree text) (set.len names) told asked (is.2 ∙ ap (λ (n : ℕ). option_map (stat_of n) (node_at tree text)) same)
+
+pub kept-at : (tree : Tree) (text read : Text) (told : Stat) (names : Names) (asked given : ℤ) (refused : Option Code) → HasChildren tree (path_of text) names → read ≡ text → IsStatAt tree read (Some told)
+    → bytes_eq read (47 ∷ []) ≡ false → given ≡ asked → refused ≡ removal_refusal given told.version told.num_children → deletion_refusal tree text (set.len names) asked ≡ refused
+kept-at tree text read told names asked given refused children same is below version by =
+    kept_below tree text told names asked (subst (λ (t : Text). IsStatAt tree t (Some told)) same is) children (ap (λ (t : Text). bytes_eq t (47 ∷ [])) (sym same) ∙ below)
+    ∙ sym (by ∙ ap (λ (z : ℤ). removal_refusal z told.version told.num_children) version)
 
 -- How many children the parent has
 
@@ -174,17 +183,17 @@ no_path (Err refusal) text fault outcome same gives is = λ code. same ∙ refus
 -- Where a change is appended
 
 -- A transaction with no change leaves the tree.
-pub tree_begun : (old mid : Kept) (zxid : ℕ) (time : ℤ) → mid ≡ with_transaction old zxid time → newest_tree mid ≡ newest_tree old
+pub tree_begun : (old mid : HistoryView) (zxid : ℕ) (time : ℤ) → mid ≡ with_transaction old zxid time → newest_tree mid ≡ newest_tree old
 tree_begun old mid zxid time is = ap newest_tree is ∙ after-append old.transactions (made_transaction zxid time [] ∷ []) (first_tree old)
 
 not_empty : {X : Type 0} (xs : List X) (x : X) → xs ++ x ∷ [] ≡ [] → ⊥
 not_empty [] x e = cc
 not_empty (y ∷ ys) x e = cc
 
-pub some_begun : (old mid : Kept) (zxid : ℕ) (time : ℤ) → mid ≡ with_transaction old zxid time → mid.transactions ≡ [] → ⊥
-some_begun old mid zxid time is none = not_empty old.transactions (made_transaction zxid time []) (sym (ap (λ (k : Kept). k.transactions) is) ∙ none)
+pub some_begun : (old mid : HistoryView) (zxid : ℕ) (time : ℤ) → mid ≡ with_transaction old zxid time → mid.transactions ≡ [] → ⊥
+some_begun old mid zxid time is none = not_empty old.transactions (made_transaction zxid time []) (sym (ap (λ (k : HistoryView). k.transactions) is) ∙ none)
 
-pub append_told : {X : Type 0} (result : Outcome X HistoryFault) (old mid : Kept) (zxid time : ℕ) (at : ℤ) (change : Change) → mid ≡ with_transaction old zxid at → is_over old time ≡ false
+pub append_told : {X : Type 0} (result : Outcome X HistoryFault) (old mid : HistoryView) (zxid time : ℕ) (at : ℤ) (change : Change) → mid ≡ with_transaction old zxid at → is_over old time ≡ false
     → IfErr result (ChangeRefused mid change) → IfErr result (AppendRefused old time change)
 append_told (Ok x) old mid zxid time at change begun over refused = tt
 append_told (Err Place) old mid zxid time at change begun over refused = some_begun old mid zxid at begun refused
@@ -193,7 +202,7 @@ append_told (Err Illegal) old mid zxid time at change begun over refused =
     (over, λ accepted. refused.1 (subst (λ (tree : Tree). IsAccepted change tree) (sym (tree_begun old mid zxid at begun)) accepted))
 append_told (Err Memory) old mid zxid time at change begun over refused = over
 
-pub append_accepted : {X : Type 0} (result : Outcome X HistoryFault) (old mid : Kept) (zxid : ℕ) (at : ℤ) (change : Change) → mid ≡ with_transaction old zxid at
+pub append_accepted : {X : Type 0} (result : Outcome X HistoryFault) (old mid : HistoryView) (zxid : ℕ) (at : ℤ) (change : Change) → mid ≡ with_transaction old zxid at
     → OnOk result (IsAccepted change (newest_tree mid)) → OnOk result (IsAccepted change (newest_tree old))
 append_accepted (Ok x) old mid zxid at change begun accepted = subst (λ (tree : Tree). IsAccepted change tree) (tree_begun old mid zxid at begun) accepted
 append_accepted (Err fault) old mid zxid at change begun accepted = tt

@@ -2,12 +2,13 @@
 use Rattle.std.specs.Prelude.{ℕ, ℤ, ◌≡◌, ◌<◌, ◌^◌, List, ◌∷◌, ◌++◌, length, Option, None, Some, is_some, ⊤}
 use Rattle.std.specs.FinSet as set
 use Rattle.zk_frames.specs.Frame.{frame}
-use Rattle.zk_history.specs.History.{Text, Name, NodePath, Tree}
-use Rattle.zk_history.specs.Replay.{Names}
+use Rattle.zk_nodes.specs.Path.{Text, Name, NodePath}
+use Rattle.zk_nodes.specs.History.{Tree}
+use Rattle.zk_nodes.specs.Names.{Names}
 use Rattle.zk_history.specs.Shown.{IsStat}
 use Rattle.zk_conversation.specs.Calls.{Call}
 use Rattle.zk_conversation.specs.Calls as call
-use Rattle.zk_history.specs.PathFault.{IsPath}
+use Rattle.zk_nodes.specs.PathFault.{IsPath}
 use Rattle.zk_records.specs.declared.request.Request.{Request}
 use Rattle.zk_records.specs.declared.request.Request.TheVariants as requests
 use Rattle.zk_watches.specs.Lists.{Lists}

@@ -1,7 +1,7 @@
 -- What a request asks of a server that has accepted the client, in the words of the laws.
 use Rattle.std.specs.Prelude.{ℕ, pos, ◌≡◌, ◌≤◌, Some, ⊤}
 use Rattle.zk_jute.specs.Layout.{Value}
-use Rattle.zk_history.specs.PathFault.{IsPath}
+use Rattle.zk_nodes.specs.PathFault.{IsPath}
 use Rattle.zk_records.specs.declared.operation.Operation.{Operation}
 use Rattle.zk_records.specs.declared.operation.Operation.TheVariants as operation
 use Rattle.zk_records.specs.declared.request.Request.{Request}

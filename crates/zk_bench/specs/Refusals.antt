@@ -4,8 +4,8 @@ use Rattle.zk_jute.specs.declared.fault.PutError.{PutError}
 use Rattle.zk_jute.specs.declared.fault.PutError.TheVariants as put_errors
 use Rattle.zk_jute.specs.declared.fault.TakeError.{TakeError}
 use Rattle.zk_jute.specs.declared.fault.TakeError.TheVariants as take_errors
-use Rattle.zk_history.specs.declared.path_fault.PathFault.{PathFault}
-use Rattle.zk_history.specs.declared.path_fault.PathFault.TheVariants as path_faults
+use Rattle.zk_nodes.specs.declared.path_fault.PathFault.{PathFault}
+use Rattle.zk_nodes.specs.declared.path_fault.PathFault.TheVariants as path_faults
 use Rattle.zk_records.specs.declared.request_fault.RequestFault.{RequestFault}
 use Rattle.zk_records.specs.declared.request_fault.RequestFault.TheVariants.{Unknown, Unread}
 use Rattle.zk_records.specs.declared.code.Code.TheVariants as codes

@@ -4,14 +4,15 @@ use Rattle.std.specs.List.{flat_map, AllByRecursion}
 use Rattle.std.specs.Option.{option_map}
 use Rattle.zk_jute.specs.Lenient.{or_empty}
 use Rattle.zk_frames.specs.Frame.{frame}
-use Rattle.zk_history.specs.History.{Text, NodePath, path_eq, path_of, Node, Tree}
-use Rattle.zk_history.specs.PathFault.{IsPath}
-use Rattle.zk_history.specs.declared.side.Side.{Side}
-use Rattle.zk_history.specs.declared.side.Side.TheVariants as sides
-use Rattle.zk_history.specs.declared.stat.Stat.{Stat}
+use Rattle.zk_nodes.specs.Path.{Text, NodePath, path_eq, path_of}
+use Rattle.zk_nodes.specs.History.{Node, Tree}
+use Rattle.zk_nodes.specs.PathFault.{IsPath}
+use Rattle.zk_nodes.specs.declared.side.Side.{Side}
+use Rattle.zk_nodes.specs.declared.side.Side.TheVariants as sides
+use Rattle.zk_nodes.specs.declared.stat.Stat.{Stat}
 use Rattle.zk_records.specs.declared.event.Event.{Event}
 use Rattle.zk_records.specs.declared.event.Event.TheVariants.{Created, Deleted, DataChanged, ChildrenChanged}
-use Rattle.zk_records.specs.declared.watches.SetWatches.{SetWatches}
+use Rattle.zk_records.specs.declared.set_watches.SetWatches.{SetWatches}
 use Rattle.zk_watches.specs.Lists.{Lists}
 use Rattle.zk_laws.specs.Server.{Watches, Notice, same_side, known_check, missing_check, parent_check, tells, both, part_tells, part_sets, AreSent}
 use Rattle.zk_laws.specs.Messages.{Notifies, Watches_set}

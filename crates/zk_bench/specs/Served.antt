@@ -1,7 +1,8 @@
 -- What there is to see of a bench: servers over one history, and the connection to one of them.
 use Rattle.std.specs.Prelude.{ℕ, ◌+◌, ◌≡◌, Bool, true, false, List, [], ◌∷◌, ◌++◌, drop, slice_index, slice_set, Option, None, Some, slice_get}
-use Rattle.zk_history.specs.Kept.{Kept}
-use Rattle.zk_history.specs.History.{Text, Transaction}
+use Rattle.zk_history.specs.HistoryView.{HistoryView}
+use Rattle.zk_nodes.specs.Path.{Text}
+use Rattle.zk_nodes.specs.History.{Transaction}
 use Rattle.zk_bench.specs.declared.phase.Phase.{Phase}
 use Rattle.zk_bench.specs.declared.phase.Phase.TheVariants.{Apart, Opening, Accepted, Ended}
 
@@ -16,7 +17,7 @@ pub record Linked : Type 0 where
 
 -- how many transactions each server has taken, the server that is connected, whether sessions have expired, and the time
 pub record Served : Type 0 where
-  pub history : Kept
+  pub history : HistoryView
   pub taken : List ℕ
   pub server : ℕ
   pub connection : Linked
@@ -28,7 +29,7 @@ abbrev pub linked : Phase → Linked
 linked phase = record { phase = phase; data_watches = []; child_watches = []; requests = []; output = [] }
 
 -- the servers before the first transaction of a history
-abbrev pub started : Kept → Served
+abbrev pub started : HistoryView → Served
 started history = record {
   history = history;
   taken = 0 ∷ 0 ∷ 0 ∷ 0 ∷ 0 ∷ 0 ∷ 0 ∷ 0 ∷ [];
@@ -74,7 +75,7 @@ abbrev pub advanced : Served → ℕ → List ℕ
 advanced served server = advanced_by (slice_get served.history.transactions (slice_index served.taken server)) served.taken server
 
 -- The history goes on: the same first tree, and transactions behind those that were there.
-pub record Continues (old new : Kept) : Type 0 where
+pub record Continues (old new : HistoryView) : Type 0 where
   pub nodes : new.nodes ≡ old.nodes
   pub more : List Transaction
   pub transactions : new.transactions ≡ old.transactions ++ more

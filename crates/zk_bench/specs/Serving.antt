@@ -5,10 +5,9 @@ use Rattle.std.specs.FinSet as set
 use Rattle.zk_jute.specs.Layout.{Layout, Value}
 use Rattle.zk_jute.specs.Spelling.{spelling, Fits}
 use Rattle.zk_frames.specs.Frame.{frame}
-use Rattle.zk_history.specs.History.{NodePath, path_eq, text_of, path_of}
-use Rattle.zk_history.specs.Replay.{Names}
-use Rattle.zk_history.specs.NamesKept.{names_of}
-use Rattle.zk_history.specs.declared.side.Side.TheVariants.{Data, Child}
+use Rattle.zk_nodes.specs.Path.{NodePath, path_eq, text_of, path_of}
+use Rattle.zk_nodes.specs.Names.{Names, names_of}
+use Rattle.zk_nodes.specs.declared.side.Side.TheVariants.{Data, Child}
 use Rattle.zk_records.specs.declared.event.Event.{Event}
 use Rattle.zk_records.specs.Events.{concerns}
 use Rattle.zk_records.specs.Layouts.{reply_header, connect_response_front}

@@ -1,10 +1,11 @@
 -- Steps of a server on a connection, and what a bench shows in the words of the laws.
 use Rattle.std.specs.Prelude.{ℕ, pos, ◌≡◌, ◌<◌, ◌≤◌, ℤ, false, List, [], ◌∷◌, ◌++◌, length, slice_index, Some, ⊤}
-use Rattle.zk_history.specs.History.{History, Text, Change, path_of}
+use Rattle.zk_nodes.specs.Path.{Text, path_of}
+use Rattle.zk_nodes.specs.History.{History, Change}
 use Rattle.zk_history.specs.Shown.{IsStat}
-use Rattle.zk_history.specs.StatLayout.{stat}
+use Rattle.zk_nodes.specs.StatLayout.{stat}
 use Rattle.zk_jute.specs.Layout.{Value}
-use Rattle.zk_history.specs.Kept.{history_of}
+use Rattle.zk_history.specs.HistoryView.{history_of}
 use Rattle.zk_conversation.specs.Calls.{Call}
 use Rattle.zk_conversation.specs.Pending.{closes}
 use Rattle.zk_conversation.specs.Questions.{question_of}

@@ -3,14 +3,14 @@ use Rattle.std.specs.Prelude.{ℕ, ℤ, pos, negsuc, ◌+◌, ◌-◌, ◌==◌,
 use Rattle.std.specs.Fmt.{decimal}
 use Rattle.std.specs.FinSet as set
 use Rattle.std.specs.Ordering.{int_eq}
-use Rattle.zk_history.specs.History.{Text, NodePath, Node, Tree, Change, Creates, Transaction, newest, path_of, tree_at}
-use Rattle.zk_history.specs.Path.{is_below}
-use Rattle.zk_history.specs.Replay.{Names}
+use Rattle.zk_nodes.specs.Path.{Text, NodePath, path_of, is_below}
+use Rattle.zk_nodes.specs.History.{Node, Tree, Change, Creates, Transaction, newest, tree_at}
+use Rattle.zk_nodes.specs.Names.{Names}
 use Rattle.zk_history.specs.Shown.{stat_of}
-use Rattle.zk_history.specs.declared.stat.Stat.{Stat}
-use Rattle.zk_history.specs.PathFault.{fault_of}
-use Rattle.zk_history.specs.declared.path_fault.PathFault.{PathFault}
-use Rattle.zk_history.specs.Kept.{Kept, with_change, with_transaction, HasChildren, IsAccepted, history_of, natural, newest_tree}
+use Rattle.zk_nodes.specs.declared.stat.Stat.{Stat}
+use Rattle.zk_nodes.specs.PathFault.{fault_of}
+use Rattle.zk_nodes.specs.declared.path_fault.PathFault.{PathFault}
+use Rattle.zk_history.specs.HistoryView.{HistoryView, with_change, with_transaction, HasChildren, IsAccepted, history_of, natural, newest_tree}
 use Rattle.zk_history.specs.declared.history_fault.HistoryFault.{HistoryFault}
 use Rattle.zk_history.specs.declared.history_fault.HistoryFault.TheVariants.{Place, Order, Illegal, Memory}
 use Rattle.zk_records.specs.declared.code.Code.{Code}
@@ -22,7 +22,7 @@ use Rattle.zk_bench.specs.declared.stop.Refusal.TheVariants as refusals
 -- What writes make
 
 -- a change more, as a transaction of its own, one zxid above the last
-abbrev pub appended : Kept → ℕ → Change → Kept
+abbrev pub appended : HistoryView → ℕ → Change → HistoryView
 appended kept time change = with_change (with_transaction kept (newest 0 kept.transactions + 1) (pos time)) change
 
 -- The flags of a create: whether the node is ephemeral, and whether it is sequential. There are no others.
@@ -43,7 +43,7 @@ owner_of false = pos 0
 -- Where writes are made
 
 -- the tree of a history after the transactions up to a zxid
-abbrev pub tree_of : Kept → ℤ → Tree
+abbrev pub tree_of : HistoryView → ℤ → Tree
 tree_of kept zxid = tree_at (history_of kept) (natural zxid)
 
 -- the text, if it has no fault
@@ -181,17 +181,17 @@ AreBeside tree (name ∷ parent) names = HasChildren tree parent names
 -- Which changes are appended
 
 -- no transaction can follow at this time: its zxid or the time would be past 2^63 - 1
-abbrev pub is_over : Kept → ℕ → Bool
+abbrev pub is_over : HistoryView → ℕ → Bool
 is_over kept time = nat_le 9223372036854775807 (newest 0 kept.transactions) || nat_lt 9223372036854775807 time
 
 -- When a change is not appended: behind the last zxid or time, where the tree does not admit it, and where memory ran out.
-abbrev pub AppendRefused : Kept → ℕ → Change → HistoryFault → Type 0
+abbrev pub AppendRefused : HistoryView → ℕ → Change → HistoryFault → Type 0
 AppendRefused kept time change Place = ⊥
 AppendRefused kept time change Order = is_over kept time ≡ true
 AppendRefused kept time change Illegal = (is_over kept time ≡ false) × ¬ IsAccepted change (newest_tree kept)
 AppendRefused kept time change Memory = is_over kept time ≡ false
 
 -- When the write of a client is not appended: -8 behind the last zxid or time, and else a stop, of memory alone where the tree admits it.
-abbrev pub WriteRefused : Kept → ℕ → Change → Refusal → Type 0
+abbrev pub WriteRefused : HistoryView → ℕ → Change → Refusal → Type 0
 WriteRefused kept time change (refusals.Code code) = (code ≡ codes.BadArguments) × (is_over kept time ≡ true)
 WriteRefused kept time change (refusals.Stop stop) = (is_over kept time ≡ false) × (IsAccepted change (newest_tree kept) → stop ≡ stops.Memory)

@@ -1,7 +1,7 @@
 //! What a transaction tells the connection that watches.
 
 ghost use Rattle.std.specs.Prelude.{◌≡◌, ◌≢◌, OnOk, OnErr, IsOk, map, take as first, length as bytes_of};
-ghost use Rattle.zk_history.specs.History.{path_of, IsPathText};
+ghost use Rattle.zk_nodes.specs.Path.{path_of, IsPathText};
 ghost use Rattle.zk_history.specs.Made.{change_of};
 ghost use Rattle.zk_laws.specs.Server.{fires, leaves_set, fires_all, leaves_set_all};
 ghost use Rattle.zk_bench.specs.declared.phase.Phase.TheVariants.{Accepted};

@@ -7,10 +7,11 @@ ghost use Rattle.std.specs.Prelude.{◌≡◌, ℕ, pos, Some, None, cond, map, 
 ghost use Rattle.std.specs.Option.{option_map};
 ghost use Rattle.std.specs.FinSet as set;
 ghost use Rattle.zk_jute.specs.Lenient.{or_empty};
-ghost use Rattle.zk_history.specs.History.{Text as Bytes, tree_at, path_of};
-ghost use Rattle.zk_history.specs.Kept.{history_of, natural};
-ghost use Rattle.zk_history.specs.NamesKept.{names_of};
-ghost use Rattle.zk_history.specs.PathFault.{IsPath};
+ghost use Rattle.zk_nodes.specs.Path.{Text as Bytes, path_of};
+ghost use Rattle.zk_nodes.specs.History.{tree_at};
+ghost use Rattle.zk_history.specs.HistoryView.{history_of, natural};
+ghost use Rattle.zk_nodes.specs.Names.{names_of};
+ghost use Rattle.zk_nodes.specs.PathFault.{IsPath};
 ghost use Rattle.zk_history.specs.Shown.{IsStat};
 ghost use Rattle.zk_conversation.specs.Calls.{Call, Exists, GetData, GetChildren};
 ghost use Rattle.zk_watches.specs.Lists.{Lists};

@@ -2,9 +2,10 @@
 
 ghost use Rattle.std.specs.Prelude.{◌≡◌, ℕ, pos, [], ◌∷◌, OnOk, OnErr, take as first, length as bytes_of};
 ghost use Rattle.std.specs.List.{AllByRecursion};
-ghost use Rattle.zk_history.specs.History.{path_of, IsPathText, tree_at};
-ghost use Rattle.zk_history.specs.Kept.{history_of, natural};
-ghost use Rattle.zk_history.specs.PathFault.{IsPath};
+ghost use Rattle.zk_nodes.specs.Path.{path_of, IsPathText};
+ghost use Rattle.zk_nodes.specs.History.{tree_at};
+ghost use Rattle.zk_history.specs.HistoryView.{history_of, natural};
+ghost use Rattle.zk_nodes.specs.PathFault.{IsPath};
 ghost use Rattle.zk_watches.specs.Lists.{Lists};
 ghost use Rattle.zk_laws.specs.Server.{both, part_tells, part_sets};
 ghost use Rattle.zk_bench.specs.Serving.{watched, Tells};

@@ -2,16 +2,17 @@
 
 ghost use Rattle.std.specs.Prelude.{◌≡◌, Some, None, IfOk, IfErr, min, count_by};
 ghost use mathlib.Core.List.{IsPrefix};
-ghost use Rattle.zk_history.specs.History.{path_of as names_in};
+ghost use Rattle.zk_nodes.specs.Path.{path_of as names_in};
 ghost use Rattle.zk_history.specs.Made.{change_of};
-ghost use Rattle.zk_history.specs.PathFault.{IsPath};
+ghost use Rattle.zk_nodes.specs.PathFault.{IsPath};
 ghost use Rattle.zk_records.specs.declared.code.Code.TheVariants as codes;
 ghost use Rattle.zk_bench.specs.Refusals.{IsCode};
 ghost use Rattle.zk_bench.specs.Writing.{IsRefusedWith, makes_below, creates_below as creates_told, numbered_text};
 
 use crate::stop::Refusal;
 use std::alloc::Allocator;
-use zk_history::{Change, History, Path};
+use zk_history::{Change, History};
+use zk_nodes::Path;
 use zk_records::Code;
 
 // The last number that ten digits say.

@@ -1,10 +1,10 @@
 //! How far each server is in the history.
 
 ghost use Rattle.std.specs.Prelude.{◌≡◌, ◌<◌, ◌≤◌, ◌^◌, IfSome, OnOk, is_some, false, slice_get, map, length, pos};
-ghost use Rattle.zk_history.specs.Kept.{history_of};
+ghost use Rattle.zk_history.specs.HistoryView.{history_of};
 ghost use Rattle.zk_history.specs.Made.{change_of};
 ghost use Rattle.zk_laws.specs.Server.{zxid_held, tree_held};
-ghost use Rattle.zk_history.specs.History.{tree_at};
+ghost use Rattle.zk_nodes.specs.History.{tree_at};
 ghost use Rattle.zk_laws.specs.ServerSteps.{changes_next};
 ghost use Rattle.zk_bench.specs.declared.phase.Phase.TheVariants.{Accepted};
 ghost use Rattle.zk_bench.specs.Stepping.{Catches, CatchesUp};

@@ -6,8 +6,9 @@ ghost use Rattle.zk_bench.specs.declared.stop.Refusal.TheVariants as refusals;
 ghost use Rattle.zk_bench.specs.Refusals.{stop_of, stop_of_put, stop_of_take, stop_of_request, refusal_of_path};
 
 use std::alloc::{AllocError, AllocFailed};
-use zk_history::{HistoryFault, PathFault};
+use zk_history::HistoryFault;
 use zk_jute::{PutError, TakeError};
+use zk_nodes::PathFault;
 use zk_records::{Code, RequestFault};
 
 /// Why a connection goes no further.

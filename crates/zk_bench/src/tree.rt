@@ -2,16 +2,18 @@
 
 ghost use Rattle.std.specs.Prelude.{◌≡◌, IfOk, Some};
 ghost use Rattle.zk_jute.specs.Lenient.{or_empty};
-ghost use Rattle.zk_history.specs.History.{path_of as names_in, tree_at, view as view_of};
-ghost use Rattle.zk_history.specs.declared.side.Side.TheVariants as sides;
-ghost use Rattle.zk_history.specs.Kept.{history_of, natural};
-ghost use Rattle.zk_history.specs.PathFault.{IsPath};
+ghost use Rattle.zk_nodes.specs.Path.{path_of as names_in};
+ghost use Rattle.zk_nodes.specs.History.{tree_at, view as view_of};
+ghost use Rattle.zk_nodes.specs.declared.side.Side.TheVariants as sides;
+ghost use Rattle.zk_history.specs.HistoryView.{history_of, natural};
+ghost use Rattle.zk_nodes.specs.PathFault.{IsPath};
 ghost use Rattle.zk_history.specs.Shown.{data_told, names_told, IsStat};
 ghost use Rattle.zk_bench.specs.Writing.{path_told};
 
 use std::alloc::{AllocError, Allocator};
-use zk_history::{Data, History, Names, Path, PathFault, Stat};
+use zk_history::{Data, History};
 use zk_jute::Text;
+use zk_nodes::{Names, Path, PathFault, Stat};
 
 /// The tree of a history after the transactions up to a zxid. A text that is no path names no node.
 #[derive(Drop)]

@@ -2,10 +2,10 @@
 
 ghost use Rattle.std.specs.Prelude.{◌≡◌, ◌&&◌, ◌||◌, [], OnOk, cond};
 ghost use Rattle.std.specs.FinSet as set;
-ghost use Rattle.zk_history.specs.NamesKept.{names_of};
-ghost use Rattle.zk_history.specs.declared.side.Side.TheVariants as sides;
+ghost use Rattle.zk_nodes.specs.Names.{names_of};
+ghost use Rattle.zk_nodes.specs.declared.side.Side.TheVariants as sides;
 ghost use Rattle.zk_records.specs.Events.{concerns};
-ghost use Rattle.zk_history.specs.History.{path_of, IsPathText};
+ghost use Rattle.zk_nodes.specs.Path.{path_of, IsPathText};
 ghost use Rattle.zk_bench.specs.Watching.{used_up};
 ghost use Rattle.zk_bench.specs.Serving.{watched, leaves_at, is_watched};
 

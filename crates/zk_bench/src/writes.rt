@@ -4,12 +4,12 @@ ghost use Rattle.std.specs.Prelude.{◌≡◌, false, pos, Some, None, IfOk, IfE
 ghost use Rattle.std.specs.Option.{option_map};
 ghost use Rattle.std.specs.FinSet as set;
 ghost use Rattle.zk_jute.specs.Lenient.{or_empty};
-ghost use Rattle.zk_history.specs.History.{Creates, path_of as names_in};
-ghost use Rattle.zk_history.specs.Kept.{HasChildren, IsAccepted, newest_tree};
+ghost use Rattle.zk_nodes.specs.Path.{path_of as names_in, parent_of};
+ghost use Rattle.zk_nodes.specs.History.{Creates};
+ghost use Rattle.zk_history.specs.HistoryView.{HasChildren, IsAccepted, newest_tree};
 ghost use Rattle.zk_history.specs.Made.{change_of};
-ghost use Rattle.zk_history.specs.Path.{parent_of};
-ghost use Rattle.zk_history.specs.PathFault.{IsPath};
-ghost use Rattle.zk_history.specs.Replay.{Names as NameSet};
+ghost use Rattle.zk_nodes.specs.PathFault.{IsPath};
+ghost use Rattle.zk_nodes.specs.Names.{Names as NameSet};
 ghost use Rattle.zk_history.specs.declared.history_fault.HistoryFault.TheVariants as faults;
 ghost use Rattle.zk_records.specs.declared.code.Code.TheVariants as codes;
 ghost use Rattle.zk_laws.specs.Server.{IsMadeOf};
@@ -22,8 +22,9 @@ use crate::sequence::numbered;
 use crate::stop::{Refusal, Stop};
 use crate::tree::{Tree, path_of, text_of};
 use std::alloc::Allocator;
-use zk_history::{Change, History, HistoryFault, Path, Stat};
+use zk_history::{Change, History, HistoryFault};
 use zk_jute::Buffer;
+use zk_nodes::{Path, Stat};
 use zk_records::{Code, DeleteRequest};
 
 // The session that owns ephemeral nodes.

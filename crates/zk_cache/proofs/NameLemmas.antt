@@ -8,7 +8,7 @@ use Rattle.std.specs.BTreeSet.{BTreeSet, UpdatesBy, contains_text}
 use Rattle.std.specs.String.{string_cmp}
 use Rattle.std.specs.FinSet as set
 use Rattle.std.proofs.lemmas.Map.Text.{is_eq-slice_cmp, btree_set_updates_text}
-use Rattle.zk_history.specs.NamesKept.{names_of}
+use Rattle.zk_nodes.specs.Names.{names_of}
 
 or-cond : (b c : Bool) → cond b true c ≡ (b || c)
 or-cond true c = refl

@@ -3,8 +3,8 @@ use Rattle.std.specs.Prelude.{◌≡◌, ℕ, ℤ, Bool, true, false, List, Opti
 use Rattle.std.specs.Coded.{Coded, code_by, coded×, coded_ℕ, coded_ℤ, coded_bool, coded_list, coded_option}
 use Rattle.std.specs.FinMap as finite
 use Rattle.std.specs.FinSet as set
-use Rattle.zk_history.specs.Replay.{Names as NameSet}
-use Rattle.zk_history.specs.declared.data_stat.DataStat.{DataStat}
+use Rattle.zk_nodes.specs.Names.{Names as NameSet}
+use Rattle.zk_nodes.specs.declared.data_stat.DataStat.{DataStat}
 use Rattle.zk_cache.specs.declared.held.Mark.TheVariants.{Good, Stale}
 use Rattle.zk_cache.specs.Kept.{Answer, Absent, Known, Full, Names, Kept, Mark}
 use Rattle.zk_cache.specs.Look.{ByText}

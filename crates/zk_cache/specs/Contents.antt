@@ -1,10 +1,9 @@
 -- The contents of what the maps of a cache hold.
 use Rattle.std.specs.Prelude.{List, map, option_map, vec_items}
-use Rattle.zk_history.specs.History.{Text}
-use Rattle.zk_history.specs.NamesKept.{names_of}
-use Rattle.zk_history.specs.Replay.{Names as NameSet}
+use Rattle.zk_nodes.specs.Path.{Text}
+use Rattle.zk_nodes.specs.Names.{names_of, Names as NameSet}
 use Rattle.std.specs.FinSet as set
-use Rattle.zk_history.specs.declared.answer.Names.{Names as RustNames}
+use Rattle.zk_nodes.specs.declared.names.Names.{Names as RustNames}
 use Rattle.zk_jute.specs.declared.lent.TextRef.{TextRef}
 use Rattle.zk_jute.specs.Lenient.{or_empty}
 use Rattle.zk_cache.specs.declared.answers.DataAnswer.{DataAnswer}

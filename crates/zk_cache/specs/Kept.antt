@@ -1,8 +1,8 @@
 -- What is kept of one text, and what becomes of it.
 use Rattle.std.specs.Prelude.{ℕ, ℤ, Bool, true, false, ◌&&◌, List, Option, Some, None, if◌then◌else◌}
 use Rattle.std.specs.Ordering.{int_eq}
-use Rattle.zk_history.specs.Replay.{Names as NameSet}
-use Rattle.zk_history.specs.declared.data_stat.DataStat.{DataStat}
+use Rattle.zk_nodes.specs.Names.{Names as NameSet}
+use Rattle.zk_nodes.specs.declared.data_stat.DataStat.{DataStat}
 use Rattle.zk_cache.specs.declared.held.Mark.TheVariants.{Good, Stale}
 pub use Rattle.zk_cache.specs.declared.held.Mark.{Mark}
 -- an answer with its mark

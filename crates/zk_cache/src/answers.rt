@@ -1,7 +1,7 @@
 //! What is kept of an answer.
 ghost use Rattle.std.specs.Prelude.{◌≡◌, ℕ, List, true, is_some, bytes_eq, if◌then◌else◌, IsOk, OnOk, OnErr, IfOk};
 ghost use Rattle.indexmap.specs.IndexMap.{get_by_text, IsUnchanged};
-ghost use Rattle.zk_history.specs.NamesKept.{names_of};
+ghost use Rattle.zk_nodes.specs.Names.{names_of};
 ghost use Rattle.zk_cache.specs.Kept.{same_fields};
 ghost use Rattle.zk_cache.specs.Covered.{stays};
 ghost use Rattle.zk_cache.specs.Contents.{answer_of, set_of};
@@ -10,8 +10,8 @@ ghost use Rattle.zk_cache.specs.Renewed.{renewed, with_answer};
 use crate::held::{Held, Kept, Mark, insert, marked_good};
 use std::alloc::{AllocError, Allocator, Global};
 use std::collections::BTreeSet;
-use zk_history::DataStat;
 use zk_jute::TextRef;
+use zk_nodes::DataStat;
 
 /// What a read of a node answered about the node itself.
 #[derive(Drop)]

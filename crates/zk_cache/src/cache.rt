@@ -8,8 +8,8 @@ use crate::held::{Held, Mark, keep_good, mark_stale, put};
 use indexmap::IndexMap;
 use std::alloc::{AllocError, Allocator};
 use std::marker::Model;
-use zk_history::{Names, Path, Side};
 use zk_jute::TextRef;
+use zk_nodes::{Names, Path, Side};
 
 /// The answers that a client keeps, seen as a finite map from texts a side.
 #[derive(Drop)]

@@ -1,22 +1,23 @@
 -- What a reply leaves.
-use Rattle.std.proofs.Common.{◌≡◌, ℕ, ℤ, Bool, true, false, List, [], ◌∷◌, drop, refl, ap, sym, ◌∙◌}
+use Rattle.std.proofs.Common.{◌≡◌, ℕ, ℤ, Bool, true, false, List, [], ◌∷◌, Option, drop, refl, ap, sym, ◌∙◌}
 use Rattle.std.specs.Int.{int_max}
-use Rattle.zk_history.specs.History.{Text}
+use Rattle.zk_nodes.specs.Path.{Text}
 use Rattle.zk_session.specs.declared.states.State.{State}
 use Rattle.zk_session.specs.declared.states.State.TheVariants.{Idle, Connecting, Connected, Expired, Closed}
-use Rattle.zk_session.specs.Kept.{Kept, Saved, Moments}
+use Rattle.zk_session.specs.SessionView.{SessionView, Saved, Moments}
 use Rattle.zk_session.specs.Table as session
 use Rattle.zk_conversation.specs.Pending.{Talk, Pending, Call_waits, closes}
 use Rattle.zk_conversation.specs.Questions.{Question, Exists, GetData, GetChildren, SetData, Create, Delete, Close}
 use Rattle.zk_conversation.specs.Results.{Result}
 use Rattle.zk_watches.specs.Lists.{Lists, no_lists}
 use Rattle.zk_cache.specs.Cache.{Answers, data_kept, names_kept, no_answers}
-use Rattle.zk_turns.specs.Kept.{Took, Replies, leaves_data, leaves_child}
+use Rattle.zk_turns.specs.Past.{Left, Took, Replies, leaves_data, leaves_child}
 use Rattle.zk_turns.specs.View.{View}
-use Rattle.zk_turns.specs.Rule.{next, next_reply, seen, after_reply, kept_after, keep_node, keep_children}
+use Rattle.zk_turns.specs.Rule.{next, next_reply, seen, after_reply, with_node, with_children, kept_after, keep_node, keep_children}
+use Rattle.zk_cache.specs.Kept.{Answer, Names}
 use Rattle.zk_turns.proofs.Happened.{view_ext}
 use Rattle.zk_client.specs.Seen.{shown, while_pending, cache_of}
-use Rattle.zk_client.proofs.Kept.{cache-ext, nothing-kept}
+use Rattle.zk_client.proofs.CacheLemmas.{cache-ext, nothing-kept}
 use Rattle.zk_client.specs.Steps.{closing}
 
 pub is-close : (question : Question) → closes question ≡ true → question ≡ Close
@@ -56,8 +57,13 @@ reply-next view (SetData path) zxid result e = refl
 reply-next view (Create path) zxid result e = refl
 reply-next view (Delete path) zxid result e = refl
 
-pub answered-view : (held : List ℕ) (halted : Bool) (kept : Kept) (talk : Talk) (lists : Lists) (answers : Answers) (pending : List Pending) (xid : ℤ) (ticket : ℕ) (question : Question) (zxid : ℤ) (result : Result)
-    (new : Kept) (after : Lists) (then_kept : Answers) → closes question ≡ false → pending ≡ record { xid = xid; waiting = Call_waits ticket question } ∷ talk.pending
+-- the lists, by what the reply leaves
+pub left-lists : (known : Option (Left Answer)) (children : Option (Left Names)) (question : Question) (result : Result) (lists : Lists) → known ≡ leaves_data question result → children ≡ leaves_child question result
+    → with_children children (with_node known lists) ≡ after_reply question result lists
+left-lists known children question result lists d e = λ i. with_children (e i) (with_node (d i) lists)
+
+pub answered-view : (held : List ℕ) (halted : Bool) (kept : SessionView) (talk : Talk) (lists : Lists) (answers : Answers) (pending : List Pending) (xid : ℤ) (ticket : ℕ) (question : Question) (zxid : ℤ) (result : Result)
+    (new : SessionView) (after : Lists) (then_kept : Answers) → closes question ≡ false → pending ≡ record { xid = xid; waiting = Call_waits ticket question } ∷ talk.pending
     → new ≡ session.next (session.Sees zxid) kept → after ≡ after_reply question result lists
     → ((text : Text) → data_kept then_kept text ≡ keep_node (leaves_data question result) text (data_kept answers text))
     → ((text : Text) → names_kept then_kept text ≡ keep_children (leaves_child question result) text (names_kept answers text))
@@ -65,7 +71,7 @@ pub answered-view : (held : List ℕ) (halted : Bool) (kept : Kept) (talk : Talk
 answered-view held halted kept talk lists answers pending xid ticket question zxid result new after then_kept other left e f nodes children =
     let before = while_pending pending (shown held halted kept talk lists answers) in
     view_ext (shown [] halted new talk after then_kept) (other_reply before question zxid result)
-    (ap (λ (k : Kept). record { halted = halted; state = k.state }) e) (ap (λ (k : Kept). k.saved) e) (ap (λ (k : Kept). k.moments) e)
+    (ap (λ (k : SessionView). record { halted = halted; state = k.state }) e) (ap (λ (k : SessionView). k.saved) e) (ap (λ (k : SessionView). k.moments) e)
     (ap (λ (p : List Pending). drop 1 p) (sym left)) refl refl f (cache-ext (cache_of then_kept) (kept_after question result (cache_of answers)) nodes children)
     ∙ sym (reply-next before question zxid result other)
 
@@ -78,14 +84,14 @@ closed-state Connecting saved moments zxid e = absurd cc
 closed-state Expired saved moments zxid e = absurd cc
 closed-state Closed saved moments zxid e = refl
 
-pub closed-view : (held : List ℕ) (halted : Bool) (kept : Kept) (talk : Talk) (lists : Lists) (answers : Answers) (pending : List Pending) (ticket : ℕ) (question : Question) (zxid : ℤ) (result : Result)
-    (still : Bool) (saw new : Kept) (after : Talk) (gone : Lists) (nothing : Answers) → still ≡ halted → closes question ≡ true → kept.state ≡ Connected
+pub closed-view : (held : List ℕ) (halted : Bool) (kept : SessionView) (talk : Talk) (lists : Lists) (answers : Answers) (pending : List Pending) (ticket : ℕ) (question : Question) (zxid : ℤ) (result : Result)
+    (still : Bool) (saw new : SessionView) (after : Talk) (gone : Lists) (nothing : Answers) → still ≡ halted → closes question ≡ true → kept.state ≡ Connected
     → saw ≡ session.next (session.Sees zxid) kept → new ≡ session.next session.Closes saw → after.pending ≡ [] → after.xid ≡ talk.xid → gone ≡ no_lists → nothing ≡ no_answers
     → shown [] still new after gone nothing ≡ next (while_pending pending (shown held halted kept talk lists answers)) (Took (Replies ticket question zxid result))
 closed-view held halted kept talk lists answers pending ticket question zxid result still saw new after gone nothing same close at e f quiet xid g h =
     let before = while_pending pending (shown held halted kept talk lists answers) in
-    let is = f ∙ ap (λ (k : Kept). session.next session.Closes k) e ∙ closed-state kept.state kept.saved kept.moments zxid at in
+    let is = f ∙ ap (λ (k : SessionView). session.next session.Closes k) e ∙ closed-state kept.state kept.saved kept.moments zxid at in
     view_ext (shown [] still new after gone nothing) (next_reply before Close zxid result)
-    (ap (λ (h : Bool). record { halted = h; state = new.state }) same ∙ ap (λ (k : Kept). record { halted = halted; state = k.state }) is) (ap (λ (k : Kept). k.saved) is) (ap (λ (k : Kept). k.moments) is)
+    (ap (λ (h : Bool). record { halted = h; state = new.state }) same ∙ ap (λ (k : SessionView). record { halted = halted; state = k.state }) is) (ap (λ (k : SessionView). k.saved) is) (ap (λ (k : SessionView). k.moments) is)
     quiet refl xid g (nothing-kept nothing h)
     ∙ ap (λ (q : Question). next_reply before q zxid result) (sym (is-close question close))

@@ -2,7 +2,7 @@
 use Rattle.std.proofs.Common.{◌≡◌, ℕ, ◌*◌, ◌-◌, Bool, true, false, List, [], ◌∷◌, ◌++◌, refl, sym, ap, subst, ◌∙◌, max, inr}
 use Rattle.std.specs.Prelude.{nat_le, ◌&&◌, if◌then◌else◌}
 use Rattle.zk_turns.specs.Turns.{Start, Item, Turned, Input, Now, Output, Silent, Ticks}
-use Rattle.zk_turns.specs.Kept.{Dropped, Pinged, Ticked, is_open, is_talking}
+use Rattle.zk_turns.specs.Past.{Dropped, Pinged, Ticked, is_open, is_talking}
 use Rattle.zk_turns.specs.Taken.{due, if_open, timeout_of}
 use Rattle.zk_turns.specs.View.{View}
 use Rattle.zk_turns.specs.Rule.{Rule, RuleAt, Stands, StandsAt, HaltsAs, HaltsAt, next, after_all, after_signals}

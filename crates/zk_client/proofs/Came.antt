@@ -1,17 +1,14 @@
 -- What a payload brings, and what it finds.
-use Rattle.std.proofs.Common.{◌≡◌, ℕ, ◌+◌, ◌≤◌, ℤ, Bool, List, ◌∷◌, ◌++◌, length, drop, Option, Some, None, Result, Ok, Err, refl, ap, sym, subst, ◌∙◌, arith, length-append}
+use Rattle.std.proofs.Common.{◌≡◌, ℕ, ◌+◌, ◌≤◌, Bool, List, ◌∷◌, ◌++◌, length, drop, Result, Ok, Err, refl, ap, sym, subst, ◌∙◌, arith, length-append}
 use Rattle.zk_jute.specs.declared.fault.TakeError.{TakeError}
-use Rattle.zk_jute.specs.Lenient.{or_empty}
-use Rattle.zk_jute.specs.Spelling.{IsBytes, int_bytes, long_bytes, counted_bytes, spelling}
+use Rattle.zk_jute.specs.Spelling.{IsBytes, spelling}
 use Rattle.zk_records.specs.Layouts.{connect_response_front}
 use Rattle.zk_records.specs.Response.{Response, IsPayload, response_at, flag_spelling}
-use Rattle.zk_frames.specs.declared.reader.TheConstants.{LONGEST_INCOMING}
 use Rattle.zk_session.specs.declared.states.State.{State}
 use Rattle.zk_session.specs.declared.states.State.TheVariants.{Idle, Connecting, Connected as Is_connected, Expired, Closed as Is_closed}
-use Rattle.zk_session.specs.Kept.{Kept}
+use Rattle.zk_session.specs.SessionView.{SessionView}
 use Rattle.zk_conversation.specs.declared.phase.Phase.{Phase}
 use Rattle.zk_conversation.specs.declared.phase.Phase.TheVariants.{Opening, Talking}
-use Rattle.zk_conversation.specs.declared.conversation.TheConstants.{LONGEST_PASSWORD}
 use Rattle.zk_conversation.specs.declared.fault.TalkFault.{TalkFault}
 use Rattle.zk_conversation.specs.Pending.{Talk, Pending}
 use Rattle.zk_conversation.specs.Results.{response_password}
@@ -20,26 +17,15 @@ use Rattle.zk_watches.specs.Lists.{Lists}
 use Rattle.zk_cache.specs.Cache.{Answers}
 use Rattle.zk_turns.specs.Taken.{phase_of}
 use Rattle.zk_turns.specs.Rule.{IsOpen, arrival}
+use Rattle.zk_conversation.proofs.Lengths.{length-int, length-long, length-counted}
 use Rattle.zk_turns.proofs.Arriving.{IsOf, AreOf, of_arriving}
 use Rattle.zk_turns.proofs.Spelt.{first_spelt}
 use Rattle.zk_client.specs.Seen.{shown, while_pending}
 use Rattle.zk_client.specs.Sound.{IsSound, IsLeft, HasArrived}
 use Rattle.zk_turns.proofs.Words.{happening_of}
+use Rattle.zk_limits.specs.declared.limits.TheConstants.{LONGEST_INCOMING, LONGEST_PASSWORD}
 
 -- ---- how long a password is
-
-length-int : (z : ℤ) → length (int_bytes z) ≡ 4
-unfolding int_bytes
-length-int z = refl
-
-length-long : (z : ℤ) → length (long_bytes z) ≡ 8
-unfolding long_bytes
-length-long z = refl
-
-length-counted : (bytes : Option (List ℕ)) → length (counted_bytes (λ b. b) bytes) ≡ 4 + length (or_empty bytes)
-unfolding counted_bytes int_bytes
-length-counted None = refl
-length-counted (Some bytes) = omega arith
 
 length-front : (response : Response) → length (spelling connect_response_front response.front) ≡ 20 + length (response_password response)
 length-front response = simp (length-append, length-int, length-long, length-counted) (omega arith)
@@ -79,11 +65,11 @@ of-later : (pending : List Pending) (payload : List ℕ) (arrived : Arrived) →
 of-later pending payload arrived e = let P : Result Arrived TalkFault → Type 0 = λ r. AreOf Talking pending r in subst P e (of_arriving Talking pending payload)
 
 -- a payload was read
-pub record Comes (arrived : Arrived) (kept : Kept) (talk : Talk) (lists : Lists) : Type 0 where
+pub record Comes (arrived : Arrived) (kept : SessionView) (talk : Talk) (lists : Lists) : Type 0 where
   pub left : IsLeft arrived talk.pending (pending_after arrived talk.pending)
   pub has : HasArrived arrived kept (talk_after arrived talk) lists
 
-later-has : (arrived : Arrived) (kept : Kept) (talk : Talk) (lists : Lists) → IsSound kept talk lists → kept.state ≡ Is_connected → IsOf Talking talk.pending arrived
+later-has : (arrived : Arrived) (kept : SessionView) (talk : Talk) (lists : Lists) → IsSound kept talk lists → kept.state ≡ Is_connected → IsOf Talking talk.pending arrived
     → IsLeft arrived talk.pending (pending_after arrived talk.pending) → HasArrived arrived kept (talk_after arrived talk) lists
 later-has (Connected response) kept talk lists sound at is left = absurd is
 later-has (Replied ticket question zxid result) kept talk lists sound at is left = record { before = talk.pending; left = left; room = sound.room; phase = refl; comes = at; short = sound.tied.short }
@@ -92,14 +78,14 @@ later-has (Notice event path) kept talk lists sound at is left = record { before
 later-has Pong kept talk lists sound at is left = record { before = talk.pending; left = left; room = sound.room; phase = refl; comes = at; short = sound.tied.short }
 later-has Skipped kept talk lists sound at is left = record { before = talk.pending; left = left; room = sound.room; phase = refl; comes = at; short = sound.tied.short }
 
-while-connected : (arrived : Arrived) (kept : Kept) (talk : Talk) (lists : Lists) (payload : List ℕ) → IsSound kept talk lists → kept.state ≡ Is_connected → arriving talk.phase talk.pending payload ≡ Ok arrived → Comes arrived kept talk lists
+while-connected : (arrived : Arrived) (kept : SessionView) (talk : Talk) (lists : Lists) (payload : List ℕ) → IsSound kept talk lists → kept.state ≡ Is_connected → arriving talk.phase talk.pending payload ≡ Ok arrived → Comes arrived kept talk lists
 while-connected arrived kept talk lists payload sound at e =
     let phase : talk.phase ≡ Talking = sound.tied.phase ∙ ap phase_of at in
     let is = of-later talk.pending payload arrived (ap (λ (p : Phase). arriving p talk.pending payload) (sym phase) ∙ e) in
     let left = leaves arrived talk.pending is in
     record { left = left; has = later-has arrived kept talk lists sound at is left }
 
-first-has : (response : Response) (kept : Kept) (talk : Talk) (lists : Lists) → IsSound kept talk lists → kept.state ≡ Connecting → talk.phase ≡ Opening → length (response_password response) ≤ LONGEST_PASSWORD → Comes (Connected response) kept talk lists
+first-has : (response : Response) (kept : SessionView) (talk : Talk) (lists : Lists) → IsSound kept talk lists → kept.state ≡ Connecting → talk.phase ≡ Opening → length (response_password response) ≤ LONGEST_PASSWORD → Comes (Connected response) kept talk lists
 first-has response kept talk lists sound at phase short =
     let quiet : length talk.pending ≡ 0 = sound.tied.quiet (λ e. let clash : Opening ≡ Talking = sym phase ∙ e in absurd cc) in
     record {
@@ -107,7 +93,7 @@ first-has response kept talk lists sound at phase short =
       has = record { before = talk.pending; left = refl; room = sound.room; phase = refl; comes = (at, quiet, short); short = sound.tied.short };
     }
 
-while-connecting : (arrived : Arrived) (kept : Kept) (talk : Talk) (lists : Lists) (payload : List ℕ) → IsSound kept talk lists → kept.state ≡ Connecting → IsBytes payload → length payload ≤ LONGEST_INCOMING
+while-connecting : (arrived : Arrived) (kept : SessionView) (talk : Talk) (lists : Lists) (payload : List ℕ) → IsSound kept talk lists → kept.state ≡ Connecting → IsBytes payload → length payload ≤ LONGEST_INCOMING
     → arriving talk.phase talk.pending payload ≡ Ok arrived → Comes arrived kept talk lists
 while-connecting arrived kept talk lists payload sound at are le e =
     let phase : talk.phase ≡ Opening = sound.tied.phase ∙ ap phase_of at in
@@ -124,19 +110,19 @@ open-state Idle up P a b = absurd cc
 open-state Expired up P a b = absurd cc
 open-state Is_closed up P a b = absurd cc
 
-pub comes : (arrived : Arrived) (kept : Kept) (talk : Talk) (lists : Lists) (payload : List ℕ) → IsSound kept talk lists → IsOpen kept.state → IsBytes payload → length payload ≤ LONGEST_INCOMING
+pub comes : (arrived : Arrived) (kept : SessionView) (talk : Talk) (lists : Lists) (payload : List ℕ) → IsSound kept talk lists → IsOpen kept.state → IsBytes payload → length payload ≤ LONGEST_INCOMING
     → arriving talk.phase talk.pending payload ≡ Ok arrived → Comes arrived kept talk lists
 comes arrived kept talk lists payload sound up are le e =
     open-state kept.state up (Comes arrived kept talk lists) (λ at. while-connecting arrived kept talk lists payload sound at are le e) (λ at. while-connected arrived kept talk lists payload sound at e)
 
 -- ---- what happens by it
 
-pub arrives : (held : List ℕ) (halted : Bool) (kept : Kept) (talk : Talk) (lists : Lists) (answers : Answers) (payload : List ℕ) (read : Result Arrived TalkFault) → IsSound kept talk lists
+pub arrives : (held : List ℕ) (halted : Bool) (kept : SessionView) (talk : Talk) (lists : Lists) (answers : Answers) (payload : List ℕ) (read : Result Arrived TalkFault) → IsSound kept talk lists
     → arriving talk.phase talk.pending payload ≡ read → arrival (shown held halted kept talk lists answers) payload ≡ happening_of kept.saved.last read
 arrives held halted kept talk lists answers payload read sound e =
     ap (λ (p : Phase). happening_of kept.saved.last (arriving p talk.pending payload)) (sym sound.tied.phase) ∙ ap (happening_of kept.saved.last) e
 
 -- the view before, by what is left
-pub before-it : (held : List ℕ) (halted : Bool) (kept : Kept) (talk mid : Talk) (lists : Lists) (answers : Answers) (arrived : Arrived) → mid ≡ talk_after arrived talk
+pub before-it : (held : List ℕ) (halted : Bool) (kept : SessionView) (talk mid : Talk) (lists : Lists) (answers : Answers) (arrived : Arrived) → mid ≡ talk_after arrived talk
     → while_pending talk.pending (shown held halted kept mid lists answers) ≡ shown held halted kept talk lists answers
 before-it held halted kept talk mid lists answers arrived e = ap (λ (t : Talk). while_pending talk.pending (shown held halted kept t lists answers)) e

@@ -3,7 +3,7 @@ use Rattle.std.proofs.Common.{◌≡◌, ℕ, ◌^◌, ◌<◌, Bool, true, fals
 use Rattle.std.specs.Prelude.{Option, Some, None, IfSome}
 use Rattle.zk_session.specs.declared.states.Due.{Due}
 use Rattle.zk_session.specs.declared.states.Due.TheVariants.{Nothing, Ping, Silent as Is_silent}
-use Rattle.zk_session.specs.Kept.{Kept}
+use Rattle.zk_session.specs.SessionView.{SessionView}
 use Rattle.zk_session.specs.Table as session
 use Rattle.zk_conversation.specs.Pending.{Talk}
 use Rattle.zk_watches.specs.Lists.{Lists}
@@ -22,7 +22,7 @@ something-happens Nothing due none = cc
 something-happens Ping due none = cc
 something-happens Is_silent due none = cc
 
-module _ (held : List ℕ) (kept : Kept) (talk : Talk) (lists : Lists) (answers : Answers) where
+module _ (held : List ℕ) (kept : SessionView) (talk : Talk) (lists : Lists) (answers : Answers) where
   abbrev due_then : (moment : ℕ) → Due
   due_then moment = session.due (session.next (session.Ticks moment) kept)
 

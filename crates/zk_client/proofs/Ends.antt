@@ -6,16 +6,16 @@ use Rattle.zk_session.specs.declared.states.State.{State}
 use Rattle.zk_session.specs.declared.states.State.TheVariants.{Idle, Connecting, Connected, Expired, Closed}
 use Rattle.zk_session.specs.declared.fields.Response.{Response}
 use Rattle.zk_session.specs.Fields.{event_of}
-use Rattle.zk_session.specs.Kept.{Kept, Saved, Moments}
+use Rattle.zk_session.specs.SessionView.{SessionView, Saved, Moments}
 use Rattle.zk_session.specs.Table as session
 use Rattle.zk_conversation.specs.Pending.{Talk, Pending, cut_off}
 use Rattle.zk_watches.specs.Lists.{Lists, no_lists}
 use Rattle.zk_cache.specs.Cache.{Answers, no_answers}
-use Rattle.zk_turns.specs.Kept.{Took, Expiry}
+use Rattle.zk_turns.specs.Past.{Took, Expiry}
 use Rattle.zk_turns.specs.Rule.{next}
 use Rattle.zk_turns.proofs.Happened.{view_ext}
 use Rattle.zk_client.specs.Seen.{shown, while_pending}
-use Rattle.zk_client.proofs.Kept.{nothing-kept}
+use Rattle.zk_client.proofs.CacheLemmas.{nothing-kept}
 
 pub none-there : {A : Type 0} → (xs : List A) → length xs ≡ 0 → xs ≡ []
 none-there [] e = refl
@@ -34,16 +34,16 @@ not-above (pos zero) le = refl
 not-above (pos (suc n)) le = absurd (omega (arith, ints))
 not-above (negsuc n) le = refl
 
-pub expired-session : (kept new : Kept) (response : Response) → kept.state ≡ Connecting → response.time_out ≤ℤ pos 0 → new ≡ session.next (event_of response) kept
+pub expired-session : (kept new : SessionView) (response : Response) → kept.state ≡ Connecting → response.time_out ≤ℤ pos 0 → new ≡ session.next (event_of response) kept
     → new ≡ record { state = Expired; saved = kept.saved; moments = kept.moments }
 expired-session kept new response at over e =
     e ∙ ap (λ b. session.next (if b then session.Welcomes (record { timeout = unsigned_abs response.time_out; session = response.session_id; password = response.password.now }) else session.Expires) kept) (not-above response.time_out over)
     ∙ expired-state kept.state kept.saved kept.moments at
 
-pub expired-view : (held : List ℕ) (halted : Bool) (kept : Kept) (talk : Talk) (lists : Lists) (answers : Answers) (pending : List Pending) (response : Response) (new : Kept) (cut : Talk) (gone : Lists) (nothing : Answers)
+pub expired-view : (held : List ℕ) (halted : Bool) (kept : SessionView) (talk : Talk) (lists : Lists) (answers : Answers) (pending : List Pending) (response : Response) (new : SessionView) (cut : Talk) (gone : Lists) (nothing : Answers)
     → kept.state ≡ Connecting → response.time_out ≤ℤ pos 0 → new ≡ session.next (event_of response) kept → cut ≡ cut_off talk → length talk.pending ≡ 0 → gone ≡ no_lists → nothing ≡ no_answers
     → shown [] halted new cut gone nothing ≡ next (while_pending pending (shown held halted kept talk lists answers)) (Took Expiry)
 expired-view held halted kept talk lists answers pending response new cut gone nothing at over e f quiet g h =
     let is = expired-session kept new response at over e in
-    view_ext _ _ (ap (λ (k : Kept). record { halted = halted; state = k.state }) is) (ap (λ (k : Kept). k.saved) is) (ap (λ (k : Kept). k.moments) is)
+    view_ext _ _ (ap (λ (k : SessionView). record { halted = halted; state = k.state }) is) (ap (λ (k : SessionView). k.saved) is) (ap (λ (k : SessionView). k.moments) is)
     (ap (λ (t : Talk). t.pending) f ∙ none-there talk.pending quiet) refl (ap (λ (t : Talk). t.xid) f) g (nothing-kept nothing h)

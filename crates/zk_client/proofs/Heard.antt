@@ -7,10 +7,9 @@ use Rattle.zk_frames.specs.Next.{AnswersNext}
 use Rattle.zk_frames.specs.declared.fault.FrameFault.TheVariants.{Negative, TooLong, Memory}
 use Rattle.zk_frames.specs.Stream.{StandsNext}
 use Rattle.zk_frames.specs.declared.fault.FrameFault.{FrameFault}
-use Rattle.zk_frames.specs.declared.reader.TheConstants.{LONGEST_INCOMING}
 use Rattle.zk_session.specs.declared.states.State.{State}
 use Rattle.zk_session.specs.declared.states.State.TheVariants.{Idle, Connecting, Connected, Expired, Closed}
-use Rattle.zk_session.specs.Kept.{Kept, Saved, Moments}
+use Rattle.zk_session.specs.SessionView.{SessionView, Saved, Moments}
 use Rattle.zk_session.specs.Table as session
 use Rattle.zk_conversation.specs.Questions.{Question, Exists, GetData, GetChildren, SetData, Create, Delete, Close}
 use Rattle.zk_conversation.specs.Results.{Result}
@@ -20,7 +19,7 @@ use Rattle.zk_client.specs.Seen.{shown}
 use Rattle.zk_watches.specs.Lists.{Lists}
 use Rattle.zk_watches.specs.Parts.{parts}
 use Rattle.zk_turns.specs.Turns.{Comes, Output, Framed}
-use Rattle.zk_turns.specs.Kept.{Happening, Dropped, Came, Message, Accepted, Expiry, Replies, Watches_set, Notifies, Pong, Skipped}
+use Rattle.zk_turns.specs.Past.{Happening, Dropped, Came, Message, Accepted, Expiry, Replies, Watches_set, Notifies, Pong, Skipped}
 use Rattle.zk_turns.specs.Taken.{Cutting, Unfinished, Bad, Payload, cut, of_cutting, happenings}
 use Rattle.zk_turns.specs.View.{View}
 use Rattle.zk_turns.specs.Rule.{if_any, IsOpen, Hears, heard, fed, next, says, arrival, after_all, says_all, after_signals, says_signals, next_message, next_reply}
@@ -28,6 +27,7 @@ use Rattle.std.proofs.lemmas.List.{map-append}
 use Rattle.zk_turns.proofs.Stepped.{after_append, says_append}
 use Rattle.zk_turns.proofs.Stream.{of_reading}
 use Rattle.zk_turns.proofs.Pieces.{unfinished_view, unfinished_says, frame_view, frame_says, bad_first_view, bad_first_says, byte_happens}
+use Rattle.zk_limits.specs.declared.limits.TheConstants.{LONGEST_INCOMING}
 
 -- something was heard at this moment
 abbrev pub IsHeard : View → Type 0
@@ -180,11 +180,11 @@ hears-state Idle saved moments up = absurd cc
 hears-state Expired saved moments up = absurd cc
 hears-state Closed saved moments up = absurd cc
 
-pub hears-session : (kept new : Kept) → IsOpen kept.state → new ≡ session.next session.Hears kept → new ≡ record { state = kept.state; saved = kept.saved; moments = record { now = kept.moments.now; heard = kept.moments.now; sent = kept.moments.sent } }
+pub hears-session : (kept new : SessionView) → IsOpen kept.state → new ≡ session.next session.Hears kept → new ≡ record { state = kept.state; saved = kept.saved; moments = record { now = kept.moments.now; heard = kept.moments.now; sent = kept.moments.sent } }
 hears-session kept new up e = e ∙ hears-state kept.state kept.saved kept.moments up
 
-module _ (bytes piece : List ℕ) (halted : Bool) (kept new : Kept) (talk : Talk) (lists : Lists) (answers : Answers) (up : IsOpen kept.state) (goes_on : halted ≡ false) (less : IsUnfinished bytes) (some : 0 < length piece) (e : new ≡ session.next session.Hears kept) where
-  after_it : Kept
+module _ (bytes piece : List ℕ) (halted : Bool) (kept new : SessionView) (talk : Talk) (lists : Lists) (answers : Answers) (up : IsOpen kept.state) (goes_on : halted ≡ false) (less : IsUnfinished bytes) (some : 0 < length piece) (e : new ≡ session.next session.Hears kept) where
+  after_it : SessionView
   after_it = record { state = kept.state; saved = kept.saved; moments = record { now = kept.moments.now; heard = kept.moments.now; sent = kept.moments.sent } }
 
   is-after : new ≡ after_it
@@ -194,13 +194,13 @@ module _ (bytes piece : List ℕ) (halted : Bool) (kept new : Kept) (talk : Talk
   pub whole-view : after_signals (shown [] halted new talk lists answers) (map Comes (bytes ++ piece)) ≡ after_signals (shown bytes halted kept talk lists answers) (map Comes piece)
   unfolding after_it
   whole-view =
-      ap (λ (k : Kept). after_signals (shown [] halted k talk lists answers) (map Comes (bytes ++ piece))) is-after
+      ap (λ (k : SessionView). after_signals (shown [] halted k talk lists answers) (map Comes (bytes ++ piece))) is-after
       ∙ again-view (heard (shown bytes halted kept talk lists answers)) piece (record { up = up; goes_on = goes_on }) refl less
       ∙ sym (heard-view (shown bytes halted kept talk lists answers) piece (record { up = up; goes_on = goes_on }) some)
 
   pub whole-says : says_signals (shown [] halted new talk lists answers) (map Comes (bytes ++ piece)) ≡ says_signals (shown bytes halted kept talk lists answers) (map Comes piece)
   unfolding after_it
   whole-says =
-      ap (λ (k : Kept). says_signals (shown [] halted k talk lists answers) (map Comes (bytes ++ piece))) is-after
+      ap (λ (k : SessionView). says_signals (shown [] halted k talk lists answers) (map Comes (bytes ++ piece))) is-after
       ∙ again-says (heard (shown bytes halted kept talk lists answers)) piece (record { up = up; goes_on = goes_on }) refl less
       ∙ sym (heard-says (shown bytes halted kept talk lists answers) piece (record { up = up; goes_on = goes_on }) some)

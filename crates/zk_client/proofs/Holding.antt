@@ -3,11 +3,11 @@ use Rattle.std.proofs.lemmas.Int.{ints}
 use Rattle.std.proofs.Common.{◌≡◌, refl, sym, ap, subst, ◌∙◌, arith, List, [], ◌∷◌, ◌++◌, Bool, true, Some, None}
 use Rattle.std.specs.Prelude.{Option, Result, Ok, Err, OnErr, ◌≤ℤ◌, ◌↔◌, map, ℤ}
 use Rattle.std.specs.Int.Signed.{≤ℤ_refl}
-use Rattle.zk_history.specs.declared.side.Side.TheVariants.{Data, Child}
+use Rattle.zk_nodes.specs.declared.side.Side.TheVariants.{Data, Child}
 use Rattle.zk_cache.specs.Kept.{is_marked_good}
 use Rattle.zk_turns.specs.Turns.{Start, Item, Turned, Halts, Turn, Input, Output}
 use Rattle.zk_turns.specs.View.{View, Cache}
-use Rattle.zk_turns.specs.Kept.{last_of, is_good}
+use Rattle.zk_turns.specs.Past.{last_of, is_good}
 use Rattle.zk_turns.specs.Taken.{past_of}
 use Rattle.zk_turns.specs.Rule.{Stands, HaltsAs}
 use Rattle.zk_turns.specs.Meaning.{IsLastSeen, IsGoodSince}

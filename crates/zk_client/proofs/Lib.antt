@@ -1,5 +1,5 @@
 pub mod Pendings
-pub mod Kept
+pub mod CacheLemmas
 pub mod Ends
 pub mod Rooms
 pub mod Asked

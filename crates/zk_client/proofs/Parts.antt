@@ -1,27 +1,27 @@
 -- The parts of setWatches, one after the other.
-use Rattle.std.proofs.Common.{◌≡◌, ℕ, ℤ, zero, nat_lt, suc, ◌+◌, ◌≤◌, ◌<◌, Bool, false, List, [], ◌∷◌, ◌++◌, map, take, length, eqb, get_or, Some, refl, ap, sym, subst, ◌∙◌, arith, length-append, add-one, All, flat_map}
+use Rattle.std.proofs.Common.{◌≡◌, ℕ, ℤ, zero, nat_lt, suc, ◌+◌, ◌≤◌, ◌<◌, Bool, false, List, [], ◌∷◌, ◌++◌, map, take, length, eqb, get_or, refl, ap, sym, subst, ◌∙◌, arith, add-one, All}
 use Rattle.std.proofs.Math.Dec.{eqb-suc-suc, eqb-zero-suc}
 use Rattle.std.proofs.lemmas.List.Sums.{sum_by-cons}
 use Rattle.std.proofs.lemmas.Bool.{lt-ltb}
 use Rattle.std.proofs.lemmas.List.{length-map, get_or-map, take_more, take_all}
 use Rattle.std.proofs.lemmas.List.Elements.{All-append, All-map, All-get_or}
-use Rattle.zk_history.specs.History.{Text}
-use Rattle.zk_jute.specs.Spelling.{int_bytes, long_bytes, counted_bytes, spelling}
-use Rattle.zk_jute.specs.Layout.{ustring}
+use Rattle.zk_nodes.specs.Path.{Text}
 use Rattle.zk_conversation.specs.Calls.{part_payload}
+use Rattle.zk_conversation.proofs.Lengths.{weights, length-part as spelt-part}
 use Rattle.zk_conversation.specs.Pending.{Pending, part_waits}
 use Rattle.zk_watches.specs.Lists.{Lists}
 use Rattle.zk_watches.specs.Parts.{Watch, OnData, OnExist, OnChild, path_of, watches_of, weight_of, total_of, parts}
 use Rattle.zk_watches.specs.Lists.{IsSound}
 use Rattle.zk_watches.specs.Lent.{lists_of}
 use Rattle.zk_watches.proofs.GreedyLemmas.{parts_are_full}
-use Rattle.zk_records.specs.declared.lent_watches.SetWatchesRef.{SetWatchesRef}
+use Rattle.zk_records.specs.declared.set_watches.SetWatchesRef.{SetWatchesRef}
 use Rattle.zk_conversation.specs.Views.{payload_of_part}
 use Rattle.zk_frames.specs.Frame.{frame}
 use Rattle.zk_turns.specs.Turns.{Output, Send}
 use Rattle.zk_turns.specs.Rule.{part_frame}
 use Rattle.zk_client.specs.Steps.{has_any}
-use Rattle.zk_turns.specs.Kept.{pending_for, parts_asked}
+use Rattle.zk_turns.specs.Past.{pending_for, parts_asked}
+use Rattle.zk_limits.specs.declared.limits.TheConstants.{LONGEST_OUTGOING, LONGEST_PATH, MOST_WEIGHT}
 
 pub one-more : (ps : List Lists) (at : ℕ) → at < length ps → take (suc at) (map pending_for (parts_asked ps)) ≡ take at (map pending_for (parts_asked ps)) ++ part_waits (eqb (suc at) (length ps)) ∷ []
 one-more [] at lt = absurd (omega arith)
@@ -39,30 +39,6 @@ all-asked (p ∷ q ∷ more) = ap suc (all-asked (q ∷ more))
 
 -- ---- lengths
 
-length-int : (z : ℤ) → length (int_bytes z) ≡ 4
-unfolding int_bytes
-length-int z = refl
-
-length-long : (z : ℤ) → length (long_bytes z) ≡ 8
-unfolding long_bytes
-length-long z = refl
-
-length-text : (text : Text) → length (spelling ustring (Some text)) ≡ 4 + length text
-unfolding counted_bytes int_bytes
-length-text text = omega arith
-
-abbrev weights : List Text → ℕ
-weights [] = 0
-weights (t ∷ ts) = (4 + length t) + weights ts
-
-length-texts : (texts : List Text) → length (flat_map (spelling ustring) (map Some texts)) ≡ weights texts
-length-texts [] = refl
-length-texts (t ∷ ts) = length-append (spelling ustring (Some t)) (flat_map (spelling ustring) (map Some ts)) ∙ ap (λ (n : ℕ). n + length (flat_map (spelling ustring) (map Some ts))) (length-text t) ∙ ap (λ (n : ℕ). (4 + length t) + n) (length-texts ts)
-
-length-vector : (texts : List Text) → length (counted_bytes (flat_map (spelling ustring)) (Some (map Some texts))) ≡ 4 + weights texts
-unfolding counted_bytes
-length-vector texts = length-append (int_bytes _) (flat_map (spelling ustring) (map Some texts)) ∙ ap (λ (n : ℕ). n + length (flat_map (spelling ustring) (map Some texts))) (length-int _) ∙ ap (λ (n : ℕ). 4 + n) (length-texts texts)
-
 total-data : (texts : List Text) (more : List Watch) → total_of (map OnData texts ++ more) ≡ weights texts + total_of more
 total-data [] more = omega arith
 total-data (t ∷ ts) more = let h = total-data ts more in let s = sum_by-cons weight_of (OnData t) (map OnData ts ++ more) in omega arith
@@ -79,26 +55,25 @@ total-is : (d e c : List Text) → total_of (watches_of (record { data_watches =
 total-is d e c = total-data d (map OnExist e ++ map OnChild c) ∙ ap (λ (n : ℕ). weights d + n) (total-exist e (map OnChild c) ∙ ap (λ (n : ℕ). weights e + n) (total-child c))
 
 pub length-part : (relative : ℤ) (d e c : List Text) → length (part_payload relative d e c) ≡ 28 + total_of (watches_of (record { data_watches = d; exist_watches = e; child_watches = c }))
-unfolding part_payload
-length-part relative d e c = rw (total-is d e c) (simp (length-append, length-int, length-long, length-vector) (omega arith))
+length-part relative d e c = spelt-part relative d e c ∙ ap (λ (n : ℕ). 28 + n) (sym (total-is d e c))
 
 -- ---- the parts of a registry, as they are lent
 
-watches-short : (lists : Lists) → IsSound lists → All (λ watch. length (path_of watch) ≤ 4096) (watches_of lists)
+watches-short : (lists : Lists) → IsSound lists → All (λ watch. length (path_of watch) ≤ LONGEST_PATH) (watches_of lists)
 watches-short lists sound =
-    let P : Watch → Type 0 = λ watch. length (path_of watch) ≤ 4096 in
+    let P : Watch → Type 0 = λ watch. length (path_of watch) ≤ LONGEST_PATH in
     All-append P (map OnData lists.data_watches) (map OnExist lists.exist_watches ++ map OnChild lists.child_watches) (All-map P OnData lists.data_watches sound.data_short)
     (All-append P (map OnExist lists.exist_watches) (map OnChild lists.child_watches) (All-map P OnExist lists.exist_watches sound.exist_short) (All-map P OnChild lists.child_watches sound.child_short))
 
 pub part-at : (items : List SetWatchesRef) (ps : List Lists) (at : ℕ) (item : SetWatchesRef) → map lists_of items ≡ ps → at < length items → item ≡ get_or items at item → get_or ps at (lists_of item) ≡ lists_of item
 part-at items ps at item same lt is = ap (λ (l : List Lists). get_or l at (lists_of item)) (sym same) ∙ get_or-map lists_of items at item (lists_of item) lt ∙ ap lists_of (sym is)
 
-pub part-small : (lists : Lists) (items : List SetWatchesRef) (at : ℕ) (item : SetWatchesRef) → IsSound lists → map lists_of items ≡ parts lists → at < length items → item ≡ get_or items at item → length (payload_of_part item) ≤ 1048575
+pub part-small : (lists : Lists) (items : List SetWatchesRef) (at : ℕ) (item : SetWatchesRef) → IsSound lists → map lists_of items ≡ parts lists → at < length items → item ≡ get_or items at item → length (payload_of_part item) ≤ LONGEST_OUTGOING
 part-small lists items at item sound same lt is =
     let full = parts_are_full lists (watches-short lists sound) in
     let within : at < length (parts lists) = subst (λ (n : ℕ). at < n) (sym (length-map items lists_of) ∙ ap length same) lt in
-    let light : total_of (watches_of (get_or (parts lists) at (lists_of item))) ≤ 131072 = All-get_or (λ part. total_of (watches_of part) ≤ 131072) (parts lists) at (lists_of item) within full.within in
-    let here : total_of (watches_of (lists_of item)) ≤ 131072 = subst (λ (part : Lists). total_of (watches_of part) ≤ 131072) (part-at items (parts lists) at item same lt is) light in
+    let light : total_of (watches_of (get_or (parts lists) at (lists_of item))) ≤ MOST_WEIGHT = All-get_or (λ part. total_of (watches_of part) ≤ MOST_WEIGHT) (parts lists) at (lists_of item) within full.within in
+    let here : total_of (watches_of (lists_of item)) ≤ MOST_WEIGHT = subst (λ (part : Lists). total_of (watches_of part) ≤ MOST_WEIGHT) (part-at items (parts lists) at item same lt is) light in
     let long = length-part item.relative_zxid (map (λ s. s.now) item.data_watches.now) (map (λ s. s.now) item.exist_watches.now) (map (λ s. s.now) item.child_watches.now) in
     omega arith
 

@@ -12,10 +12,10 @@ use Rattle.zk_jute.specs.Layout.{Value}
 use Rattle.zk_jute.specs.Reading.{reading}
 use Rattle.zk_jute.specs.Spelling.{IsBytes, Fits, spelling, long_bytes, int_bytes, counted_bytes}
 use Rattle.zk_jute.specs.declared.fault.TakeError.{TakeError}
-use Rattle.zk_session.specs.declared.fields.TheConstants.{LONGEST_PASSWORD}
 use Rattle.zk_client.specs.declared.saved_fault.SavedFault.{SavedFault}
 use Rattle.zk_client.specs.declared.saved_fault.SavedFault.TheVariants.{Memory}
 use Rattle.zk_client.specs.SavedSessions.{PutAway, IsInRange, CanBePutAway, Gives, bytes_read, fields_of, put_away, record_read, saved_bytes, saved_layout, saved_text}
+use Rattle.zk_limits.specs.declared.limits.TheConstants.{LONGEST_PASSWORD}
 
 -- ---- bytes
 

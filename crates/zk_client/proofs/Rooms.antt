@@ -1,22 +1,22 @@
 -- The paths that are watched and those that are to be stay within the most.
 use Rattle.std.proofs.Common.{◌≡◌, ℕ, suc, ◌+◌, ◌≤◌, Bool, true, false, List, [], ◌∷◌, ◌++◌, length, Option, Some, None, refl, ap, sym, ◌∙◌, cond, not, arith, length-append}
 use Rattle.std.specs.Prelude.{bytes_eq}
-use Rattle.zk_history.specs.declared.side.Side.TheVariants.{Data, Child}
+use Rattle.zk_nodes.specs.declared.side.Side.TheVariants.{Data, Child}
 use Rattle.zk_records.specs.declared.event.Event.{Event}
 use Rattle.zk_records.specs.Events.{concerns}
 use Rattle.zk_session.specs.declared.states.State.TheVariants.{Connected}
-use Rattle.zk_session.specs.Kept.{Kept}
+use Rattle.zk_session.specs.SessionView.{SessionView}
 use Rattle.zk_conversation.specs.declared.phase.Phase.TheVariants.{Talking}
-use Rattle.zk_conversation.specs.declared.conversation.TheConstants.{LONGEST_PASSWORD}
 use Rattle.zk_conversation.specs.Pending.{Talk, Pending, Call_waits, watches_pending}
 use Rattle.zk_conversation.specs.Questions.{Question, Exists, GetData, GetChildren, SetData, Create, Delete, Close, watched_side}
 use Rattle.zk_conversation.specs.Results.{Result}
 use Rattle.zk_watches.specs.Lists.{Lists, has, with_path, without, count_of, registered, fired}
 use Rattle.zk_cache.specs.Kept.{Names, Answer}
-use Rattle.zk_turns.specs.Kept.{Left, leaves_data, leaves_child}
+use Rattle.zk_turns.specs.Past.{Left, leaves_data, leaves_child}
 use Rattle.zk_turns.specs.Taken.{phase_of}
 use Rattle.zk_turns.specs.Rule.{with_node, with_children, after_reply, says_there}
 use Rattle.zk_client.specs.Sound.{HasRoom, IsTied, HasRoomFor}
+use Rattle.zk_limits.specs.declared.limits.TheConstants.{LONGEST_PASSWORD}
 
 -- ---- lists
 
@@ -128,5 +128,5 @@ room-for xid ticket Close lists rest room side e = absurd cc
 
 -- ---- where a client talks
 
-pub tied-talking : (kept : Kept) (talk : Talk) → talk.phase ≡ Talking → kept.state ≡ Connected → length kept.saved.session.password ≤ LONGEST_PASSWORD → IsTied kept talk
+pub tied-talking : (kept : SessionView) (talk : Talk) → talk.phase ≡ Talking → kept.state ≡ Connected → length kept.saved.session.password ≤ LONGEST_PASSWORD → IsTied kept talk
 tied-talking kept talk phase state short = record { phase = phase ∙ ap phase_of (sym state); quiet = λ n. absurd (n phase); short = short }

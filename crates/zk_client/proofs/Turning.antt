@@ -6,14 +6,14 @@ use Rattle.zk_session.specs.declared.states.State.{State}
 use Rattle.zk_session.specs.declared.states.State.TheVariants.{Idle, Connecting, Connected, Expired, Closed}
 use Rattle.zk_session.specs.declared.states.Due.{Due}
 use Rattle.zk_session.specs.declared.states.Due.TheVariants.{Nothing, Ping, Silent as Is_silent}
-use Rattle.zk_session.specs.Kept.{Kept, Saved, Moments}
+use Rattle.zk_session.specs.SessionView.{SessionView, Saved, Moments}
 use Rattle.zk_session.specs.Table as session
 use Rattle.zk_conversation.specs.Pending.{Talk}
 use Rattle.zk_watches.specs.Lists.{Lists}
 use Rattle.zk_cache.specs.Cache.{Answers}
 use Rattle.zk_client.specs.Seen.{shown}
 use Rattle.zk_turns.specs.Turns.{Output, Silent}
-use Rattle.zk_turns.specs.Kept.{Happening, Dropped, Pinged, Ticked}
+use Rattle.zk_turns.specs.Past.{Happening, Dropped, Pinged, Ticked}
 use Rattle.zk_turns.specs.Taken.{if_open, opens, due}
 use Rattle.zk_turns.specs.View.{View}
 use Rattle.zk_turns.specs.Rule.{IsOpen, next, says, after_all, says_all}
@@ -76,16 +76,16 @@ due-in held halted Idle saved moments talk lists answers moment = refl
 due-in held halted Expired saved moments talk lists answers moment = refl
 due-in held halted Closed saved moments talk lists answers moment = refl
 
-pub due-is : (held : List ℕ) (halted : Bool) (kept new : Kept) (talk : Talk) (lists : Lists) (answers : Answers) (moment : ℕ) (result what : Due)
+pub due-is : (held : List ℕ) (halted : Bool) (kept new : SessionView) (talk : Talk) (lists : Lists) (answers : Answers) (moment : ℕ) (result what : Due)
     → new ≡ session.next (session.Ticks moment) kept → result ≡ session.due new → result ≡ what
     → Ticked moment ∷ if_open kept.state (due (shown held halted kept talk lists answers) (max moment kept.moments.now)) ≡ Ticked moment ∷ happens what
 due-is held halted kept new talk lists answers moment result what e f g =
     ap (λ (l : List Happening). Ticked moment ∷ l)
     (due-in held halted kept.state kept.saved kept.moments talk lists answers moment ∙ ap happens (ap session.due (sym e) ∙ sym f ∙ g))
 
-pub ticked-view : (held : List ℕ) (halted : Bool) (kept new : Kept) (talk : Talk) (lists : Lists) (answers : Answers) (moment : ℕ) → new ≡ session.next (session.Ticks moment) kept
+pub ticked-view : (held : List ℕ) (halted : Bool) (kept new : SessionView) (talk : Talk) (lists : Lists) (answers : Answers) (moment : ℕ) → new ≡ session.next (session.Ticks moment) kept
     → shown held halted new talk lists answers ≡ next (shown held halted kept talk lists answers) (Ticked moment)
-ticked-view held halted kept new talk lists answers moment e = ap (λ (k : Kept). shown held halted k talk lists answers) e
+ticked-view held halted kept new talk lists answers moment e = ap (λ (k : SessionView). shown held halted k talk lists answers) e
 
 -- ---- where a connection is open
 

@@ -1,8 +1,7 @@
 -- A whole client: where it begins, and what a halt leaves.
 use Rattle.std.proofs.Common.{◌≡◌, ℕ, ◌≤◌, Bool, true, false, List, [], length, refl, ap, ◌∙◌, arith}
 use Rattle.zk_frames.specs.Held.{Held, reading}
-use Rattle.zk_session.specs.Kept.{Kept, Saved, start as kept_start}
-use Rattle.zk_conversation.specs.declared.conversation.TheConstants.{LONGEST_PASSWORD}
+use Rattle.zk_session.specs.SessionView.{SessionView, Saved, start as kept_start}
 use Rattle.zk_conversation.specs.Pending.{Talk, new_talk}
 use Rattle.zk_watches.specs.Lists.{Lists, no_lists}
 use Rattle.zk_cache.specs.Cache.{Answers, no_answers}
@@ -12,20 +11,21 @@ use Rattle.zk_turns.specs.Rule.{HaltsAs}
 use Rattle.zk_turns.proofs.Happened.{view_ext}
 use Rattle.zk_client.specs.Seen.{shown, origin_of}
 use Rattle.zk_client.specs.Sound.{IsSound, IsReading}
-use Rattle.zk_client.proofs.Kept.{nothing-kept}
+use Rattle.zk_client.proofs.CacheLemmas.{nothing-kept}
 use Rattle.zk_client.proofs.Heard.{nothing-held}
+use Rattle.zk_limits.specs.declared.limits.TheConstants.{LONGEST_PASSWORD}
 
-abbrev pub beginning : Start → Kept
+abbrev pub beginning : Start → SessionView
 beginning start = kept_start start.timeout start.session start.password start.last
 
-pub begins-view : (start : Start) (kept : Kept) (talk : Talk) (lists : Lists) (answers : Answers) (held : Held) → kept ≡ beginning start → talk ≡ new_talk → lists ≡ no_lists → answers ≡ no_answers → held ≡ reading []
+pub begins-view : (start : Start) (kept : SessionView) (talk : Talk) (lists : Lists) (answers : Answers) (held : Held) → kept ≡ beginning start → talk ≡ new_talk → lists ≡ no_lists → answers ≡ no_answers → held ≡ reading []
     → shown held.bytes false kept talk lists answers ≡ view_at start []
 begins-view start kept talk lists answers held e f g h i =
     view_ext (shown held.bytes false kept talk lists answers) (view_at start [])
-    (ap (λ (k : Kept). let s : Standing = record { halted = false; state = k.state } in s) e) (ap (λ (k : Kept). k.saved) e) (ap (λ (k : Kept). k.moments) e)
+    (ap (λ (k : SessionView). let s : Standing = record { halted = false; state = k.state } in s) e) (ap (λ (k : SessionView). k.saved) e) (ap (λ (k : SessionView). k.moments) e)
     (ap (λ (t : Talk). t.pending) f) (ap (λ (r : Held). r.bytes) i) (ap (λ (t : Talk). t.xid) f) g (nothing-kept answers h)
 
-pub begins-sound : (start : Start) (kept : Kept) (talk : Talk) (lists : Lists) → length start.password ≤ LONGEST_PASSWORD → kept ≡ beginning start → talk ≡ new_talk → lists ≡ no_lists → IsSound kept talk lists
+pub begins-sound : (start : Start) (kept : SessionView) (talk : Talk) (lists : Lists) → length start.password ≤ LONGEST_PASSWORD → kept ≡ beginning start → talk ≡ new_talk → lists ≡ no_lists → IsSound kept talk lists
 begins-sound start kept talk lists short e f g = rw (e, f, g) (record {
   tied = record { phase = refl; quiet = λ n. refl; short = short };
   room = record { on_data = omega arith; on_child = omega arith };
@@ -37,7 +37,7 @@ begins-reading held e = rw e (record { clean = refl; less = nothing-held })
 saved-ext : (a b : Saved) → origin_of a ≡ origin_of b → a.last ≡ b.last → a ≡ b
 saved-ext a b e f = λ i. record { asked = (e i).asked; session = (e i).session; last = f i }
 
-pub halts : (held then_held : List ℕ) (halted then_halted : Bool) (kept new : Kept) (talk then_talk : Talk) (lists gone : Lists) (answers nothing : Answers)
+pub halts : (held then_held : List ℕ) (halted then_halted : Bool) (kept new : SessionView) (talk then_talk : Talk) (lists gone : Lists) (answers nothing : Answers)
     → then_halted ≡ true → new.state ≡ kept.state → new.saved.last ≡ kept.saved.last → origin_of new.saved ≡ origin_of kept.saved → gone ≡ no_lists → nothing ≡ no_answers
     → HaltsAs (shown held halted kept talk lists answers) (shown then_held then_halted new then_talk gone nothing)
 halts held then_held halted then_halted kept new talk then_talk lists gone answers nothing h state last origin e f = record {

@@ -1,6 +1,6 @@
 -- What a client shows.
 use Rattle.std.specs.Prelude.{◌≡◌, ℤ, unsigned_abs}
-use Rattle.zk_session.specs.Kept.{Saved as Kept_saved}
+use Rattle.zk_session.specs.SessionView.{Saved as Kept_saved}
 use Rattle.zk_session.specs.declared.fields.Saved.{Saved}
 use Rattle.zk_turns.specs.Turns.{Start}
 use Rattle.zk_turns.specs.View.{View}

@@ -3,6 +3,7 @@ pub mod FaultText
 pub mod Seen
 pub mod Sound
 pub mod Steps
+pub mod Left
 pub mod Clients
 pub mod Outsides
 pub mod Runs
@@ -13,6 +14,6 @@ pub use Rattle.zk_turns.specs.Turns
 pub use Rattle.zk_turns.specs.View
 pub use Rattle.zk_turns.specs.Rule
 pub use Rattle.zk_turns.specs.Ranges
-pub use Rattle.zk_history.specs.History
+pub use Rattle.zk_nodes.specs.History
 pub use Rattle.zk_laws.specs.Headline
 pub use Rattle.zk_laws.specs.Served

@@ -1,11 +1,12 @@
 -- What holds of a client after a run.
 use Rattle.std.specs.Prelude.{◌≡◌, ◌≤ℤ◌, ◌↔◌, List, [], ◌∷◌, ◌++◌, map, Option, None, true}
-use Rattle.zk_history.specs.History.{Text, History, IsHistory}
-use Rattle.zk_history.specs.declared.side.Side.TheVariants.{Data, Child}
+use Rattle.zk_nodes.specs.Path.{Text}
+use Rattle.zk_nodes.specs.History.{History, IsHistory}
+use Rattle.zk_nodes.specs.declared.side.Side.TheVariants.{Data, Child}
 use Rattle.zk_cache.specs.Kept.{is_marked_good}
 use Rattle.zk_turns.specs.Turns.{Start, Input, Item, Turned, Halts, Turn}
 use Rattle.zk_turns.specs.View.{View}
-use Rattle.zk_turns.specs.Kept.{is_over}
+use Rattle.zk_turns.specs.Past.{is_over}
 use Rattle.zk_turns.specs.Taken.{past_of}
 use Rattle.zk_turns.specs.Rule.{Stands}
 use Rattle.zk_turns.specs.Sent.{outputs_of}

@@ -10,9 +10,9 @@ use Rattle.zk_jute.specs.Layout.{Layout, long, buffer, ◌⨾◌, Value}
 use Rattle.zk_jute.specs.Reading.{reading}
 use Rattle.zk_jute.specs.Spelling.{IsBytes, spelling}
 use Rattle.zk_jute.specs.declared.fault.TakeError.{TakeError}
-use Rattle.zk_session.specs.declared.fields.TheConstants.{LONGEST_PASSWORD}
 use Rattle.zk_client.specs.declared.saved_fault.SavedFault.{SavedFault}
 use Rattle.zk_client.specs.declared.saved_fault.SavedFault.TheVariants.{NotHex, OddDigits, Unread, BytesBehind, NoPassword, LongPassword, NegativeZxid, Memory}
+use Rattle.zk_limits.specs.declared.limits.TheConstants.{LONGEST_PASSWORD}
 
 -- what is put away: the session's id, its password, and the last seen zxid
 pub record PutAway : Type 0 where

@@ -1,6 +1,6 @@
 -- What a client shows of itself, by what it is made of.
 use Rattle.std.specs.Prelude.{ℕ, Bool, List, Option, Some, None}
-use Rattle.zk_session.specs.Kept.{Kept, Saved, Welcome}
+use Rattle.zk_session.specs.SessionView.{SessionView, Saved, Welcome}
 use Rattle.zk_conversation.specs.Pending.{Talk, Pending}
 use Rattle.zk_watches.specs.Lists.{Lists}
 use Rattle.zk_cache.specs.Cache.{Answers, data_kept, names_kept}
@@ -12,7 +12,7 @@ abbrev pub cache_of : Answers → Cache
 cache_of answers = record { nodes = λ path. data_kept answers path; children = λ path. names_kept answers path }
 
 -- the view, by the layers and the bytes that are held
-abbrev pub shown : (held : List ℕ) (halted : Bool) → Kept → Talk → Lists → Answers → View
+abbrev pub shown : (held : List ℕ) (halted : Bool) → SessionView → Talk → Lists → Answers → View
 shown held halted kept talk lists answers = record {
   standing = record { halted = halted; state = kept.state };
   saved = kept.saved;
@@ -33,7 +33,7 @@ while_pending pending view = record view { pending = pending }
 
 -- the session as it stood when the step began, but for its state and last seen zxid: it is put by where a step has another one
 -- accepted
-abbrev pub saved_by : Option Kept → Kept → Saved
+abbrev pub saved_by : Option SessionView → SessionView → Saved
 saved_by (Some earlier) kept = earlier.saved
 saved_by None kept = kept.saved
 

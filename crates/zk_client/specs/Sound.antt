@@ -1,13 +1,12 @@
 -- What is true of a client that has not halted.
 use Rattle.std.specs.Prelude.{◌≡◌, ◌≢◌, ◌+◌, ◌≤◌, ◌<◌, Option, Some, List, ◌∷◌, length, None}
-use Rattle.zk_history.specs.declared.side.Side.{Side}
-use Rattle.zk_history.specs.declared.side.Side.TheVariants.{Data, Child}
+use Rattle.zk_nodes.specs.declared.side.Side.{Side}
+use Rattle.zk_nodes.specs.declared.side.Side.TheVariants.{Data, Child}
 use Rattle.zk_session.specs.declared.states.State.{State}
 use Rattle.zk_session.specs.declared.states.State.TheVariants.{Connecting, Connected as Is_connected}
 use Rattle.zk_conversation.specs.Results.{response_password}
-use Rattle.zk_session.specs.Kept.{Kept}
+use Rattle.zk_session.specs.SessionView.{SessionView}
 use Rattle.zk_conversation.specs.declared.phase.Phase.TheVariants.{Talking}
-use Rattle.zk_conversation.specs.declared.conversation.TheConstants.{LONGEST_PASSWORD}
 use Rattle.zk_conversation.specs.Pending.{Talk, Pending, Part_waits, Call_waits, watches_pending}
 use Rattle.zk_conversation.specs.Arriving.{Arrived, Connected, Replied, Watches_set}
 use Rattle.zk_frames.specs.Frame.{IsUnfinished}
@@ -15,19 +14,20 @@ use Rattle.zk_frames.specs.Held.{Held}
 use Rattle.zk_watches.specs.Lists.{Lists, count_of}
 use Rattle.zk_turns.specs.Taken.{phase_of}
 use Rattle.zk_client.specs.declared.machine.Core.{Core}
+use Rattle.zk_limits.specs.declared.limits.TheConstants.{LONGEST_PASSWORD, MOST_PATHS}
 
 -- the paths of each side and the pending reads that are to leave a watch there are within the most
 pub record HasRoom (lists : Lists) (pending : List Pending) : Type 0 where
-  pub on_data : count_of lists Data + watches_pending Data pending ≤ 65536
-  pub on_child : count_of lists Child + watches_pending Child pending ≤ 65536
+  pub on_data : count_of lists Data + watches_pending Data pending ≤ MOST_PATHS
+  pub on_child : count_of lists Child + watches_pending Child pending ≤ MOST_PATHS
 
 -- The connection is where the state says. Where nobody talks nothing is pending. The password is short enough to be sent back.
-pub record IsTied (kept : Kept) (talk : Talk) : Type 0 where
+pub record IsTied (kept : SessionView) (talk : Talk) : Type 0 where
   pub phase : talk.phase ≡ phase_of kept.state
   pub quiet : talk.phase ≢ Talking → length talk.pending ≡ 0
   pub short : length kept.saved.session.password ≤ LONGEST_PASSWORD
 
-pub record IsSound (kept : Kept) (talk : Talk) (lists : Lists) : Type 0 where
+pub record IsSound (kept : SessionView) (talk : Talk) (lists : Lists) : Type 0 where
   pub tied : IsTied kept talk
   pub room : HasRoom lists talk.pending
 
@@ -48,7 +48,7 @@ IsLeft _ pending rest = pending ≡ rest
 
 -- there is room for one more path on the side
 abbrev pub HasRoomFor : Option Side → Lists → Type 0
-HasRoomFor side lists = (other : Side) → side ≡ Some other → count_of lists other < 65536
+HasRoomFor side lists = (other : Side) → side ≡ Some other → count_of lists other < MOST_PATHS
 
 -- where what arrives finds the session: only while it is Connecting it is the first message
 abbrev pub ComesTo : Arrived → State → List Pending → Type 0
@@ -56,7 +56,7 @@ ComesTo (Connected response) state pending = (state ≡ Connecting) × (length p
 ComesTo _ state pending = state ≡ Is_connected
 
 -- A payload was read, and what arrived has its effect yet.
-pub record HasArrived (arrived : Arrived) (kept : Kept) (talk : Talk) (lists : Lists) : Type 0 where
+pub record HasArrived (arrived : Arrived) (kept : SessionView) (talk : Talk) (lists : Lists) : Type 0 where
   pub before : List Pending
   pub left : IsLeft arrived before talk.pending
   pub room : HasRoom lists before

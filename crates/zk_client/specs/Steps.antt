@@ -1,32 +1,29 @@
 -- Parts of one step.
-use Rattle.std.specs.Prelude.{◌≡◌, ℕ, Bool, negsuc, ◌+◌, ◌<◌, pos, nat_lt, List, [], ◌∷◌, ◌++◌, length, Option, Some, None, unsigned_abs, true, false, if◌then◌else◌}
+use Rattle.std.specs.Prelude.{◌≡◌, ℕ, Bool, negsuc, ◌+◌, ◌<◌, ◌≤◌, pos, List, [], ◌∷◌, ◌++◌, length, Option, Some, None, unsigned_abs, true, false}
 use Rattle.std.specs.Ordering.{int_eq}
-use Rattle.zk_history.specs.declared.side.Side.{Side}
+use Rattle.zk_nodes.specs.declared.side.Side.{Side}
 use Rattle.zk_records.specs.declared.code.Code.{Code}
 use Rattle.zk_records.specs.Codes.{code_number}
-use Rattle.zk_frames.specs.declared.put.TheConstants.{LONGEST_OUTGOING}
 use Rattle.zk_conversation.specs.Calls.{Call, call_payload}
 use Rattle.zk_conversation.specs.Questions.{Close, Question, question_of, watched_side}
 use Rattle.zk_conversation.specs.Pending.{calls_pending, watches_pending}
 use Rattle.zk_session.specs.declared.states.State.TheVariants.{Closed, Connected}
 use Rattle.zk_watches.specs.Lists.{count_of}
-use Rattle.zk_turns.specs.Turns.{Enters, Output, Outcome, TooLarge, Input, Opened, Bytes, Cut, Now, Call as Asks, Ticks}
-use Rattle.zk_turns.specs.Kept.{Denied, Asked, Happening, is_final}
+use Rattle.zk_turns.specs.Turns.{Enters, Output, Outcome, Input, Opened, Bytes, Cut, Now, Call as Asks, Ticks}
+use Rattle.zk_turns.specs.Past.{Denied, Asked, Happening, is_final}
 use Rattle.zk_turns.specs.Taken.{NothingIsDue}
 use Rattle.zk_turns.specs.Rule.{IsOpen, Rule, after_signals}
-use Rattle.zk_session.specs.Kept.{Welcome}
+use Rattle.zk_session.specs.SessionView.{Welcome}
 use Rattle.zk_session.specs.declared.fields.Response.{Response}
 use Rattle.zk_turns.specs.View.{View}
+use Rattle.zk_limits.specs.declared.limits.TheConstants.{LONGEST_OUTGOING, MOST_PATHS, MOST_PENDING}
 
--- why a call is refused that nothing else keeps from being sent
-abbrev pub refusal_by_length : (xid : ℕ) → Call → Option Outcome
-refusal_by_length xid call = if nat_lt LONGEST_OUTGOING (length (call_payload (pos xid) call)) then Some TooLarge else None
-
--- nothing but its length keeps a call from being sent
+-- nothing keeps a call from being sent
 pub record IsSendable (view : View) (call : Call) : Type 0 where
   pub talks : view.standing.state ≡ Connected
-  pub few : calls_pending view.pending < 1024
-  pub room : (side : Side) → watched_side (question_of call) ≡ Some side → count_of view.lists side + watches_pending side view.pending < 65536
+  pub few : calls_pending view.pending < MOST_PENDING
+  pub room : (side : Side) → watched_side (question_of call) ≡ Some side → count_of view.lists side + watches_pending side view.pending < MOST_PATHS
+  pub fits : length (call_payload (pos view.xid) call) ≤ LONGEST_OUTGOING
 
 abbrev pub is_no_node : Code → Bool
 is_no_node code = int_eq (code_number code) (negsuc 100)

@@ -2,27 +2,27 @@
 
 ghost use Rattle.std.specs.Prelude.{◌≡◌, ◌≢◌, ◌≤◌, ℕ, ℤ, List, [], ◌∷◌, ◌++◌, map, OnOk, OnErr, IfOk, length, true, false, if◌then◌else◌, ◌≤ℤ◌, ◌<ℤ◌, pos, ◌&&◌, bytes_eq};
 ghost use Rattle.zk_frames.specs.Frame.{frame};
-ghost use Rattle.zk_frames.specs.declared.put.TheConstants.{LONGEST_OUTGOING};
-ghost use Rattle.zk_frames.specs.declared.reader.TheConstants.{LONGEST_INCOMING};
+ghost use Rattle.zk_limits.specs.declared.limits.TheConstants.{LONGEST_OUTGOING};
+ghost use Rattle.zk_limits.specs.declared.limits.TheConstants.{LONGEST_INCOMING};
 ghost use Rattle.zk_records.specs.Views.{lent_response_of};
 ghost use Rattle.zk_conversation.specs.declared.phase.Phase.TheVariants.{Talking};
 ghost use Rattle.zk_conversation.specs.Arriving.{Arrived, Connected as Welcomed, Watches_set as Part_set, Notice};
 ghost use Rattle.zk_conversation.specs.Pending.{Pending, talk_watching};
 ghost use Rattle.zk_conversation.specs.Views.{arrival_view, payload_of_part};
-ghost use Rattle.zk_history.specs.History.{Text};
-ghost use Rattle.zk_history.specs.declared.side.Side.TheVariants.{Data, Child};
+ghost use Rattle.zk_nodes.specs.Path.{Text};
+ghost use Rattle.zk_nodes.specs.declared.side.Side.TheVariants.{Data, Child};
 ghost use Rattle.zk_records.specs.Events.{concerns};
-ghost use Rattle.zk_conversation.specs.declared.conversation.TheConstants.{LONGEST_PASSWORD};
+ghost use Rattle.zk_limits.specs.declared.limits.TheConstants.{LONGEST_PASSWORD};
 ghost use Rattle.zk_cache.specs.Cache.{data_kept, names_kept, with_stale};
 ghost use Rattle.zk_cache.specs.Kept.{stale};
 ghost use Rattle.zk_session.specs.declared.states.State.TheVariants.{Connecting};
 ghost use Rattle.zk_watches.specs.Parts.{parts};
-ghost use Rattle.zk_turns.specs.Kept.{Took, Accepted, Expiry, pending_for, parts_asked};
+ghost use Rattle.zk_turns.specs.Past.{Took, Accepted, Expiry, pending_for, parts_asked};
 ghost use Rattle.zk_turns.specs.Taken.{taken_of};
 ghost use Rattle.zk_turns.specs.Turns.{Report, Enters, Send};
 ghost use Rattle.zk_turns.specs.Rule.{IsOpen, next, says, arrival, part_frame};
 ghost use Rattle.zk_client.specs.Views.{said};
-ghost use Rattle.zk_session.specs.Kept.{Kept};
+ghost use Rattle.zk_session.specs.SessionView.{SessionView};
 ghost use Rattle.zk_session.specs.Table as sessions;
 ghost use Rattle.zk_client.specs.Seen.{view_with, while_pending, origin, saved_by};
 ghost use Rattle.zk_client.specs.Sound.{CoreIsSound, CoreHasArrived, HasRoom, IsLeft};
@@ -239,7 +239,7 @@ fn put_by<A: Allocator + Copy>(
     session: &Session<A>,
     earlier: &mut Option<Session<A>>,
 ) -> Result<(), AllocError>
-    ensures ok { OnOk result ((kept : Kept) → saved_by earlier.new kept ≡ saved_by earlier.old session.now) }
+    ensures ok { OnOk result ((kept : SessionView) → saved_by earlier.new kept ≡ saved_by earlier.old session.now) }
     ensures err { OnErr result (earlier.new ≡ earlier.old) }
 {
     if earlier.is_none() {

@@ -1,8 +1,8 @@
 //! A call of a caller.
 
-ghost use Rattle.std.specs.Prelude.{◌≡◌, ◌<◌, ◌≤◌, ◌+◌, ℕ, List, [], ◌∷◌, ◌++◌, OnOk, MatchOption, Option, Some, pos, length, FitsSigned};
+ghost use Rattle.std.specs.Prelude.{◌≡◌, ◌<◌, ◌≤◌, ◌+◌, ℕ, List, [], ◌∷◌, ◌++◌, OnOk, MatchOption, Option, Some, None, pos, length, FitsSigned};
 ghost use Rattle.std.specs.Int.{w32};
-ghost use Rattle.zk_history.specs.declared.side.Side.{Side as A_side};
+ghost use Rattle.zk_nodes.specs.declared.side.Side.{Side as A_side};
 ghost use Rattle.zk_conversation.specs.Calls.{call_payload};
 ghost use Rattle.zk_conversation.specs.Pending.{calls_pending, watches_pending};
 ghost use Rattle.zk_conversation.specs.Questions.{question_of, watched_side};
@@ -16,17 +16,15 @@ ghost use Rattle.zk_turns.specs.Rule.{after_all, says_all};
 ghost use Rattle.zk_client.specs.Views.{said, outcome_view};
 ghost use Rattle.zk_client.specs.Seen.{view_with, origin};
 ghost use Rattle.zk_client.specs.Sound.{CoreIsSound};
-ghost use Rattle.zk_client.specs.Steps.{refusal_by_length, IsSendable, calls};
+ghost use Rattle.zk_client.specs.Steps.{IsSendable, calls};
 
 use crate::machine::{Core, say};
 use crate::output::{Outcome, Output};
 use std::alloc::{AllocError, Allocator};
-use zk_conversation::{AskFault, Call, MOST_PENDING};
+use zk_conversation::Call;
+use zk_limits::{LONGEST_OUTGOING, MOST_PATHS, MOST_PENDING};
 use zk_records::Side;
 use zk_session::State;
-
-// The most paths of a side, pending reads counted.
-const MOST_PATHS: usize = 65_536;
 
 /// The side on which a call is to leave a watch.
 fn side_of<A: Allocator + Copy>(call: &Call<A>) -> Option<Side>
@@ -82,10 +80,10 @@ impl<A: Allocator + Copy> Core<A> {
         }
     }
 
-    /// Why a call is not sent, unless it is too long: the first that applies.
+    /// Why a call is not sent: the first that applies.
     fn refusal(&self, call: &Call<A>) -> Option<Outcome<A>>
         ensures { (held : List ℕ) → MatchOption result
-            (IsSendable (view_with held self.now) (call_view call.now) × (refusal (view_with held self.now) (call_view call.now) ≡ refusal_by_length self.now.conversation.xid (call_view call.now)))
+            (IsSendable (view_with held self.now) (call_view call.now) × (refusal (view_with held self.now) (call_view call.now) ≡ None))
             (λ why. refusal (view_with held self.now) (call_view call.now) ≡ Some (outcome_view why)) }
     {
         match self.session.state() {
@@ -99,7 +97,7 @@ impl<A: Allocator + Copy> Core<A> {
     fn refusal_when_connected(&self, call: &Call<A>) -> Option<Outcome<A>>
         requires { self.now.session.state ≡ Connected }
         ensures { (held : List ℕ) → MatchOption result
-            (IsSendable (view_with held self.now) (call_view call.now) × (refusal (view_with held self.now) (call_view call.now) ≡ refusal_by_length self.now.conversation.xid (call_view call.now)))
+            (IsSendable (view_with held self.now) (call_view call.now) × (refusal (view_with held self.now) (call_view call.now) ≡ None))
             (λ why. refusal (view_with held self.now) (call_view call.now) ≡ Some (outcome_view why)) }
     {
         let pending = self.conversation.pending();
@@ -113,6 +111,9 @@ impl<A: Allocator + Copy> Core<A> {
             if self.watched(side) >= MOST_PATHS {
                 return Some(Outcome::TooManyWatches);
             }
+        }
+        if call.payload_length() > LONGEST_OUTGOING {
+            return Some(Outcome::TooLarge);
         }
         None
     }
@@ -134,17 +135,8 @@ impl<A: Allocator + Copy> Core<A> {
             drop(call);
             return say(outputs, Output::Answer { ticket, outcome });
         }
-        match self.conversation.ask(ticket, call) {
-            Ok(asked) => {
-                self.session.sent();
-                say(outputs, Output::Send(asked.frame))
-            }
-            Err(AskFault::TooLarge) => {
-                let outcome = Outcome::TooLarge;
-                say(outputs, Output::Answer { ticket, outcome })
-            }
-            Err(AskFault::TooMany) => unreachable!(),
-            Err(AskFault::Memory) => Err(AllocError),
-        }
+        let asked = self.conversation.send(ticket, call)?;
+        self.session.sent();
+        say(outputs, Output::Send(asked.frame))
     }
 }

@@ -2,7 +2,7 @@
 
 ghost use Rattle.std.specs.Prelude.{◌≡◌, ◌≤◌, length, false};
 ghost use Rattle.std.proofs.Props.{props};
-ghost use Rattle.zk_session.specs.declared.fields.TheConstants.{LONGEST_PASSWORD};
+ghost use Rattle.zk_limits.specs.declared.limits.TheConstants.{LONGEST_PASSWORD};
 ghost use Rattle.zk_client.specs.Sound.{CoreIsSound, IsReading};
 
 use crate::fault::Halt;
@@ -14,7 +14,7 @@ use std::alloc::{AllocError, Allocator, Global};
 use zk_cache::{Cache, DataAnswer, Mark};
 use zk_conversation::Conversation;
 use zk_frames::FrameReader;
-use zk_history::{Names, Path};
+use zk_nodes::{Names, Path};
 use zk_session::{Saved, Session, State};
 use zk_turns::{first_view, one_forget, one_turn};
 use zk_watches::Registry;
@@ -34,7 +34,7 @@ pub struct Client<A: Allocator + Copy = Global> {
 impl<A: Allocator + Copy> Client<A> {
     ghost use Rattle.std.specs.Prelude.{◌≡◌, ◌≤◌, ◌<◌, ◌^◌, ◌<ℤ◌, ◌≤ℤ◌, pos, unsigned_abs, length, ℕ, List, [], ◌∷◌, None, IfOk, IfSome, OnOk, OnErr, IsOk, IsErr, true, false, option_map};
     ghost use Rattle.zk_session.specs.Fields.{Saves};
-    ghost use Rattle.zk_session.specs.declared.fields.TheConstants.{LONGEST_PASSWORD};
+    ghost use Rattle.zk_limits.specs.declared.limits.TheConstants.{LONGEST_PASSWORD};
     ghost use Rattle.zk_cache.specs.Contents.{answer_of, names_in};
     ghost use Rattle.zk_turns.specs.Turns.{Start, Item, Turned, Forgets, new_start};
     ghost use Rattle.zk_turns.specs.View.{view_at};

@@ -10,19 +10,7 @@ use crate::call_result::CallResult;
 use std::alloc::{AllocError, Allocator};
 use zk_conversation::ReplyResult;
 use zk_jute::TextRef;
-
-/// The data of a node, which may be null.
-pub(crate) fn copied_bytes<A: Allocator>(
-    alloc: A,
-    bytes: Option<&[u8]>,
-) -> Result<Option<Vec<u8, A>>, AllocError>
-    ensures { IfOk result (λ copy. option_map (λ v. v.items) copy ≡ option_map (λ b. b.now) bytes.entry) }
-{
-    match bytes {
-        None => Ok(None),
-        Some(bytes) => Ok(Some(Vec::from_slice(alloc, bytes)?)),
-    }
-}
+use zk_nodes::copied_data;
 
 /// Names, where a null one is the empty one.
 fn copied_names<A: Allocator + Copy>(
@@ -49,7 +37,7 @@ pub(crate) fn copied<A: Allocator + Copy>(
         ReplyResult::Code(code) => Ok(CallResult::Code(*code)),
         ReplyResult::Stat(stat) => Ok(CallResult::Stat(*stat)),
         ReplyResult::Data { bytes, stat } => {
-            let bytes = copied_bytes(alloc, *bytes)?;
+            let bytes = copied_data(alloc, *bytes)?;
             Ok(CallResult::Data { bytes, stat: *stat })
         }
         ReplyResult::Names { names, stat } => {

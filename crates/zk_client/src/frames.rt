@@ -12,18 +12,6 @@ use crate::machine::Core;
 use crate::output::Output;
 use std::alloc::{AllocError, Allocator};
 use zk_frames::FrameReader;
-use zk_session::State;
-
-/// Whether there is a connection.
-pub(crate) fn is_open(state: State) -> bool
-    ensures yes { result ≡ true → IsOpen state }
-    ensures no { result ≡ false → ¬ (IsOpen state) }
-{
-    match state {
-        State::Connecting | State::Connected => true,
-        State::Idle | State::Expired | State::Closed => false,
-    }
-}
 
 /// Bytes came. Each payload that is whole has its effect, up to the end of the connection.
 pub(crate) fn hear<A: Allocator + Copy>(
@@ -42,7 +30,7 @@ pub(crate) fn hear<A: Allocator + Copy>(
     ensures quiet { ¬ (IsOpen core.old.session.state) → IsOk result }
     ensures origin { origin core.new ≡ origin core.old }
 {
-    if !is_open(core.session.state()) {
+    if !core.session.state().is_open() {
         return Ok(());
     }
     if piece.is_empty() {
@@ -72,7 +60,7 @@ fn take_frames<A: Allocator + Copy>(
     ensures says { OnOk result (said outputs.new.items ≡ said outputs.old.items ++ says_signals (view_with [] core.old) (map Comes reader.old.bytes)) }
     ensures origin { origin core.new ≡ origin core.old }
 {
-    while is_open(core.session.state()) {
+    while core.session.state().is_open() {
         match reader.next_frame() {
             Ok(Some(payload)) => core.take(payload, outputs)?,
             Ok(None) => return Ok(()),

@@ -9,7 +9,7 @@ use crate::input::Input;
 use crate::recording::Copies;
 use std::alloc::{AllocError, Allocator};
 use zk_conversation::Call;
-use zk_history::Path;
+use zk_nodes::{Path, copied_data};
 
 fn copied_path<A: Allocator>(alloc: A, path: &Path<A>) -> Result<Path<A>, AllocError>
     ensures { IfOk result (λ copy. copy ≡ path.now) }
@@ -17,15 +17,12 @@ fn copied_path<A: Allocator>(alloc: A, path: &Path<A>) -> Result<Path<A>, AllocE
     Path::new(alloc, path.as_str()).map_err(|_| AllocError)
 }
 
-fn copied_data<A: Allocator>(
-    alloc: A,
-    bytes: &Option<Vec<u8, A>>,
-) -> Result<Option<Vec<u8, A>>, AllocError>
-    ensures { IfOk result (λ copy. option_map (λ v. v.items) copy ≡ option_map (λ v. v.items) bytes.now) }
+fn lent<A: Allocator>(bytes: &Option<Vec<u8, A>>) -> Option<&[u8]>
+    ensures { option_map (λ s. s.now) result ≡ option_map (λ v. v.items) bytes.entry.now }
 {
     match bytes {
-        None => Ok(None),
-        Some(bytes) => Ok(Some(Vec::from_slice(alloc, bytes)?)),
+        None => None,
+        Some(bytes) => Some(bytes.as_slice()),
     }
 }
 
@@ -54,7 +51,7 @@ fn copied_call<A: Allocator + Copy>(alloc: A, call: &Call<A>) -> Result<Call<A>,
             version,
         } => {
             let path = copied_path(alloc, path)?;
-            let bytes = copied_data(alloc, bytes)?;
+            let bytes = copied_data(alloc, lent(bytes))?;
             let version = *version;
             Ok(Call::SetData {
                 path,
@@ -64,7 +61,7 @@ fn copied_call<A: Allocator + Copy>(alloc: A, call: &Call<A>) -> Result<Call<A>,
         }
         Call::Create { path, bytes, mode } => {
             let path = copied_path(alloc, path)?;
-            let bytes = copied_data(alloc, bytes)?;
+            let bytes = copied_data(alloc, lent(bytes))?;
             let mode = *mode;
             Ok(Call::Create { path, bytes, mode })
         }

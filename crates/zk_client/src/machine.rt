@@ -14,7 +14,8 @@ use zk_conversation::Conversation;
 use zk_session::{Session, State};
 use zk_watches::Registry;
 
-/// The layers of a client.
+/// The layers of a client. Its methods stand by what they are about: calls in `calls`, payloads in `arrivals`, replies to calls in
+/// `replies`, the beginning and the end of a connection in `connections`, pings in `ticks`, and here what is forgotten.
 #[derive(Drop)]
 pub(crate) struct Core<A: Allocator + Copy> {
     pub(crate) alloc: A,

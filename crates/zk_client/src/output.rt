@@ -111,9 +111,10 @@ impl<A: Allocator> Output<A> {
     pub fn ends_connection(&self) -> bool
         ensures { result ≡ ends_connection (output_view self.now) }
     {
-        matches!(
-            self,
-            Output::Drop(_) | Output::State(State::Expired) | Output::State(State::Closed)
-        )
+        match self {
+            Output::Drop(_) => true,
+            Output::State(state) => state.is_final(),
+            _ => false,
+        }
     }
 }

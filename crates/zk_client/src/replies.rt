@@ -1,9 +1,9 @@
 //! Replies to calls.
 
-ghost use Rattle.std.specs.Prelude.{◌≡◌, ◌<◌, ℕ, List, [], ◌∷◌, ◌++◌, ◌&&◌, int_lt, OnOk, true, bytes_eq, if◌then◌else◌};
-ghost use Rattle.zk_history.specs.History.{Text};
-ghost use Rattle.zk_history.specs.declared.side.Side.{Side as A_side};
-ghost use Rattle.zk_history.specs.declared.side.Side.TheVariants.{Data, Child};
+ghost use Rattle.std.specs.Prelude.{◌≡◌, ◌<◌, ℕ, List, [], ◌∷◌, ◌++◌, OnOk, IfSome, Some, is_some, true, bytes_eq, if◌then◌else◌};
+ghost use Rattle.zk_nodes.specs.Path.{Text};
+ghost use Rattle.zk_nodes.specs.declared.side.Side.{Side as A_side};
+ghost use Rattle.zk_nodes.specs.declared.side.Side.TheVariants.{Data, Child};
 ghost use Rattle.zk_conversation.specs.Pending.{Pending};
 ghost use Rattle.zk_conversation.specs.Questions.{watched_side};
 ghost use Rattle.zk_conversation.specs.Arriving.{Replied};
@@ -13,17 +13,19 @@ ghost use Rattle.zk_watches.specs.Lists.{registered, count_of};
 ghost use Rattle.zk_cache.specs.Cache.{data_kept, names_kept};
 ghost use Rattle.zk_cache.specs.Contents.{answer_of, set_of};
 ghost use Rattle.zk_cache.specs.Kept.{good, merged};
-ghost use Rattle.zk_turns.specs.Kept.{Took, Replies, leaves_data, leaves_child};
+ghost use Rattle.zk_turns.specs.Past.{Took, Replies, leaves_data, leaves_child};
 ghost use Rattle.zk_turns.specs.Turns.{Answer};
 ghost use Rattle.zk_turns.specs.Turns as turns;
 ghost use Rattle.zk_turns.specs.Taken.{leaves_watch, taken_of};
-ghost use Rattle.zk_turns.specs.Rule.{next, says, after_reply, keep_node, keep_children, says_there};
+ghost use Rattle.zk_turns.specs.Rule.{next, says, with_node, with_children, keep_node, keep_children, says_there};
+ghost use Rattle.zk_client.specs.Left.{side_left, data_left, children_left, side_in, data_in, children_in};
 ghost use Rattle.zk_client.specs.Views.{said};
 ghost use Rattle.zk_client.specs.Seen.{view_with, while_pending, origin};
-ghost use Rattle.zk_client.specs.Sound.{CoreIsSound, CoreHasArrived, IsLeft, HasRoomFor};
+ghost use Rattle.zk_client.specs.Sound.{CoreIsSound, CoreHasArrived, IsLeft};
 ghost use Rattle.zk_client.specs.Steps.{is_no_node, closing};
+ghost use Rattle.zk_limits.specs.declared.limits.TheConstants.{MOST_PATHS};
 
-use crate::copies::{copied, copied_bytes};
+use crate::copies::copied;
 use crate::fault::Fault;
 use crate::machine::{Core, say};
 use crate::output::{Outcome, Output};
@@ -31,8 +33,9 @@ use std::alloc::{AllocError, Allocator};
 use zk_cache::{Cache, DataAnswer};
 use zk_conversation::{Question, ReplyResult};
 use zk_jute::TextRef;
-use zk_records::{Code, DataStat, Path, Side};
-use zk_watches::{RegisterFault, Registry};
+use zk_nodes::{DataStat, Path, Side, Stat, copied_data};
+use zk_records::Code;
+use zk_watches::Registry;
 
 // What a server answers where there is no node.
 const NO_NODE: i32 = -101;
@@ -44,16 +47,46 @@ fn says_absent(code: Code) -> bool
     code.number() == NO_NODE
 }
 
-/// Whether a reply leaves a watch: exists in any case, the other reads where the node is there.
-fn leaves_watch<A: Allocator + Copy>(question: &Question<A>, found: &ReplyResult<'_, A>) -> bool
-    ensures { result ≡ leaves_watch (question_view question.now) (result_view found.now) }
+/// What a reply that leaves a watch says of its path, lent by the question and the reply.
+#[derive(Drop)]
+enum Left<'a, 'b, A: Allocator> {
+    /// There is no node.
+    Absent(&'a Path<A>),
+    /// There is a node, and this is known of it.
+    Known(&'a Path<A>, Stat),
+    /// These are its data.
+    Full(&'a Path<A>, Option<&'b [u8]>, Stat),
+    /// These are the names below it, as of the change with this zxid.
+    Names(&'a Path<A>, &'a [TextRef<'b>], i64),
+}
+
+/// What a reply leaves a watch with, if it leaves one: exists does in any case, the other reads where the node is there.
+fn left_by<'a, 'b, A: Allocator + Copy>(
+    question: &'a Question<A>,
+    found: &'a ReplyResult<'b, A>,
+) -> Option<Left<'a, 'b, A>>
+    ensures any { is_some result ≡ leaves_watch (question_view question.entry.now) (result_view found.entry.now) }
+    ensures side { IfSome (side_in result) (λ side. watched_side (question_view question.entry.now) ≡ Some side) }
+    ensures data { data_in result ≡ leaves_data (question_view question.entry.now) (result_view found.entry.now) }
+    ensures child { children_in result ≡ leaves_child (question_view question.entry.now) (result_view found.entry.now) }
 {
     match (question, found) {
-        (Question::Exists { watch: true, .. }, ReplyResult::Code(code)) => says_absent(*code),
-        (Question::Exists { watch: true, .. }, ReplyResult::Stat(_)) => true,
-        (Question::GetData { watch: true, .. }, ReplyResult::Data { .. }) => true,
-        (Question::GetChildren { watch: true, .. }, ReplyResult::Names { .. }) => true,
-        _ => false,
+        (Question::Exists { path, watch: true }, ReplyResult::Code(code)) => {
+            if says_absent(*code) {
+                return Some(Left::Absent(path));
+            }
+            None
+        }
+        (Question::Exists { path, watch: true }, ReplyResult::Stat(stat)) => {
+            Some(Left::Known(path, *stat))
+        }
+        (Question::GetData { path, watch: true }, ReplyResult::Data { bytes, stat }) => {
+            Some(Left::Full(path, *bytes, *stat))
+        }
+        (Question::GetChildren { path, watch: true }, ReplyResult::Names { names, stat }) => {
+            Some(Left::Names(path, names, stat.pzxid))
+        }
+        _ => None,
     }
 }
 
@@ -64,13 +97,13 @@ fn keep_node<A: Allocator + Copy>(
     registry: &mut Registry<A>,
     cache: &mut Cache<A>,
 ) -> Result<(), AllocError>
-    requires room { count_of registry.old Data < 65536 }
+    requires room { count_of registry.old Data < MOST_PATHS }
     ensures lists { OnOk result (registry.new ≡ registered registry.old Data (says_there (answer_of answer)) path.now) }
     ensures nodes { OnOk result ((text : Text) → data_kept cache.new text ≡ (if bytes_eq path.now text then good (merged (data_kept cache.old text) (answer_of answer)) else data_kept cache.old text)) }
     ensures children { OnOk result ((text : Text) → names_kept cache.new text ≡ names_kept cache.old text) }
 {
     let present = is_there(&answer);
-    register(Side::Data, path, present, registry)?;
+    registry.watch(Side::Data, path, present)?;
     cache.keep_data(path, answer)
 }
 
@@ -84,23 +117,6 @@ fn is_there<A: Allocator>(answer: &DataAnswer<A>) -> bool
     }
 }
 
-/// Watches a path of a side that has room.
-fn register<A: Allocator + Copy>(
-    side: Side,
-    path: &Path<A>,
-    present: bool,
-    registry: &mut Registry<A>,
-) -> Result<(), AllocError>
-    requires room { count_of registry.old side < 65536 }
-    ensures ok { OnOk result (registry.new ≡ registered registry.old side present path.now) }
-{
-    match registry.register(side, path, present) {
-        Ok(()) => Ok(()),
-        Err(RegisterFault::Full) => unreachable!(),
-        Err(RegisterFault::Memory) => Err(AllocError),
-    }
-}
-
 /// Keeps the names of a node's children, and watches them.
 fn keep_names<A: Allocator + Copy>(
     path: &Path<A>,
@@ -109,63 +125,40 @@ fn keep_names<A: Allocator + Copy>(
     registry: &mut Registry<A>,
     cache: &mut Cache<A>,
 ) -> Result<(), AllocError>
-    requires room { count_of registry.old Child < 65536 }
+    requires room { count_of registry.old Child < MOST_PATHS }
     ensures lists { OnOk result (registry.new ≡ registered registry.old Child true path.now) }
     ensures nodes { OnOk result ((text : Text) → data_kept cache.new text ≡ data_kept cache.old text) }
     ensures children { OnOk result ((text : Text) → names_kept cache.new text ≡ (if bytes_eq path.now text then good (record { names = set_of names.now; pzxid = pzxid }) else names_kept cache.old text)) }
 {
-    register(Side::Child, path, true, registry)?;
+    registry.watch(Side::Child, path, true)?;
     cache.keep_children(path, names, pzxid)
 }
 
-/// Keeps what a reply that leaves a watch says, and watches its path. Another reply changes nothing.
+/// Keeps what a reply that leaves a watch says, and watches its path.
 fn keep<A: Allocator + Copy>(
     alloc: A,
-    question: &Question<A>,
-    found: &ReplyResult<'_, A>,
+    left: Left<'_, '_, A>,
     registry: &mut Registry<A>,
     cache: &mut Cache<A>,
 ) -> Result<(), AllocError>
-    requires room { HasRoomFor (watched_side (question_view question.now)) registry.old }
-    ensures lists { OnOk result (registry.new ≡ after_reply (question_view question.now) (result_view found.now) registry.old) }
-    ensures nodes { OnOk result ((text : Text) → data_kept cache.new text ≡ keep_node (leaves_data (question_view question.now) (result_view found.now)) text (data_kept cache.old text)) }
-    ensures children { OnOk result ((text : Text) → names_kept cache.new text ≡ keep_children (leaves_child (question_view question.now) (result_view found.now)) text (names_kept cache.old text)) }
+    requires room { count_of registry.old (side_left left) < MOST_PATHS }
+    ensures lists { OnOk result (registry.new ≡ with_children (children_left left.entry) (with_node (data_left left.entry) registry.old)) }
+    ensures nodes { OnOk result ((text : Text) → data_kept cache.new text ≡ keep_node (data_left left.entry) text (data_kept cache.old text)) }
+    ensures children { OnOk result ((text : Text) → names_kept cache.new text ≡ keep_children (children_left left.entry) text (names_kept cache.old text)) }
 {
-    match (question, found) {
-        (Question::Exists { path, watch: true }, ReplyResult::Code(code)) => {
-            if says_absent(*code) {
-                return keep_node(path, DataAnswer::Absent, registry, cache);
-            }
-            Ok(())
-        }
-        (Question::Exists { path, watch: true }, ReplyResult::Stat(stat)) => {
-            let answer = DataAnswer::Known(DataStat::from(*stat));
+    match left {
+        Left::Absent(path) => keep_node(path, DataAnswer::Absent, registry, cache),
+        Left::Known(path, stat) => {
+            let answer = DataAnswer::Known(DataStat::from(stat));
             keep_node(path, answer, registry, cache)
         }
-        (Question::GetData { path, watch: true }, ReplyResult::Data { bytes, stat }) => {
-            let Ok(bytes) = copied_bytes(alloc, *bytes) else {
-                return Err(AllocError);
-            };
-            let answer = DataAnswer::Full(bytes, DataStat::from(*stat));
+        Left::Full(path, bytes, stat) => {
+            let bytes = copied_data(alloc, bytes)?;
+            let answer = DataAnswer::Full(bytes, DataStat::from(stat));
             keep_node(path, answer, registry, cache)
         }
-        (Question::GetChildren { path, watch: true }, ReplyResult::Names { names, stat }) => {
-            keep_names(path, names, stat.pzxid, registry, cache)
-        }
-        _ => Ok(()),
+        Left::Names(path, names, pzxid) => keep_names(path, names, pzxid, registry, cache),
     }
-}
-
-/// Whether a reply that leaves a watch has a zxid below the last seen one.
-fn is_behind<A: Allocator + Copy>(
-    question: &Question<A>,
-    found: &ReplyResult<'_, A>,
-    zxid: i64,
-    seen: i64,
-) -> bool
-    ensures { result ≡ (leaves_watch (question_view question.now) (result_view found.now) && int_lt zxid seen) }
-{
-    leaves_watch(question, found) && zxid < seen
 }
 
 /// A call has its reply.
@@ -202,10 +195,11 @@ impl<A: Allocator + Copy> Core<A> {
         ensures origin { origin self.new ≡ origin self.old }
     {
         let seen = self.session.last_zxid();
-        if is_behind(question, found, zxid, seen) {
+        let left = left_by(question, found);
+        if left.is_some() && zxid < seen {
             return self.give_up_reply(ticket, Fault::Behind { seen, came: zxid }, outputs);
         }
-        self.take_reply(ticket, question, zxid, found, outputs)
+        self.take_reply(ticket, question, zxid, found, left, outputs)
     }
 
     // A reply that is taken: what it says is kept, if it leaves a watch.
@@ -215,9 +209,13 @@ impl<A: Allocator + Copy> Core<A> {
         question: &Question<A>,
         zxid: i64,
         found: &ReplyResult<'_, A>,
+        left: Option<Left<'_, '_, A>>,
         outputs: &mut Vec<Output<A>, A>,
     ) -> Result<(), AllocError>
-        requires { CoreHasArrived (Replied ticket (question_view question.now) zxid (result_view found.now)) self.old }
+        requires arrived { CoreHasArrived (Replied ticket (question_view question.now) zxid (result_view found.now)) self.old }
+        requires side { IfSome (side_in left) (λ side. watched_side (question_view question.now) ≡ Some side) }
+        requires data { data_in left ≡ leaves_data (question_view question.now) (result_view found.now) }
+        requires child { children_in left ≡ leaves_child (question_view question.now) (result_view found.now) }
         ensures sound { OnOk result (CoreIsSound self.new) }
         ensures next { OnOk result ((held : List ℕ) (pending : List Pending) → IsLeft (Replied ticket (question_view question.now) zxid (result_view found.now)) pending self.old.conversation.pending →
             view_with [] self.new ≡ next (while_pending pending (view_with held self.old)) (Took (Replies ticket (question_view question.now) zxid (result_view found.now)))) }
@@ -229,12 +227,9 @@ impl<A: Allocator + Copy> Core<A> {
         if question.closes() {
             return self.close(outputs);
         }
-        keep(
-            self.alloc,
-            question,
-            found,
-            &mut self.registry,
-            &mut self.cache,
-        )
+        match left {
+            None => Ok(()),
+            Some(left) => keep(self.alloc, left, &mut self.registry, &mut self.cache),
+        }
     }
 }

@@ -10,7 +10,8 @@ use std::alloc::{AllocError, Allocator, Global};
 use std::fmt;
 use std::marker::Model;
 use zk_jute::{BytesRef, Cursor, PutError, Record, take};
-use zk_session::{LONGEST_PASSWORD, Saved};
+use zk_limits::LONGEST_PASSWORD;
+use zk_session::Saved;
 
 /// A session to be taken up later, maybe by another process: its id, its password and the last seen zxid, in memory of its
 /// own. Whoever has the password can take the session up, so keep the bytes and the text of it as a secret.
@@ -35,7 +36,7 @@ impl<A: Allocator> Model for SavedSession<A> {
 
 impl<A: Allocator + Copy> SavedSession<A> {
     ghost use Rattle.std.specs.Prelude.{◌≤◌, ◌≤ℤ◌, ◌%◌, pos, length, Err, IfOk, MatchResult, string_bytes};
-    ghost use Rattle.zk_session.specs.declared.fields.TheConstants.{LONGEST_PASSWORD};
+    ghost use Rattle.zk_limits.specs.declared.limits.TheConstants.{LONGEST_PASSWORD};
     ghost use Rattle.hex.specs.Hex.{decode_of};
     ghost use Rattle.zk_client.specs.SavedSessions.{PutAway, CanBePutAway, saved_bytes, saved_text, put_away, bytes_read, text_read, Gives, GivesLater};
 

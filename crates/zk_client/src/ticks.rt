@@ -2,7 +2,7 @@
 
 ghost use Rattle.std.specs.Prelude.{◌≡◌, ℕ, List, ◌++◌, OnOk};
 ghost use Rattle.zk_session.specs.declared.states.State.TheVariants.{Connected};
-ghost use Rattle.zk_turns.specs.Kept.{Pinged};
+ghost use Rattle.zk_turns.specs.Past.{Pinged};
 ghost use Rattle.zk_turns.specs.Rule.{next, says};
 ghost use Rattle.zk_client.specs.Views.{said};
 ghost use Rattle.zk_client.specs.Seen.{view_with, origin};

@@ -3,7 +3,7 @@
 ghost use Rattle.std.specs.Prelude.{◌≡◌, List, [], ◌∷◌, ◌++◌, OnOk, IsOk, true, false};
 ghost use Rattle.zk_conversation.specs.Views.{call_view};
 ghost use Rattle.zk_turns.specs.Turns.{signals_of, IsAsked, Opens, Cuts, Ticks};
-ghost use Rattle.zk_turns.specs.Kept.{is_final};
+ghost use Rattle.zk_turns.specs.Past.{is_final};
 ghost use Rattle.zk_turns.specs.Ranges.{IsTyped, AsksOf};
 ghost use Rattle.zk_turns.specs.Taken.{NothingIsDue};
 ghost use Rattle.zk_turns.specs.Rule.{IsOpen, after_signals, says_signals};
@@ -14,7 +14,7 @@ ghost use Rattle.zk_client.specs.Steps.{IsQuiet};
 
 use crate::calls::path_length;
 use crate::fault::Fault;
-use crate::frames::{hear, is_open};
+use crate::frames::hear;
 use crate::input::Input;
 use crate::machine::Core;
 use crate::output::Output;
@@ -105,7 +105,7 @@ fn cut<A: Allocator + Copy>(
     ensures quiet { ¬ (IsOpen core.old.session.state) → IsOk result }
     ensures origin { origin core.new ≡ origin core.old }
 {
-    if !is_open(core.session.state()) {
+    if !core.session.state().is_open() {
         return Ok(());
     }
     reader.reset();

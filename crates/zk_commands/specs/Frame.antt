@@ -5,12 +5,13 @@ use Rattle.zk_jute.specs.Layout.{int}
 use Rattle.zk_jute.specs.Reading.{reading}
 use Rattle.zk_commands.specs.declared.fault.ShowFault.{ShowFault}
 use Rattle.zk_commands.specs.declared.fault.ShowFault.TheVariants.{Incomplete, Negative, TooLong, BytesAfter}
+use Rattle.zk_limits.specs.declared.limits.TheConstants.{LONGEST_INCOMING}
 
 -- the bytes behind a length, which are to be as many as it says
 abbrev pub payload_behind : ℤ → List ℕ → Result (List ℕ) ShowFault
 payload_behind (negsuc n) bytes = Err Negative
 payload_behind (pos n) bytes =
-    if nat_lt 4194304 n then Err TooLong
+    if nat_lt LONGEST_INCOMING n then Err TooLong
     else if nat_lt (length bytes) n then Err Incomplete
     else if nat_lt n (length bytes) then Err BytesAfter
     else Ok bytes

@@ -1,6 +1,6 @@
 -- What the script of a command is, and what its lines print.
 use Rattle.std.specs.Prelude.{◌≡◌, ℕ, List, [], Option, IfSome}
-use Rattle.zk_history.specs.History.{Text}
+use Rattle.zk_nodes.specs.Path.{Text}
 use Rattle.zk_script.specs.Scripts.{IsTranscript, progress}
 use Rattle.zk_script.specs.declared.script.End.{End}
 use Rattle.zk_live.specs.Lives as sessions

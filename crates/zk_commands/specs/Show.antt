@@ -10,7 +10,7 @@ use Rattle.zk_frames.specs.declared.fault.FrameFault.TheVariants as frame_faults
 use Rattle.zk_jute.specs.Layout.{Layout, Value, ◌⨾◌}
 use Rattle.zk_jute.specs.Spelling.{spelling, Fits}
 use Rattle.zk_jute.specs.Reading.{reading}
-use Rattle.zk_history.specs.StatLayout.{stat}
+use Rattle.zk_nodes.specs.StatLayout.{stat}
 use Rattle.zk_records.specs.Layouts.{connect_request, reply_header, watcher_event, get_data_response, get_children_response, get_children2_response, create_response}
 use Rattle.zk_records.specs.Response.{Response, response_spelling, IsPayload, response_at}
 use Rattle.zk_records.specs.Reply.{ReplyValue, ReplyFits, reply_spelling, reply_at}

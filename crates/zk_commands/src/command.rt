@@ -8,7 +8,7 @@ ghost use Rattle.clap.specs.Words.{Text, app_of, found_of, first_value, kind_of,
 ghost use Rattle.zk_live.specs.Addresses.{is_address};
 ghost use Rattle.zk_commands.specs.Kinds.{kind_word};
 ghost use Rattle.zk_commands.specs.CommandLine.{AreAddresses, AreKinds, AsksFor, AsksForNone, IsDue, IsFound, IsWatch, Tells, TellsIf, history_app, live_app, rehearse_app, replay_app, show_app, shell_app, watch_app};
-ghost use Rattle.zk_history.specs.declared.side.Side.{Side};
+ghost use Rattle.zk_nodes.specs.declared.side.Side.{Side};
 ghost use Rattle.zk_watch.specs.declared.plan.Subject.{Subject};
 ghost use Rattle.zk_watch.specs.Watching.{aims_of};
 

@@ -16,6 +16,6 @@ pub mod script;
 pub mod show;
 mod shown;
 pub mod status;
-pub mod watch;
+mod watch;
 mod watch_words;
 mod written;

@@ -6,7 +6,7 @@ ghost use Rattle.zk_commands.specs.declared.line_fault.LineFault.TheVariants as 
 
 use std::alloc::{AllocError, Global};
 use thiserror::Error;
-use zk_history::PathFault;
+use zk_nodes::PathFault;
 
 /// Why a command line asks for nothing.
 #[derive(Debug, Drop, Error)]

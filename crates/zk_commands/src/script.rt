@@ -2,7 +2,7 @@
 
 ghost use Rattle.std.specs.Prelude.{◌≡◌, ◌≢◌, ◌⊎◌, ◌++◌, [], List, ℕ, string_bytes};
 ghost use Rattle.std.specs.Io.KnownBytes.{Appends};
-ghost use Rattle.zk_history.specs.History.{Text};
+ghost use Rattle.zk_nodes.specs.Path.{Text};
 ghost use Rattle.zk_script.specs.Scripts.{lines_of, refusal_text};
 ghost use Rattle.zk_script.specs.declared.script.End.{End};
 ghost use Rattle.zk_script.specs.declared.script.End.TheVariants as ends;

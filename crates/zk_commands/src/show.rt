@@ -3,6 +3,7 @@
 ghost use Rattle.std.specs.Prelude.{◌≡◌, ◌≢◌, ◌≤◌, ◌⊎◌, length, ◌∷◌, ◌++◌, [], List, ℕ, IfOk, IfErr, string_bytes};
 ghost use Rattle.std.specs.Io.KnownBytes.{Appends};
 ghost use Rattle.zk_commands.specs.Show.{Prints, IsOf, ShowsFrame, IsHexOf, IsNotHex, IsPayloadFault, IsFault, fault_text};
+ghost use Rattle.zk_limits.specs.declared.limits.TheConstants.{LONGEST_INCOMING};
 
 use crate::asked::print_request;
 use crate::fault::ShowFault;
@@ -37,7 +38,7 @@ fn print_payload<A: Allocator + Copy>(
     kind: Kind,
     payload: &[u8],
 ) -> Result<String<A>, ShowFault>
-    requires { length payload.now ≤ 4194304 }
+    requires { length payload.now ≤ LONGEST_INCOMING }
     ensures prints { IfOk result (λ text. Prints (IsOf kind payload.now) payload.now (string_bytes text)) }
     ensures fault { IfErr result (λ f. (f ≡ ShowFault.Memory) ⊎ IsPayloadFault kind payload.now f) }
 {

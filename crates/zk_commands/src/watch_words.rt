@@ -4,7 +4,7 @@ ghost use Rattle.std.specs.Prelude.{◌≡◌, ◌≤◌, ◌++◌, true, false,
 ghost use Rattle.std.specs.Option.{option_and_then, option_map};
 ghost use Rattle.std.specs.List.{list_all};
 ghost use Rattle.clap.specs.Words.{Text, app_of, first_of, found_of, rows_of, rule_of};
-ghost use Rattle.zk_history.specs.declared.side.Side.{Side as Sides};
+ghost use Rattle.zk_nodes.specs.declared.side.Side.{Side as Sides};
 ghost use Rattle.zk_watch.specs.Watching.{aims_of};
 ghost use Rattle.zk_commands.specs.CommandLine.{AreAims, IsDuration, IsTimeout, TellsIf, address_rule, aims_at, count_at, duration_rule, duration_read, given, is_path, path_rule, timeout_at, timeout_rule, watch_app};
 
@@ -12,7 +12,7 @@ use crate::help;
 use crate::line_fault::{LineFault, no_command, no_duration, no_path, no_timeout};
 use clap::{Arg, ArgAction, ArgMatches};
 use std::alloc::{AllocError, Global};
-use zk_history::{Path, PathFault, Side};
+use zk_nodes::{Path, PathFault, Side};
 use zk_script::numbers::natural_of;
 use zk_watch::Subject;
 

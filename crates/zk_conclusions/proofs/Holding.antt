@@ -6,8 +6,9 @@ use Rattle.std.proofs.lemmas.Int.{ints}
 use Rattle.std.specs.Prelude.{is_some}
 use Rattle.std.specs.Ordering.{int_eq}
 use Rattle.std.specs.FinSet as set
-use Rattle.zk_history.specs.History.{Name, NodePath, Node, Tree, History, IsHistory, tree_at, path_of, contents_of, children_of, node_fields}
-use Rattle.zk_history.specs.declared.data_stat.DataStat.{DataStat}
+use Rattle.zk_nodes.specs.Path.{Name, NodePath, path_of}
+use Rattle.zk_nodes.specs.History.{Node, Tree, History, IsHistory, tree_at, contents_of, children_of, node_fields}
+use Rattle.zk_nodes.specs.declared.data_stat.DataStat.{DataStat}
 use Rattle.zk_cache.specs.Kept.{Answer, Absent, Known, Full, Names, as_good}
 use Rattle.zk_laws.specs.Server.{Fits, FitsNames}
 use Rattle.zk_laws.specs.Messages.{from_zero}
@@ -15,7 +16,8 @@ use Rattle.zk_conclusions.specs.Seen.{tree_seen}
 use Rattle.zk_conclusions.specs.Holders.{HasPrefix, is_before, IsHolder, token_of, token_in, HeldIsTrue, OneHolds, OneShows, NamesRise, TokensRise, LaterTokens}
 use Rattle.zk_conclusions.proofs.Truths.{coherent}
 use Rattle.zk_conclusions.proofs.Orders.{before_or_same}
-use Rattle.zk_conclusions.proofs.Made.{IsMade, IsMadeBy, made_before, made_by}
+use Rattle.zk_conclusions.proofs.Made.{IsMade, made_before}
+use Rattle.zk_laws.proofs.Stamps.{IsAtMost, made_by}
 
 the_one : {X : Type 0} (x y : X) → Some x ≡ Some y → x ≡ y
 the_one {X} x y e = ap (λ (o : Option X). elim o [ None ↦ x | Some z ↦ z ]) e
@@ -105,8 +107,8 @@ made_node n (Some node) made = (node, refl, made)
 is_made : (found : Option Node) (node : Node) → found ≡ Some node → IsMade node.czxid found
 is_made found node e = subst (IsMade node.czxid) (sym e) refl
 
-is_by : (z : ℕ) (found : Option Node) (node : Node) → found ≡ Some node → IsMadeBy z found → node.czxid ≤ z
-is_by z found node e by = subst (IsMadeBy z) e by
+is_by : (z : ℕ) (found : Option Node) (node : Node) → found ≡ Some node → IsAtMost (λ n. n.czxid) z found → node.czxid ≤ z
+is_by z found node e by = subst (IsAtMost (λ n. n.czxid) z) e by
 
 -- of two nodes that are there at once, the first was not made after the other
 first_made : (h : History) (dir : NodePath) (prefix : Name) (path other : NodePath) (session token : ℤ) (zxid : ℕ) (own : Name) (its : Node)

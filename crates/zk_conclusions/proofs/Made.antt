@@ -1,9 +1,8 @@
 -- A node stands with the czxid with which it was made.
 use Rattle.std.specs.Option.{option_map}
-use Rattle.std.proofs.Common.{ℕ, ℤ, ◌≡◌, ◌<◌, ◌≤◌, Bool, true, false, List, [], ◌∷◌, refl, ap, ◌∙◌, subst, arith, Option, Some, None, if◌then◌else◌, nat_le}
-use Rattle.std.proofs.lemmas.Bool.Decides.{nat_tests}
-use Rattle.std.specs.Bool.{⊤}
-use Rattle.zk_history.specs.History.{NodePath, path_eq, Node, Tree, Change, Creates, Sets, Deletes, Transaction, apply, apply_all, after, History, IsHistory, up_to, tree_at, made, written, regrouped}
+use Rattle.std.proofs.Common.{ℕ, ℤ, ◌≡◌, ◌<◌, ◌≤◌, Bool, true, false, List, [], ◌∷◌, refl, ap, ◌∙◌, subst, arith, Option, Some, None}
+use Rattle.zk_nodes.specs.Path.{NodePath, path_eq}
+use Rattle.zk_nodes.specs.History.{Node, Tree, Change, Creates, Sets, Deletes, Transaction, apply, apply_all, after, History, IsHistory, up_to, tree_at, written, regrouped}
 use Rattle.zk_laws.proofs.Stamps.{AreNewer, up_to_more, after-append}
 
 -- the node is there, and was made at this zxid
@@ -56,58 +55,3 @@ made_before h path n zxid beyond is le small there =
     let more = up_to_more zxid beyond 0 h.transactions le is.rising in
     let e : tree_at h beyond ≡ after more.0 (tree_at h zxid) = ap (λ (l : List Transaction). after l h.first) more.1 ∙ after-append (up_to zxid h.transactions) more.0 h.first in
     made_after n zxid path more.0 (tree_at h zxid) small more.2 (subst (λ (t : Tree). IsMade n (t path)) e there)
-
--- At a zxid nothing was made above it.
-
--- the czxid is at most z, where there is a node
-abbrev pub IsMadeBy : ℕ → Option Node → Type 0
-IsMadeBy z None = ⊤
-IsMadeBy z (Some node) = node.czxid ≤ z
-
-by_regrouped : (z x : ℕ) (o : Option Node) → IsMadeBy z o → IsMadeBy z (option_map (regrouped x) o)
-by_regrouped z x None h = tt
-by_regrouped z x (Some n) h = h
-
-by_written : (z x : ℕ) (t : ℤ) (content : Option (List ℕ)) (o : Option Node) → IsMadeBy z o → IsMadeBy z (option_map (written x t content) o)
-by_written z x t content None h = tt
-by_written z x t content (Some n) h = h
-
-by_one : (z : ℕ) (path : NodePath) (c : Change) (x : ℕ) (t : ℤ) (tree : Tree) → x ≤ z → IsMadeBy z (tree path) → IsMadeBy z (apply x t c tree path)
-by_one z path (Creates [] content owner) x t tree le h = h
-by_one z path (Creates (name ∷ above) content owner) x t tree le h = go (path_eq path (name ∷ above)) (path_eq path above)
-  where
-    go : (b d : Bool) → IsMadeBy z (if b then Some (made x t content owner) else (if d then option_map (regrouped x) (tree path) else tree path))
-    go true d = le
-    go false true = by_regrouped z x (tree path) h
-    go false false = h
-by_one z path (Sets at content) x t tree le h = go (path_eq path at)
-  where
-    go : (b : Bool) → IsMadeBy z (if b then option_map (written x t content) (tree path) else tree path)
-    go true = by_written z x t content (tree path) h
-    go false = h
-by_one z path (Deletes []) x t tree le h = h
-by_one z path (Deletes (name ∷ above)) x t tree le h = go (path_eq path (name ∷ above)) (path_eq path above)
-  where
-    go : (b d : Bool) → IsMadeBy z (if b then None else (if d then option_map (regrouped x) (tree path) else tree path))
-    go true d = tt
-    go false true = by_regrouped z x (tree path) h
-    go false false = h
-
-by_all : (z : ℕ) (path : NodePath) (cs : List Change) (x : ℕ) (t : ℤ) (tree : Tree) → x ≤ z → IsMadeBy z (tree path) → IsMadeBy z (apply_all x t cs tree path)
-by_all z path [] x t tree le h = h
-by_all z path (c ∷ cs) x t tree le h = by_all z path cs x t (apply x t c tree) le (by_one z path c x t tree le h)
-
-by_after : (z : ℕ) (path : NodePath) (txs : List Transaction) (tree : Tree) → IsMadeBy z (tree path) → IsMadeBy z (after (up_to z txs) tree path)
-by_after z path [] tree h = h
-by_after z path (x ∷ xs) tree h = go (λ t k. by_after z path xs t k) (nat_le x.zxid z) refl
-  where
-    go : ((t : Tree) → IsMadeBy z (t path) → IsMadeBy z (after (up_to z xs) t path)) → (b : Bool) → nat_le x.zxid z ≡ b → IsMadeBy z (after (up_to z (x ∷ xs)) tree path)
-    go more true e = rw e (more (apply_all x.zxid x.time x.changes tree) (by_all z path x.changes x.zxid x.time tree (grind (arith, nat_tests)) h))
-    go more false e = rw e (more tree h)
-
-by_zeros : (z : ℕ) (o : Option Node) → ((node : Node) → o ≡ Some node → node.czxid ≡ 0) → IsMadeBy z o
-by_zeros z None h = tt
-by_zeros z (Some n) h = let e = h n refl in omega arith
-
-pub made_by : (h : History) (path : NodePath) (z : ℕ) → IsHistory h → IsMadeBy z (tree_at h z path)
-made_by h path z is = by_after z path h.transactions h.first (by_zeros z (h.first path) (λ node e. (is.zeros path node e).0))

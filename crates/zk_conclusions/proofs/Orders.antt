@@ -5,8 +5,8 @@ use Rattle.std.specs.declared.cmp.Ordering.{Ordering}
 use Rattle.std.specs.declared.cmp.Ordering.TheVariants.{Less, Equal, Greater}
 use Rattle.std.proofs.lemmas.Cmp.{nat_list_cmp_total}
 use Rattle.std.proofs.lemmas.Map.Lookups.{exact_bytes}
-use Rattle.zk_history.specs.History.{Name}
-use Rattle.zk_history.specs.Replay.{name_cmp}
+use Rattle.zk_nodes.specs.Path.{Name}
+use Rattle.zk_nodes.specs.Names.{name_cmp}
 use Rattle.zk_conclusions.specs.Holders.{is_before}
 
 -- of two names, the one is before the other or they are the same, where the other is not before it

@@ -10,7 +10,7 @@ use Rattle.std.proofs.lemmas.Cmp.{nat_list_cmp_total}
 use Rattle.std.proofs.lemmas.Map.Text.{is_eq-slice_cmp}
 use Rattle.std.proofs.lemmas.Slice.Eq.{starts_is}
 use Rattle.zk_turns.proofs.Lists.{same_text, bytes_eq-refl}
-use Rattle.zk_history.specs.History.{Name}
+use Rattle.zk_nodes.specs.Path.{Name}
 use Rattle.zk_conclusions.specs.Holders.{HasPrefix, is_before, is_rival, IsFirstOf}
 
 -- the test of a prefix

@@ -1,7 +1,6 @@
 -- What a client shows of a holder, put together from what its parts say.
 use Rattle.std.proofs.Common.{◌≡◌, ◌↔◌, ℤ, Bool, true, false, [], ◌∷◌, Option, Some, None, refl, sym, ap, ◌∙◌, subst}
-use Rattle.zk_history.specs.History.{Text, Name, NodePath, path_of}
-use Rattle.zk_history.specs.Path.{is_below, name_of}
+use Rattle.zk_nodes.specs.Path.{Text, Name, NodePath, path_of, is_below, name_of}
 use Rattle.zk_cache.specs.declared.held.Kept.{Kept}
 use Rattle.zk_cache.specs.declared.held.Mark.{Mark}
 use Rattle.zk_cache.specs.declared.held.Mark.TheVariants.{Good, Stale}

@@ -3,9 +3,10 @@ use Rattle.std.specs.Prelude.{ℕ, ℤ, pos, ◌≡◌, ◌≢◌, nat_eq, ◌�
 use Rattle.std.specs.List.{starts_with}
 use Rattle.std.specs.Ordering.{int_eq, is_lt}
 use Rattle.std.specs.FinSet as set
-use Rattle.zk_history.specs.History.{Text, Name, NodePath, Node, Tree, History, IsHistory, tree_at, path_of}
-use Rattle.zk_history.specs.Replay.{name_cmp, Names as NameSet}
-use Rattle.zk_history.specs.declared.data_stat.DataStat.{DataStat}
+use Rattle.zk_nodes.specs.Path.{Text, Name, NodePath, path_of}
+use Rattle.zk_nodes.specs.History.{Node, Tree, History, IsHistory, tree_at}
+use Rattle.zk_nodes.specs.Names.{name_cmp, Names as NameSet}
+use Rattle.zk_nodes.specs.declared.data_stat.DataStat.{DataStat}
 use Rattle.zk_cache.specs.declared.held.Kept.{Kept}
 use Rattle.zk_cache.specs.Kept.{Answer, Absent, Known, Full, Names, good, is_good}
 use Rattle.zk_turns.specs.View.{View}

@@ -1,5 +1,5 @@
 -- Of which histories a client may show something.
-use Rattle.zk_history.specs.History.{Tree, History, IsHistory, tree_at}
+use Rattle.zk_nodes.specs.History.{Tree, History, IsHistory, tree_at}
 use Rattle.std.specs.Prelude.{List}
 use Rattle.zk_turns.specs.Turns.{Start, Item}
 use Rattle.zk_turns.specs.View.{View}

@@ -2,8 +2,9 @@
 use Rattle.std.specs.Prelude.{◌≡◌, Bool, true, ◌&&◌, List, Option}
 use Rattle.std.specs.List.{list_all}
 use Rattle.zk_turns.specs.Meaning.{Among}
-use Rattle.zk_history.specs.History.{Text, Tree, History, path_of, view as to_see}
-use Rattle.zk_history.specs.declared.side.Side.TheVariants.{Data, Child}
+use Rattle.zk_nodes.specs.Path.{Text, path_of}
+use Rattle.zk_nodes.specs.History.{Tree, History, view as to_see}
+use Rattle.zk_nodes.specs.declared.side.Side.TheVariants.{Data, Child}
 use Rattle.zk_cache.specs.declared.held.Kept.{Kept}
 use Rattle.zk_cache.specs.Kept.{Answer, Names, good, is_marked_good}
 use Rattle.zk_turns.specs.View.{View, Cache}

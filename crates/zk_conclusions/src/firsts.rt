@@ -4,8 +4,7 @@ ghost use Rattle.std.specs.Prelude.{◌≡◌, ◌↔◌, ◌∷◌, nat_eq, IsT
 ghost use Rattle.std.specs.List.{list_any, starts_with};
 ghost use Rattle.zk_cache.specs.Contents.{names_in};
 ghost use Rattle.zk_client.specs.Clients.{view_of};
-ghost use Rattle.zk_history.specs.History.{Name, path_of};
-ghost use Rattle.zk_history.specs.Path.{is_below};
+ghost use Rattle.zk_nodes.specs.Path.{Name, path_of, is_below};
 ghost use Rattle.zk_conclusions.specs.Holders.{is_before, is_rival, HasPrefix, IsFirstOf, IsShownFirst};
 
 use std::alloc::Allocator;

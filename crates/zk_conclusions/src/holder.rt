@@ -21,7 +21,8 @@ pub struct Holder<'a, A: Allocator + Copy = Global> {
 impl<'a, A: Allocator + Copy> Holder<'a, A> {
     ghost use Rattle.std.specs.Prelude.{◌≡◌, ℤ, None, IfSome};
     ghost use Rattle.zk_client.specs.Clients.{view_of};
-    ghost use Rattle.zk_history.specs.History.{History, path_of};
+    ghost use Rattle.zk_nodes.specs.Path.{path_of};
+    ghost use Rattle.zk_nodes.specs.History.{History};
     ghost use Rattle.zk_conclusions.specs.Seen.{IsServedFrom, tree_seen};
     ghost use Rattle.zk_conclusions.specs.Holders.{IsHolder, ShowsHolder};
 

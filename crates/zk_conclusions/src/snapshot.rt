@@ -24,8 +24,9 @@ pub struct Snapshot<'a, A: Allocator + Copy = Global> {
 
 impl<'a, A: Allocator + Copy> Snapshot<'a, A> {
     ghost use Rattle.std.specs.Prelude.{◌≡◌, ◌↔◌, ◌<◌, Some, IfSome, IsSome, true, length, slice_get};
-    ghost use Rattle.zk_history.specs.History.{Text, History, path_of, view};
-    ghost use Rattle.zk_history.specs.declared.side.Side.TheVariants as sides;
+    ghost use Rattle.zk_nodes.specs.Path.{Text, path_of};
+    ghost use Rattle.zk_nodes.specs.History.{History, view};
+    ghost use Rattle.zk_nodes.specs.declared.side.Side.TheVariants as sides;
     ghost use Rattle.zk_cache.specs.Contents.{answer_of, names_in};
     ghost use Rattle.zk_cache.specs.Kept.{good};
     ghost use Rattle.zk_laws.specs.Server.{Fits, FitsNames};

@@ -7,7 +7,7 @@ use Rattle.zk_jute.specs.Layout.{Value}
 use Rattle.zk_jute.specs.Lenient.{or_empty}
 use Rattle.zk_jute.specs.Reading.{reading}
 use Rattle.zk_records.specs.declared.event.Event.{Event}
-use Rattle.zk_records.specs.declared.header.ReplyHeader.{ReplyHeader}
+use Rattle.zk_records.specs.declared.reply_header.ReplyHeader.{ReplyHeader}
 use Rattle.zk_records.specs.Events.{event_of}
 use Rattle.zk_records.specs.Layouts.{reply_header, watcher_event}
 use Rattle.zk_records.specs.Response.{Response, response_at}

@@ -2,8 +2,8 @@
 use Rattle.std.proofs.Common.{◌≡◌, ℕ, ◌+◌, ◌-◌, ◌≤◌, ℤ, Bool, true, false, cond, ltb, lt-ltb, ◌||◌, List, [], ◌∷◌, ◌++◌, length, refl, sym, ap, ◌∙◌, arith, length-append}
 use Rattle.std.specs.List.{filter, list_any}
 use Rattle.std.proofs.lemmas.List.Elements.{filter-append}
-use Rattle.zk_history.specs.declared.side.Side.{Side}
-use Rattle.zk_history.specs.declared.side.Side.TheVariants.{Data, Child}
+use Rattle.zk_nodes.specs.declared.side.Side.{Side}
+use Rattle.zk_nodes.specs.declared.side.Side.TheVariants.{Data, Child}
 use Rattle.zk_conversation.specs.declared.counts.Counts.{Counts}
 use Rattle.zk_conversation.specs.Questions.{Question}
 use Rattle.zk_conversation.specs.Pending.{Pending, Waiting, Part_waits, Call_waits, is_call, is_close, waits_to_watch, calls_pending, watches_pending}

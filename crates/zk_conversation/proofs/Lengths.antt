@@ -1,17 +1,19 @@
 -- How long requests are.
-use Rattle.std.proofs.Common.{◌≡◌, ℕ, ◌+◌, ℤ, Bool, true, false, List, length, Option, Some, None, refl, arith, length-append}
+use Rattle.std.proofs.Common.{◌≡◌, ℕ, ◌+◌, ℤ, Bool, true, false, List, [], ◌∷◌, map, pos, length, Option, Some, None, refl, arith, length-append}
+use Rattle.std.specs.List.{flat_map}
 use Rattle.zk_jute.specs.Lenient.{or_empty}
-use Rattle.zk_jute.specs.Layout.{vector}
+use Rattle.zk_jute.specs.Layout.{ustring, vector}
 use Rattle.zk_jute.specs.Spelling.{int_bytes, long_bytes, boolean_bytes, counted_bytes, spelling}
 use Rattle.zk_records.specs.Layouts.{acl}
 use Rattle.zk_records.specs.OpenAcl.{open_acl}
-use Rattle.zk_conversation.specs.Calls.{Exists, GetData, GetChildren, SetData, Create, Delete, Close, call_payload, connect_payload, ping_payload}
+use Rattle.zk_conversation.specs.Calls.{Exists, GetData, GetChildren, SetData, Create, Delete, Close, call_payload, connect_payload, part_payload, ping_payload}
+use Rattle.zk_nodes.specs.Path.{Text}
 
-length-int : (z : ℤ) → length (int_bytes z) ≡ 4
+pub length-int : (z : ℤ) → length (int_bytes z) ≡ 4
 unfolding int_bytes
 length-int z = refl
 
-length-long : (z : ℤ) → length (long_bytes z) ≡ 8
+pub length-long : (z : ℤ) → length (long_bytes z) ≡ 8
 unfolding long_bytes
 length-long z = refl
 
@@ -19,7 +21,7 @@ length-boolean : (b : Bool) → length (boolean_bytes b) ≡ 1
 length-boolean true = refl
 length-boolean false = refl
 
-length-counted : (bytes : Option (List ℕ)) → length (counted_bytes (λ b. b) bytes) ≡ 4 + length (or_empty bytes)
+pub length-counted : (bytes : Option (List ℕ)) → length (counted_bytes (λ b. b) bytes) ≡ 4 + length (or_empty bytes)
 unfolding counted_bytes int_bytes
 length-counted None = refl
 length-counted (Some bytes) = omega arith
@@ -63,3 +65,32 @@ length-connect last timeout session password = simp (length-append, length-int, 
 pub length-ping : length ping_payload ≡ 8
 unfolding ping_payload
 length-ping = simp (length-append, length-int) (omega arith)
+
+-- the bytes that these paths take
+abbrev pub weights : List Text → ℕ
+weights [] = 0
+weights (path ∷ paths) = (4 + length path) + weights paths
+
+pub length-text : (text : Text) → length (spelling ustring (Some text)) ≡ 4 + length text
+unfolding counted_bytes int_bytes
+length-text text = omega arith
+
+pub length-texts : (texts : List Text) → length (flat_map (spelling ustring) (map Some texts)) ≡ weights texts
+length-texts [] = refl
+length-texts (text ∷ texts) =
+    let a = length-append (spelling ustring (Some text)) (flat_map (spelling ustring) (map Some texts)) in
+    let b = length-text text in
+    let c = length-texts texts in
+    omega arith
+
+pub length-vector : (texts : List Text) → length (counted_bytes (flat_map (spelling ustring)) (Some (map Some texts))) ≡ 4 + weights texts
+unfolding counted_bytes
+length-vector texts =
+    let a = length-append (int_bytes (pos (length (map Some texts)))) (flat_map (spelling ustring) (map Some texts)) in
+    let b = length-int (pos (length (map Some texts))) in
+    let c = length-texts texts in
+    omega arith
+
+pub length-part : (relative : ℤ) (known missing parents : List Text) → length (part_payload relative known missing parents) ≡ 28 + (weights known + (weights missing + weights parents))
+unfolding part_payload
+length-part relative known missing parents = simp (length-append, length-int, length-long, length-vector) (omega arith)

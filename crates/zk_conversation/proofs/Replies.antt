@@ -2,7 +2,7 @@
 use Rattle.std.proofs.Common.{◌≡◌, ◌<◌, ◌≤◌, ℕ, List, [], ◌∷◌, true, length, drop, map, get_or, Ok, refl, ap, sym, arith}
 use Rattle.std.specs.Ordering.{int_eq}
 use Rattle.std.proofs.lemmas.Bool.Decides.{Decides-int_eq}
-use Rattle.zk_records.specs.declared.header.ReplyHeader.{ReplyHeader}
+use Rattle.zk_records.specs.declared.reply_header.ReplyHeader.{ReplyHeader}
 use Rattle.zk_conversation.specs.declared.counts.Counts.{Counts}
 use Rattle.zk_conversation.specs.Results.{Result as Found}
 use Rattle.zk_conversation.specs.Pending.{Pending, Waiting, Part_waits, Call_waits}
@@ -10,6 +10,7 @@ use Rattle.zk_conversation.specs.Counted.{counts_without}
 use Rattle.zk_conversation.specs.Arriving.{call_arriving, reply_arriving, oldest_arriving, pending_after}
 use Rattle.zk_conversation.specs.Lent.{awaited_result}
 use Rattle.zk_conversation.specs.Arrives.{arrival_for}
+use Rattle.zk_limits.specs.declared.limits.TheConstants.{MOST_PENDING}
 
 -- what waits gets what was read of its reply
 reply-read : (waiting : Waiting) (header : ReplyHeader) (end : ℕ) (bytes : List ℕ) (found : Found) → awaited_result waiting header.err end bytes ≡ Ok found
@@ -36,7 +37,7 @@ pub none-left : {X : Type 0} (xs : List X) → length xs ≤ 0 → xs ≡ []
 none-left [] none = refl
 none-left (x ∷ xs) none = absurd (omega arith)
 
-pub fewer : (counts : Counts) (waiting : Waiting) → counts.calls ≤ 1024 → let left = counts_without counts waiting in left.calls ≤ 1024
+pub fewer : (counts : Counts) (waiting : Waiting) → counts.calls ≤ MOST_PENDING → let left = counts_without counts waiting in left.calls ≤ MOST_PENDING
 fewer counts (Part_waits last) few = few
 fewer counts (Call_waits ticket question) few = omega arith
 

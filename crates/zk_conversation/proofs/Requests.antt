@@ -13,14 +13,15 @@ use Rattle.zk_conversation.specs.Pending.{Pending, Talk, Call_waits, next_xid, t
 use Rattle.zk_conversation.specs.Questions.{Question, question_of}
 use Rattle.zk_conversation.proofs.Counting.{are_calls}
 use Rattle.zk_conversation.proofs.Lengths.{length-connect, length-ping}
+use Rattle.zk_limits.specs.declared.limits.TheConstants.{LONGEST_OUTGOING, LONGEST_PASSWORD, MOST_PENDING}
 
-pub connect-small : (last timeout session : ℤ) (password : List ℕ) → length password ≤ 4194284 → length (connect_payload last timeout session password) < 2 ^ 30
+pub connect-small : (last timeout session : ℤ) (password : List ℕ) → length password ≤ LONGEST_PASSWORD → length (connect_payload last timeout session password) < 2 ^ 30
 connect-small last timeout session password short = omega (arith, length-connect last timeout session password)
 
 pub ping-small : length ping_payload < 2 ^ 30
 ping-small = omega (arith, length-ping)
 
-pub small : (n : ℕ) → n ≤ 1048575 → n < 2 ^ 30
+pub small : (n : ℕ) → n ≤ LONGEST_OUTGOING → n < 2 ^ 30
 small n le = omega arith
 
 -- a part, where the texts of its lists are lent
@@ -36,7 +37,7 @@ pub record AreSmall (counts : Counts) : Type 0 where
   pub on_child : counts.on_child < 2 ^ 31
   pub closes : counts.closes < 2 ^ 31
 
-pub counts-small : (counts : Counts) (pending : List Pending) → counts ≡ counts_of pending → counts.calls ≤ 1024 → AreSmall counts
+pub counts-small : (counts : Counts) (pending : List Pending) → counts ≡ counts_of pending → counts.calls ≤ MOST_PENDING → AreSmall counts
 counts-small counts pending e few =
     let calls = ap (λ (n : Counts). n.calls) e in
     let are = are_calls pending in

@@ -3,7 +3,7 @@ use Rattle.std.specs.Prelude.{◌≡◌, ◌≢◌, ℕ, Bool, false, ◌&&◌, 
 use Rattle.std.specs.Ordering.{int_eq}
 use Rattle.std.specs.Prelude.{Result as Reading}
 use Rattle.zk_jute.specs.Reading.{reading}
-use Rattle.zk_records.specs.declared.header.ReplyHeader.{ReplyHeader}
+use Rattle.zk_records.specs.declared.reply_header.ReplyHeader.{ReplyHeader}
 use Rattle.zk_records.specs.Layouts.{reply_header}
 use Rattle.zk_conversation.specs.declared.arrival.Arrival.{Arrival}
 use Rattle.zk_conversation.specs.declared.fault.TalkFault.{TalkFault}

@@ -3,12 +3,12 @@ use Rattle.std.specs.Prelude.{ℕ, ℤ, negsuc, Bool, List, [], ◌∷◌, lengt
 use Rattle.std.specs.Prelude.{Result as Reading}
 use Rattle.std.specs.Ordering.{int_eq}
 use Rattle.zk_jute.specs.declared.fault.TakeError.{TakeError}
-use Rattle.zk_history.specs.History.{Text}
+use Rattle.zk_nodes.specs.Path.{Text}
 use Rattle.zk_jute.specs.Layout.{Value}
 use Rattle.zk_jute.specs.Lenient.{or_empty}
 use Rattle.zk_jute.specs.Reading.{reading}
 use Rattle.zk_records.specs.declared.event.Event.{Event}
-use Rattle.zk_records.specs.declared.header.ReplyHeader.{ReplyHeader}
+use Rattle.zk_records.specs.declared.reply_header.ReplyHeader.{ReplyHeader}
 use Rattle.zk_records.specs.Layouts.{reply_header, watcher_event}
 use Rattle.zk_records.specs.Events.{event_of}
 use Rattle.zk_records.specs.Response.{Response, response_at}

@@ -1,6 +1,6 @@
 -- What a caller asks, and the payload of each request.
 use Rattle.std.specs.Prelude.{ℕ, ℤ, pos, negsuc, Bool, false, List, map, Option, Some}
-use Rattle.zk_history.specs.History.{Text}
+use Rattle.zk_nodes.specs.Path.{Text}
 use Rattle.zk_jute.specs.Layout.{Value}
 use Rattle.zk_jute.specs.Spelling.{spelling}
 use Rattle.zk_records.specs.declared.operation.Operation.{Operation}

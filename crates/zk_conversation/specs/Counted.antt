@@ -1,9 +1,10 @@
 -- Counts of what is pending.
 use Rattle.std.specs.Prelude.{ℕ, ◌+◌, ◌-◌, ◌≤◌, ◌<◌, ◌^◌, ◌≡◌, Bool, List, length, filter, if◌then◌else◌}
-use Rattle.zk_history.specs.declared.side.Side.TheVariants.{Data, Child}
+use Rattle.zk_nodes.specs.declared.side.Side.TheVariants.{Data, Child}
 use Rattle.zk_conversation.specs.declared.counts.Counts.{Counts}
 use Rattle.zk_conversation.specs.Questions.{Question, watched_side}
-use Rattle.zk_conversation.specs.Pending.{Pending, Waiting, Part_waits, Call_waits, most_pending, is_close, closes, is_on, calls_pending, watches_pending}
+use Rattle.zk_conversation.specs.Pending.{Pending, Waiting, Part_waits, Call_waits, is_close, closes, is_on, calls_pending, watches_pending}
+use Rattle.zk_limits.specs.declared.limits.TheConstants.{MOST_PENDING}
 
 abbrev pub one_if : Bool → ℕ
 one_if b = if b then 1 else 0
@@ -39,6 +40,6 @@ counts_without counts (Call_waits ticket question) = counts_without_call counts 
 -- what is true of the counts and the next xid of every conversation
 pub record IsCounted (pending : List Pending) (counts : Counts) (xid : ℕ) : Type 0 where
   pub counted : counts ≡ counts_of pending
-  pub few : counts.calls ≤ most_pending
+  pub few : counts.calls ≤ MOST_PENDING
   pub first : 1 ≤ xid
   pub below : xid < 2 ^ 31

@@ -1,7 +1,7 @@
 -- What holds of the reading of payloads, and of what a connection leaves.
 use Rattle.std.specs.Prelude.{◌≡◌, ℕ, ℤ, List, [], ◌∷◌, length, Ok, MatchOption}
 use Rattle.zk_jute.specs.Reading.{reading}
-use Rattle.zk_records.specs.declared.header.ReplyHeader.{ReplyHeader}
+use Rattle.zk_records.specs.declared.reply_header.ReplyHeader.{ReplyHeader}
 use Rattle.zk_records.specs.Layouts.{reply_header}
 use Rattle.zk_conversation.specs.declared.phase.Phase.TheVariants.{Talking}
 use Rattle.zk_conversation.specs.Questions.{Question}

@@ -7,7 +7,7 @@ use Rattle.zk_jute.specs.declared.fault.TakeError.TheVariants.{Memory}
 use Rattle.zk_jute.specs.Layout.{Value}
 use Rattle.zk_jute.specs.Lenient.{or_empty}
 use Rattle.zk_jute.specs.Reading.{◌>>=◌, reading}
-use Rattle.zk_history.specs.StatLayout.{stat}
+use Rattle.zk_nodes.specs.StatLayout.{stat}
 use Rattle.zk_records.specs.Layouts.{reply_header, get_data_response, get_children2_response, create_response}
 use Rattle.zk_conversation.specs.Questions.{Question, GetChildren}
 use Rattle.zk_conversation.specs.Results.{Result, Found, Read, Listing, Made, Done, stat_of, texts_of, result_of}

@@ -1,8 +1,8 @@
 -- What is pending on a connection: the requests whose replies are awaited, in the order of asking.
 use Rattle.std.specs.Prelude.{ℕ, ℤ, pos, ◌+◌, ◌==◌, Bool, true, false, List, [], ◌∷◌, ◌++◌, filter, length, Option, Some, None, is_some, option_to_list, if◌then◌else◌}
 use Rattle.std.specs.List.{list_any}
-use Rattle.zk_history.specs.declared.side.Side.{Side}
-use Rattle.zk_history.specs.declared.side.Side.TheVariants.{Data, Child}
+use Rattle.zk_nodes.specs.declared.side.Side.{Side}
+use Rattle.zk_nodes.specs.declared.side.Side.TheVariants.{Data, Child}
 use Rattle.zk_conversation.specs.declared.phase.Phase.{Phase}
 use Rattle.zk_conversation.specs.declared.phase.Phase.TheVariants.{Closed, Opening}
 use Rattle.zk_conversation.specs.Calls.{Call, part_xid}
@@ -33,8 +33,6 @@ abbrev pub cut_off : Talk → Talk
 cut_off talk = record { phase = Closed; pending = talk.pending; xid = talk.xid }
 
 -- the most calls that are pending at a time; parts are not counted
-abbrev pub most_pending : ℕ
-most_pending = 1024
 
 -- xids run from 1 to 2,147,483,647, and then from 1 again
 abbrev pub next_xid : ℕ → ℕ

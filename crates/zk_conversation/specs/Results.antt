@@ -6,9 +6,9 @@ use Rattle.std.specs.Ordering.{int_eq}
 use Rattle.zk_jute.specs.declared.fault.TakeError.{TakeError}
 use Rattle.zk_jute.specs.Layout.{Layout, nothing, Value}
 use Rattle.zk_jute.specs.Reading.{◌>>=◌, reading}
-use Rattle.zk_history.specs.declared.stat.Stat.{Stat}
-use Rattle.zk_history.specs.StatLayout.{stat}
-use Rattle.zk_history.specs.History.{Text}
+use Rattle.zk_nodes.specs.declared.stat.Stat.{Stat}
+use Rattle.zk_nodes.specs.StatLayout.{stat}
+use Rattle.zk_nodes.specs.Path.{Text}
 use Rattle.zk_jute.specs.Lenient.{or_empty}
 use Rattle.zk_records.specs.Layouts.{get_data_response, get_children2_response, create_response}
 use Rattle.zk_records.specs.Response.{Response}

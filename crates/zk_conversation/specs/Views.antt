@@ -21,7 +21,7 @@ use Rattle.zk_conversation.specs.declared.result.ReplyResult.TheVariants as repl
 use Rattle.zk_jute.specs.Lenient.{or_empty}
 use Rattle.zk_records.specs.Codes.{code_number}
 use Rattle.zk_conversation.specs.Results.{Result, NoNode, Refused, Found, Read, Listing, Made, Done}
-use Rattle.zk_records.specs.declared.lent_watches.SetWatchesRef.{SetWatchesRef}
+use Rattle.zk_records.specs.declared.set_watches.SetWatchesRef.{SetWatchesRef}
 use Rattle.zk_conversation.specs.Calls.{part_payload, Call, Exists, GetData, GetChildren, SetData, Create, Delete, Close}
 use Rattle.zk_conversation.specs.Questions.{Question}
 use Rattle.zk_conversation.specs.Questions as question

@@ -11,9 +11,9 @@ ghost use Rattle.zk_conversation.specs.Views.{call_view, question_view, mode_num
 use crate::frame::request_frame;
 use crate::question::Question;
 use std::alloc::{AllocError, Allocator, Global};
-use zk_frames::LONGEST_OUTGOING;
-use zk_history::Path;
 use zk_jute::{BytesRef, Nothing};
+use zk_limits::LONGEST_OUTGOING;
+use zk_nodes::Path;
 use zk_records::{CreateRequestRef, DeleteRef, Operation, ReadRequestRef, SetDataRef};
 
 /// What a caller asks of a server. A `watch` asks to leave a watch on the path.
@@ -108,7 +108,7 @@ impl<A: Allocator + Copy> Call<A> {
     }
 
     /// How many bytes the payload of its request has, whatever its xid.
-    pub(crate) fn payload_length(&self) -> usize
+    pub fn payload_length(&self) -> usize
         ensures { (xid : ℤ) → length (call_payload xid (call_view self.now)) ≡ result }
     {
         match self {

@@ -3,11 +3,11 @@
 ghost use Rattle.std.specs.Prelude.{◌≡◌, ◌≢◌, ◌<◌, ◌≤◌, ◌^◌, ◌++◌, ◌∷◌, pos, [], length, true, IfOk, OnOk, OnErr, IsErrOf};
 ghost use Rattle.zk_frames.specs.Frame.{frame};
 ghost use Rattle.zk_jute.specs.Cursor.{bytes_left, payload_len};
-ghost use Rattle.zk_history.specs.declared.side.Side.TheVariants.{Data, Child};
+ghost use Rattle.zk_nodes.specs.declared.side.Side.TheVariants.{Data, Child};
 ghost use Rattle.zk_conversation.specs.Arrives.{Answers, RepliesTo, names_next};
 ghost use Rattle.zk_conversation.specs.Calls.{call_payload, connect_payload, ping_payload};
 ghost use Rattle.zk_conversation.specs.Lent.{names_arrive};
-ghost use Rattle.zk_conversation.specs.Pending.{Talk, Call_waits, most_pending, next_xid, tickets, calls_pending, watches_pending, is_close_pending, new_talk, talk_opened, talk_asked, talk_watching, cut_off, taken_ticket, talk_taken};
+ghost use Rattle.zk_conversation.specs.Pending.{Talk, Call_waits, next_xid, tickets, calls_pending, watches_pending, is_close_pending, new_talk, talk_opened, talk_asked, talk_watching, cut_off, taken_ticket, talk_taken};
 ghost use Rattle.zk_conversation.specs.Views.{call_view, payload_of_part, question_view};
 
 use crate::arrival::Arrival;
@@ -24,15 +24,9 @@ use crate::taking::take_call;
 use std::alloc::{AllocError, Allocator};
 use std::collections::VecDeque;
 use std::marker::Model;
-use zk_frames::LONGEST_OUTGOING;
 use zk_jute::{Cursor, Nothing};
+use zk_limits::{LONGEST_OUTGOING, LONGEST_PASSWORD, MOST_PENDING};
 use zk_records::{Operation, ReplyHeader, SetWatchesRef};
-
-/// The most calls that are pending at a time. Parts of setWatches are not counted.
-pub const MOST_PENDING: u32 = 1_024;
-
-/// The longest password that a ConnectRequest carries: the longest that a response of 4,194,304 bytes can bring.
-pub const LONGEST_PASSWORD: usize = 4_194_284;
 
 // The reserved xids.
 const NOTICE_XID: i32 = -1;
@@ -135,7 +129,7 @@ impl<A: Allocator + Copy> Conversation<A> {
     /// How much is pending. It is counted as requests come and go, so the call takes constant time.
     pub fn pending(&self) -> Pending
         ensures calls { result.calls ≡ calls_pending self.now.pending }
-        ensures few { result.calls ≤ most_pending }
+        ensures few { result.calls ≤ MOST_PENDING }
         ensures on_data { result.on_data ≡ watches_pending Data self.now.pending }
         ensures on_child { result.on_child ≡ watches_pending Child self.now.pending }
         ensures close { result.close ≡ is_close_pending self.now.pending }
@@ -177,28 +171,10 @@ impl<A: Allocator + Copy> Conversation<A> {
         ensures xid { IfOk result (λ asked. asked.xid ≡ pos self.old.xid) }
         ensures ok { OnOk result (self.new ≡ talk_asked ticket (call_view call) self.old) }
         ensures err { OnErr result (self.new ≡ self.old) }
-        ensures fits { OnOk result ((length (call_payload (pos self.old.xid) (call_view call)) ≤ LONGEST_OUTGOING) × (calls_pending self.old.pending < most_pending)) }
+        ensures fits { OnOk result ((length (call_payload (pos self.old.xid) (call_view call)) ≤ LONGEST_OUTGOING) × (calls_pending self.old.pending < MOST_PENDING)) }
         ensures too_large { IsErrOf result AskFault.TooLarge → LONGEST_OUTGOING < length (call_payload (pos self.old.xid) (call_view call)) }
-        ensures too_many { IsErrOf result AskFault.TooMany → (length (call_payload (pos self.old.xid) (call_view call)) ≤ LONGEST_OUTGOING) × (most_pending ≤ calls_pending self.old.pending) }
-        ensures memory { IsErrOf result AskFault.Memory → (length (call_payload (pos self.old.xid) (call_view call)) ≤ LONGEST_OUTGOING) × (calls_pending self.old.pending < most_pending) }
-    {
-        let xid = self.xid as i32;
-        match self.request(&call) {
-            Ok(frame) => {
-                self.awaits(ticket, call.into_question())?;
-                Ok(Asked { xid, frame })
-            }
-            Err(fault) => Err(fault),
-        }
-    }
-
-    // The frame of the call's request, where it may be sent.
-    fn request(&self, call: &Call<A>) -> Result<Vec<u8, A>, AskFault>
-        ensures frame { IfOk result (λ out. out.items ≡ frame (call_payload (pos self.now.xid) (call_view call.now))) }
-        ensures fits { OnOk result ((length (call_payload (pos self.now.xid) (call_view call.now)) ≤ LONGEST_OUTGOING) × (calls_pending self.now.pending < most_pending)) }
-        ensures too_large { IsErrOf result AskFault.TooLarge → LONGEST_OUTGOING < length (call_payload (pos self.now.xid) (call_view call.now)) }
-        ensures too_many { IsErrOf result AskFault.TooMany → (length (call_payload (pos self.now.xid) (call_view call.now)) ≤ LONGEST_OUTGOING) × (most_pending ≤ calls_pending self.now.pending) }
-        ensures memory { IsErrOf result AskFault.Memory → (length (call_payload (pos self.now.xid) (call_view call.now)) ≤ LONGEST_OUTGOING) × (calls_pending self.now.pending < most_pending) }
+        ensures too_many { IsErrOf result AskFault.TooMany → (length (call_payload (pos self.old.xid) (call_view call)) ≤ LONGEST_OUTGOING) × (MOST_PENDING ≤ calls_pending self.old.pending) }
+        ensures memory { IsErrOf result AskFault.Memory → (length (call_payload (pos self.old.xid) (call_view call)) ≤ LONGEST_OUTGOING) × (calls_pending self.old.pending < MOST_PENDING) }
     {
         if call.payload_length() > LONGEST_OUTGOING {
             return Err(AskFault::TooLarge);
@@ -206,12 +182,29 @@ impl<A: Allocator + Copy> Conversation<A> {
         if self.counts.calls >= MOST_PENDING {
             return Err(AskFault::TooMany);
         }
-        Ok(call.frame(self.alloc, self.xid as i32)?)
+        Ok(self.send(ticket, call)?)
+    }
+
+    /// Asks as [`ask`](Conversation::ask) does, for a caller that has seen that the call may be sent. Fails for memory alone,
+    /// and the conversation is as it was then.
+    pub fn send(&mut self, ticket: u64, call: Call<A>) -> Result<Asked<A>, AllocError>
+        requires talking { self.old.phase ≡ Phase.Talking }
+        requires fits { length (call_payload (pos self.old.xid) (call_view call)) ≤ LONGEST_OUTGOING }
+        requires few { calls_pending self.old.pending < MOST_PENDING }
+        ensures frame { IfOk result (λ asked. asked.frame.items ≡ frame (call_payload (pos self.old.xid) (call_view call))) }
+        ensures xid { IfOk result (λ asked. asked.xid ≡ pos self.old.xid) }
+        ensures ok { OnOk result (self.new ≡ talk_asked ticket (call_view call) self.old) }
+        ensures err { OnErr result (self.new ≡ self.old) }
+    {
+        let xid = self.xid as i32;
+        let frame = call.frame(self.alloc, xid)?;
+        self.awaits(ticket, call.into_question())?;
+        Ok(Asked { xid, frame })
     }
 
     // A call was asked under the next xid, and its reply is awaited.
     fn awaits(&mut self, ticket: u64, question: Question<A>) -> Result<(), AllocError>
-        requires { calls_pending self.old.pending < most_pending }
+        requires { calls_pending self.old.pending < MOST_PENDING }
         ensures ok { OnOk result (self.new ≡ record { phase = self.old.phase; pending = self.old.pending ++ record { xid = pos self.old.xid; waiting = Call_waits ticket (question_view question) } ∷ []; xid = next_xid self.old.xid }) }
         ensures err { OnErr result (self.new ≡ self.old) }
     {

@@ -25,7 +25,7 @@ mod taking;
 pub use arrival::Arrival;
 pub use call::{Call, CreateMode};
 pub use connect::Connect;
-pub use conversation::{Asked, Conversation, LONGEST_PASSWORD, MOST_PENDING, Pending};
+pub use conversation::{Asked, Conversation, Pending};
 pub use fault::{AskFault, TalkFault};
 pub use phase::Phase;
 pub use question::Question;

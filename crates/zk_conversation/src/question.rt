@@ -6,7 +6,7 @@ ghost use Rattle.zk_conversation.specs.Pending.{closes};
 ghost use Rattle.zk_conversation.specs.Views.{question_view};
 
 use std::alloc::Allocator;
-use zk_history::Path;
+use zk_nodes::Path;
 use zk_records::Side;
 
 /// The kind of a call, its path, and whether it is to leave a watch. Of a write no data are kept.

@@ -7,9 +7,8 @@ use Rattle.std.specs.List.{AllByRecursion}
 use Rattle.std.specs.List.Sorted.{IsStrictlySortedBy}
 use Rattle.std.specs.String.{string_cmp}
 use Rattle.std.specs.declared.cmp.Ordering.TheVariants.{Less}
-use Rattle.zk_history.specs.NamesKept.{names_of}
-use Rattle.zk_history.specs.Replay.{name_cmp}
-use Rattle.zk_history.specs.declared.answer.Names.{Names}
+use Rattle.zk_nodes.specs.Names.{names_of, name_cmp}
+use Rattle.zk_nodes.specs.declared.names.Names.{Names}
 use Rattle.zk_cache.specs.Contents.{names_in}
 use Rattle.zk_cache.specs.declared.held.Mark.{Mark}
 use Rattle.zk_device.specs.declared.kept.KeptNames.{KeptNames}

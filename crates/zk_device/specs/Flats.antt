@@ -1,8 +1,8 @@
 -- Outputs as numbers, and the text that stands apart.
 use Rattle.std.specs.Prelude.{ℕ, ℤ, pos, true, false, List, [], length, Some, None, string_bytes}
-use Rattle.zk_history.specs.declared.side.Side.{Side}
-use Rattle.zk_history.specs.declared.side.Side.TheVariants.{Data, Child}
-use Rattle.zk_history.specs.declared.stat.Stat.{Stat}
+use Rattle.zk_nodes.specs.declared.side.Side.{Side}
+use Rattle.zk_nodes.specs.declared.side.Side.TheVariants.{Data, Child}
+use Rattle.zk_nodes.specs.declared.stat.Stat.{Stat}
 use Rattle.zk_records.specs.Codes.{code_number}
 use Rattle.zk_records.specs.Events.{event_number}
 use Rattle.zk_client.specs.declared.call_result.CallResult.{CallResult}

@@ -3,8 +3,8 @@ use Rattle.std.specs.Prelude.{◌≡◌, ◌++◌, ℕ, ℤ, pos, true, false, L
 use Rattle.std.specs.List.{slice_get}
 use Rattle.std.specs.List.Sorted.{IsStrictlySortedBy}
 use Rattle.std.specs.FinSet as set
-use Rattle.zk_history.specs.declared.data_stat.DataStat.{DataStat}
-use Rattle.zk_history.specs.Replay.{Names, name_cmp}
+use Rattle.zk_nodes.specs.declared.data_stat.DataStat.{DataStat}
+use Rattle.zk_nodes.specs.Names.{Names, name_cmp}
 use Rattle.zk_cache.specs.Kept as cache
 use Rattle.zk_cache.specs.Kept.{Answer, Absent, Known, Full}
 use Rattle.zk_cache.specs.declared.held.Kept.{Kept}

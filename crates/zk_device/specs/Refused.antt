@@ -1,7 +1,7 @@
 -- When a number is told that is neither 0 nor that of a halt.
 use Rattle.std.specs.Prelude.{⊤, ◌≤ℤ◌, ◌<ℤ◌, ◌<◌, List, ℕ, zero, suc, ℤ, pos, negsuc, IsSome}
 use Rattle.std.specs.Str.{IsUtf8}
-use Rattle.zk_history.specs.PathFault.{IsPath, fault_of}
+use Rattle.zk_nodes.specs.PathFault.{IsPath, fault_of}
 
 -- nothing is refused
 abbrev pub RefusesNothing : ℤ → Type 0

@@ -1,6 +1,6 @@
 -- A session that is put away and taken up, and the numbers of what is shown.
 use Rattle.std.specs.Prelude.{◌<◌, ◌^◌, ℕ, zero, suc, ℤ, pos, Result, unsigned_abs, MatchResult}
-use Rattle.zk_session.specs.Kept.{Saved}
+use Rattle.zk_session.specs.SessionView.{Saved}
 use Rattle.zk_session.specs.declared.states.State.{State}
 use Rattle.zk_session.specs.declared.states.State.TheVariants.{Idle, Connecting, Connected, Expired, Closed}
 use Rattle.zk_turns.specs.Turns.{Start}

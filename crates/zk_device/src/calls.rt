@@ -12,21 +12,9 @@ ghost use Rattle.zk_device.specs.Steps.{Halted, Heard, Steps};
 use crate::device::Device;
 use crate::paths::path_of;
 use crate::refusal::Refusal;
-use std::alloc::{AllocError, Global};
+use std::alloc::Global;
 use zk_client::{Call, CreateMode, Halt, Input};
-
-// Data of its own.
-fn owned(alloc: Global, bytes: Option<&[u8]>) -> Result<Option<Vec<u8, Global>>, AllocError>
-    ensures { IfOk result (λ owned. option_map (λ v. v.items) owned ≡ option_map (λ s. s.now) bytes.entry) }
-{
-    match bytes {
-        Some(bytes) => {
-            let owned = Vec::from_slice(alloc, bytes)?;
-            Ok(Some(owned))
-        }
-        None => Ok(None),
-    }
-}
+use zk_nodes::copied_data;
 
 fn set_data(
     alloc: Global,
@@ -38,7 +26,7 @@ fn set_data(
     ensures refused { IfErr result (λ refusal. RefusesPath path.now (refusal_code refusal)) }
 {
     let path = path_of(alloc, path)?;
-    let bytes = owned(alloc, bytes)?;
+    let bytes = copied_data(alloc, bytes)?;
     Ok(Call::SetData {
         path,
         bytes,
@@ -74,7 +62,7 @@ fn create(
         return Err(Refusal::NoSuchMode);
     };
     let path = path_of(alloc, path)?;
-    let bytes = owned(alloc, bytes)?;
+    let bytes = copied_data(alloc, bytes)?;
     Ok(Call::Create { path, bytes, mode })
 }
 

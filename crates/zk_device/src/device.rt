@@ -13,7 +13,8 @@ use crate::refusal::Refusal;
 use std::alloc::Global;
 use zk_client::{Client, Halt, Input, Output};
 
-/// A client, what it said at its last step, and how much of that was read.
+/// A client, what it said at its last step, and how much of that was read. Its methods stand by what they are about: calls in
+/// `calls`, what was said in `outputs`, what is kept in `kept`, the session in `sessions`, and here what comes from a connection.
 #[derive(Drop)]
 pub struct Device {
     pub client: Client<Global>,

@@ -1,7 +1,7 @@
 //! Paths from bytes.
 
 ghost use Rattle.std.specs.Prelude.{◌≡◌, IfOk, IfErr, OnOk};
-ghost use Rattle.zk_history.specs.PathFault.{IsPath};
+ghost use Rattle.zk_nodes.specs.PathFault.{IsPath};
 ghost use Rattle.zk_device.specs.Codes.{refusal_code};
 ghost use Rattle.zk_device.specs.Refused.{RefusesPath};
 

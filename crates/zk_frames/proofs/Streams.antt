@@ -3,7 +3,6 @@ use Rattle.std.proofs.Common.{subst, ◌≡◌, ℕ, ◌+◌, ◌≤◌, List, [
 use Rattle.std.proofs.lemmas.Nat.{from_be_bytes-to_be_bytes_4}
 use Rattle.std.proofs.lemmas.List.{append-nil}
 use Rattle.std.proofs.Math.Seq.{take-append_seam, drop-append_seam}
-use Rattle.zk_frames.specs.declared.reader.TheConstants.{LONGEST_INCOMING}
 use Rattle.std.specs.Prelude.{Err, None, MatchOption}
 use Rattle.zk_frames.specs.declared.fault.FrameFault.{FrameFault}
 use Rattle.zk_frames.specs.declared.fault.FrameFault.TheVariants.{Negative, TooLong, Memory}
@@ -12,6 +11,7 @@ use Rattle.zk_frames.specs.Frame.{frame, joined, length_field, IsNegative, IsToo
 use Rattle.zk_frames.specs.Held.{Held, reading, failed}
 use Rattle.zk_frames.specs.Stream.{Event, Run, fed, given, StreamIsKept, CutsDoNotMatter, StandsNext, FaultsStandNext}
 use Rattle.zk_frames.specs.Stream.Event.{Fed, Gave, Waits}
+use Rattle.zk_limits.specs.declared.limits.TheConstants.{LONGEST_INCOMING}
 
 -- the frames given and the bytes held are the bytes held before and the pieces fed
 kept_from : (es : List Event) (old new : Held) → Run old es new → joined (given es) ++ new.bytes ≡ old.bytes ++ fed es

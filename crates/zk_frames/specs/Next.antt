@@ -3,9 +3,9 @@ use Rattle.std.specs.Prelude.{◌≡◌, ℕ, ◌+◌, ◌<◌, ◌≤◌, List,
 use denote.Ref.{Bor}
 use Rattle.zk_frames.specs.declared.fault.FrameFault.{FrameFault}
 use Rattle.zk_frames.specs.declared.fault.FrameFault.TheVariants.{Negative, TooLong, Memory}
-use Rattle.zk_frames.specs.declared.reader.TheConstants.{LONGEST_INCOMING}
 use Rattle.zk_frames.specs.Frame.{frame, IsNegative, IsTooLong, IsUnfinished}
 use Rattle.zk_frames.specs.Held.{Held, failed}
+use Rattle.zk_limits.specs.declared.limits.TheConstants.{LONGEST_INCOMING}
 
 -- The frame of the payload stood first, and is taken. Its bytes stay in memory, since they are lent.
 pub record GivesFrame (old : Held) (payload : List ℕ) (new : Held) : Type 0 where

@@ -11,5 +11,5 @@ mod put;
 mod reader;
 
 pub use fault::{FrameFault, PutFault};
-pub use put::{LONGEST_OUTGOING, put_frame, seal_frame};
-pub use reader::{FrameReader, LONGEST_INCOMING};
+pub use put::{put_frame, seal_frame};
+pub use reader::FrameReader;

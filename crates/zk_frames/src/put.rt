@@ -4,9 +4,7 @@ ghost use Rattle.zk_frames.specs.Frame.{frame};
 
 use crate::PutFault;
 use std::alloc::Allocator;
-
-/// The most bytes that an outgoing payload has: servers refuse a longer one (`jute.maxbuffer`, 0xfffff by default).
-pub const LONGEST_OUTGOING: usize = 1_048_575;
+use zk_limits::LONGEST_OUTGOING;
 
 /// Appends the frame of the payload. A payload above [`LONGEST_OUTGOING`] is too large, and `out` stays as it was after
 /// any fault.

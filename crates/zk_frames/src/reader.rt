@@ -9,9 +9,7 @@ ghost use Rattle.zk_frames.specs.Next.{AnswersNext, ReadsLength};
 use crate::FrameFault;
 use std::alloc::Allocator;
 use std::marker::Model;
-
-/// The most bytes that an incoming payload has. It is this client's own limit; a server answers with less.
-pub const LONGEST_INCOMING: usize = 4_194_304;
+use zk_limits::LONGEST_INCOMING;
 
 /// Cuts a stream into frames. It holds what was fed and not yet given, or, once a length was wrong, that fault alone.
 ///

@@ -3,9 +3,10 @@ use Rattle.std.specs.Option.{option_map}
 use Rattle.std.proofs.Common.{◌≡◌, ℕ, ℤ, pos, Bool, true, false, cond, eqb, List, [], ◌∷◌, Option, Some, None, is_some, refl, sym, ap, subst, ◌∙◌, arith}
 use Rattle.std.proofs.lemmas.Bool.{eqb-true, false≢true}
 use Rattle.std.specs.List.{list_all}
-use Rattle.zk_history.specs.History.{Name, NodePath, path_eq, Node, Tree, Change, Creates, Sets, Deletes, Transaction, IsHistory, made, regrouped, apply, apply_all, after, IsLegal, AreLegal, AllLegal}
-use Rattle.zk_history.specs.Kept.{Kept, history_of, first_tree, AreAccepted, AllAccepted, root_tree, is_first, is_creation, IsSound}
-use Rattle.zk_history.proofs.PathTexts.{path_eq-true}
+use Rattle.zk_nodes.specs.Path.{Name, NodePath, path_eq}
+use Rattle.zk_nodes.specs.History.{Node, Tree, Change, Creates, Sets, Deletes, Transaction, IsHistory, made, regrouped, apply, apply_all, after, IsLegal, AreLegal, AllLegal}
+use Rattle.zk_history.specs.HistoryView.{HistoryView, history_of, first_tree, AreAccepted, AllAccepted, root_tree, is_first, is_creation, IsSound}
+use Rattle.zk_nodes.proofs.PathTexts.{path_eq-true}
 
 -- a tree with a root, closed under parents, with zxids 0
 record IsFirst (tree : Tree) : Type 0 where
@@ -81,7 +82,7 @@ legal : (ts : List Transaction) (tree : Tree) → AllAccepted ts tree → AllLeg
 legal [] tree a = tt
 legal (one ∷ more) tree a = (legal_all one.zxid one.time one.changes tree a.0, legal more (apply_all one.zxid one.time one.changes tree) a.1)
 
-pub IsHistory-sound : (kept : Kept) → IsSound kept → IsHistory (history_of kept)
+pub IsHistory-sound : (kept : HistoryView) → IsSound kept → IsHistory (history_of kept)
 IsHistory-sound kept s =
     let first = firsts kept.nodes root_tree s.first s.nodes root_first in
     record {

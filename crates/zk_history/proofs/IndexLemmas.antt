@@ -6,19 +6,21 @@ use Rattle.std.specs.Prelude.{slice_get}
 use Rattle.std.specs.Bool.{⊤}
 use Rattle.std.specs.List.{list_all}
 use Rattle.std.specs.FinSet as set
-use Rattle.zk_history.specs.History.{Text, NodePath, Node, Tree, Change, Creates, Sets, Deletes, Transaction, path_eq, path_of, made, written, regrouped, apply_all, after, tree_at, size_of, newest, AreRising}
-use Rattle.zk_history.specs.PathFault.{IsPath}
-use Rattle.zk_history.specs.Replay.{node_after, node_after_all, node_at, count_after, count_after_all, count_at, Names, children_after, children_after_all, children_at, CanRise, CanRiseAll, CanRiseAt}
-use Rattle.zk_history.specs.Kept.{Kept, IsSound, history_of, first_tree, newest_tree, root_tree, empty_kept, IsAccepted, is_first, made_transaction, last_with, with_change, with_transaction, with_node, first_node}
+use Rattle.zk_nodes.specs.Path.{Text, NodePath, path_eq, path_of}
+use Rattle.zk_nodes.specs.History.{Node, Tree, Change, Creates, Sets, Deletes, Transaction, made, written, regrouped, apply_all, after, tree_at, size_of, newest, AreRising}
+use Rattle.zk_nodes.specs.PathFault.{IsPath}
+use Rattle.zk_nodes.specs.Names.{Names}
+use Rattle.zk_history.specs.Replay.{node_after, node_after_all, node_at, count_after, count_after_all, count_at, children_after, children_after_all, children_at, CanRise, CanRiseAll, CanRiseAt}
+use Rattle.zk_history.specs.HistoryView.{HistoryView, IsSound, history_of, first_tree, newest_tree, root_tree, empty_kept, IsAccepted, is_first, made_transaction, last_with, with_change, with_transaction, with_node, first_node}
 use Rattle.zk_history.specs.declared.version.Entry.{Entry}
 use Rattle.zk_history.specs.declared.version.Version.{Version}
 use Rattle.zk_history.specs.declared.version.Origin.{Origin}
 use Rattle.zk_history.specs.declared.version.Origin.TheVariants.{Root, First, Later}
 use Rattle.zk_history.specs.Versions.{version_at, last_version, AreOrdered, first_entry, entry_of, children_of, entry_made, entry_written, entry_regrouped, entry_after, version_after, with_version, versions_after, versions_before, without_last, touches, CanBeNoted, CanBeWritten, content_in, nth_change, last_transaction, next_origin, change_at, content_at, node_with, Tells, names_by, names_told, ArePlaced, IsIndexed}
-use Rattle.zk_history.proofs.PathTexts.{path_eq-true}
+use Rattle.zk_nodes.proofs.PathTexts.{path_eq-true}
 use Rattle.zk_history.proofs.TreeLemmas.{apply_all-node}
-use Rattle.zk_history.proofs.KeptLemmas.{later_node, names_first, count_first, count_later, first_rises, later_rises, newest-tree_at}
-use Rattle.zk_history.proofs.KeptLemmas as kept_lemmas
+use Rattle.zk_history.proofs.ViewLemmas.{later_node, names_first, count_first, count_later, first_rises, later_rises, newest-tree_at}
+use Rattle.zk_history.proofs.ViewLemmas as kept_lemmas
 use Rattle.zk_history.proofs.VersionsLemmas.{version_at-last, version_at-push, AreOrdered-push, AreOrdered-higher, without_pushed}
 
 -- any walk over transactions
@@ -137,7 +139,7 @@ first-node p ts t c tree = ap (λ (x : Tree). x p) (after-push ts (made_transact
 
 -- where changes stand
 
-abbrev pub Grows : Kept → Kept → Type 0
+abbrev pub Grows : HistoryView → HistoryView → Type 0
 Grows kept more = (s : Origin) (x : Change) → change_at kept s ≡ Some x → change_at more s ≡ Some x
 
 nth-append : {X : Type 0} (xs ys : List X) (i : ℕ) (x : X) → slice_get xs i ≡ Some x → slice_get (xs ++ ys) i ≡ Some x
@@ -161,17 +163,17 @@ change-last_with (one ∷ []) c (suc i) j x e = absurd cc
 change-last_with (one ∷ two ∷ more) c zero j x e = e
 change-last_with (one ∷ two ∷ more) c (suc i) j x e = change-last_with (two ∷ more) c i j x e
 
-pub grows-change : (kept : Kept) (c : Change) → Grows kept (with_change kept c)
+pub grows-change : (kept : HistoryView) (c : Change) → Grows kept (with_change kept c)
 grows-change kept c Root x e = e
 grows-change kept c (First i) x e = e
 grows-change kept c (Later i j) x e = change-last_with kept.transactions c i j x e
 
-pub grows-transaction : (kept : Kept) (z : ℕ) (t : ℤ) → Grows kept (with_transaction kept z t)
+pub grows-transaction : (kept : HistoryView) (z : ℕ) (t : ℤ) → Grows kept (with_transaction kept z t)
 grows-transaction kept z t Root x e = e
 grows-transaction kept z t (First i) x e = e
 grows-transaction kept z t (Later i j) x e = change-append kept.transactions (made_transaction z t [] ∷ []) i j x e
 
-pub grows-node : (kept : Kept) (p : NodePath) (content : Option (List ℕ)) (t : ℤ) → Grows kept (with_node kept p content t)
+pub grows-node : (kept : HistoryView) (p : NodePath) (content : Option (List ℕ)) (t : ℤ) → Grows kept (with_node kept p content t)
 grows-node kept p content t Root x e = e
 grows-node kept p content t (First i) x e = change-append kept.nodes (first_node p content t ∷ []) i 0 x e
 grows-node kept p content t (Later i j) x e = e
@@ -180,49 +182,49 @@ placed : (a : Transaction) (ts : List Transaction) (c : Change) → nth_change (
 placed a [] c = nth-seam a.changes c
 placed a (b ∷ ts) c = placed b ts c
 
-pub placed-change : (kept : Kept) (c : Change) → (kept.transactions ≡ [] → ⊥) → change_at (with_change kept c) (next_origin kept.transactions) ≡ Some c
+pub placed-change : (kept : HistoryView) (c : Change) → (kept.transactions ≡ [] → ⊥) → change_at (with_change kept c) (next_origin kept.transactions) ≡ Some c
 placed-change kept c some = go kept.transactions some where
   go : (ts : List Transaction) → (ts ≡ [] → ⊥) → nth_change (slice_get (last_with ts c) (length ts - 1)) (length (last_transaction ts).changes) ≡ Some c
   go [] some = absurd (some refl)
   go (a ∷ ts) some = let n : length (a ∷ ts) - 1 ≡ length ts = omega arith in ap (λ i. nth_change (slice_get (last_with (a ∷ ts) c) i) (length (last_transaction (a ∷ ts)).changes)) n ∙ placed a ts c
 
-pub placed-node : (kept : Kept) (p : NodePath) (content : Option (List ℕ)) (t : ℤ) → change_at (with_node kept p content t) (First (length kept.nodes)) ≡ Some (Creates p content (pos 0))
+pub placed-node : (kept : HistoryView) (p : NodePath) (content : Option (List ℕ)) (t : ℤ) → change_at (with_node kept p content t) (First (length kept.nodes)) ≡ Some (Creates p content (pos 0))
 placed-node kept p content t = ap (λ o. nth_change o 0) (nth-seam kept.nodes (first_node p content t))
 
 -- entries and the nodes that they stand for
 
-abbrev Told : Kept → Entry → Node → Type 0
+abbrev Told : HistoryView → Entry → Node → Type 0
 Told kept e m = (content : Option (List ℕ)) × (content_at kept e.origin ≡ Some content) × (node_with e content ≡ m)
 
-to_tells : (kept : Kept) (e : Entry) (m : Node) → Told kept e m → Tells kept (Some e) (Some m)
+to_tells : (kept : HistoryView) (e : Entry) (m : Node) → Told kept e m → Tells kept (Some e) (Some m)
 to_tells kept e m h = ap (λ o. Some (option_map (node_with e) o)) h.1 ∙ ap (λ n. Some (Some n)) h.2
 
-from_tells : (kept : Kept) (e : Entry) (m : Node) → Tells kept (Some e) (Some m) → Told kept e m
+from_tells : (kept : HistoryView) (e : Entry) (m : Node) → Tells kept (Some e) (Some m) → Told kept e m
 from_tells kept e m h = go (content_at kept e.origin) refl h where
   go : (o : Option (Option (List ℕ))) → content_at kept e.origin ≡ o → Some (option_map (node_with e) o) ≡ Some (Some m) → Told kept e m
   go None is h = absurd cc
   go (Some content) is h = let same : node_with e content ≡ m = cc in (content, is, same)
 
-content-grows : (kept more : Kept) (s : Origin) (x : Option (List ℕ)) → Grows kept more → content_at kept s ≡ Some x → content_at more s ≡ Some x
+content-grows : (kept more : HistoryView) (s : Origin) (x : Option (List ℕ)) → Grows kept more → content_at kept s ≡ Some x → content_at more s ≡ Some x
 content-grows kept more s x grows h = go (change_at kept s) refl h where
   go : (o : Option Change) → change_at kept s ≡ o → content_in o ≡ Some x → content_at more s ≡ Some x
   go None is h = absurd cc
   go (Some c) is h = ap content_in (grows s c is) ∙ h
 
-pub Tells-grows : (kept more : Kept) (o : Option Entry) (n : Option Node) → Grows kept more → Tells kept o n → Tells more o n
+pub Tells-grows : (kept more : HistoryView) (o : Option Entry) (n : Option Node) → Grows kept more → Tells kept o n → Tells more o n
 Tells-grows kept more None n grows h = h
 Tells-grows kept more (Some e) None grows h = absurd cc
 Tells-grows kept more (Some e) (Some m) grows h =
     let told = from_tells kept e m h in
     to_tells more e m (told.0, content-grows kept more e.origin told.0 grows told.1, told.2)
 
-tells_regrouped : (kept : Kept) (z : ℕ) (o : Option Entry) (n : Option Node) → Tells kept o n → Tells kept (option_map (entry_regrouped z) o) (option_map (regrouped z) n)
+tells_regrouped : (kept : HistoryView) (z : ℕ) (o : Option Entry) (n : Option Node) → Tells kept o n → Tells kept (option_map (entry_regrouped z) o) (option_map (regrouped z) n)
 tells_regrouped kept z None None h = h
 tells_regrouped kept z None (Some m) h = absurd cc
 tells_regrouped kept z (Some e) None h = absurd cc
 tells_regrouped kept z (Some e) (Some m) h = let told = from_tells kept e m h in to_tells kept (entry_regrouped z e) (regrouped z m) (told.0, told.1, ap (regrouped z) told.2)
 
-tells_written : (kept : Kept) (z : ℕ) (t : ℤ) (s : Origin) (content : Option (List ℕ)) (o : Option Entry) (n : Option Node) → content_at kept s ≡ Some content → Tells kept o n
+tells_written : (kept : HistoryView) (z : ℕ) (t : ℤ) (s : Origin) (content : Option (List ℕ)) (o : Option Entry) (n : Option Node) → content_at kept s ≡ Some content → Tells kept o n
     → Tells kept (option_map (entry_written z t s) o) (option_map (written z t content) n)
 tells_written kept z t s content None None is h = h
 tells_written kept z t s content None (Some m) is h = absurd cc
@@ -232,7 +234,7 @@ tells_written kept z t s content (Some e) (Some m) is h =
     to_tells kept (entry_written z t s e) (written z t content m) (content, is, ap (written z t content) told.2)
 
 -- what a change makes of an entry stands for what it makes of the node
-pub tells_after : (kept : Kept) (z : ℕ) (t : ℤ) (s : Origin) (p : NodePath) (c : Change) (o : Option Entry) (n : Option Node) → change_at kept s ≡ Some c → Tells kept o n
+pub tells_after : (kept : HistoryView) (z : ℕ) (t : ℤ) (s : Origin) (p : NodePath) (c : Change) (o : Option Entry) (n : Option Node) → change_at kept s ≡ Some c → Tells kept o n
     → Tells kept (entry_after z t s p c o) (node_after z t p c n)
 tells_after kept z t s p (Creates [] content owner) o n is h = h
 tells_after kept z t s p (Creates (name ∷ path) content owner) o n is h =
@@ -250,7 +252,7 @@ tells_after kept z t s p (Deletes (name ∷ path)) o n is h =
     ]
 
 -- the root, and nothing else, is there before all changes
-pub tells_first : (kept : Kept) (p : NodePath) → Tells kept (first_entry p) (root_tree p)
+pub tells_first : (kept : HistoryView) (p : NodePath) → Tells kept (first_entry p) (root_tree p)
 tells_first kept [] = refl
 tells_first kept (name ∷ p) = refl
 
@@ -287,50 +289,50 @@ names_untouched p (Deletes (name ∷ path)) names e = cond-false (path_eq p path
 
 -- the changes that versions name
 
-placed_some : (kept : Kept) (s : Origin) → is_some (change_at kept s) ≡ true → (c : Change) × (change_at kept s ≡ Some c)
+placed_some : (kept : HistoryView) (s : Origin) → is_some (change_at kept s) ≡ true → (c : Change) × (change_at kept s ≡ Some c)
 placed_some kept s h = go (change_at kept s) refl h where
   go : (o : Option Change) → change_at kept s ≡ o → is_some o ≡ true → (c : Change) × (change_at kept s ≡ Some c)
   go None is h = absurd (false≢true h)
   go (Some c) is h = (c, is)
 
-pub ArePlaced-grows : (kept more : Kept) (vs : List Version) → Grows kept more → ArePlaced kept vs → ArePlaced more vs
+pub ArePlaced-grows : (kept more : HistoryView) (vs : List Version) → Grows kept more → ArePlaced kept vs → ArePlaced more vs
 ArePlaced-grows kept more [] grows h = tt
 ArePlaced-grows kept more (v ∷ vs) grows h =
     let c = placed_some kept v.origin h.0 in
     (ap is_some (grows v.origin c.0 c.1), ArePlaced-grows kept more vs grows h.1)
 
-pub ArePlaced-push : (kept : Kept) (vs : List Version) (v : Version) → ArePlaced kept vs → is_some (change_at kept v.origin) ≡ true → ArePlaced kept (vs ++ v ∷ [])
+pub ArePlaced-push : (kept : HistoryView) (vs : List Version) (v : Version) → ArePlaced kept vs → is_some (change_at kept v.origin) ≡ true → ArePlaced kept (vs ++ v ∷ [])
 ArePlaced-push kept [] v h k = (k, tt)
 ArePlaced-push kept (w ∷ vs) v h k = (h.0, ArePlaced-push kept vs v h.1 k)
 
-names_told-grows : (kept more : Kept) (p : NodePath) (z : ℕ) (vs : List Version) (names : Names) → Grows kept more → ArePlaced kept vs → names_told more p z vs names ≡ names_told kept p z vs names
+names_told-grows : (kept more : HistoryView) (p : NodePath) (z : ℕ) (vs : List Version) (names : Names) → Grows kept more → ArePlaced kept vs → names_told more p z vs names ≡ names_told kept p z vs names
 names_told-grows kept more p z [] names grows h = refl
 names_told-grows kept more p z (v ∷ vs) names grows h =
     let c = placed_some kept v.origin h.0 in
     let same : names_by p (change_at more v.origin) names ≡ names_by p (change_at kept v.origin) names = ap (λ o. names_by p o names) (grows v.origin c.0 c.1 ∙ sym c.1) in
     ap (λ n. names_told more p z vs (cond (leb v.zxid z) n names)) same ∙ names_told-grows kept more p z vs (cond (leb v.zxid z) (names_by p (change_at kept v.origin) names) names) grows h.1
 
-names_told-push : (kept : Kept) (p : NodePath) (z : ℕ) (vs : List Version) (v : Version) (names : Names)
+names_told-push : (kept : HistoryView) (p : NodePath) (z : ℕ) (vs : List Version) (v : Version) (names : Names)
     → names_told kept p z (vs ++ v ∷ []) names ≡ cond (leb v.zxid z) (names_by p (change_at kept v.origin) (names_told kept p z vs names)) (names_told kept p z vs names)
 names_told-push kept p z [] v names = refl
 names_told-push kept p z (w ∷ vs) v names = names_told-push kept p z vs v (cond (leb w.zxid z) (names_by p (change_at kept w.origin) names) names)
 
 -- what one path's versions tell
 
-pub record Told_at (kept : Kept) (versions : List Version) (p : NodePath) (z : ℕ) : Type 0 where
+pub record Told_at (kept : HistoryView) (versions : List Version) (p : NodePath) (z : ℕ) : Type 0 where
   pub node : Tells kept (entry_of p (version_at z versions None)) (tree_at (history_of kept) z p)
   pub count : children_of (version_at z versions None) ≡ count_at z p kept.transactions (count_at 0 p kept.nodes 0)
   pub names : names_told kept p z versions set.empty ≡ children_at z p kept.transactions (children_at 0 p kept.nodes set.empty)
 
 -- what a change does to the history at a path and a zxid
-pub record Changes_at (kept more : Kept) (zxid : ℕ) (t : ℤ) (c : Change) (p : NodePath) (z : ℕ) : Type 0 where
+pub record Changes_at (kept more : HistoryView) (zxid : ℕ) (t : ℤ) (c : Change) (p : NodePath) (z : ℕ) : Type 0 where
   pub node : tree_at (history_of more) z p ≡ cond (leb zxid z) (node_after zxid t p c (tree_at (history_of kept) z p)) (tree_at (history_of kept) z p)
   pub count : count_at z p more.transactions (count_at 0 p more.nodes 0) ≡ cond (leb zxid z) (count_after p c (count_at z p kept.transactions (count_at 0 p kept.nodes 0))) (count_at z p kept.transactions (count_at 0 p kept.nodes 0))
   pub names : children_at z p more.transactions (children_at 0 p more.nodes set.empty)
       ≡ cond (leb zxid z) (children_after p c (children_at z p kept.transactions (children_at 0 p kept.nodes set.empty))) (children_at z p kept.transactions (children_at 0 p kept.nodes set.empty))
 
 -- where nothing happens to a path
-unchanged : (kept more : Kept) (zxid : ℕ) (t : ℤ) (c : Change) (p : NodePath) (z : ℕ) (versions : List Version) → Grows kept more → Changes_at kept more zxid t c p z → touches p c ≡ false → ArePlaced kept versions
+unchanged : (kept more : HistoryView) (zxid : ℕ) (t : ℤ) (c : Change) (p : NodePath) (z : ℕ) (versions : List Version) → Grows kept more → Changes_at kept more zxid t c p z → touches p c ≡ false → ArePlaced kept versions
     → Told_at kept versions p z → Told_at more versions p z
 unchanged kept more zxid t c p z versions grows changes far placed told =
     let node : tree_at (history_of more) z p ≡ tree_at (history_of kept) z p =
@@ -348,7 +350,7 @@ unchanged kept more zxid t c p z versions grows changes far placed told =
     }
 
 -- where a version is added
-changed : (kept more : Kept) (zxid high : ℕ) (t : ℤ) (s : Origin) (c : Change) (p : NodePath) (z : ℕ) (versions : List Version) → Grows kept more → change_at more s ≡ Some c → Changes_at kept more zxid t c p z
+changed : (kept more : HistoryView) (zxid high : ℕ) (t : ℤ) (s : Origin) (c : Change) (p : NodePath) (z : ℕ) (versions : List Version) → Grows kept more → change_at more s ≡ Some c → Changes_at kept more zxid t c p z
     → AreOrdered 0 versions high → high ≤ zxid → ArePlaced kept versions → Told_at kept versions p z → Told_at more (versions ++ version_after zxid t s p c (last_version versions) ∷ []) p z
 changed kept more zxid high t s c p z versions grows is changes ordered low placed told =
     let v = version_after zxid t s p c (last_version versions) in
@@ -379,7 +381,7 @@ changed kept more zxid high t s c p z versions grows is changes ordered low plac
     }
 
 -- The versions after a change tell the history with the change.
-pub IsIndexed-step : (kept more : Kept) (zxid : ℕ) (t : ℤ) (s : Origin) (c : Change) (old new : Text → List Version) → Grows kept more → change_at more s ≡ Some c
+pub IsIndexed-step : (kept more : HistoryView) (zxid : ℕ) (t : ℤ) (s : Origin) (c : Change) (old new : Text → List Version) → Grows kept more → change_at more s ≡ Some c
     → ((p : NodePath) (z : ℕ) → Changes_at kept more zxid t c p z) → newest 0 kept.transactions ≤ zxid → newest 0 more.transactions ≡ zxid
     → ((text : Text) → IsPath text → new text ≡ versions_after zxid t s text c (old text)) → IsIndexed kept old → IsIndexed more new
 IsIndexed-step kept more zxid t s c old new grows is changes low top next indexed =
@@ -409,7 +411,7 @@ IsIndexed-step kept more zxid t s c old new grows is changes low top next indexe
           ]));
     }
 
-pub IsIndexed-same : (kept : Kept) (old new : Text → List Version) → ((text : Text) → IsPath text → new text ≡ old text) → IsIndexed kept old → IsIndexed kept new
+pub IsIndexed-same : (kept : HistoryView) (old new : Text → List Version) → ((text : Text) → IsPath text → new text ≡ old text) → IsIndexed kept old → IsIndexed kept new
 IsIndexed-same kept old new same indexed = record {
   nodes = λ text path z. subst (λ vs. Tells kept (entry_of (path_of text) (version_at z vs None)) (tree_at (history_of kept) z (path_of text))) (sym (same text path)) (indexed.nodes text path z);
   counts = λ text path z. subst (λ vs. children_of (version_at z vs None) ≡ count_at z (path_of text) kept.transactions (count_at 0 (path_of text) kept.nodes 0)) (sym (same text path)) (indexed.counts text path z);
@@ -453,7 +455,7 @@ newest_small low (a ∷ ts) l r = newest_small a.zxid ts r.1 r.2
 
 -- the three ways in which a history grows
 
-pub IsIndexed-change : (kept : Kept) (c : Change) (old new : Text → List Version) → (kept.transactions ≡ [] → ⊥)
+pub IsIndexed-change : (kept : HistoryView) (c : Change) (old new : Text → List Version) → (kept.transactions ≡ [] → ⊥)
     → ((text : Text) → IsPath text → new text ≡ versions_after (last_transaction kept.transactions).zxid (last_transaction kept.transactions).time (next_origin kept.transactions) text c (old text))
     → IsIndexed kept old → IsIndexed (with_change kept c) new
 IsIndexed-change kept c old new some next indexed =
@@ -468,7 +470,7 @@ IsIndexed-change kept c old new some next indexed =
     })
     (omega (arith, top)) (newest_with 0 kept.transactions c ∙ top) next indexed
 
-pub IsIndexed-transaction : (kept : Kept) (zxid : ℕ) (t : ℤ) (versions : Text → List Version) → newest 0 kept.transactions < zxid → IsIndexed kept versions → IsIndexed (with_transaction kept zxid t) versions
+pub IsIndexed-transaction : (kept : HistoryView) (zxid : ℕ) (t : ℤ) (versions : Text → List Version) → newest 0 kept.transactions < zxid → IsIndexed kept versions → IsIndexed (with_transaction kept zxid t) versions
 IsIndexed-transaction kept zxid t versions low indexed =
     let more = with_transaction kept zxid t in
     record {
@@ -488,7 +490,7 @@ IsIndexed-transaction kept zxid t versions low indexed =
           AreOrdered-higher 0 (newest 0 kept.transactions) (newest 0 more.transactions) (versions text) (indexed.ordered text path) (omega (arith, top, low));
     }
 
-pub IsIndexed-node : (kept : Kept) (p : NodePath) (content : Option (List ℕ)) (t : ℤ) (old new : Text → List Version) → kept.transactions ≡ []
+pub IsIndexed-node : (kept : HistoryView) (p : NodePath) (content : Option (List ℕ)) (t : ℤ) (old new : Text → List Version) → kept.transactions ≡ []
     → ((text : Text) → IsPath text → new text ≡ versions_after 0 t (First (length kept.nodes)) text (Creates p content (pos 0)) (old text))
     → IsIndexed kept old → IsIndexed (with_node kept p content t) new
 IsIndexed-node kept p content t old new none next indexed =
@@ -515,20 +517,20 @@ IsIndexed-node kept p content t old new none next indexed =
 
 -- the number of children
 
-pub count_is : (kept : Kept) (z : ℕ) (p : NodePath) → IsSound kept → count_at z p kept.transactions (count_at 0 p kept.nodes 0) ≡ set.len (children_at z p kept.transactions (names_first kept p))
+pub count_is : (kept : HistoryView) (z : ℕ) (p : NodePath) → IsSound kept → count_at z p kept.transactions (count_at 0 p kept.nodes 0) ≡ set.len (children_at z p kept.transactions (names_first kept p))
 count_is kept z p sound = ap (count_at z p kept.transactions) (count_first kept p sound).1 ∙ (count_later kept z p sound).1
 
-pub count_small : (kept : Kept) (z : ℕ) (p : NodePath) → IsSound kept → count_at z p kept.transactions (count_at 0 p kept.nodes 0) ≤ 2147483647
+pub count_small : (kept : HistoryView) (z : ℕ) (p : NodePath) → IsSound kept → count_at z p kept.transactions (count_at 0 p kept.nodes 0) ≤ 2147483647
 count_small kept z p sound = subst (λ (n : ℕ). n ≤ 2147483647) (sym (count_is kept z p sound)) (count_later kept z p sound).2
 
 -- a change that is accepted can be noted
 
-newest-version : (kept : Kept) (versions : Text → List Version) (text : Text) → IsSound kept → IsIndexed kept versions → IsPath text → version_at 9223372036854775808 (versions text) None ≡ last_version (versions text)
+newest-version : (kept : HistoryView) (versions : Text → List Version) (text : Text) → IsSound kept → IsIndexed kept versions → IsPath text → version_at 9223372036854775808 (versions text) None ≡ last_version (versions text)
 newest-version kept versions text sound indexed path =
     let small = newest_small 0 kept.transactions (omega arith) sound.rising in
     version_at-last 9223372036854775808 0 (newest 0 kept.transactions) (versions text) (indexed.ordered text path) (omega (arith, small))
 
-pub can_be_noted : (kept : Kept) (versions : Text → List Version) (c : Change) → IsSound kept → IsIndexed kept versions → IsAccepted c (newest_tree kept)
+pub can_be_noted : (kept : HistoryView) (versions : Text → List Version) (c : Change) → IsSound kept → IsIndexed kept versions → IsAccepted c (newest_tree kept)
     → (text : Text) → IsPath text → CanBeNoted (path_of text) c (last_version (versions text))
 can_be_noted kept versions c sound indexed accepted text path =
     let p = path_of text in
@@ -615,7 +617,7 @@ small_root : (p : NodePath) → AllSmall (root_tree p)
 small_root [] = record { czxid = omega arith; mzxid = omega arith; pzxid = omega arith; version = omega arith; bytes = omega arith }
 small_root (name ∷ p) = tt
 
-pub node_small : (kept : Kept) (z : ℕ) (p : NodePath) (n : Node) → IsSound kept → tree_at (history_of kept) z p ≡ Some n → IsSmall n
+pub node_small : (kept : HistoryView) (z : ℕ) (p : NodePath) (n : Node) → IsSound kept → tree_at (history_of kept) z p ≡ Some n → IsSmall n
 node_small kept z p n sound e =
     let first : AllSmall (first_tree kept p) =
     subst AllSmall (kept_lemmas.first_node kept p sound) (small_at 0 p kept.nodes (root_tree p) (first_small kept.nodes sound.first) (first_rises kept p sound) (small_root p)) in
@@ -623,11 +625,11 @@ node_small kept z p n sound e =
     subst AllSmall e (subst AllSmall (later_node kept z p) later)
 
 -- what is found of an entry
-pub found_told : (kept : Kept) (e : Entry) (o : Option Node) → Tells kept (Some e) o → (content : Option (List ℕ)) × (content_at kept e.origin ≡ Some content) × (Some (node_with e content) ≡ o)
+pub found_told : (kept : HistoryView) (e : Entry) (o : Option Node) → Tells kept (Some e) o → (content : Option (List ℕ)) × (content_at kept e.origin ≡ Some content) × (Some (node_with e content) ≡ o)
 found_told kept e None h = absurd cc
 found_told kept e (Some m) h = let told = from_tells kept e m h in (told.0, told.1, ap Some told.2)
 
-pub none_told : (kept : Kept) (o : Option Node) → Tells kept None o → None ≡ o
+pub none_told : (kept : HistoryView) (o : Option Node) → Tells kept None o → None ≡ o
 none_told kept None h = refl
 none_told kept (Some m) h = absurd cc
 

@@ -8,12 +8,14 @@ use Rattle.std.specs.FinSet as set
 use Rattle.std.specs.Ordering.{nat_cmp, eq_by_cmp}
 use Rattle.std.specs.Cmp.Lexicographic.{slice_cmp}
 use Rattle.std.proofs.lemmas.Cmp.{nat_list_cmp_total}
-use Rattle.zk_history.specs.History.{Name, NodePath, path_eq, Node, Tree, Change, Creates, Sets, Deletes, Transaction, made, written, regrouped, apply, apply_all, after, up_to, AreRising}
-use Rattle.zk_history.specs.Replay.{Names, name_cmp, node_after, node_after_all, node_at, CanRise, CanRiseAll, CanRiseAt, children_after, children_after_all, children_at, count_after, count_after_all, count_at, IsCounted, IsCountedAt}
-use Rattle.zk_history.specs.Kept.{HasChildren, IsAccepted, AreAccepted, AllAccepted, root_tree}
-use Rattle.zk_history.proofs.PathTexts.{path_eq-true}
+use Rattle.zk_nodes.specs.Path.{Name, NodePath, path_eq}
+use Rattle.zk_nodes.specs.History.{Node, Tree, Change, Creates, Sets, Deletes, Transaction, made, written, regrouped, apply, apply_all, after, up_to, AreRising}
+use Rattle.zk_nodes.specs.Names.{Names, name_cmp}
+use Rattle.zk_history.specs.Replay.{node_after, node_after_all, node_at, CanRise, CanRiseAll, CanRiseAt, children_after, children_after_all, children_at, count_after, count_after_all, count_at, IsCounted, IsCountedAt}
+use Rattle.zk_history.specs.HistoryView.{HasChildren, IsAccepted, AreAccepted, AllAccepted, root_tree}
+use Rattle.zk_nodes.proofs.PathTexts.{path_eq-true}
 use Rattle.std.specs.Prelude.{bytes_eq, option_map}
-use Rattle.zk_history.proofs.NamesLemmas.{tested}
+use Rattle.zk_nodes.proofs.NamesLemmas.{tested}
 
 -- one path
 

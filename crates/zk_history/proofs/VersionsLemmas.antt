@@ -13,11 +13,11 @@ use Rattle.std.specs.String.{string_cmp, string_bytes}
 use Rattle.std.specs.Ordering.{nat_cmp}
 use Rattle.std.specs.Cmp.Lexicographic.{slice_cmp}
 use Rattle.std.specs.declared.vec.Vec.{Vec}
-use Rattle.zk_history.specs.History.{Text, NodePath, path_eq, path_of, Transaction}
-use Rattle.zk_history.specs.Path.{parent_of}
-use Rattle.zk_history.specs.PathFault.{IsPath}
-use Rattle.zk_history.proofs.PathTexts.{root_text, path_eq-text}
-use Rattle.zk_history.proofs.KeptLemmas.{at_last}
+use Rattle.zk_nodes.specs.Path.{Text, NodePath, path_eq, path_of, parent_of}
+use Rattle.zk_nodes.specs.History.{Transaction}
+use Rattle.zk_nodes.specs.PathFault.{IsPath}
+use Rattle.zk_nodes.proofs.PathTexts.{root_text, path_eq-text}
+use Rattle.zk_history.proofs.ViewLemmas.{at_last}
 use Rattle.zk_history.specs.declared.version.Version.{Version}
 use Rattle.zk_history.specs.Versions.{versions_of, without_last, version_at, last_version, first_entry, is_near, last_transaction, AreOrdered}
 

@@ -1,6 +1,7 @@
 -- The test that decides whether a change is accepted.
 use Rattle.std.specs.Prelude.{ℕ, ◌==◌, Bool, false, ◌&&◌, not, nat_le, nat_lt, [], ◌∷◌, Option, Some, None, is_some}
-use Rattle.zk_history.specs.History.{NodePath, Node, Tree, Change, Creates, Sets, Deletes, size_of}
+use Rattle.zk_nodes.specs.Path.{NodePath}
+use Rattle.zk_nodes.specs.History.{Node, Tree, Change, Creates, Sets, Deletes, size_of}
 
 -- the version of a node that is there can rise once more
 abbrev pub can_rise : Option Node → Bool

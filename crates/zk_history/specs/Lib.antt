@@ -1,15 +1,8 @@
-pub mod History
-pub mod Path
-pub mod PathFault
 pub mod FaultText
 pub mod Replay
-pub mod Kept
+pub mod HistoryView
 pub mod Made
-pub mod NamesKept
 pub mod Accepting
 pub mod Shown
 pub mod Refused
-pub mod StatLayout
 pub mod Versions
-pub mod DataStats
-pub mod Laws

@@ -1,9 +1,9 @@
 -- What the program's values stand for.
 use Rattle.std.specs.Prelude.{ℤ, List, map}
-use Rattle.zk_history.specs.History.{path_of}
+use Rattle.zk_nodes.specs.Path.{path_of}
 use Rattle.std.specs.Option.{option_map, option_copied}
-use Rattle.zk_history.specs.History as model
-use Rattle.zk_history.specs.Kept.{natural}
+use Rattle.zk_nodes.specs.History as model
+use Rattle.zk_history.specs.HistoryView.{natural}
 use Rattle.zk_history.specs.declared.change.Change.{Change}
 use Rattle.zk_history.specs.declared.change.Change.TheVariants.{Create, Set, Delete}
 use Rattle.zk_history.specs.declared.change.Transaction.{Transaction}

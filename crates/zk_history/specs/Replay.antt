@@ -1,18 +1,9 @@
 -- What a history makes of one path: its node, and the set of its children's names, change by change.
 use Rattle.std.specs.Prelude.{ℕ, ℤ, ◌≡◌, ◌<◌, ◌≤◌, ◌+◌, ◌-◌, nat_le, true, if◌then◌else◌, List, [], ◌∷◌, Option, Some, None, ⊤, option_map}
-use Rattle.std.specs.Ordering.{nat_cmp}
-use Rattle.std.specs.declared.cmp.Ordering.{Ordering}
-use Rattle.std.specs.Cmp.Lexicographic.{slice_cmp}
 use Rattle.std.specs.FinSet as set
-use Rattle.zk_history.specs.History.{Name, NodePath, path_eq, Node, Change, Creates, Sets, Deletes, Transaction, made, written, regrouped, size_of}
-
--- the names of children, as a set in byte order
-abbrev pub name_cmp : Name → Name → Ordering
-name_cmp = slice_cmp nat_cmp
-
--- sets of names in byte order
-abbrev pub Names : Type 0
-Names = set.FinSet name_cmp
+use Rattle.zk_nodes.specs.Path.{Name, NodePath, path_eq}
+use Rattle.zk_nodes.specs.Names.{Names}
+use Rattle.zk_nodes.specs.History.{Node, Change, Creates, Sets, Deletes, Transaction, made, written, regrouped, size_of}
 
 -- the node at path p after a change
 abbrev pub node_after : ℕ → ℤ → NodePath → Change → Option Node → Option Node

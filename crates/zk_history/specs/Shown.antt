@@ -3,12 +3,13 @@ use Rattle.std.specs.Prelude.{ℕ, pos, ◌≡◌, Option, Some, None}
 use Rattle.std.specs.Option.{option_map}
 use Rattle.std.specs.BTreeSet.{contains_text}
 use Rattle.std.specs.FinSet as set
-use Rattle.zk_history.specs.History.{NodePath, Tree, Node, size_of, View, Absence, Contents, Children}
-use Rattle.zk_history.specs.Replay.{Names as NameSet}
-use Rattle.zk_history.specs.Kept.{HasChildren}
-use Rattle.zk_history.specs.declared.stat.Stat.{Stat}
-use Rattle.zk_history.specs.declared.answer.Data.{Data}
-use Rattle.zk_history.specs.declared.answer.Names.{Names}
+use Rattle.zk_nodes.specs.Path.{NodePath}
+use Rattle.zk_nodes.specs.History.{Tree, Node, size_of, View, Absence, Contents, Children}
+use Rattle.zk_nodes.specs.Names.{Names as NameSet}
+use Rattle.zk_history.specs.HistoryView.{HasChildren}
+use Rattle.zk_nodes.specs.declared.stat.Stat.{Stat}
+use Rattle.zk_history.specs.declared.data.Data.{Data}
+use Rattle.zk_nodes.specs.declared.names.Names.{Names}
 
 -- the data that are told
 abbrev pub data_told : {A : Type 0} → Option (Data A) → View

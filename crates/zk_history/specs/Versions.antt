@@ -4,10 +4,12 @@ use Rattle.std.specs.FinSet as set
 use Rattle.std.specs.Option.{option_map_or}
 use Rattle.std.specs.BTreeMap.{BTreeMap, get_by_text}
 use Rattle.std.specs.declared.vec.Vec.{Vec}
-use Rattle.zk_history.specs.History.{Text, NodePath, path_eq, path_of, Node, Change, Creates, Sets, Deletes, Transaction, tree_at, newest}
-use Rattle.zk_history.specs.PathFault.{IsPath}
-use Rattle.zk_history.specs.Replay.{Names, children_after, children_at, count_after, count_at}
-use Rattle.zk_history.specs.Kept.{Kept, history_of, made_transaction}
+use Rattle.zk_nodes.specs.Path.{Text, NodePath, path_eq, path_of}
+use Rattle.zk_nodes.specs.History.{Node, Change, Creates, Sets, Deletes, Transaction, tree_at, newest}
+use Rattle.zk_nodes.specs.PathFault.{IsPath}
+use Rattle.zk_nodes.specs.Names.{Names}
+use Rattle.zk_history.specs.Replay.{children_after, children_at, count_after, count_at}
+use Rattle.zk_history.specs.HistoryView.{HistoryView, history_of, made_transaction}
 use Rattle.zk_history.specs.declared.version.Entry.{Entry}
 use Rattle.zk_history.specs.declared.version.Version.{Version}
 use Rattle.zk_history.specs.declared.version.Origin.{Origin}
@@ -140,7 +142,7 @@ abbrev pub next_origin : List Transaction → Origin
 next_origin transactions = Later (length transactions - 1) (length (last_transaction transactions).changes)
 
 -- the change that stands at an origin; the root is as if it was created
-abbrev pub change_at : Kept → Origin → Option Change
+abbrev pub change_at : HistoryView → Origin → Option Change
 change_at kept Root = Some (Creates [] (Some []) (pos 0))
 change_at kept (First i) = nth_change (slice_get kept.nodes i) 0
 change_at kept (Later i j) = nth_change (slice_get kept.transactions i) j
@@ -159,15 +161,15 @@ node_with e content = record {
 }
 
 -- the data of an entry, where they stand
-abbrev pub content_at : Kept → Origin → Option (Option (List ℕ))
+abbrev pub content_at : HistoryView → Origin → Option (Option (List ℕ))
 content_at kept origin = content_in (change_at kept origin)
 
 -- the node that an entry stands for
-abbrev pub node_told : Kept → Entry → Option Node
+abbrev pub node_told : HistoryView → Entry → Option Node
 node_told kept e = option_map (node_with e) (content_at kept e.origin)
 
 -- an entry, or none, stands for a node, or none
-abbrev pub Tells : Kept → Option Entry → Option Node → Type 0
+abbrev pub Tells : HistoryView → Option Entry → Option Node → Type 0
 Tells kept entry node = option_map (node_told kept) entry ≡ option_map Some node
 
 -- a set of children's names after a change, if there is one
@@ -176,17 +178,17 @@ names_by p None names = names
 names_by p (Some change) names = children_after p change names
 
 -- the same after the changes that made versions, up to a zxid
-abbrev pub names_told : Kept → NodePath → ℕ → List Version → Names → Names
+abbrev pub names_told : HistoryView → NodePath → ℕ → List Version → Names → Names
 names_told kept p z [] names = names
 names_told kept p z (one ∷ more) names = names_told kept p z more (if nat_le one.zxid z then names_by p (change_at kept one.origin) names else names)
 
 -- the changes that made versions stand where these say
-abbrev pub ArePlaced : Kept → List Version → Type 0
+abbrev pub ArePlaced : HistoryView → List Version → Type 0
 ArePlaced kept [] = ⊤
 ArePlaced kept (one ∷ more) = (is_some (change_at kept one.origin) ≡ true) × ArePlaced kept more
 
 -- The versions of each path tell what the history has there at each zxid.
-pub record IsIndexed (kept : Kept) (versions : Text → List Version) : Type 0 where
+pub record IsIndexed (kept : HistoryView) (versions : Text → List Version) : Type 0 where
   pub nodes : (text : Text) → IsPath text → (z : ℕ) → Tells kept (entry_of (path_of text) (version_at z (versions text) None)) (tree_at (history_of kept) z (path_of text))
   pub counts : (text : Text) → IsPath text → (z : ℕ) → children_of (version_at z (versions text) None) ≡ count_at z (path_of text) kept.transactions (count_at 0 (path_of text) kept.nodes 0)
   pub names : (text : Text) → IsPath text → (z : ℕ) → names_told kept (path_of text) z (versions text) set.empty ≡ children_at z (path_of text) kept.transactions (children_at 0 (path_of text) kept.nodes set.empty)

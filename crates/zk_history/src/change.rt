@@ -2,8 +2,8 @@
 
 ghost use Rattle.std.specs.Prelude.{◌<◌, ◌^◌};
 
-use crate::path::Path;
 use std::alloc::Allocator;
+use zk_nodes::Path;
 
 /// A change of the tree.
 #[derive(Drop)]

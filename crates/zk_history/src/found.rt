@@ -2,7 +2,7 @@
 
 ghost use Rattle.std.specs.Prelude.{◌<◌, ◌≤◌, ◌^◌};
 ghost use Rattle.std.specs.Option.{option_copied};
-ghost use Rattle.zk_history.specs.History.{size_of};
+ghost use Rattle.zk_nodes.specs.History.{size_of};
 
 // A node as it was found in a history, with its data lent.
 #[derive(Clone, Copy, Debug)]

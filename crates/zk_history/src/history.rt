@@ -2,11 +2,13 @@
 
 ghost use Rattle.std.specs.Prelude.{◌≡◌, ◌≢◌, ◌≤◌, ◌<◌, ◌<ℤ◌, ◌^◌, IfErr, pos, [], ◌∷◌, map, List, IfOk, OnOk, OnErr, MatchOption, Some, None, is_some, ℤ, ℕ, Option, slice_get};
 ghost use Rattle.std.specs.Option.{option_map, option_copied};
-ghost use Rattle.zk_history.specs.History.{path_of, view as view_of, tree_at, IsHistory, newest, Name, Creates};
-ghost use Rattle.zk_history.specs.declared.side.Side.TheVariants.{Data as OnData, Child};
-ghost use Rattle.zk_history.specs.PathFault.{IsPath};
-ghost use Rattle.zk_history.specs.Replay.{Names as NameSet, count_at};
-ghost use Rattle.zk_history.specs.Kept.{history_of, empty_kept, newest_tree, newest_count, IsAccepted, with_change, with_transaction, with_node, natural, HasChildren, IsSound};
+ghost use Rattle.zk_nodes.specs.Path.{path_of, Name};
+ghost use Rattle.zk_nodes.specs.History.{view as view_of, tree_at, IsHistory, newest, Creates};
+ghost use Rattle.zk_nodes.specs.declared.side.Side.TheVariants.{Data as OnData, Child};
+ghost use Rattle.zk_nodes.specs.PathFault.{IsPath};
+ghost use Rattle.zk_nodes.specs.Names.{Names as NameSet};
+ghost use Rattle.zk_history.specs.Replay.{count_at};
+ghost use Rattle.zk_history.specs.HistoryView.{history_of, empty_kept, newest_tree, newest_count, IsAccepted, with_change, with_transaction, with_node, natural, HasChildren, IsSound};
 ghost use Rattle.zk_history.specs.Versions.{Tells, entry_of, children_of, content_at as content_told};
 ghost use Rattle.zk_history.specs.Accepting.{accepts, can_rise};
 ghost use Rattle.zk_history.specs.Refused.{ChangeRefused, NodeRefused, BeginRefused};
@@ -15,21 +17,20 @@ ghost use Rattle.std.specs.FinSet as set;
 ghost use Rattle.std.specs.BTreeSet.{contains_text};
 ghost use Rattle.zk_history.specs.Shown.{data_told, names_told, stat_of, IsStat};
 
-use crate::answer::{Data, Names};
 use crate::change::{Change, Transaction};
+use crate::data::Data;
 use crate::found::Found;
 use crate::history_fault::HistoryFault;
 use crate::names::names_after_versions;
-use crate::path::Path;
 use crate::replay::{children_of, entry_of};
-use crate::stat::Stat;
-use crate::told::{data_stat, full_stat, has_length, owned};
+use crate::told::{data_stat, full_stat, has_length};
 use crate::transactions::{content_at, next_spot, push_change, push_empty, push_node};
 use crate::version::{Origin, Spot, Version};
 use crate::versions::{Versions, forget, last_up_to, note, versions_at};
 use std::alloc::{AllocError, Allocator};
 use std::collections::{BTreeMap, BTreeSet};
 use std::marker::Model;
+use zk_nodes::{Names, Path, Stat, copied_data};
 
 // Above every zxid.
 const NEWEST: u64 = 9223372036854775808;
@@ -58,11 +59,11 @@ pub struct History<A: Allocator + Copy> {
 
 impl<A: Allocator + Copy> Model for History<A> {
     ghost use Rattle.std.specs.Prelude.{map};
-    ghost use Rattle.zk_history.specs.Kept.{Kept, IsSound};
+    ghost use Rattle.zk_history.specs.HistoryView.{HistoryView, IsSound};
     ghost use Rattle.zk_history.specs.Made.{transaction_of};
     ghost use Rattle.zk_history.specs.Versions.{IsIndexed, versions_of};
 
-    ghost Value = { Kept };
+    ghost Value = { HistoryView };
 
     ghost view = { λ h. record { nodes = map transaction_of h.nodes.items; transactions = map transaction_of h.transactions.items } };
 
@@ -273,7 +274,7 @@ impl<A: Allocator + Copy> History<A> {
     {
         match self.found(natural(z), path.as_str()) {
             Some(found) => Ok(Some(Data {
-                bytes: owned(self.alloc, found.bytes)?,
+                bytes: copied_data(self.alloc, found.bytes)?,
                 stat: data_stat(&found),
             })),
             None => Ok(None),

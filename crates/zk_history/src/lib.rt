@@ -1,33 +1,23 @@
-//! Paths, and the history of a data tree: what each path held at each zxid.
+//! The history of a data tree: what each path held at each zxid.
 //!
-//! A [`Path`] is the text of a node's path, a [`History`] a first tree and the transactions after it, and a [`Stat`]
-//! what is known of a node beside its data. What trees and histories are is said once, in `specs/History.antt`.
+//! A [`History`] is a first tree and the transactions after it. It is for servers in memory and for scripts: a client keeps none.
+//! What trees and histories are is said once, in `specs/History.antt` of `zk_nodes`.
 #![tactic(auto)]
 
-mod answer;
 mod change;
-mod data_stat;
+mod data;
 mod found;
 mod history;
 mod history_fault;
-pub mod laws;
 mod names;
-mod path;
-mod path_fault;
+mod place;
 mod replay;
-mod side;
-mod stat;
 mod told;
 mod transactions;
 mod version;
 mod versions;
 
-pub use answer::{Data, Names};
 pub use change::Change;
-pub use data_stat::DataStat;
+pub use data::Data;
 pub use history::History;
 pub use history_fault::HistoryFault;
-pub use path::Path;
-pub use path_fault::PathFault;
-pub use side::Side;
-pub use stat::Stat;

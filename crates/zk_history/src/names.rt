@@ -1,15 +1,16 @@
 //! The names of a path's children, change by change, and their number.
 
 ghost use Rattle.std.specs.Prelude.{◌≡◌, ◌≤◌, map, slice_get, OnOk};
-ghost use Rattle.zk_history.specs.History.{path_of};
-ghost use Rattle.zk_history.specs.PathFault.{IsPath};
+ghost use Rattle.zk_nodes.specs.Path.{path_of};
+ghost use Rattle.zk_nodes.specs.PathFault.{IsPath};
 ghost use Rattle.zk_history.specs.Replay.{children_after, count_after};
 ghost use Rattle.zk_history.specs.Made.{change_of, transaction_of};
-ghost use Rattle.zk_history.specs.NamesKept.{names_of};
+ghost use Rattle.zk_nodes.specs.Names.{names_of};
 ghost use Rattle.zk_history.specs.Versions.{nth_change, change_at, names_by, names_told};
 ghost use Rattle.std.specs.FinSet as set;
 
 use crate::change::{Change, Transaction};
+use crate::place::is_right_below;
 use crate::version::{Origin, Version};
 use std::alloc::{AllocError, Allocator};
 use std::collections::BTreeSet;
@@ -42,7 +43,7 @@ fn names_after<A: Allocator + Copy>(
 {
     match change {
         Change::Create(path, _, _) => {
-            if path.has_parent_at(at) {
+            if is_right_below(path, at) {
                 if let Some(name) = path.name() {
                     add_name(alloc, names, name)?;
                 }
@@ -50,7 +51,7 @@ fn names_after<A: Allocator + Copy>(
         }
         Change::Set(_, _) => {}
         Change::Delete(path) => {
-            if path.has_parent_at(at) {
+            if is_right_below(path, at) {
                 if let Some(name) = path.name() {
                     remove_name(names, name);
                 }
@@ -128,7 +129,7 @@ pub(crate) fn counted_after<A: Allocator>(change: &Change<A>, at: &str, count: u
 {
     match change {
         Change::Create(path, _, _) => {
-            if path.has_parent_at(at) {
+            if is_right_below(path, at) {
                 count + 1
             } else {
                 count
@@ -136,7 +137,7 @@ pub(crate) fn counted_after<A: Allocator>(change: &Change<A>, at: &str, count: u
         }
         Change::Set(_, _) => count,
         Change::Delete(path) => {
-            if path.has_parent_at(at) {
+            if is_right_below(path, at) {
                 count.saturating_sub(1)
             } else {
                 count

@@ -2,8 +2,9 @@
 
 ghost use Rattle.std.specs.Prelude.{◌≡◌, ◌<◌, ℤ, ℕ, List, Option, Some, true};
 ghost use Rattle.std.specs.Option.{option_map};
-ghost use Rattle.zk_history.specs.History.{path_eq, path_of, Creates, Sets, Deletes};
-ghost use Rattle.zk_history.specs.PathFault.{IsPath};
+ghost use Rattle.zk_nodes.specs.Path.{path_eq, path_of};
+ghost use Rattle.zk_nodes.specs.History.{Creates, Sets, Deletes};
+ghost use Rattle.zk_nodes.specs.PathFault.{IsPath};
 ghost use Rattle.zk_history.specs.Made.{change_of};
 ghost use Rattle.zk_history.specs.declared.version.Origin.{Origin as OriginOf};
 ghost use Rattle.zk_history.specs.declared.version.Entry.{Entry as EntryOf};
@@ -11,9 +12,10 @@ ghost use Rattle.zk_history.specs.Versions.{entry_regrouped, entry_after, entry_
 
 use crate::change::Change;
 use crate::names::counted_after;
-use crate::path::Path;
+use crate::place::{is_at, is_right_below};
 use crate::version::{Entry, Origin, Spot, Version};
 use std::alloc::Allocator;
+use zk_nodes::Path;
 
 // The root as it is before all changes.
 fn first_entry(at: &str) -> Option<Entry>
@@ -91,7 +93,7 @@ fn after_create<A: Allocator>(
 {
     if path.is_root() {
         found
-    } else if path.is_at(at) {
+    } else if is_at(path, at) {
         Some(Entry {
             origin,
             czxid: zxid,
@@ -102,7 +104,7 @@ fn after_create<A: Allocator>(
             version: 0,
             owner,
         })
-    } else if path.has_parent_at(at) {
+    } else if is_right_below(path, at) {
         regrouped(zxid, found)
     } else {
         found
@@ -122,7 +124,7 @@ fn after_set<A: Allocator>(
     requires version { path_eq (path_of at.now) (path_of path.now) ≡ true → (e : EntryOf) → found ≡ Some e → e.version < 2147483647 }
     ensures { (content : Option (List ℕ)) → result ≡ entry_after zxid time origin (path_of at.now) (Sets (path_of path.now) content) found }
 {
-    if !path.is_at(at) {
+    if !is_at(path, at) {
         return found;
     }
     match found {
@@ -153,10 +155,10 @@ fn after_delete<A: Allocator>(
     if path.is_root() {
         return found;
     }
-    if path.is_at(at) {
+    if is_at(path, at) {
         return None;
     }
-    if path.has_parent_at(at) {
+    if is_right_below(path, at) {
         return regrouped(zxid, found);
     }
     found

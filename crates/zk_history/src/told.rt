@@ -1,30 +1,17 @@
 //! What is told of a node that was found.
 
-ghost use Rattle.std.specs.Prelude.{◌≡◌, ◌≤◌, pos, IfOk, nat_le};
+ghost use Rattle.std.specs.Prelude.{◌≡◌, ◌≤◌, pos, nat_le};
 ghost use Rattle.std.specs.Option.{option_map, option_copied};
-ghost use Rattle.zk_history.specs.History.{size_of, node_fields};
+ghost use Rattle.zk_nodes.specs.History.{size_of, node_fields};
 ghost use Rattle.zk_history.specs.Made.{node_of};
 ghost use Rattle.zk_history.specs.Shown.{stat_of};
 
-use crate::data_stat::DataStat;
 use crate::found::Found;
-use crate::stat::Stat;
-use std::alloc::{AllocError, Allocator};
+use std::alloc::Allocator;
+use zk_nodes::{DataStat, Stat};
 
 /// The longest data whose length a `Stat` can tell.
 const LONGEST_DATA: usize = 2147483647;
-
-pub(crate) fn owned<A: Allocator>(
-    alloc: A,
-    bytes: Option<&[u8]>,
-) -> Result<Option<Vec<u8, A>>, AllocError>
-    ensures { IfOk result (λ copy. option_map (λ v. v.items) copy ≡ option_copied bytes.entry) }
-{
-    match bytes {
-        Some(bytes) => Ok(Some(Vec::from_slice(alloc, bytes)?)),
-        None => Ok(None),
-    }
-}
 
 // Whether a Stat can tell the length of some data.
 pub(crate) fn has_length<A: Allocator>(bytes: &Option<Vec<u8, A>>) -> bool

@@ -2,7 +2,7 @@
 
 ghost use Rattle.std.specs.Prelude.{◌≡◌, ◌<◌, ◌^◌, ℕ, List, Option, Some, length, [], ◌∷◌, ◌++◌, map, slice_get, IfErr, OnOk, OnErr};
 ghost use Rattle.std.specs.Option.{option_map, option_copied};
-ghost use Rattle.zk_history.specs.Kept.{with_one, made_transaction, last_with};
+ghost use Rattle.zk_history.specs.HistoryView.{with_one, made_transaction, last_with};
 ghost use Rattle.zk_history.specs.Made.{change_of, transaction_of};
 ghost use Rattle.zk_history.specs.Versions.{last_transaction, next_origin, content_of, content_in, nth_change};
 

@@ -1,18 +1,17 @@
 //! The versions of every path: what a change adds to them, and the last one up to a zxid.
 
 ghost use Rattle.std.specs.Prelude.{◌≡◌, ◌||◌, ◌∷◌, ◌++◌, [], if◌then◌else◌, ℕ, None, Some, OnOk, OnErr, bytes_eq, nat_le};
-ghost use Rattle.zk_history.specs.History.{Text, path_of};
-ghost use Rattle.zk_history.specs.Path.{parent_of};
-ghost use Rattle.zk_history.specs.PathFault.{IsPath};
+ghost use Rattle.zk_nodes.specs.Path.{Text, path_of, parent_of};
+ghost use Rattle.zk_nodes.specs.PathFault.{IsPath};
 ghost use Rattle.zk_history.specs.Made.{change_of};
 ghost use Rattle.zk_history.specs.Versions.{versions_of, versions_after, versions_before, with_version, is_near, version_at, last_version, without_last, CanBeNoted, AreOrdered};
 
 use crate::change::Change;
-use crate::path::Path;
 use crate::replay::version_after;
 use crate::version::{Spot, Version};
 use std::alloc::{AllocError, Allocator};
 use std::collections::BTreeMap;
+use zk_nodes::Path;
 
 /// The versions of each path, under its text.
 pub(crate) type Versions<A> = BTreeMap<String<A>, Vec<Version, A>, A>;

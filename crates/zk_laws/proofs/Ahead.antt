@@ -1,7 +1,8 @@
 -- The invariant: what a client will hold as it takes the messages in flight one by one.
 use Rattle.std.proofs.Common.{ℕ, ◌≡◌, max, Bool, true, false, List, [], ◌∷◌, ◌++◌, refl, sym, ◌∙◌, subst, inl, inr, ◌⊎◌, arith, Option, None, ap, if◌then◌else◌, map}
-use Rattle.zk_history.specs.History.{Text, text_of, path_of, History, tree_at, view}
-use Rattle.zk_history.specs.declared.side.Side.{Side}
+use Rattle.zk_nodes.specs.Path.{Text, text_of, path_of}
+use Rattle.zk_nodes.specs.History.{History, tree_at, view}
+use Rattle.zk_nodes.specs.declared.side.Side.{Side}
 use Rattle.zk_laws.specs.Server.{Watches, Notice}
 use Rattle.zk_turns.specs.Meaning.{Among}
 use Rattle.zk_laws.specs.Messages.{Message, Replies, Notifies, Request}

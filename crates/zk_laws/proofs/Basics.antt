@@ -2,7 +2,7 @@
 use Rattle.zk_turns.proofs.Lists.{same_text, bytes_eq-refl}
 use Rattle.std.proofs.Common.{ℕ, ◌≡◌, ◌==◌, ◌<◌, Bool, true, false, ◌&&◌, List, [], ◌∷◌, ◌++◌, refl, ap, sym, ◌∙◌, subst, inl, inr, ◌⊎◌, arith, eqb-true, fold, append_assoc, append-nil}
 use Rattle.std.proofs.lemmas.Bool.{and_parts, and_from}
-use Rattle.zk_history.specs.History.{Text, Name, NodePath, path_eq, text_of, path_of, byte_more, IsPathText}
+use Rattle.zk_nodes.specs.Path.{Text, Name, NodePath, path_eq, text_of, path_of, byte_more, IsPathText}
 use Rattle.zk_records.specs.declared.event.Event.{Event}
 use Rattle.zk_records.specs.declared.event.Event.TheVariants.{Created, Deleted, DataChanged, ChildrenChanged}
 use Rattle.std.specs.Prelude.{bytes_eq}

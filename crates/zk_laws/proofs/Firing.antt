@@ -2,9 +2,10 @@
 use Rattle.std.proofs.Common.{ℕ, ℤ, ◌≡◌, Bool, true, false, List, [], ◌∷◌, ◌++◌, refl, ap, sym, ◌∙◌, subst, inl, inr, ◌⊎◌, Option, Some, None, is_some, if◌then◌else◌}
 use mathlib.Core.Path.{fun_ext}
 use mathlib.Core.Bool.{and-false}
-use Rattle.zk_history.specs.History.{Text, Name, NodePath, path_eq, text_of, Node, Tree, Change, Creates, Sets, Deletes, IsLegal, AreLegal, apply, apply_all, written, regrouped, View, view, contents_of, children_of}
-use Rattle.zk_history.specs.declared.side.Side.{Side}
-use Rattle.zk_history.specs.declared.side.Side.TheVariants.{Data, Child}
+use Rattle.zk_nodes.specs.Path.{Text, Name, NodePath, path_eq, text_of}
+use Rattle.zk_nodes.specs.History.{Node, Tree, Change, Creates, Sets, Deletes, IsLegal, AreLegal, apply, apply_all, written, regrouped, View, view, contents_of, children_of}
+use Rattle.zk_nodes.specs.declared.side.Side.{Side}
+use Rattle.zk_nodes.specs.declared.side.Side.TheVariants.{Data, Child}
 use Rattle.zk_records.specs.declared.event.Event.{Event}
 use Rattle.zk_records.specs.declared.event.Event.TheVariants.{Created, Deleted, DataChanged, ChildrenChanged}
 use Rattle.zk_records.specs.Events.{concerns}

@@ -1,14 +1,14 @@
 -- What is between a client and its server: letters in flight to the client, requests that are not processed yet, and what
 -- the client waits for.
-use Rattle.zk_turns.specs.Kept.{Asking, For_part, parts_asked, Past}
+use Rattle.zk_turns.specs.Past.{Asking, For_part, parts_asked, Past}
 use Rattle.zk_watches.specs.Lists.{Lists}
 use Rattle.std.proofs.Common.{◌≡◌, ℕ, zero, suc, ◌+◌, ◌≤◌, ℤ, Bool, true, false, cond, List, [], ◌∷◌, ◌++◌, map, drop, length, refl, sym, ap, subst, ◌∙◌, arith, append_assoc}
 use Rattle.std.proofs.lemmas.List.{append-nil, drop-append-le}
 use Rattle.zk_turns.specs.Turns.{Start}
-use Rattle.zk_history.specs.History.{History}
+use Rattle.zk_nodes.specs.History.{History}
 use Rattle.zk_laws.specs.Messages.{Restore, from_zero}
 use Rattle.zk_laws.specs.Steps.{restores}
-use Rattle.zk_laws.specs.Served.{Sent, part_requests, Line, is_going}
+use Rattle.zk_laws.specs.Served.{Sent, part_requests, Wire, is_going}
 use Rattle.zk_laws.specs.Flight.{Owes, Matches, WaitsFor}
 
 -- ---- letters
@@ -66,5 +66,5 @@ drop_one (suc n) (y ∷ xs) x more e =
 -- ---- a client and its server
 
 -- with no connection the server does not matter
-pub still : (h : History) (start : Start) (Was : List ℕ → Type 0) (past : Past) (line other : Line) → is_going past ≡ false → Matches h start Was past line → Matches h start Was past other
-still h start Was past line other off s = record { link = s.link; reached = s.reached; going = λ e. absurd cc; calm = s.calm; counted = s.counted }
+pub still : (h : History) (start : Start) (Was : List ℕ → Type 0) (past : Past) (wire other : Wire) → is_going past ≡ false → Matches h start Was past wire → Matches h start Was past other
+still h start Was past wire other off s = record { link = s.link; reached = s.reached; going = λ e. absurd cc; calm = s.calm; counted = s.counted }

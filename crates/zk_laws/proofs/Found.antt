@@ -16,7 +16,7 @@ use Rattle.zk_watches.specs.Parts.{parts}
 use Rattle.zk_turns.specs.Turns.{Start, Item}
 use Rattle.zk_turns.specs.View.{View}
 use Rattle.zk_turns.specs.Rule.{Stands, IsOpen}
-use Rattle.zk_turns.specs.Kept.{Past, Happening, Began, Asked, Pinged, Took as Takes_in, Accepted as Accepts, Expiry, Replies as Answers_call, Watches_set as Sets_watches, Notifies as Tells, Pong as Echo, Skipped, last_of, session_of, lists_of, xid_of}
+use Rattle.zk_turns.specs.Past.{Past, Happening, Began, Asked, Pinged, Took as Takes_in, Accepted as Accepts, Expiry, Replies as Answers_call, Watches_set as Sets_watches, Notifies as Tells, Pong as Echo, Skipped, last_of, session_of, lists_of, xid_of}
 use Rattle.zk_turns.specs.Taken.{past_of}
 use Rattle.zk_turns.specs.Ranges.{IsResumable, IsTyped, AllAskOf}
 use Rattle.zk_turns.proofs.Spelt.{call_read, part_read, connect_read, ping_read}
@@ -80,7 +80,7 @@ counted : (z : ℤ) → pos 0 ≤ℤ z → z ≡ pos (from_zero z)
 counted (pos n) l = refl
 counted (negsuc n) l = absurd (omega (arith, ints))
 
-last_counted : (start : Start) (past : Past) → IsResumable start → last_of start past ≡ pos (from_zero (last_of start past))
+pub last_counted : (start : Start) (past : Past) → IsResumable start → last_of start past ≡ pos (from_zero (last_of start past))
 last_counted start past s =
     let saved = (is_last_seen start past).saved in
     let counts = s.counts in

@@ -4,7 +4,7 @@ use Rattle.zk_turns.specs.Spelled.{IsHeaded, HasRecord, HasResult}
 use Rattle.zk_laws.specs.Served.{code_of, IsPayload}
 use Rattle.zk_turns.specs.Taken.{taken_of, welcome_by, accepted_or_expired, reading, Cutting, Unfinished, Bad, Payload, cut, cut_at, leaves_watch}
 use Rattle.zk_conversation.specs.Calls.{part_xid}
-use Rattle.zk_history.specs.History.{Text}
+use Rattle.zk_nodes.specs.Path.{Text}
 use Rattle.zk_conversation.specs.Pending.{part_waits, Pending, Call_waits}
 use Rattle.zk_jute.specs.Lenient.{or_empty}
 use Rattle.zk_conversation.specs.Results.{record_of, result_of, result_layout, result_from, response_timeout, response_session, response_password, Result, NoNode, Refused, Found, Read, Listing, Made, Done}
@@ -30,15 +30,15 @@ use Rattle.zk_frames.specs.declared.fault.FrameFault.TheVariants.{Negative, TooL
 use Rattle.zk_conversation.specs.declared.fault.TalkFault.TheVariants.{OtherXid}
 use Rattle.zk_session.specs.declared.states.State.TheVariants.{Connecting, Connected, Expired}
 use Rattle.zk_frames.specs.Frame.{frame, length_field}
-use Rattle.zk_turns.specs.Kept.{Took, Dropped, Accepted as Accepts, Expiry, Replies as Answers_call, Watches_set as Sets_watches, Notifies as Tells, Pong as Echo}
-use Rattle.zk_session.specs.Kept.{Welcome}
-use Rattle.zk_frames.specs.declared.reader.TheConstants.{LONGEST_INCOMING}
+use Rattle.zk_turns.specs.Past.{Took, Dropped, Accepted as Accepts, Expiry, Replies as Answers_call, Watches_set as Sets_watches, Notifies as Tells, Pong as Echo}
+use Rattle.zk_session.specs.SessionView.{Welcome}
 use Rattle.zk_turns.proofs.Pieces.{cut_there, cut_short, same_field, length-frame, drop-frame}
 use Rattle.zk_laws.specs.Log.{left_by}
 use Rattle.zk_laws.specs.Server.{Notice as Notified}
 use Rattle.zk_laws.specs.Messages.{Accepted, Expired, Replies, Watches_set, Notifies, Pong, from_zero}
 use Rattle.zk_laws.specs.Flight.{HasCode}
 use Rattle.zk_turns.proofs.Words.{happening_of}
+use Rattle.zk_limits.specs.declared.limits.TheConstants.{LONGEST_INCOMING}
 
 -- ---- cutting
 

@@ -5,8 +5,9 @@ use Rattle.zk_laws.specs.Laws.{IsTrueWrite, AreRestored}
 use Rattle.zk_laws.specs.Headline.{Headline, IsTrueOf, IsCoherentWith, IsQuietAt, tree_of}
 use Rattle.zk_conversation.specs.Questions.{question_of, Question}
 use Rattle.zk_conversation.specs.Calls.{Call, call_payload, ping_payload}
-use Rattle.zk_history.specs.History.{Text, path_of, Tree, History, IsHistory, tree_at, View as SeenView, view as to_see}
-use Rattle.zk_turns.specs.Kept.{Asking, For_part, For_call, parts_asked, questions, awaited, answered, is_talking, state_of, xid_of, Asked, Began, lists_of, Happening, Dropped, Past, Pinged, Skipped, Expiry, held_of, kept_data, kept_names, last_of, Took as Takes_in, Accepted as Accepts, Replies as Answers_call, Watches_set as Sets_watches, Notifies as Tells, Pong as Echo}
+use Rattle.zk_nodes.specs.Path.{Text, path_of}
+use Rattle.zk_nodes.specs.History.{Tree, History, IsHistory, tree_at, View as SeenView, view as to_see}
+use Rattle.zk_turns.specs.Past.{Asking, For_part, For_call, parts_asked, questions, awaited, answered, is_talking, state_of, xid_of, Asked, Began, lists_of, Happening, Dropped, Past, Pinged, Skipped, Expiry, held_of, kept_data, kept_names, last_of, Took as Takes_in, Accepted as Accepts, Replies as Answers_call, Watches_set as Sets_watches, Notifies as Tells, Pong as Echo}
 use Rattle.zk_watches.specs.Parts.{parts}
 use Rattle.zk_cache.specs.declared.held.Kept.{Kept}
 use Rattle.zk_cache.specs.Kept.{Answer as Kept_answer, Absent as Kept_absent, Known as Kept_known, Full as Kept_full}
@@ -17,7 +18,7 @@ use Rattle.std.proofs.Common.{◌≤◌, drop, suc, zero, ◌<◌, pos, ◌≡�
 use Rattle.std.proofs.lemmas.List.{length-append, map-append}
 use Rattle.zk_conversation.specs.Results.{Result}
 use Rattle.zk_frames.specs.declared.fault.FrameFault.TheVariants.{TooLong}
-use Rattle.zk_history.specs.declared.side.Side.TheVariants.{Data, Child}
+use Rattle.zk_nodes.specs.declared.side.Side.TheVariants.{Data, Child}
 use Rattle.zk_frames.specs.Frame.{frame}
 use Rattle.zk_turns.specs.View.{View}
 use Rattle.zk_turns.specs.Taken.{past_of}
@@ -30,16 +31,16 @@ use Rattle.zk_laws.specs.Messages.{Replies, from_zero}
 use Rattle.zk_laws.specs.Log.{Took, last, good, Answer, Suits}
 use Rattle.zk_laws.specs.Steps.{World, Connection, Link}
 use Rattle.zk_laws.specs.Seen.{seen, item_of, node_answer, names_answer, if_good}
-use Rattle.zk_frames.specs.declared.reader.TheConstants.{LONGEST_INCOMING}
-use Rattle.zk_laws.specs.Served.{WasSent, requests, part_requests, Entry, items_in, Line, line_of, unread, IsServing, Served}
+use Rattle.zk_laws.specs.Served.{WasSent, requests, part_requests, Entry, items_in, Wire, wire_of, unread, IsServing, Served}
 use Rattle.zk_laws.proofs.Basics.{Among-left, Among-right}
 use Rattle.zk_laws.proofs.Whole.{kept_coherent}
 use Rattle.zk_laws.proofs.More.{reads_true, agrees}
 use Rattle.zk_laws.proofs.Seeing.{last_is, good_node, good_names}
-use Rattle.zk_laws.specs.Flight.{IsDue, DropsAreDue, NoneIsNegative, WritesAreTrue, AnswersFirst, Reached, Letter, frames, messages, connection, Going, Matches}
+use Rattle.zk_laws.specs.Flight.{IsDue, DropsAreDue, NoneIsNegative, WritesAreTrue, AnswersFirst, Reached, Letter, frames, messages, connection, InFlight, Matches}
 use Rattle.zk_laws.proofs.Reaching.{reached_kept}
 use Rattle.zk_laws.proofs.Resumed.{replies_above}
 use Rattle.zk_laws.proofs.Moving.{schedule_here}
+use Rattle.zk_limits.specs.declared.limits.TheConstants.{LONGEST_INCOMING}
 
 -- ---- what is good
 
@@ -85,12 +86,7 @@ requests_are start (Takes_in (Accepts w) ∷ past) =
     ∙ ap (λ l. sent start past ++ l) (part_payloads (last_of start past) (parts (lists_of past)))
 requests_are start (Asked ticket q ∷ past) = map-append (λ s. frame s.payload) (requests start past) _ ∙ ap (λ l. l ++ frame (call_payload (pos (xid_of past)) q) ∷ []) (requests_are start past)
 requests_are start (Pinged ∷ past) = map-append (λ s. frame s.payload) (requests start past) _ ∙ ap (λ l. l ++ frame ping_payload ∷ []) (requests_are start past)
-requests_are start (Takes_in Expiry ∷ past) = requests_are start past
-requests_are start (Takes_in (Answers_call t q z r) ∷ past) = requests_are start past
-requests_are start (Takes_in (Sets_watches b z) ∷ past) = requests_are start past
-requests_are start (Takes_in (Tells e p) ∷ past) = requests_are start past
-requests_are start (Takes_in Echo ∷ past) = requests_are start past
-requests_are start (Takes_in Skipped ∷ past) = requests_are start past
+requests_are start (Takes_in _ ∷ past) = requests_are start past
 requests_are start (_ ∷ past) = requests_are start past
 
 pub sends_are : (start : Start) (items : List Item) (view : View) → Stands start items view → IsOpen view.standing.state → sends (outputs_of items) ≡ map (λ s. frame s.payload) (requests start (past_of start items))
@@ -190,14 +186,14 @@ nothing_in_flight (l ∷ ls) e =
     absurd (omega arith)
 
 module _ (h : History) (is : IsHistory h) (start : Start) where
-  served_sim : (items : List Item) → AllAsked items → (served : Served h start items) → Matches h start (WasSent served.entries) (past_of start items) (line_of h served.entries)
+  served_sim : (items : List Item) → AllAsked items → (served : Served h start items) → Matches h start (WasSent served.entries) (past_of start items) (wire_of h served.entries)
   served_sim items asked served =
-      subst (λ t. Matches h start (WasSent served.entries) (past_of start t) (line_of h served.entries)) served.whole
+      subst (λ t. Matches h start (WasSent served.entries) (past_of start t) (wire_of h served.entries)) served.whole
       (schedule_here h is start served.entries (subst AllAsked (sym served.whole) asked) served.may)
 
   -- The invariant gives coherence.
-  pub sim_coherent : (Was : List ℕ → Type 0) (items : List Item) (view : View) (line : Line) → Stands start items view → Matches h start Was (past_of start items) line → IsCoherentWith h view
-  sim_coherent Was items view line s sim =
+  pub sim_coherent : (Was : List ℕ → Type 0) (items : List Item) (view : View) (wire : Wire) → Stands start items view → Matches h start Was (past_of start items) wire → IsCoherentWith h view
+  sim_coherent Was items view wire s sim =
       let past : Past = past_of start items in
       let w : World = record { log = seen start past; link = sim.link } in
       let k = kept_coherent h w (reached_kept h (from_zero start.last) w is sim.reached) in
@@ -207,7 +203,7 @@ module _ (h : History) (is : IsHistory h) (start : Start) where
       (cache_true start past (tree_at h (last (seen start past))) (λ path a e. k Data path a e) (λ path a e. k Child path a e)))
 
   pub coherent_client : (items : List Item) (view : View) → Stands start items view → Served h start items → IsCoherentWith h view
-  coherent_client items view s served = sim_coherent (WasSent served.entries) items view (line_of h served.entries) s (served_sim items s.asked served)
+  coherent_client items view s served = sim_coherent (WasSent served.entries) items view (wire_of h served.entries) s (served_sim items s.asked served)
 
   reached_reads : (w : World) → Reached h (from_zero start.last) w → (q : Question) (z : ℕ) (r : Result) → Among (Took (Replies q z r)) w.log → Reads (tree_at h z) q r
   reached_reads w r q z res a = reads_true h is (from_zero start.last) r.moves r.may q z res (subst (λ v. Among (Took (Replies q z res)) v.log) (sym r.is) a)
@@ -234,22 +230,22 @@ module _ (h : History) (is : IsHistory h) (start : Start) where
       let sim = served_sim items asked served in
       replies_above (from_zero start.last) h is (record { log = seen start (past_of start items); link = sim.link }) sim.reached q (from_zero z) r (among_item ticket q z r start (past_of start items) a)
 
-  quiet_by : (past : Past) (line : Line) (link : Link) (Was : List ℕ → Type 0) (letters : List Letter) → Going h start Was past line link letters → Reached h (from_zero start.last) (record { log = seen start past; link = link })
-      → is_talking (state_of past) ≡ true → line.coming ≡ [] → held_of past ≡ [] → AreRestored (map (λ s. s.request) (unread start past line))
-      → IsTrueOf (tree_held h line.server.place) (record { nodes = λ path. kept_data path past; children = λ path. kept_names path past })
-  quiet_by past line link Was letters g r talks received taken restored =
-      let c : Connection = connection start past line letters in
+  quiet_by : (past : Past) (wire : Wire) (link : Link) (Was : List ℕ → Type 0) (letters : List Letter) → InFlight h start Was past wire link letters → Reached h (from_zero start.last) (record { log = seen start past; link = link })
+      → is_talking (state_of past) ≡ true → wire.coming ≡ [] → held_of past ≡ [] → AreRestored (map (λ s. s.request) (unread start past wire))
+      → IsTrueOf (tree_held h wire.server.place) (record { nodes = λ path. kept_data path past; children = λ path. kept_names path past })
+  quiet_by past wire link Was letters g r talks received taken restored =
+      let c : Connection = connection start past wire letters in
       let w : World = record { log = seen start past; link = link } in
       let none : letters ≡ [] = nothing_in_flight letters (sym g.bytes ∙ ap (λ l. held_of past ++ l) received ∙ ap (λ l. l ++ []) taken) in
       let a = agrees h w (reached_kept h (from_zero start.last) w is r) c g.up talks (ap messages none) restored in
-      cache_true start past (tree_held h line.server.place) (λ path b e. a Data path b e) (λ path b e. a Child path b e)
+      cache_true start past (tree_held h wire.server.place) (λ path b e. a Data path b e) (λ path b e. a Child path b e)
 
   pub quiet_client : (entries : List Entry) (view : View) → IsServing h start entries → Stands start (items_in entries) view → IsQuietAt h start entries → IsTrueOf (tree_of h entries) view.cache
   quiet_client entries view may s quiet =
       let sim = schedule_here h is start entries s.asked may in
       let g = sim.going quiet.going in
       subst (λ c. IsTrueOf (tree_of h entries) c) (sym s.cache)
-      (quiet_by (past_of start (items_in entries)) (line_of h entries) sim.link (WasSent entries) g.0 g.1 sim.reached quiet.talking quiet.received quiet.taken quiet.restored)
+      (quiet_by (past_of start (items_in entries)) (wire_of h entries) sim.link (WasSent entries) g.0 g.1 sim.reached quiet.talking quiet.received quiet.taken quiet.restored)
 
   -- the reason of a drop
   abbrev Due : (List ℕ → Type 0) → Fault → Type 0
@@ -269,12 +265,7 @@ module _ (h : History) (is : IsHistory h) (start : Start) where
 
   signed_rest : (x : Happening) (past : Past) → NoneIsNegative (x ∷ past) → NoneIsNegative past
   signed_rest (Takes_in (Answers_call t q z r)) past c = c.1
-  signed_rest (Takes_in (Accepts w)) past c = c
-  signed_rest (Takes_in Expiry) past c = c
-  signed_rest (Takes_in (Sets_watches b z)) past c = c
-  signed_rest (Takes_in (Tells e p)) past c = c
-  signed_rest (Takes_in Echo) past c = c
-  signed_rest (Takes_in Skipped) past c = c
+  signed_rest (Takes_in _) past c = c
   signed_rest _ past c = c
 
   signed_all : (past : Past) → NoneIsNegative past → (t : ℕ) (q : Question) (z : ℤ) (r : Result) → Among (Takes_in (Answers_call t q z r)) past → z ≡ pos (from_zero z)

@@ -14,7 +14,7 @@ use Rattle.std.proofs.Common.{◌≡◌, ℕ, pos, negsuc, List, [], ◌∷◌, 
 use Rattle.std.specs.Str.{is_utf8, chars}
 use lib.Utf8.{encode}
 use Rattle.zk_conversation.specs.Calls.{connect_payload, call_payload, part_payload}
-use Rattle.zk_turns.specs.Kept.{kept_data, last_of}
+use Rattle.zk_turns.specs.Past.{kept_data, last_of}
 use Rattle.zk_cache.specs.Kept.{Full, good}
 use Rattle.zk_turns.specs.View.{view_at}
 use Rattle.zk_turns.specs.Taken.{cut, past_of}

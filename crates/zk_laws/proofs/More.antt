@@ -1,14 +1,15 @@
 -- The other laws of a run.
 use Rattle.std.proofs.Common.{ℕ, zero, suc, ◌≡◌, ◌≤◌, Bool, true, false, List, [], ◌∷◌, ◌++◌, refl, sym, subst, inl, inr, arith, Option, Some, None, if◌then◌else◌, map, take}
 use Rattle.std.specs.Bool.{⊤}
-use Rattle.zk_history.specs.DataStats.{data_stat_of}
-use Rattle.zk_history.specs.History.{Text, path_of, tree_at, Tree, Change, Creates, Sets, Deletes, Transaction, History, IsHistory, newest, view}
+use Rattle.zk_nodes.specs.DataStats.{data_stat_of}
+use Rattle.zk_nodes.specs.Path.{Text, path_of}
+use Rattle.zk_nodes.specs.History.{tree_at, Tree, Change, Creates, Sets, Deletes, Transaction, History, IsHistory, newest, view}
 use Rattle.zk_conversation.specs.Calls.{Call, Exists, GetData, GetChildren, SetData, Create, Delete}
-use Rattle.zk_history.specs.declared.side.Side.{Side}
-use Rattle.zk_history.specs.declared.side.Side.TheVariants.{Data, Child}
+use Rattle.zk_nodes.specs.declared.side.Side.{Side}
+use Rattle.zk_nodes.specs.declared.side.Side.TheVariants.{Data, Child}
 use Rattle.zk_conversation.specs.Questions.{Question, question_of}
 use Rattle.zk_conversation.specs.Results.{Result, NoNode, Found, Read, Listing, Made, Done}
-use Rattle.zk_turns.specs.Kept.{names_of}
+use Rattle.zk_turns.specs.Past.{names_of}
 use Rattle.zk_turns.specs.Meaning.{Among}
 use Rattle.zk_laws.specs.Server.{Reads, FitsNames, Notice, held, tree_held, zxid_held, LastHolds, Gives}
 use Rattle.zk_laws.specs.Messages.{Message, Accepted, Expired, Replies, Watches_set, Notifies, Pong, Request, Connect, Restore, Ask, Ping}

@@ -1,12 +1,12 @@
 -- The lists of a run are those of the client, in the same order.
 use Rattle.std.proofs.Common.{◌≡◌, ℕ, Bool, ◌&&◌, List, [], ◌∷◌, ◌++◌, refl, sym, ap, ◌∙◌}
-use Rattle.std.specs.Prelude.{not, filter}
+use Rattle.std.specs.Prelude.{not, filter, reverse}
 use Rattle.std.proofs.lemmas.List.Elements.{filter_agree}
-use Rattle.zk_history.specs.History.{Text}
+use Rattle.zk_nodes.specs.Path.{Text}
 use Rattle.zk_turns.specs.Turns.{Start}
 use Rattle.zk_conversation.specs.Questions.{Question, Exists, GetData, GetChildren}
 use Rattle.zk_conversation.specs.Results.{Result}
-use Rattle.zk_turns.specs.Kept.{Past, Happening, Began, Came, Dropped, Asked, Denied, Pinged, Ticked, Forgot, Skipped, Expiry, path_of_read, path_of_reply, arrivals, in_known, in_missing, in_parents, lists_of, listed as client_list, Took as Takes_in, Lost as Loses_it, Halted as Halts_now, Accepted as Accepts, Replies as Answers_call, Watches_set as Sets_watches, Notifies as Tells, Pong as Echo}
+use Rattle.zk_turns.specs.Past.{Past, Happening, Began, Came, Dropped, Asked, Denied, Pinged, Ticked, Forgot, Skipped, Expiry, path_of_read, path_of_reply, arrivals, firsts, in_known, in_missing, in_parents, lists_of, listed as client_list, Took as Takes_in, Lost as Loses_it, Halted as Halts_now, Accepted as Accepts, Replies as Answers_call, Watches_set as Sets_watches, Notifies as Tells, Pong as Echo}
 use Rattle.zk_watches.specs.Parts.{parts}
 use Rattle.zk_turns.proofs.Lists.{grows, Tracks}
 use Rattle.zk_turns.proofs.Registered.{tracks_known, tracks_missing, tracks_parents}
@@ -41,61 +41,40 @@ module _ (start : Start) (kind : Kind) (is_in : Text → Past → Bool) (tracks 
       (filter_agree (λ q. is_kind kind q (item ∷ seen start past) && not (is_kind kind q (seen start past))) (λ q. is_in q (x ∷ past) && not (is_in q past)) (λ q. ap (λ b. b && not (is_kind kind q (seen start past))) (now q) ∙ ap (λ b. is_in q (x ∷ past) && not b) (same past q)) (path_of_reply x))
       ∙ sym (grows (λ q. is_in q past) (λ q. is_in q (x ∷ past)) (path_of_reply x) (arrivals is_in past) one (λ q h e. tracks.by_reply q x past h e))
 
-  pub listed_here : (plain : (x : Happening) (past : Past) → item_of x ≡ [] → client_list is_in (x ∷ past) ≡ client_list is_in past) (past : Past) → listed kind (seen start past) ≡ client_list is_in past
-  listed_here plain [] = refl
-  listed_here plain (Takes_in (Answers_call t q z r) ∷ past) = with_item (Takes_in (Answers_call t q z r)) past (Took (Replies q (from_zero z) r)) refl (paths_same q (from_zero z) r) (λ a b more e. one_path q a b more e) (listed_here plain past)
-  listed_here plain (Takes_in (Accepts w) ∷ past) = with_item (Takes_in (Accepts w)) past _ refl refl (λ a b more e. cc) (listed_here plain past)
-  listed_here plain (Takes_in Expiry ∷ past) = with_item (Takes_in Expiry) past _ refl refl (λ a b more e. cc) (listed_here plain past)
-  listed_here plain (Takes_in (Sets_watches b z) ∷ past) = with_item (Takes_in (Sets_watches b z)) past _ refl refl (λ a b more e. cc) (listed_here plain past)
-  listed_here plain (Takes_in (Tells e p) ∷ past) = with_item (Takes_in (Tells e p)) past _ refl refl (λ a b more e. cc) (listed_here plain past)
-  listed_here plain (Takes_in Echo ∷ past) = with_item (Takes_in Echo) past _ refl refl (λ a b more e. cc) (listed_here plain past)
-  listed_here plain (Takes_in Skipped ∷ past) = listed_here plain past ∙ sym (plain (Takes_in Skipped) past refl)
-  listed_here plain (Began ∷ past) = with_item Began past _ refl refl (λ a b more e. cc) (listed_here plain past)
-  listed_here plain (Dropped f ∷ past) = with_item (Dropped f) past _ refl refl (λ a b more e. cc) (listed_here plain past)
-  listed_here plain (Loses_it ∷ past) = with_item Loses_it past _ refl refl (λ a b more e. cc) (listed_here plain past)
-  listed_here plain (Forgot ∷ past) = with_item Forgot past _ refl refl (λ a b more e. cc) (listed_here plain past)
-  listed_here plain (Halts_now ∷ past) = with_item Halts_now past _ refl refl (λ a b more e. cc) (listed_here plain past)
-  listed_here plain (Came b ∷ past) = listed_here plain past ∙ sym (plain (Came b) past refl)
-  listed_here plain (Asked t q ∷ past) = listed_here plain past ∙ sym (plain (Asked t q) past refl)
-  listed_here plain (Denied t w ∷ past) = listed_here plain past ∙ sym (plain (Denied t w) past refl)
-  listed_here plain (Pinged ∷ past) = listed_here plain past ∙ sym (plain Pinged past refl)
-  listed_here plain (Ticked m ∷ past) = listed_here plain past ∙ sym (plain (Ticked m) past refl)
+  -- what leaves no item and is no reply changes no list
+  plain : (x : Happening) (past : Past) → item_of x ≡ [] → path_of_reply x ≡ [] → client_list is_in (x ∷ past) ≡ client_list is_in past
+  plain x past no_item no_path =
+      ap (λ ps. reverse (filter (λ q. is_in q (x ∷ past)) (firsts (filter (λ q. is_in q (x ∷ past) && not (is_in q past)) ps ++ arrivals is_in past)))) no_path
+      ∙ ap reverse (filter_agree (λ q. is_in q (x ∷ past)) (λ q. is_in q past) (λ q. sym (same (x ∷ past) q) ∙ ap (λ items. is_kind kind q (items ++ seen start past)) no_item ∙ same past q) (firsts (arrivals is_in past)))
 
-plain_known : (x : Happening) (past : Past) → item_of x ≡ [] → client_list in_known (x ∷ past) ≡ client_list in_known past
-plain_known (Came b) past e = refl
-plain_known (Asked t q) past e = refl
-plain_known (Denied t w) past e = refl
-plain_known Pinged past e = refl
-plain_known (Ticked m) past e = refl
-plain_known (Takes_in Skipped) past e = refl
-plain_known _ past e = absurd cc
-
-plain_missing : (x : Happening) (past : Past) → item_of x ≡ [] → client_list in_missing (x ∷ past) ≡ client_list in_missing past
-plain_missing (Came b) past e = refl
-plain_missing (Asked t q) past e = refl
-plain_missing (Denied t w) past e = refl
-plain_missing Pinged past e = refl
-plain_missing (Ticked m) past e = refl
-plain_missing (Takes_in Skipped) past e = refl
-plain_missing _ past e = absurd cc
-
-plain_parents : (x : Happening) (past : Past) → item_of x ≡ [] → client_list in_parents (x ∷ past) ≡ client_list in_parents past
-plain_parents (Came b) past e = refl
-plain_parents (Asked t q) past e = refl
-plain_parents (Denied t w) past e = refl
-plain_parents Pinged past e = refl
-plain_parents (Ticked m) past e = refl
-plain_parents (Takes_in Skipped) past e = refl
-plain_parents _ past e = absurd cc
+  pub listed_here : (past : Past) → listed kind (seen start past) ≡ client_list is_in past
+  listed_here [] = refl
+  listed_here (Takes_in (Answers_call t q z r) ∷ past) = with_item (Takes_in (Answers_call t q z r)) past (Took (Replies q (from_zero z) r)) refl (paths_same q (from_zero z) r) (λ a b more e. one_path q a b more e) (listed_here past)
+  listed_here (Takes_in (Accepts w) ∷ past) = with_item (Takes_in (Accepts w)) past _ refl refl (λ a b more e. cc) (listed_here past)
+  listed_here (Takes_in Expiry ∷ past) = with_item (Takes_in Expiry) past _ refl refl (λ a b more e. cc) (listed_here past)
+  listed_here (Takes_in (Sets_watches b z) ∷ past) = with_item (Takes_in (Sets_watches b z)) past _ refl refl (λ a b more e. cc) (listed_here past)
+  listed_here (Takes_in (Tells e p) ∷ past) = with_item (Takes_in (Tells e p)) past _ refl refl (λ a b more e. cc) (listed_here past)
+  listed_here (Takes_in Echo ∷ past) = with_item (Takes_in Echo) past _ refl refl (λ a b more e. cc) (listed_here past)
+  listed_here (Takes_in Skipped ∷ past) = listed_here past ∙ sym (plain (Takes_in Skipped) past refl refl)
+  listed_here (Began ∷ past) = with_item Began past _ refl refl (λ a b more e. cc) (listed_here past)
+  listed_here (Dropped f ∷ past) = with_item (Dropped f) past _ refl refl (λ a b more e. cc) (listed_here past)
+  listed_here (Loses_it ∷ past) = with_item Loses_it past _ refl refl (λ a b more e. cc) (listed_here past)
+  listed_here (Forgot ∷ past) = with_item Forgot past _ refl refl (λ a b more e. cc) (listed_here past)
+  listed_here (Halts_now ∷ past) = with_item Halts_now past _ refl refl (λ a b more e. cc) (listed_here past)
+  listed_here (Came b ∷ past) = listed_here past ∙ sym (plain (Came b) past refl refl)
+  listed_here (Asked t q ∷ past) = listed_here past ∙ sym (plain (Asked t q) past refl refl)
+  listed_here (Denied t w ∷ past) = listed_here past ∙ sym (plain (Denied t w) past refl refl)
+  listed_here (Pinged ∷ past) = listed_here past ∙ sym (plain Pinged past refl refl)
+  listed_here (Ticked m ∷ past) = listed_here past ∙ sym (plain (Ticked m) past refl refl)
 
 pub listed_known : (start : Start) (past : Past) → listed Of_data (seen start past) ≡ (lists_of past).data_watches
-listed_known start past = listed_here start Of_data in_known tracks_known (λ p path. kind_known start p path) plain_known past
+listed_known start past = listed_here start Of_data in_known tracks_known (λ p path. kind_known start p path) past
 
 pub listed_missing : (start : Start) (past : Past) → listed Of_absence (seen start past) ≡ (lists_of past).exist_watches
-listed_missing start past = listed_here start Of_absence in_missing tracks_missing (λ p path. kind_missing start p path) plain_missing past
+listed_missing start past = listed_here start Of_absence in_missing tracks_missing (λ p path. kind_missing start p path) past
 
 pub listed_parents : (start : Start) (past : Past) → listed Of_children (seen start past) ≡ (lists_of past).child_watches
-listed_parents start past = listed_here start Of_children in_parents tracks_parents (λ p path. kind_parents start p path) plain_parents past
+listed_parents start past = listed_here start Of_children in_parents tracks_parents (λ p path. kind_parents start p path) past
 
 -- The client's parts are parts of the lists of the run.
 pub are_parts : (start : Start) (past : Past) → AreParts (seen start past) (parts (lists_of past))

@@ -1,6 +1,6 @@
 -- What is given has its cause in what happened.
 use Rattle.zk_conversation.specs.Calls.{Call}
-use Rattle.zk_history.specs.History.{Text}
+use Rattle.zk_nodes.specs.Path.{Text}
 use Rattle.std.proofs.Common.{◌≡◌, ℕ, Option, Some, None, ap, ℤ, Bool, true, false, cond, List, [], ◌∷◌, ◌++◌, map, refl, sym, subst, inl, inr, ◌⊎◌}
 use Rattle.std.specs.Prelude.{◌&&◌, if◌then◌else◌, nat_le, ◌*◌, ◌-◌}
 use Rattle.std.specs.List.{flat_map}
@@ -8,11 +8,11 @@ use Rattle.zk_session.specs.declared.states.State.{State}
 use Rattle.zk_conversation.specs.Results.{Result}
 use Rattle.zk_turns.specs.Turns.{Outcome, Replied, SessionClosed, TooManyWatches, TooLarge, TooManyPending, Answer, Start, Fault, Output, Report, Enters, Drop, Item, Turned, Forgets, Halts, Signal, Forget, Halt, Opens, Comes, Cuts, Ticks, Calls, signals_of, Silent}
 use Rattle.zk_conversation.specs.Questions.{Question, Close}
-use Rattle.zk_history.specs.declared.side.Side.{Side}
-use Rattle.zk_history.specs.declared.side.Side.TheVariants.{Data, Child}
+use Rattle.zk_nodes.specs.declared.side.Side.{Side}
+use Rattle.zk_nodes.specs.declared.side.Side.TheVariants.{Data, Child}
 use Rattle.zk_records.specs.declared.event.Event.{Event}
 use Rattle.zk_session.specs.declared.states.State.TheVariants.{Idle, Connecting, Connected, Expired, Closed}
-use Rattle.zk_turns.specs.Kept.{is_talking, Past, Happening, Began, Came, Took, Dropped, Lost, Asked, Denied, Pinged, Ticked, Forgot, Halted, Message, Accepted, Expiry, Replies, Watches_set, Notifies, Pong, Skipped}
+use Rattle.zk_turns.specs.Past.{is_talking, Past, Happening, Began, Came, Took, Dropped, Lost, Asked, Denied, Pinged, Ticked, Forgot, Halted, Message, Accepted, Expiry, Replies, Watches_set, Notifies, Pong, Skipped}
 use Rattle.zk_watches.specs.Lists.{Lists}
 use Rattle.zk_watches.specs.Parts.{parts}
 use Rattle.zk_conversation.specs.Pending.{Pending, Waiting, Part_waits, Call_waits}

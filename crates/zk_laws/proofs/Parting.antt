@@ -3,9 +3,9 @@ use Rattle.std.proofs.Common.{◌≡◌, ℕ, ◌+◌, Bool, true, false, cond, 
 use Rattle.std.specs.Prelude.{is_some, nat_le}
 use Rattle.std.specs.List.{flat_map}
 use Rattle.std.proofs.lemmas.List.{append-nil}
-use Rattle.zk_history.specs.History.{Text}
+use Rattle.zk_nodes.specs.Path.{Text}
 use Rattle.zk_turns.specs.Turns.{Start}
-use Rattle.zk_turns.specs.Kept.{Past, kept_data, kept_names, standing, word_data, in_known, in_missing, in_parents, AgreesWith}
+use Rattle.zk_turns.specs.Past.{Past, kept_data, kept_names, standing, word_data, in_known, in_missing, in_parents, AgreesWith}
 use Rattle.zk_watches.specs.Lists.{Lists, no_lists}
 use Rattle.zk_watches.specs.Parts.{Watch, OnData, OnExist, OnChild, watches_of, weight_of, put_first, into_first, rest_of_parts, parts_of_watches, parts}
 use Rattle.zk_cache.specs.Kept.{is_marked_good, Answer as Kept_answer, Absent as Kept_absent, Known as Kept_known, Full as Kept_full, Names as Kept_names}
@@ -17,6 +17,7 @@ use Rattle.zk_laws.specs.Log.{is_of, is_kind, Of_data, Of_absence, Of_children}
 use Rattle.zk_laws.specs.Seen.{seen, node_answer, names_answer, if_good}
 use Rattle.zk_laws.proofs.Seeing.{good_node, good_names}
 use Rattle.zk_turns.proofs.Words.{is_there, is_absent}
+use Rattle.zk_limits.specs.declared.limits.TheConstants.{MOST_WEIGHT}
 
 -- ---- the parts, joined
 
@@ -27,7 +28,7 @@ module _ (pick : Lists → List Text) (tag : Watch → List Text) (none : pick n
 
   rest_pick : (full : ℕ) (ts : List Watch) → flat_map pick (rest_of_parts full ts) ≡ flat_map tag ts
   rest_pick full [] = ap (λ l. l ++ []) none
-  rest_pick full (t ∷ ts) = by (nat_le (full + weight_of t) 131072) (λ n. rest_pick n ts)
+  rest_pick full (t ∷ ts) = by (nat_le (full + weight_of t) MOST_WEIGHT) (λ n. rest_pick n ts)
     where
       by : (b : Bool) → ((n : ℕ) → flat_map pick (rest_of_parts n ts) ≡ flat_map tag ts)
           → flat_map pick (cond b (into_first t (rest_of_parts (full + weight_of t) ts)) (no_lists ∷ into_first t (rest_of_parts (weight_of t) ts))) ≡ tag t ++ flat_map tag ts
@@ -114,43 +115,26 @@ parts_parents lists =
 
 -- ---- what is good is listed
 
-known_is : (kept : Option (Kept Kept_answer)) (said : Option Kept_answer) → is_marked_good kept ≡ is_some said → AgreesWith kept said → is_of Of_data (if_good node_answer kept) ≡ is_there said
-known_is None None e a = refl
-known_is None (Some s) e a = absurd cc
-known_is (Some kept) said e a = by kept.answer kept.mark said e a
+node_is : (kept : Option (Kept Kept_answer)) (said : Option Kept_answer) → is_marked_good kept ≡ is_some said → AgreesWith kept said
+    → (is_of Of_data (if_good node_answer kept) ≡ is_there said) × (is_of Of_absence (if_good node_answer kept) ≡ is_absent said)
+node_is None None e a = (refl, refl)
+node_is None (Some s) e a = absurd cc
+node_is (Some kept) said e a = by kept.answer kept.mark said e a
   where
-    by : (x : Kept_answer) (m : Mark) (s : Option Kept_answer) → is_marked_good (Some (record { answer = x; mark = m })) ≡ is_some s → AgreesWith (Some (record { answer = x; mark = m })) s → is_of Of_data (if_good node_answer (Some (record { answer = x; mark = m }))) ≡ is_there s
-    by x Stale None e a = refl
+    by : (x : Kept_answer) (m : Mark) (s : Option Kept_answer) → is_marked_good (Some (record { answer = x; mark = m })) ≡ is_some s → AgreesWith (Some (record { answer = x; mark = m })) s
+        → (is_of Of_data (if_good node_answer (Some (record { answer = x; mark = m }))) ≡ is_there s) × (is_of Of_absence (if_good node_answer (Some (record { answer = x; mark = m }))) ≡ is_absent s)
+    by x Stale None e a = (refl, refl)
     by x Stale (Some s) e a = absurd cc
     by x Good None e a = absurd cc
-    by Kept_absent Good (Some Kept_absent) e a = refl
+    by Kept_absent Good (Some Kept_absent) e a = (refl, refl)
     by Kept_absent Good (Some (Kept_known f)) e a = absurd cc
     by Kept_absent Good (Some (Kept_full b f)) e a = absurd cc
     by (Kept_known g) Good (Some Kept_absent) e a = absurd cc
-    by (Kept_known g) Good (Some (Kept_known f)) e a = refl
-    by (Kept_known g) Good (Some (Kept_full b f)) e a = refl
+    by (Kept_known g) Good (Some (Kept_known f)) e a = (refl, refl)
+    by (Kept_known g) Good (Some (Kept_full b f)) e a = (refl, refl)
     by (Kept_full c g) Good (Some Kept_absent) e a = absurd cc
-    by (Kept_full c g) Good (Some (Kept_known f)) e a = refl
-    by (Kept_full c g) Good (Some (Kept_full b f)) e a = refl
-
-absent_is : (kept : Option (Kept Kept_answer)) (said : Option Kept_answer) → is_marked_good kept ≡ is_some said → AgreesWith kept said → is_of Of_absence (if_good node_answer kept) ≡ is_absent said
-absent_is None None e a = refl
-absent_is None (Some s) e a = absurd cc
-absent_is (Some kept) said e a = by kept.answer kept.mark said e a
-  where
-    by : (x : Kept_answer) (m : Mark) (s : Option Kept_answer) → is_marked_good (Some (record { answer = x; mark = m })) ≡ is_some s → AgreesWith (Some (record { answer = x; mark = m })) s → is_of Of_absence (if_good node_answer (Some (record { answer = x; mark = m }))) ≡ is_absent s
-    by x Stale None e a = refl
-    by x Stale (Some s) e a = absurd cc
-    by x Good None e a = absurd cc
-    by Kept_absent Good (Some Kept_absent) e a = refl
-    by Kept_absent Good (Some (Kept_known f)) e a = absurd cc
-    by Kept_absent Good (Some (Kept_full b f)) e a = absurd cc
-    by (Kept_known g) Good (Some Kept_absent) e a = absurd cc
-    by (Kept_known g) Good (Some (Kept_known f)) e a = refl
-    by (Kept_known g) Good (Some (Kept_full b f)) e a = refl
-    by (Kept_full c g) Good (Some Kept_absent) e a = absurd cc
-    by (Kept_full c g) Good (Some (Kept_known f)) e a = refl
-    by (Kept_full c g) Good (Some (Kept_full b f)) e a = refl
+    by (Kept_full c g) Good (Some (Kept_known f)) e a = (refl, refl)
+    by (Kept_full c g) Good (Some (Kept_full b f)) e a = (refl, refl)
 
 names_is : (kept : Option (Kept Kept_names)) → is_of Of_children (if_good names_answer kept) ≡ is_marked_good kept
 names_is None = refl
@@ -163,10 +147,10 @@ names_is (Some kept) = by kept.mark
 module _ (start : Start) (past : Past) where
   -- The paths of a kind are those listed.
   pub kind_known : (path : Text) → is_kind Of_data path (seen start past) ≡ in_known path past
-  kind_known path = ap (is_of Of_data) (good_node start path past) ∙ known_is (kept_data path past) (standing (word_data path) past) (data_marks path past) (data_agrees path past)
+  kind_known path = ap (is_of Of_data) (good_node start path past) ∙ (node_is (kept_data path past) (standing (word_data path) past) (data_marks path past) (data_agrees path past)).0
 
   pub kind_missing : (path : Text) → is_kind Of_absence path (seen start past) ≡ in_missing path past
-  kind_missing path = ap (is_of Of_absence) (good_node start path past) ∙ absent_is (kept_data path past) (standing (word_data path) past) (data_marks path past) (data_agrees path past)
+  kind_missing path = ap (is_of Of_absence) (good_node start path past) ∙ (node_is (kept_data path past) (standing (word_data path) past) (data_marks path past) (data_agrees path past)).1
 
   pub kind_parents : (path : Text) → is_kind Of_children path (seen start past) ≡ in_parents path past
   kind_parents path = ap (is_of Of_children) (good_names start path past) ∙ names_is (kept_names path past) ∙ child_marks path past

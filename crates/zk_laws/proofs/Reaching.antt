@@ -1,6 +1,6 @@
 -- The worlds that a run reaches.
 use Rattle.std.proofs.Common.{◌≡◌, ℕ, List, [], ◌∷◌, ◌++◌, refl, sym, ap, subst, ◌∙◌}
-use Rattle.zk_history.specs.History.{History, IsHistory}
+use Rattle.zk_nodes.specs.History.{History, IsHistory}
 use Rattle.zk_laws.specs.Invariant.{IsKept}
 use Rattle.zk_laws.specs.Steps.{World}
 use Rattle.zk_laws.specs.Run.{start, Move, May, moved, IsSchedule, run}

@@ -3,10 +3,11 @@ use Rattle.std.proofs.Common.{refl, subst, ◌≡◌}
 use Rattle.std.specs.FinSet as set
 use Rattle.std.specs.Prelude.{ℕ, Bool, List, Option, Some, None, pos, ◌↔◌}
 use Rattle.zk_cache.specs.Kept.{Absent, Known, Full}
-use Rattle.zk_history.specs.declared.stat.Stat.{Stat}
-use Rattle.zk_history.specs.DataStats.{data_stat_of}
-use Rattle.zk_history.specs.History.{Name, Node, contents_of, children_of, node_fields}
-use Rattle.zk_turns.specs.Kept.{names_of}
+use Rattle.zk_nodes.specs.declared.stat.Stat.{Stat}
+use Rattle.zk_nodes.specs.DataStats.{data_stat_of}
+use Rattle.zk_nodes.specs.Path.{Name}
+use Rattle.zk_nodes.specs.History.{Node, contents_of, children_of, node_fields}
+use Rattle.zk_turns.specs.Past.{names_of}
 use Rattle.zk_laws.specs.Server.{Fits, FitsNames}
 
 no_node : (node : Node) → None ≡ Some node → ⊥

@@ -1,10 +1,11 @@
 -- No reply is below the saved zxid.
 use Rattle.zk_conversation.specs.Questions.{question_of, Question}
 use Rattle.zk_conversation.specs.Calls.{Call}
-use Rattle.zk_history.specs.History.{Text, History, IsHistory}
+use Rattle.zk_nodes.specs.Path.{Text}
+use Rattle.zk_nodes.specs.History.{History, IsHistory}
 use Rattle.std.proofs.Common.{ℕ, ◌≤◌, Bool, true, false, List, [], ◌∷◌, ◌++◌, map, sym, subst, arith, inl, inr}
 use Rattle.std.specs.Prelude.{if◌then◌else◌}
-use Rattle.zk_history.specs.declared.side.Side.TheVariants.{Data}
+use Rattle.zk_nodes.specs.declared.side.Side.TheVariants.{Data}
 use Rattle.zk_conversation.specs.Results.{Result}
 use Rattle.zk_laws.specs.Server.{Notice, Watches, zxid_held}
 use Rattle.zk_turns.specs.Meaning.{Among}

@@ -3,14 +3,15 @@ use Rattle.std.specs.FinSet as set
 use Rattle.std.proofs.Common.{◌≡◌, ℕ, ◌≤◌, ◌<◌, ℤ, pos, negsuc, Bool, true, false, cond, ◌&&◌, List, [], ◌∷◌, Option, Some, None, refl, sym, ap, ◌∙◌, arith, ◌⊎◌, inl, inr}
 use Rattle.std.specs.Prelude.{bytes_eq, if◌then◌else◌, max, int_lt}
 use Rattle.std.proofs.lemmas.Bool.{le-ltb, lt-ltb, cases_lt}
-use Rattle.zk_history.specs.History.{Text}
-use Rattle.zk_history.specs.declared.side.Side.TheVariants.{Data, Child}
-use Rattle.zk_history.specs.declared.data_stat.DataStat.{DataStat}
+use Rattle.zk_nodes.specs.Path.{Text}
+use Rattle.zk_nodes.specs.declared.side.Side.TheVariants.{Data, Child}
+use Rattle.zk_nodes.specs.declared.data_stat.DataStat.{DataStat}
 use Rattle.zk_turns.specs.Turns.{Start}
 use Rattle.zk_conversation.specs.Questions.{Question, Exists, GetData, GetChildren, Close}
 use Rattle.zk_conversation.specs.Results.{Result, NoNode, Found, Read, Listing}
-use Rattle.zk_history.specs.DataStats.{data_stat_of}
-use Rattle.zk_turns.specs.Kept.{Happening, Began, Dropped, Forgot, Past, Skipped, Expiry, later, last_of, Word, Says, Ends, Empties, Nothing, kept_by, kept_data, kept_names, good_answer, names_of, Took as Takes_in, Lost as Loses_it, Halted as Halts_now, Message as Reading, Accepted as Accepts, Replies as Answers_call, Watches_set as Sets_watches, Notifies as Tells, Pong as Echo}
+use Rattle.zk_nodes.specs.DataStats.{data_stat_of}
+use Rattle.zk_turns.specs.Past.{Happening, Began, Dropped, Forgot, Past, Skipped, Expiry, last_of, Word, Says, Ends, Empties, Nothing, kept_by, kept_data, kept_names, good_answer, names_of, Took as Takes_in, Lost as Loses_it, Halted as Halts_now, Message as Reading, Accepted as Accepts, Replies as Answers_call, Watches_set as Sets_watches, Notifies as Tells, Pong as Echo}
+use Rattle.std.specs.Int.{int_max}
 use Rattle.zk_cache.specs.declared.held.Mark.{Mark}
 use Rattle.zk_cache.specs.Kept.{same_fields, without_stale, Answer as Kept_answer, Absent as Kept_absent, Known as Kept_known, Full as Kept_full, Names as Kept_names, merged}
 use Rattle.zk_cache.specs.declared.held.Kept.{Kept}
@@ -47,10 +48,10 @@ max_less m n le = omega arith
 max_more : (m n : ℕ) → n ≤ m → m ≡ max m n
 max_more m n le = omega arith
 
-from_later : (a b : ℤ) → from_zero (later a b) ≡ max (from_zero a) (from_zero b)
+from_later : (a b : ℤ) → from_zero (int_max a b) ≡ max (from_zero a) (from_zero b)
 from_later (pos m) (pos n) = by (cases_lt n m)
   where
-    by : (n < m) ⊎ (m ≤ n) → from_zero (later (pos m) (pos n)) ≡ max m n
+    by : (n < m) ⊎ (m ≤ n) → from_zero (int_max (pos m) (pos n)) ≡ max m n
     by (inl less) = ap (λ b. from_zero (cond b (pos m) (pos n))) (lt-ltb n m less) ∙ max_more m n (omega arith)
     by (inr more) = ap (λ b. from_zero (cond b (pos m) (pos n))) (le-ltb n m more) ∙ max_less m n more
 from_later (pos m) (negsuc n) = omega arith
@@ -64,7 +65,7 @@ from_later (negsuc m) (negsuc n) = by (int_lt (negsuc n) (negsuc m))
 last_more : (start : Start) (past : Past) → last (seen start past) ≡ from_zero (last_of start past) → max 0 (last (seen start past)) ≡ from_zero (last_of start past)
 last_more start past ih = max_zero (last (seen start past)) ∙ ih
 
-last_later : (start : Start) (z : ℤ) (past : Past) → last (seen start past) ≡ from_zero (last_of start past) → max (from_zero z) (last (seen start past)) ≡ from_zero (later z (last_of start past))
+last_later : (start : Start) (z : ℤ) (past : Past) → last (seen start past) ≡ from_zero (last_of start past) → max (from_zero z) (last (seen start past)) ≡ from_zero (int_max z (last_of start past))
 last_later start z past ih = ap (λ n. max (from_zero z) n) ih ∙ sym (from_later z (last_of start past))
 
 -- The last seen zxid of a run is that of the past.
@@ -176,10 +177,7 @@ good_node start path (Takes_in (Tells event at) ∷ past) =
 good_node start path (Takes_in Expiry ∷ past) = refl
 good_node start path (Halts_now ∷ past) = refl
 good_node start path (Forgot ∷ past) = good_node start path past ∙ forgot_good node_answer (kept_data path past)
-good_node start path (Takes_in (Accepts w) ∷ past) = good_node start path past
-good_node start path (Takes_in (Sets_watches b z) ∷ past) = good_node start path past
-good_node start path (Takes_in Echo ∷ past) = good_node start path past
-good_node start path (Takes_in Skipped ∷ past) = good_node start path past
+good_node start path (Takes_in _ ∷ past) = good_node start path past
 good_node start path (_ ∷ past) = good_node start path past
 
 -- ---- what is good of the children
@@ -190,14 +188,6 @@ names_after path names pzxid kept k true true e ih = refl
 names_after path names pzxid kept k false false e ih = ih
 names_after path names pzxid kept k true false e ih = absurd cc
 names_after path names pzxid kept k false true e ih = absurd cc
-
-names_ended : (kept : Option (Kept Kept_names)) (k : Option Answer) (b c : Bool) → b ≡ c → k ≡ if_good names_answer kept
-    → (if b then None else k) ≡ if_good names_answer (kept_by (cond c Ends Nothing) (λ n. n) Began kept)
-names_ended None k true true e ih = refl
-names_ended (Some kept) k true true e ih = refl
-names_ended kept k false false e ih = ih
-names_ended kept k true false e ih = absurd cc
-names_ended kept k false true e ih = absurd cc
 
 reply_names : (start : Start) (path : Text) (ticket : ℕ) (q : Question) (z : ℤ) (r : Result) (past : Past) → (good Child path (seen start past)) ≡ if_good names_answer (kept_names path past)
     → (good Child path (Took (Replies q (from_zero z) r) ∷ seen start past)) ≡ if_good names_answer (kept_names path (Takes_in (Answers_call ticket q z r) ∷ past))
@@ -215,13 +205,10 @@ pub good_names : (start : Start) (path : Text) (past : Past) → (good Child pat
 good_names start path [] = refl
 good_names start path (Takes_in (Answers_call ticket q z r) ∷ past) = reply_names start path ticket q z r past (good_names start path past)
 good_names start path (Takes_in (Tells event at) ∷ past) =
-    names_ended (kept_names path past) (good Child path (seen start past)) (concerns event Child && bytes_eq path at) (concerns event Child && bytes_eq at path) (and_same (concerns event Child) _ _ (text_same path at)) (good_names start path past)
+    ended_after names_answer (kept_names path past) (good Child path (seen start past)) (concerns event Child && bytes_eq path at) (concerns event Child && bytes_eq at path) (λ n. n) (and_same (concerns event Child) _ _ (text_same path at)) (good_names start path past)
     ∙ not_forgot names_answer (notice_word (concerns event Child) at path) (λ n. n) (Tells event at) (kept_names path past)
 good_names start path (Takes_in Expiry ∷ past) = refl
 good_names start path (Halts_now ∷ past) = refl
 good_names start path (Forgot ∷ past) = good_names start path past ∙ forgot_good names_answer (kept_names path past)
-good_names start path (Takes_in (Accepts w) ∷ past) = good_names start path past
-good_names start path (Takes_in (Sets_watches b z) ∷ past) = good_names start path past
-good_names start path (Takes_in Echo ∷ past) = good_names start path past
-good_names start path (Takes_in Skipped ∷ past) = good_names start path past
+good_names start path (Takes_in _ ∷ past) = good_names start path past
 good_names start path (_ ∷ past) = good_names start path past

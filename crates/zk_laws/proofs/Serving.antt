@@ -2,20 +2,22 @@
 use Rattle.std.specs.FinSet as set
 use Rattle.zk_watches.specs.Lists.{Lists}
 use Rattle.zk_cache.specs.Kept.{same_fields}
-use Rattle.std.proofs.Common.{ℕ, pos, ◌≡◌, ◌≤◌, max, Bool, true, false, ◌&&◌, ◌||◌, List, [], ◌∷◌, ◌++◌, refl, ap, sym, ◌∙◌, subst, inl, inr, ◌⊎◌, arith, Option, Some, None, is_some, if◌then◌else◌, map, flat_map, suc, nat_lt, append-nil, int_eq}
-use Rattle.std.proofs.lemmas.Bool.Decides.{nat_tests, Decides-int_eq}
-use Rattle.std.proofs.lemmas.Bool.{and_parts, and_right, or_left, or_right, or_cases}
+use Rattle.std.proofs.Common.{ℕ, pos, ◌≡◌, ◌≤◌, max, Bool, true, false, ◌&&◌, ◌||◌, List, [], ◌∷◌, ◌++◌, refl, ap, sym, ◌∙◌, subst, inl, inr, ◌⊎◌, arith, Option, Some, None, is_some, if◌then◌else◌, map, flat_map, suc, nat_lt, append-nil}
+use Rattle.std.proofs.lemmas.Bool.Decides.{nat_tests}
+use Rattle.std.proofs.lemmas.Bool.{and_parts, and_from, and_right, or_left, or_right, or_cases}
 use Rattle.std.specs.Bool.{⊤}
-use Rattle.zk_history.specs.DataStats.{data_stat_of}
-use Rattle.zk_history.specs.History.{Text, Name, NodePath, path_eq, text_of, path_of, Node, Tree, Transaction, apply_all, History, IsHistory, tree_at, node_fields, View, Absence, Contents, Children, view, contents_of, children_of}
+use Rattle.zk_nodes.specs.DataStats.{data_stat_of}
+use Rattle.zk_nodes.specs.Path.{Text, Name, NodePath, path_eq, text_of, path_of}
+use Rattle.zk_nodes.specs.History.{Node, Tree, Transaction, apply_all, History, IsHistory, tree_at, node_fields, View, Absence, Contents, Children, view, contents_of, children_of}
 use Rattle.zk_conversation.specs.Calls.{Call, Exists, GetData, GetChildren}
-use Rattle.zk_history.specs.declared.data_stat.DataStat.{DataStat}
-use Rattle.zk_history.specs.declared.side.Side.{Side}
-use Rattle.zk_history.specs.declared.side.Side.TheVariants.{Data, Child}
+use Rattle.zk_nodes.specs.declared.data_stat.DataStat.{DataStat}
+use Rattle.zk_nodes.specs.declared.side.Side.{Side}
+use Rattle.zk_nodes.specs.declared.side.Side.TheVariants.{Data, Child}
 use Rattle.zk_records.specs.declared.event.Event.{Event}
 use Rattle.zk_records.specs.declared.event.Event.TheVariants.{Created, Deleted, DataChanged, ChildrenChanged}
+use Rattle.zk_records.specs.Events.{concerns}
 use Rattle.zk_conversation.specs.Questions.{Question, question_of}
-use Rattle.zk_turns.specs.Kept.{Left, leaves_data, leaves_child}
+use Rattle.zk_turns.specs.Past.{Left, leaves_data, leaves_child}
 use Rattle.zk_cache.specs.Kept.{Answer as Kept_answer, Names as Kept_names}
 use Rattle.zk_conversation.specs.Results.{Result, NoNode, Found, Read, Listing}
 use Rattle.std.specs.Prelude.{bytes_eq, not}
@@ -26,12 +28,13 @@ use Rattle.zk_laws.specs.Laws.{sets_at}
 use Rattle.zk_laws.proofs.Tables.{data_table, child_table}
 use Rattle.zk_turns.specs.Turns.{IsAskable}
 use Rattle.zk_laws.specs.Messages.{Message, Replies, Watches_set, Notifies, Pong, Request, Restore, Ask, Ping}
-use Rattle.zk_laws.specs.Log.{place_left, Item, Took, last, good, zxid_in, refreshed, answer_of, tells_of, left_by, is_place, leaves, is_listed, Answer, Absent, Known, Full, Names, Suits}
+use Rattle.zk_laws.specs.Log.{place_left, Item, Took, last, good, zxid_in, refreshed, answer_of, left_by, is_place, leaves, is_listed, Answer, Absent, Known, Full, Names, Suits}
 use Rattle.zk_laws.specs.Steps.{is_behind}
 use Rattle.zk_conversation.specs.Pending.{closes}
 use Rattle.zk_laws.specs.Invariant.{IsThere, is_seen, IsRight, Ahead, is_in, IsAwaited, IsCovered, IsSure, IsSettled}
+use Rattle.zk_turns.proofs.Cached.{fields_same, fields_same-refl}
 use Rattle.zk_laws.proofs.Firing.{IsTold, IsSpared, spared_all}
-use Rattle.zk_laws.proofs.Stamps.{IsNextAt, tree_at_held, same_at, IsOld, IsBelow, below_at}
+use Rattle.zk_laws.proofs.Stamps.{IsNextAt, tree_at_held, same_at, IsOld, IsAtMost, below_at}
 use Rattle.zk_laws.proofs.Basics.{text_eq-true, text_eq-refl, text_path, sent_among, path_eq_from, Among-left, Among-right}
 use Rattle.zk_laws.proofs.Ahead.{ahead_more, right_less, max_zero, told_log, told_less, told_none, notices_ahead}
 
@@ -136,34 +139,9 @@ sets_left question result Data path e = data_table question result (path_of path
 sets_left question result Child path e = child_table question result (path_of path) ∙ sets_child (leaves_data question result) (leaves_child question result) path e
 
 pub fields_eq-refl : (a : DataStat) → same_fields a a ≡ true
-fields_eq-refl a =
-    let e1 = (Decides-int_eq a.czxid a.czxid).1 refl in
-    let e2 = (Decides-int_eq a.mzxid a.mzxid).1 refl in
-    let e3 = (Decides-int_eq a.ctime a.ctime).1 refl in
-    let e4 = (Decides-int_eq a.mtime a.mtime).1 refl in
-    let e5 = (Decides-int_eq a.version a.version).1 refl in
-    let e6 = (Decides-int_eq a.ephemeral_owner a.ephemeral_owner).1 refl in
-    let e7 = (Decides-int_eq a.data_length a.data_length).1 refl in
-    rw (e1, e2, e3, e4, e5, e6, e7) refl
+fields_eq-refl a = fields_same-refl a
 
-pub fields_eq-true : (a b : DataStat) → same_fields a b ≡ true → a ≡ b
-fields_eq-true a b e =
-    let p1 = and_parts (int_eq a.czxid b.czxid) (int_eq a.mzxid b.mzxid && (int_eq a.ctime b.ctime && (int_eq a.mtime b.mtime && (int_eq a.version b.version && (int_eq a.ephemeral_owner b.ephemeral_owner && int_eq a.data_length b.data_length))))) e in
-    let p2 = and_parts (int_eq a.mzxid b.mzxid) (int_eq a.ctime b.ctime && (int_eq a.mtime b.mtime && (int_eq a.version b.version && (int_eq a.ephemeral_owner b.ephemeral_owner && int_eq a.data_length b.data_length)))) p1.1 in
-    let p3 = and_parts (int_eq a.ctime b.ctime) (int_eq a.mtime b.mtime && (int_eq a.version b.version && (int_eq a.ephemeral_owner b.ephemeral_owner && int_eq a.data_length b.data_length))) p2.1 in
-    let p4 = and_parts (int_eq a.mtime b.mtime) (int_eq a.version b.version && (int_eq a.ephemeral_owner b.ephemeral_owner && int_eq a.data_length b.data_length)) p3.1 in
-    let p5 = and_parts (int_eq a.version b.version) (int_eq a.ephemeral_owner b.ephemeral_owner && int_eq a.data_length b.data_length) p4.1 in
-    let p6 = and_parts (int_eq a.ephemeral_owner b.ephemeral_owner) (int_eq a.data_length b.data_length) p5.1 in
-    let e1 = (Decides-int_eq a.czxid b.czxid).0 p1.0 in
-    let e2 = (Decides-int_eq a.mzxid b.mzxid).0 p2.0 in
-    let e3 = (Decides-int_eq a.ctime b.ctime).0 p3.0 in
-    let e4 = (Decides-int_eq a.mtime b.mtime).0 p4.0 in
-    let e5 = (Decides-int_eq a.version b.version).0 p5.0 in
-    let e6 = (Decides-int_eq a.ephemeral_owner b.ephemeral_owner).0 p6.0 in
-    let e7 = (Decides-int_eq a.data_length b.data_length).0 p6.1 in
-    λ i. record { czxid = e1 i; mzxid = e2 i; ctime = e3 i; mtime = e4 i; version = e5 i; ephemeral_owner = e6 i; data_length = e7 i }
-
-fields_old : (z0 : ℕ) (o o0 : Option Node) (c c0 : Option (List ℕ)) (g : DataStat) → contents_of o ≡ Contents c g → contents_of o0 ≡ Contents c0 g → IsBelow z0 o0 → IsOld Data z0 o
+fields_old : (z0 : ℕ) (o o0 : Option Node) (c c0 : Option (List ℕ)) (g : DataStat) → contents_of o ≡ Contents c g → contents_of o0 ≡ Contents c0 g → IsAtMost (λ node. node.mzxid) z0 o0 → IsOld Data z0 o
 fields_old z0 None o0 c c0 g e e0 b = absurd cc
 fields_old z0 (Some n) None c c0 g e e0 b = absurd cc
 fields_old z0 (Some n) (Some n0) c c0 g e e0 b =
@@ -202,7 +180,7 @@ refreshed_fits h is Data path z0 z (Known f) (Some (Full bytes kept)) le fits ri
         (b.0 ∙ sym c', a)
 
     go : (b : Bool) → same_fields f kept ≡ b → Suits (if b then Full bytes f else Known f) (view Data (tree_at h z) path)
-    go true e = here (view Data (tree_at h z) path) (view Data (tree_at h z0) path) refl refl fits (right (Full bytes kept) refl) (fields_eq-true f kept e)
+    go true e = here (view Data (tree_at h z) path) (view Data (tree_at h z0) path) refl refl fits (right (Full bytes kept) refl) (fields_same f kept e)
     go false e = fits
 refreshed_fits h is side path z0 z new old le fits right = fits
 
@@ -309,45 +287,44 @@ IsRestored h side path place relative part a =
     (part_sets relative (tree_held h place) part side (path_of path) ≡ true) × Suits a (view side (tree_held h place) (path_of path)) × IsThere side (view side (tree_held h place) (path_of path))
 
 module _ (h : History) (is : IsHistory h) (path : Text) (place relative : ℕ) (part : Lists) (low : relative ≤ zxid_held h place) where
+  -- what the three lists tell
+  abbrev known_told : List Notice
+  known_told = flat_map (λ p. tells p (known_check relative (tree_held h place (path_of p)))) part.data_watches
+
+  abbrev missing_told : List Notice
+  missing_told = flat_map (λ p. tells p (missing_check (tree_held h place (path_of p)))) part.exist_watches
+
+  abbrev parents_told : List Notice
+  parents_told = flat_map (λ p. tells p (parent_check relative (tree_held h place (path_of p)))) part.child_watches
+
+  told : (side : Side) (event : Event) → concerns event side ≡ true → Among (record { event = event; path = path }) ((known_told ++ missing_told) ++ parents_told) → IsTold (part_tells relative (tree_held h place) part) side path
+  told side event of_side among = (record { event = event; path = path }, among, and_from (concerns event side) (bytes_eq path path) of_side (text_eq-refl path))
+
   missing_restored : is_listed path part.exist_watches ≡ true → IsTold (part_tells relative (tree_held h place) part) Data path ⊎ IsRestored h Data path place relative part Absent
   missing_restored e = go (tree_held h place (path_of path)) refl
     where
       go : (o : Option Node) → tree_held h place (path_of path) ≡ o → IsTold (part_tells relative (tree_held h place) part) Data path
           ⊎ ((part_sets relative (tree_held h place) part Data (path_of path) ≡ true) × Suits Absent (view Data (tree_held h place) (path_of path)) × ⊤)
       go None f = inr (or_right (list_any (path_eq (path_of path)) (map path_of part.data_watches) && not (is_some (known_check relative (tree_held h place (path_of path))))) (list_any (path_eq (path_of path)) (map path_of part.exist_watches) && not (is_some (missing_check (tree_held h place (path_of path))))) (let e' = listed_among path part.exist_watches e in rw (e', f) refl), rw f tt, tt)
-      go (Some n) f = inl (
-        record { event = Created; path = path },
-        Among-left (record { event = Created; path = path }) (flat_map (λ p. tells p (known_check relative (tree_held h place (path_of p)))) part.data_watches ++ flat_map (λ p. tells p (missing_check (tree_held h place (path_of p)))) part.exist_watches) (flat_map (λ p. tells p (parent_check relative (tree_held h place (path_of p)))) part.child_watches)
-            (Among-right (record { event = Created; path = path }) (flat_map (λ p. tells p (known_check relative (tree_held h place (path_of p)))) part.data_watches) (flat_map (λ p. tells p (missing_check (tree_held h place (path_of p)))) part.exist_watches)
-            (among_flat (λ p. tells p (missing_check (tree_held h place (path_of p)))) path part.exist_watches (record { event = Created; path = path }) e (rw f (inl refl)))),
-        text_eq-refl path,
-      )
+      go (Some n) f = inl (told Data Created refl (Among-left _ (known_told ++ missing_told) parents_told (Among-right _ known_told missing_told
+          (among_flat (λ p. tells p (missing_check (tree_held h place (path_of p)))) path part.exist_watches (record { event = Created; path = path }) e (rw f (inl refl))))))
 
   known_restored : (a : Answer) → Suits a (view Data (tree_at h relative) (path_of path)) → is_listed path part.data_watches ≡ true
       → IsTold (part_tells relative (tree_held h place) part) Data path ⊎ IsRestored h Data path place relative part a
   known_restored a fits e = go (tree_held h place (path_of path)) refl
     where
-      told : (event : Event) → (event ≡ Deleted) ⊎ (event ≡ DataChanged) → known_check relative (tree_held h place (path_of path)) ≡ Some event → IsTold (part_tells relative (tree_held h place) part) Data path
-      told event which f = (
-        record { event = event; path = path },
-        Among-left (record { event = event; path = path }) (flat_map (λ p. tells p (known_check relative (tree_held h place (path_of p)))) part.data_watches ++ flat_map (λ p. tells p (missing_check (tree_held h place (path_of p)))) part.exist_watches) (flat_map (λ p. tells p (parent_check relative (tree_held h place (path_of p)))) part.child_watches)
-            (Among-left (record { event = event; path = path }) (flat_map (λ p. tells p (known_check relative (tree_held h place (path_of p)))) part.data_watches) (flat_map (λ p. tells p (missing_check (tree_held h place (path_of p)))) part.exist_watches)
-            (among_flat (λ p. tells p (known_check relative (tree_held h place (path_of p)))) path part.data_watches (record { event = event; path = path }) e (rw f (inl refl)))),
-        about which,
-      )
-        where
-          about : (event ≡ Deleted) ⊎ (event ≡ DataChanged) → tells_of (record { event = event; path = path }) Data path ≡ true
-          about (inl d) = rw (d, text_eq-refl path) refl
-          about (inr d) = rw (d, text_eq-refl path) refl
+      tells_it : (event : Event) → concerns event Data ≡ true → known_check relative (tree_held h place (path_of path)) ≡ Some event → IsTold (part_tells relative (tree_held h place) part) Data path
+      tells_it event of_side f = told Data event of_side (Among-left _ (known_told ++ missing_told) parents_told (Among-left _ known_told missing_told
+          (among_flat (λ p. tells p (known_check relative (tree_held h place (path_of p)))) path part.data_watches (record { event = event; path = path }) e (rw f (inl refl)))))
 
       go : (o : Option Node) → tree_held h place (path_of path) ≡ o → IsTold (part_tells relative (tree_held h place) part) Data path
           ⊎ ((part_sets relative (tree_held h place) part Data (path_of path) ≡ true) × Suits a (view Data (tree_held h place) (path_of path)) × ⊤)
-      go None f = inl (told Deleted (inl refl) (rw f refl))
+      go None f = inl (tells_it Deleted refl (rw f refl))
       go (Some n) f = on (nat_lt relative n.mzxid) refl
         where
           on : (b : Bool) → nat_lt relative n.mzxid ≡ b → IsTold (part_tells relative (tree_held h place) part) Data path
               ⊎ ((part_sets relative (tree_held h place) part Data (path_of path) ≡ true) × Suits a (view Data (tree_held h place) (path_of path)) × ⊤)
-          on true t = inl (told DataChanged (inr refl) (rw (f, t) refl))
+          on true t = inl (tells_it DataChanged refl (rw (f, t) refl))
           on false t =
               let old : n.mzxid ≤ relative = grind (arith, nat_tests) in
               let old' : IsOld Data relative (tree_held h place (path_of path)) = rw f old in
@@ -361,26 +338,18 @@ module _ (h : History) (is : IsHistory h) (path : Text) (place relative : ℕ) (
       → IsTold (part_tells relative (tree_held h place) part) Child path ⊎ IsRestored h Child path place relative part a
   parents_restored a fits e = go (tree_held h place (path_of path)) refl
     where
-      told : (event : Event) → (event ≡ Deleted) ⊎ (event ≡ ChildrenChanged) → parent_check relative (tree_held h place (path_of path)) ≡ Some event → IsTold (part_tells relative (tree_held h place) part) Child path
-      told event which f = (
-        record { event = event; path = path },
-        Among-right (record { event = event; path = path }) (flat_map (λ p. tells p (known_check relative (tree_held h place (path_of p)))) part.data_watches ++ flat_map (λ p. tells p (missing_check (tree_held h place (path_of p)))) part.exist_watches) (flat_map (λ p. tells p (parent_check relative (tree_held h place (path_of p)))) part.child_watches)
-            (among_flat (λ p. tells p (parent_check relative (tree_held h place (path_of p)))) path part.child_watches (record { event = event; path = path }) e (rw f (inl refl))),
-        about which,
-      )
-        where
-          about : (event ≡ Deleted) ⊎ (event ≡ ChildrenChanged) → tells_of (record { event = event; path = path }) Child path ≡ true
-          about (inl d) = rw (d, text_eq-refl path) refl
-          about (inr d) = rw (d, text_eq-refl path) refl
+      tells_it : (event : Event) → concerns event Child ≡ true → parent_check relative (tree_held h place (path_of path)) ≡ Some event → IsTold (part_tells relative (tree_held h place) part) Child path
+      tells_it event of_side f = told Child event of_side (Among-right _ (known_told ++ missing_told) parents_told
+          (among_flat (λ p. tells p (parent_check relative (tree_held h place (path_of p)))) path part.child_watches (record { event = event; path = path }) e (rw f (inl refl))))
 
       go : (o : Option Node) → tree_held h place (path_of path) ≡ o → IsTold (part_tells relative (tree_held h place) part) Child path
           ⊎ ((part_sets relative (tree_held h place) part Child (path_of path) ≡ true) × Suits a (view Child (tree_held h place) (path_of path)) × (is_seen (view Child (tree_held h place) (path_of path)) ≡ true))
-      go None f = inl (told Deleted (inl refl) (rw f refl))
+      go None f = inl (tells_it Deleted refl (rw f refl))
       go (Some n) f = on (nat_lt relative n.pzxid) refl
         where
           on : (b : Bool) → nat_lt relative n.pzxid ≡ b → IsTold (part_tells relative (tree_held h place) part) Child path
               ⊎ ((part_sets relative (tree_held h place) part Child (path_of path) ≡ true) × Suits a (view Child (tree_held h place) (path_of path)) × (is_seen (view Child (tree_held h place) (path_of path)) ≡ true))
-          on true t = inl (told ChildrenChanged (inr refl) (rw (f, t) refl))
+          on true t = inl (tells_it ChildrenChanged refl (rw (f, t) refl))
           on false t =
               let old : n.pzxid ≤ relative = grind (arith, nat_tests) in
               let old' : IsOld Child relative (tree_held h place (path_of path)) = rw f old in

@@ -1,7 +1,8 @@
 -- The example meets the premises.
 use Rattle.std.proofs.Common.{◌≡◌, List, [], ◌∷◌, refl, ap, sym, inl, arith, Option, Some, None}
-use Rattle.zk_history.specs.declared.side.Side.TheVariants.{Data}
-use Rattle.zk_history.specs.History.{NodePath, Node, IsHistory, view, tree_at, path_of}
+use Rattle.zk_nodes.specs.declared.side.Side.TheVariants.{Data}
+use Rattle.zk_nodes.specs.Path.{NodePath, path_of}
+use Rattle.zk_nodes.specs.History.{Node, IsHistory, view, tree_at}
 use Rattle.zk_laws.specs.Server.{Notice, AreSent}
 use Rattle.zk_laws.specs.Log.{last, good, Full, Suits}
 use Rattle.zk_laws.specs.Run.{start, run, IsSchedule}

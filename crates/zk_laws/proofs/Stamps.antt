@@ -4,9 +4,10 @@ use Rattle.std.specs.Option.{option_map}
 use Rattle.std.proofs.Common.{ℕ, ℤ, ◌≡◌, ◌<◌, ◌≤◌, Bool, true, false, cond, List, [], ◌∷◌, ◌++◌, refl, ap, sym, ◌∙◌, subst, arith, Option, Some, None, if◌then◌else◌, take, length, zero, suc, nat_le}
 use Rattle.std.proofs.lemmas.Bool.Decides.{nat_tests}
 use Rattle.std.specs.Bool.{⊤}
-use Rattle.zk_history.specs.declared.side.Side.{Side}
-use Rattle.zk_history.specs.declared.side.Side.TheVariants.{Data, Child}
-use Rattle.zk_history.specs.History.{NodePath, path_eq, Node, Tree, Change, Creates, Sets, Deletes, Transaction, AreLegal, apply, apply_all, after, AllLegal, AreRising, History, IsHistory, up_to, tree_at, newest, made, written, regrouped, view, contents_of}
+use Rattle.zk_nodes.specs.declared.side.Side.{Side}
+use Rattle.zk_nodes.specs.declared.side.Side.TheVariants.{Data, Child}
+use Rattle.zk_nodes.specs.Path.{NodePath, path_eq}
+use Rattle.zk_nodes.specs.History.{Node, Tree, Change, Creates, Sets, Deletes, Transaction, AreLegal, apply, apply_all, after, AllLegal, AreRising, History, IsHistory, up_to, tree_at, newest, made, written, regrouped, view, contents_of}
 use Rattle.zk_laws.specs.Server.{tree_held, zxid_held}
 use Rattle.zk_laws.proofs.Firing.{below_other, child_view, some_if, set_children}
 
@@ -228,55 +229,68 @@ same_at h side path z0 z is le old =
 
 -- At a zxid no stamp is above it.
 
--- the stamp of the data is at most z, where there is a node
-abbrev pub IsBelow : ℕ → Option Node → Type 0
-IsBelow z None = ⊤
-IsBelow z (Some node) = node.mzxid ≤ z
+-- the stamp is at most z, where there is a node
+abbrev pub IsAtMost : (Node → ℕ) → ℕ → Option Node → Type 0
+IsAtMost stamp z None = ⊤
+IsAtMost stamp z (Some node) = stamp node ≤ z
 
-below_regrouped : (z x : ℕ) (o : Option Node) → IsBelow z o → IsBelow z (option_map (regrouped x) o)
-below_regrouped z x None h = tt
-below_regrouped z x (Some n) h = h
+-- a stamp that is 0 at first, which a creation sets, a change of the children leaves, and a write may set
+module _ (stamp : Node → ℕ) (z : ℕ) (path : NodePath)
+    (made_at : (x : ℕ) (t : ℤ) (content : Option (List ℕ)) (owner : ℤ) → stamp (made x t content owner) ≡ x)
+    (regrouped_at : (x : ℕ) (node : Node) → stamp (regrouped x node) ≡ stamp node)
+    (written_at : (x : ℕ) (t : ℤ) (content : Option (List ℕ)) (node : Node) → x ≤ z → stamp node ≤ z → stamp (written x t content node) ≤ z) where
+  most_regrouped : (x : ℕ) (o : Option Node) → IsAtMost stamp z o → IsAtMost stamp z (option_map (regrouped x) o)
+  most_regrouped x None h = tt
+  most_regrouped x (Some node) h = subst (λ m. m ≤ z) (sym (regrouped_at x node)) h
 
-below_written : (z x : ℕ) (t : ℤ) (content : Option (List ℕ)) (o : Option Node) → x ≤ z → IsBelow z (option_map (written x t content) o)
-below_written z x t content None le = tt
-below_written z x t content (Some n) le = le
+  most_written : (x : ℕ) (t : ℤ) (content : Option (List ℕ)) (o : Option Node) → x ≤ z → IsAtMost stamp z o → IsAtMost stamp z (option_map (written x t content) o)
+  most_written x t content None le h = tt
+  most_written x t content (Some node) le h = written_at x t content node le h
 
-below_one : (z : ℕ) (path : NodePath) (c : Change) (x : ℕ) (t : ℤ) (tree : Tree) → x ≤ z → IsBelow z (tree path) → IsBelow z (apply x t c tree path)
-below_one z path (Creates [] content owner) x t tree le h = h
-below_one z path (Creates (name ∷ above) content owner) x t tree le h = go (path_eq path (name ∷ above)) (path_eq path above)
-  where
-    go : (b d : Bool) → IsBelow z (if b then Some (made x t content owner) else (if d then option_map (regrouped x) (tree path) else tree path))
-    go true d = le
-    go false true = below_regrouped z x (tree path) h
-    go false false = h
-below_one z path (Sets at content) x t tree le h = go (path_eq path at)
-  where
-    go : (b : Bool) → IsBelow z (if b then option_map (written x t content) (tree path) else tree path)
-    go true = below_written z x t content (tree path) le
-    go false = h
-below_one z path (Deletes []) x t tree le h = h
-below_one z path (Deletes (name ∷ above)) x t tree le h = go (path_eq path (name ∷ above)) (path_eq path above)
-  where
-    go : (b d : Bool) → IsBelow z (if b then None else (if d then option_map (regrouped x) (tree path) else tree path))
-    go true d = tt
-    go false true = below_regrouped z x (tree path) h
-    go false false = h
+  most_one : (c : Change) (x : ℕ) (t : ℤ) (tree : Tree) → x ≤ z → IsAtMost stamp z (tree path) → IsAtMost stamp z (apply x t c tree path)
+  most_one (Creates [] content owner) x t tree le h = h
+  most_one (Creates (name ∷ above) content owner) x t tree le h = go (path_eq path (name ∷ above)) (path_eq path above)
+    where
+      go : (b d : Bool) → IsAtMost stamp z (if b then Some (made x t content owner) else (if d then option_map (regrouped x) (tree path) else tree path))
+      go true d = subst (λ m. m ≤ z) (sym (made_at x t content owner)) le
+      go false true = most_regrouped x (tree path) h
+      go false false = h
+  most_one (Sets at content) x t tree le h = go (path_eq path at)
+    where
+      go : (b : Bool) → IsAtMost stamp z (if b then option_map (written x t content) (tree path) else tree path)
+      go true = most_written x t content (tree path) le h
+      go false = h
+  most_one (Deletes []) x t tree le h = h
+  most_one (Deletes (name ∷ above)) x t tree le h = go (path_eq path (name ∷ above)) (path_eq path above)
+    where
+      go : (b d : Bool) → IsAtMost stamp z (if b then None else (if d then option_map (regrouped x) (tree path) else tree path))
+      go true d = tt
+      go false true = most_regrouped x (tree path) h
+      go false false = h
 
-below_all : (z : ℕ) (path : NodePath) (cs : List Change) (x : ℕ) (t : ℤ) (tree : Tree) → x ≤ z → IsBelow z (tree path) → IsBelow z (apply_all x t cs tree path)
-below_all z path [] x t tree le h = h
-below_all z path (c ∷ cs) x t tree le h = below_all z path cs x t (apply x t c tree) le (below_one z path c x t tree le h)
+  most_all : (cs : List Change) (x : ℕ) (t : ℤ) (tree : Tree) → x ≤ z → IsAtMost stamp z (tree path) → IsAtMost stamp z (apply_all x t cs tree path)
+  most_all [] x t tree le h = h
+  most_all (c ∷ cs) x t tree le h = most_all cs x t (apply x t c tree) le (most_one c x t tree le h)
 
-below_after : (z : ℕ) (path : NodePath) (txs : List Transaction) (tree : Tree) → IsBelow z (tree path) → IsBelow z (after (up_to z txs) tree path)
-below_after z path [] tree h = h
-below_after z path (x ∷ xs) tree h = go (λ t k. below_after z path xs t k) (nat_le x.zxid z) refl
-  where
-    go : ((t : Tree) → IsBelow z (t path) → IsBelow z (after (up_to z xs) t path)) → (b : Bool) → nat_le x.zxid z ≡ b → IsBelow z (after (up_to z (x ∷ xs)) tree path)
-    go more true e = rw e (more (apply_all x.zxid x.time x.changes tree) (below_all z path x.changes x.zxid x.time tree (grind (arith, nat_tests)) h))
-    go more false e = rw e (more tree h)
+  most_after : (txs : List Transaction) (tree : Tree) → IsAtMost stamp z (tree path) → IsAtMost stamp z (after (up_to z txs) tree path)
+  most_after [] tree h = h
+  most_after (x ∷ xs) tree h = go (λ t k. most_after xs t k) (nat_le x.zxid z) refl
+    where
+      go : ((t : Tree) → IsAtMost stamp z (t path) → IsAtMost stamp z (after (up_to z xs) t path)) → (b : Bool) → nat_le x.zxid z ≡ b → IsAtMost stamp z (after (up_to z (x ∷ xs)) tree path)
+      go more true e = rw e (more (apply_all x.zxid x.time x.changes tree) (most_all x.changes x.zxid x.time tree (grind (arith, nat_tests)) h))
+      go more false e = rw e (more tree h)
 
-below_zeros : (z : ℕ) (o : Option Node) → ((node : Node) → o ≡ Some node → node.mzxid ≡ 0) → IsBelow z o
-below_zeros z None h = tt
-below_zeros z (Some n) h = let e = h n refl in omega arith
+  most_zeros : (o : Option Node) → ((node : Node) → o ≡ Some node → stamp node ≡ 0) → IsAtMost stamp z o
+  most_zeros None h = tt
+  most_zeros (Some node) h = let e = h node refl in omega arith
 
-pub below_at : (h : History) (path : NodePath) (z : ℕ) → IsHistory h → IsBelow z (tree_at h z path)
-below_at h path z is = below_after z path h.transactions h.first (below_zeros z (h.first path) (λ node e. (is.zeros path node e).1))
+  pub most_at : (h : History) → ((node : Node) → h.first path ≡ Some node → stamp node ≡ 0) → IsAtMost stamp z (tree_at h z path)
+  most_at h zeros = most_after h.transactions h.first (most_zeros (h.first path) zeros)
+
+-- the stamp of the data
+pub below_at : (h : History) (path : NodePath) (z : ℕ) → IsHistory h → IsAtMost (λ node. node.mzxid) z (tree_at h z path)
+below_at h path z is = most_at (λ node. node.mzxid) z path (λ x t content owner. refl) (λ x node. refl) (λ x t content node le old. le) h (λ node e. (is.zeros path node e).1)
+
+-- the czxid
+pub made_by : (h : History) (path : NodePath) (z : ℕ) → IsHistory h → IsAtMost (λ node. node.czxid) z (tree_at h z path)
+made_by h path z is = most_at (λ node. node.czxid) z path (λ x t content owner. refl) (λ x node. refl) (λ x t content node le old. old) h (λ node e. (is.zeros path node e).0)

@@ -1,11 +1,12 @@
 -- Each move keeps the invariant, and so each schedule does.
 use Rattle.zk_conversation.specs.Questions.{question_of}
 use Rattle.zk_conversation.specs.Calls.{Call}
-use Rattle.zk_history.specs.History.{Text, NodePath, path_eq, Change, Creates, Sets, Deletes, Transaction, History, IsHistory}
+use Rattle.zk_nodes.specs.Path.{Text, NodePath, path_eq}
+use Rattle.zk_nodes.specs.History.{Change, Creates, Sets, Deletes, Transaction, History, IsHistory}
 use Rattle.zk_watches.specs.Lists.{Lists}
 use Rattle.std.proofs.Common.{ℕ, ◌≡◌, ◌<◌, ◌≤◌, Bool, true, false, ◌&&◌, List, [], ◌∷◌, ◌++◌, refl, ap, sym, ◌∙◌, subst, inl, inr, ◌⊎◌, arith, Option, Some, None, if◌then◌else◌, map, length, suc, append-nil}
-use Rattle.zk_history.specs.declared.side.Side.{Side}
-use Rattle.zk_history.specs.declared.side.Side.TheVariants.{Data, Child}
+use Rattle.zk_nodes.specs.declared.side.Side.{Side}
+use Rattle.zk_nodes.specs.declared.side.Side.TheVariants.{Data, Child}
 use Rattle.zk_conversation.specs.Results.{Result}
 use Rattle.zk_records.specs.declared.event.Event.{Event}
 use Rattle.zk_records.specs.declared.event.Event.TheVariants.{DataChanged}

@@ -1,11 +1,12 @@
 -- A run that meets the premises: a node is read and watched, the connection is lost, the watch is set again, and the node is set.
 use Rattle.zk_watches.specs.Lists.{Lists}
 use Rattle.std.specs.Prelude.{false, pos, true, List, [], ◌∷◌, ◌++◌, Some, None, if◌then◌else◌}
-use Rattle.zk_history.specs.declared.stat.Stat.{Stat}
-use Rattle.zk_history.specs.DataStats.{data_stat_of}
-use Rattle.zk_history.specs.History.{Text, path_eq, Tree, Creates, Sets, History}
+use Rattle.zk_nodes.specs.declared.stat.Stat.{Stat}
+use Rattle.zk_nodes.specs.DataStats.{data_stat_of}
+use Rattle.zk_nodes.specs.Path.{Text, path_eq}
+use Rattle.zk_nodes.specs.History.{Tree, Creates, Sets, History}
 use Rattle.zk_conversation.specs.Calls.{Call, GetData}
-use Rattle.zk_history.specs.declared.data_stat.DataStat.{DataStat}
+use Rattle.zk_nodes.specs.declared.data_stat.DataStat.{DataStat}
 use Rattle.zk_records.specs.declared.event.Event.TheVariants.{DataChanged}
 use Rattle.zk_conversation.specs.Questions.{question_of}
 use Rattle.zk_conversation.specs.Results.{Result, Read}

@@ -2,21 +2,21 @@
 use Rattle.zk_laws.specs.Laws.{IsTrueWrite}
 use Rattle.zk_conversation.specs.Calls.{Call, part_xid}
 use Rattle.zk_conversation.specs.Questions.{Question, question_of}
-use Rattle.zk_turns.specs.Kept.{Asking, For_part, For_call, awaited, Past, Dropped, is_talking, state_of, held_of, answered, questions, Took as Takes_in, Replies as Answers_call}
+use Rattle.zk_turns.specs.Past.{Asking, For_part, For_call, awaited, Past, Dropped, is_talking, state_of, held_of, answered, questions, Took as Takes_in, Replies as Answers_call}
 use Rattle.std.specs.Prelude.{◌⊎◌, ⊤, ◌≡◌, ℕ, ℤ, pos, ◌^◌, ◌≤◌, ◌<◌, true, List, [], ◌∷◌, ◌++◌, map, length}
 use Rattle.std.specs.List.{flat_map}
 use Rattle.zk_turns.specs.Turns.{Silent, Framed, Fault, Start}
 use Rattle.zk_conversation.specs.Results.{Result, Refused}
 use Rattle.zk_frames.specs.Frame.{length_field, frame}
-use Rattle.zk_history.specs.History.{History}
-use Rattle.zk_frames.specs.declared.reader.TheConstants.{LONGEST_INCOMING}
+use Rattle.zk_nodes.specs.History.{History}
 use Rattle.zk_frames.specs.declared.fault.FrameFault.TheVariants.{TooLong}
 use Rattle.zk_laws.specs.Server.{IsOther}
 use Rattle.zk_laws.specs.Messages.{Message, Accepted, Expired, Replies, Watches_set, Request, Ask, Restore, from_zero}
 use Rattle.zk_laws.specs.Steps.{Connection, Link, Up, World}
 use Rattle.zk_laws.specs.Run.{Move, IsSchedule, run, start as from_start}
 use Rattle.zk_laws.specs.Seen.{seen}
-use Rattle.zk_laws.specs.Served.{Sent, requests, unread, Line, is_going, IsPayload}
+use Rattle.zk_laws.specs.Served.{Sent, requests, unread, Wire, is_going, IsPayload}
+use Rattle.zk_limits.specs.declared.limits.TheConstants.{LONGEST_INCOMING}
 
 -- a schedule leads to the world
 pub record Reached (h : History) (saved : ℕ) (w : World) : Type 0 where
@@ -86,24 +86,24 @@ Owes [] asked = asked ≡ []
 Owes (s ∷ ss) asked = (mine : List Asking) × (more : List Asking) × WaitsFor s.xid s.request mine × (asked ≡ mine ++ more) × Owes ss more
 
 -- the message level's connection, with these letters in flight
-abbrev pub connection : Start → Past → Line → List Letter → Connection
-connection start past line letters = record {
-  requests = map (λ s. s.request) (unread start past line);
+abbrev pub connection : Start → Past → Wire → List Letter → Connection
+connection start past wire letters = record {
+  requests = map (λ s. s.request) (unread start past wire);
   messages = messages letters;
-  place = line.server.place;
-  watches = line.server.watches;
-  stage = line.server.stage;
+  place = wire.server.place;
+  watches = wire.server.watches;
+  stage = wire.server.stage;
   talking = is_talking (state_of past);
 }
 
 -- an open connection, with these letters in flight
-pub record Going (h : History) (start : Start) (Was : List ℕ → Type 0) (past : Past) (line : Line) (link : Link) (letters : List Letter) : Type 0 where
-  pub up : link ≡ Up (connection start past line letters)
-  pub enough : line.processed ≤ length (requests start past)
+pub record InFlight (h : History) (start : Start) (Was : List ℕ → Type 0) (past : Past) (wire : Wire) (link : Link) (letters : List Letter) : Type 0 where
+  pub up : link ≡ Up (connection start past wire letters)
+  pub enough : wire.processed ≤ length (requests start past)
   pub are : AreLetters h Was letters
-  pub bytes : held_of past ++ line.coming ≡ frames letters
+  pub bytes : held_of past ++ wire.coming ≡ frames letters
   pub owed : List Asking
-  pub owes : Owes (unread start past line) owed
+  pub owes : Owes (unread start past wire) owed
   pub pending : awaited past ≡ answers letters ++ owed
   pub later : is_talking (state_of past) ≡ true → AreLater (messages letters)
 
@@ -143,9 +143,9 @@ IsCalm h Was past = DropsAreDue Was past × NoneIsNegative past × WritesAreTrue
 
 -- A run has come as far: it has the same items, and on an open connection what is in flight and what is awaited agree. What is
 -- in flight was sent.
-pub record Matches (h : History) (start : Start) (Was : List ℕ → Type 0) (past : Past) (line : Line) : Type 0 where
+pub record Matches (h : History) (start : Start) (Was : List ℕ → Type 0) (past : Past) (wire : Wire) : Type 0 where
   pub link : Link
   pub reached : Reached h (from_zero start.last) (record { log = seen start past; link = link })
-  pub going : is_going past ≡ true → (letters : List Letter) × Going h start Was past line link letters
+  pub going : is_going past ≡ true → (letters : List Letter) × InFlight h start Was past wire link letters
   pub calm : IsCalm h Was past
   pub counted : answered past ≤ length (questions past)

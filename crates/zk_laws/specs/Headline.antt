@@ -1,8 +1,9 @@
 -- What holds of a client that is served by servers which hold beginnings of a history.
 use Rattle.zk_conversation.specs.Calls.{Call}
-use Rattle.zk_history.specs.History.{Text, path_of, Tree, History, tree_at, view as to_see}
+use Rattle.zk_nodes.specs.Path.{Text, path_of}
+use Rattle.zk_nodes.specs.History.{Tree, History, tree_at, view as to_see}
 use Rattle.zk_conversation.specs.Questions.{question_of}
-use Rattle.zk_turns.specs.Kept.{Asked, is_talking, state_of, held_of, Took as Takes_in, Replies as Answers_call}
+use Rattle.zk_turns.specs.Past.{Asked, is_talking, state_of, held_of, Took as Takes_in, Replies as Answers_call}
 use Rattle.zk_cache.specs.declared.held.Kept.{Kept}
 use Rattle.zk_cache.specs.Kept.{Answer, Names}
 use Rattle.zk_cache.specs.declared.held.Mark.TheVariants.{Good}
@@ -10,16 +11,16 @@ use Rattle.zk_turns.specs.Turns.{Framed, Start, Fault, Silent, Item, Replied, Dr
 use Rattle.std.specs.Prelude.{length, ℕ, ℤ, pos, ◌≡◌, ◌<◌, ◌≤◌, true, List, [], map, Some, ◌⊎◌}
 use Rattle.zk_conversation.specs.Results.{Result}
 use Rattle.zk_frames.specs.declared.fault.FrameFault.TheVariants.{TooLong}
-use Rattle.zk_history.specs.declared.side.Side.TheVariants.{Data, Child}
+use Rattle.zk_nodes.specs.declared.side.Side.TheVariants.{Data, Child}
 use Rattle.zk_turns.specs.Sent.{outputs_of}
 use Rattle.zk_turns.specs.View.{View, Cache}
 use Rattle.zk_turns.specs.Taken.{past_of}
-use Rattle.zk_frames.specs.declared.reader.TheConstants.{LONGEST_INCOMING}
 use Rattle.zk_turns.specs.Meaning.{Among}
 use Rattle.zk_laws.specs.Server.{Fits, FitsNames, Reads, tree_held}
 use Rattle.zk_laws.specs.Laws.{IsTrueWrite, AreRestored}
 use Rattle.zk_laws.specs.Messages.{from_zero}
-use Rattle.zk_laws.specs.Served.{WasSent, Entry, items_in, line_of, is_going, unread}
+use Rattle.zk_laws.specs.Served.{WasSent, Entry, items_in, wire_of, is_going, unread}
+use Rattle.zk_limits.specs.declared.limits.TheConstants.{LONGEST_INCOMING}
 
 -- Each answer marked good is what there is to see in the tree: a node's absence, its seven fields, or these with its data;
 -- the set of its children's names with the pzxid.
@@ -35,13 +36,13 @@ IsCoherentWith h view = IsTrueOf (tree_at h (from_zero view.saved.last)) view.ca
 pub record IsQuietAt (h : History) (start : Start) (entries : List Entry) : Type 0 where
   pub going : is_going (past_of start (items_in entries)) ≡ true
   pub talking : is_talking (state_of (past_of start (items_in entries))) ≡ true
-  pub received : (line_of h entries).coming ≡ []
+  pub received : (wire_of h entries).coming ≡ []
   pub taken : held_of (past_of start (items_in entries)) ≡ []
-  pub restored : AreRestored (map (λ sent. sent.request) (unread start (past_of start (items_in entries)) (line_of h entries)))
+  pub restored : AreRestored (map (λ sent. sent.request) (unread start (past_of start (items_in entries)) (wire_of h entries)))
 
 -- the tree of the server of the connection
 abbrev pub tree_of : History → List Entry → Tree
-tree_of h entries = tree_held h (line_of h entries).server.place
+tree_of h entries = tree_held h (wire_of h entries).server.place
 
 -- All of it at once, by what a client gave: its good answers are the history's at its last seen zxid; each Answer with a
 -- reply's zxid is of a reply that was taken, true there as a read, not below the zxid that the client began with, and to a

@@ -1,9 +1,10 @@
 -- The invariant of a run: what the client will hold as it takes the messages in flight one by one.
 use Rattle.zk_watches.specs.Lists.{Lists}
 use Rattle.std.specs.Prelude.{ℕ, ◌≡◌, ◌≢◌, ◌≤◌, Bool, true, false, List, [], ◌∷◌, Option, Some, None, ◌⊎◌, ⊤}
-use Rattle.zk_history.specs.History.{Text, NodePath, text_of, path_of, History, tree_at, View, Absence, Contents, Children, view}
-use Rattle.zk_history.specs.declared.side.Side.{Side}
-use Rattle.zk_history.specs.declared.side.Side.TheVariants.{Data, Child}
+use Rattle.zk_nodes.specs.Path.{Text, NodePath, text_of, path_of}
+use Rattle.zk_nodes.specs.History.{History, tree_at, View, Absence, Contents, Children, view}
+use Rattle.zk_nodes.specs.declared.side.Side.{Side}
+use Rattle.zk_nodes.specs.declared.side.Side.TheVariants.{Data, Child}
 use Rattle.zk_laws.specs.Server.{Watches, tree_held, zxid_held}
 use Rattle.zk_turns.specs.Turns.{IsAskable}
 use Rattle.zk_laws.specs.Messages.{Message, Accepted, Expired, Request, Connect, Restore, Ask, Ping}

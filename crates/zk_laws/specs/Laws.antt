@@ -1,10 +1,11 @@
 -- What is true of a write, and when no watches are still to be set again.
 use Rattle.zk_conversation.specs.Calls as call
 use Rattle.zk_conversation.specs.Calls.{Call}
-use Rattle.zk_history.specs.History.{NodePath, path_eq, path_of, Change, Creates, Sets, Deletes, Transaction, History}
+use Rattle.zk_nodes.specs.Path.{NodePath, path_eq, path_of}
+use Rattle.zk_nodes.specs.History.{Change, Creates, Sets, Deletes, Transaction, History}
 use Rattle.std.specs.Prelude.{ℕ, ℤ, ◌≡◌, Bool, false, List, [], ◌∷◌, Option, Some, None, ⊤}
 use Rattle.zk_conversation.specs.Results.{Result, Found, Made, Done}
-use Rattle.zk_turns.specs.Kept.{Left}
+use Rattle.zk_turns.specs.Past.{Left}
 use Rattle.zk_turns.specs.Meaning.{Among}
 use Rattle.zk_laws.specs.Server.{IsMadeOf, is_sequential}
 use Rattle.zk_laws.specs.Messages.{Request, Restore}

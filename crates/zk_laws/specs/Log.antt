@@ -3,18 +3,19 @@
 use Rattle.zk_conversation.specs.Pending.{closes}
 use Rattle.std.specs.FinSet as set
 use Rattle.zk_conversation.specs.Questions.{Question, Exists, GetData, GetChildren}
-use Rattle.zk_history.specs.History.{Text, path_of, History, tree_at, View, view}
+use Rattle.zk_nodes.specs.Path.{Text, path_of}
+use Rattle.zk_nodes.specs.History.{History, tree_at, View, view}
 use Rattle.zk_watches.specs.Lists.{Lists}
 use Rattle.zk_cache.specs.Kept.{same_fields, Answer as Kept_answer, Names as Kept_names, Absent as Kept_absent, Known as Kept_known, Full as Kept_full}
-use Rattle.zk_turns.specs.Kept.{Left, leaves_data, leaves_child}
+use Rattle.zk_turns.specs.Past.{Left, leaves_data, leaves_child}
 use Rattle.zk_records.specs.Events.{concerns}
-use Rattle.zk_history.specs.Replay.{Names as NameSet}
-use Rattle.zk_history.specs.declared.data_stat.DataStat.{DataStat}
+use Rattle.zk_nodes.specs.Names.{Names as NameSet}
+use Rattle.zk_nodes.specs.declared.data_stat.DataStat.{DataStat}
 use Rattle.zk_watches.specs.Lists.{has}
 use Rattle.std.specs.Prelude.{ℕ, ℤ, bytes_eq, ◌≡◌, max, Bool, true, false, ◌&&◌, not, if◌then◌else◌, List, [], ◌∷◌, ◌++◌, filter, flat_map, Option, Some, None}
-use Rattle.zk_history.specs.DataStats.{data_stat_of}
-use Rattle.zk_history.specs.declared.side.Side.{Side}
-use Rattle.zk_history.specs.declared.side.Side.TheVariants.{Data, Child}
+use Rattle.zk_nodes.specs.DataStats.{data_stat_of}
+use Rattle.zk_nodes.specs.declared.side.Side.{Side}
+use Rattle.zk_nodes.specs.declared.side.Side.TheVariants.{Data, Child}
 use Rattle.zk_conversation.specs.Results.{Result, Found, Read, Listing}
 use Rattle.zk_laws.specs.Server.{Notice, same_side, Fits, FitsNames}
 use Rattle.zk_laws.specs.Messages.{Message, Expired, Replies, Watches_set, Notifies}

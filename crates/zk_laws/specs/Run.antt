@@ -1,6 +1,7 @@
 -- A run of one client against servers, over many connections, message by message.
-use Rattle.zk_history.specs.History.{Text, path_of, History, view}
-use Rattle.zk_history.specs.declared.side.Side.{Side}
+use Rattle.zk_nodes.specs.Path.{Text, path_of}
+use Rattle.zk_nodes.specs.History.{History, view}
+use Rattle.zk_nodes.specs.declared.side.Side.{Side}
 use Rattle.std.specs.Prelude.{ℕ, ◌≡◌, ◌≤◌, false, List, [], ◌∷◌, length, Some, IsTrue, ⊤}
 use Rattle.zk_laws.specs.Server.{no_watches, tree_held}
 use Rattle.zk_laws.specs.Messages.{Message, Connect}

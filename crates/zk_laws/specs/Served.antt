@@ -11,11 +11,11 @@ use Rattle.std.specs.Prelude.{Option, ℕ, ℤ, pos, negsuc, ◌≡◌, ◌<◌,
 use Rattle.std.specs.List.{flat_map}
 use Rattle.zk_turns.specs.Turns.{Start, Item, Turned, Bytes, Opened as Opening}
 use Rattle.zk_frames.specs.Frame.{frame}
-use Rattle.zk_turns.specs.Kept.{Past, Began, Asked, Pinged, last_of, session_of, lists_of, xid_of, state_of, is_open, has_halted, Took as Takes_in, Accepted as Accepts}
+use Rattle.zk_turns.specs.Past.{Past, Began, Asked, Pinged, last_of, session_of, lists_of, xid_of, state_of, is_open, has_halted, Took as Takes_in, Accepted as Accepts}
 use Rattle.zk_watches.specs.Lists.{Lists}
 use Rattle.zk_watches.specs.Parts.{parts}
 use Rattle.zk_turns.specs.Taken.{past_of}
-use Rattle.zk_history.specs.History.{History}
+use Rattle.zk_nodes.specs.History.{History}
 use Rattle.zk_turns.specs.Meaning.{Among}
 use Rattle.zk_laws.specs.Server.{no_watches}
 use Rattle.zk_laws.specs.Messages.{Message, Accepted, Expired, Replies, Watches_set, Notifies, Pong, Request, Connect, Restore, Ask, Ping, from_zero}
@@ -77,26 +77,26 @@ ArePayloads xid _ _ = ⊥
 -- A server on the open connection
 
 -- the server's end; how many requests of the connection it has processed; what it has sent and the client has not received yet
-pub record Line : Type 0 where
+pub record Wire : Type 0 where
   pub server : ServerEnd
   pub processed : ℕ
   pub coming : List ℕ
 
 -- as a connection begins, at a place
-abbrev pub new_line : ℕ → Line
-new_line place = record { server = record { place = place; watches = no_watches; stage = Waiting }; processed = 0; coming = [] }
+abbrev pub new_wire : ℕ → Wire
+new_wire place = record { server = record { place = place; watches = no_watches; stage = Waiting }; processed = 0; coming = [] }
 
 -- before any connection
-abbrev pub no_line : Line
-no_line = record { server = record { place = 0; watches = no_watches; stage = Ended }; processed = 0; coming = [] }
+abbrev pub no_wire : Wire
+no_wire = record { server = record { place = 0; watches = no_watches; stage = Ended }; processed = 0; coming = [] }
 
 -- there is an open connection
 abbrev pub is_going : Past → Bool
 is_going past = is_open (state_of past) && not (has_halted past)
 
 -- the requests that stand whole in the bytes sent and are not processed yet
-abbrev pub unread : Start → Past → Line → List Sent
-unread start past line = drop line.processed (requests start past)
+abbrev pub unread : Start → Past → Wire → List Sent
+unread start past wire = drop wire.processed (requests start past)
 
 -- the xid of the first request
 abbrev pub first_xid : List Sent → ℤ
@@ -105,15 +105,15 @@ first_xid (sent ∷ more) = sent.xid
 
 -- A server's move on the open connection: a step with the requests that stand whole in the bytes sent, whose messages have
 -- these payloads.
-pub record MayServe (h : History) (start : Start) (step : ServerStep) (payloads : List (List ℕ)) (past : Past) (line : Line) : Type 0 where
+pub record MayServe (h : History) (start : Start) (step : ServerStep) (payloads : List (List ℕ)) (past : Past) (wire : Wire) : Type 0 where
   pub going : is_going past ≡ true
-  pub may : MayDo h step line.server (map (λ sent. sent.request) (unread start past line))
-  pub told : ArePayloads (first_xid (unread start past line)) (messages_by h step line.server.place) payloads
+  pub may : MayDo h step wire.server (map (λ sent. sent.request) (unread start past wire))
+  pub told : ArePayloads (first_xid (unread start past wire)) (messages_by h step wire.server.place) payloads
 
 -- The server afterwards: all steps but the next transaction have processed a request.
-abbrev pub line_on : History → ServerStep → List (List ℕ) → Line → Line
-line_on h step payloads line =
-    record { server = end_after h step line.server; processed = line.processed + (elim step [ Advances sent ↦ 0 | _ ↦ 1 ]); coming = line.coming ++ flat_map frame payloads }
+abbrev pub wire_on : History → ServerStep → List (List ℕ) → Wire → Wire
+wire_on h step payloads wire =
+    record { server = end_after h step wire.server; processed = wire.processed + (elim step [ Advances sent ↦ 0 | _ ↦ 1 ]); coming = wire.coming ++ flat_map frame payloads }
 
 -- Schedules
 
@@ -130,15 +130,15 @@ items_in (Goes_on place item ∷ earlier) = item ∷ items_in earlier
 items_in (Serves step payloads ∷ earlier) = items_in earlier
 
 -- the server after an item: a connection begins, or bytes are received
-abbrev pub line_past : ℕ → Item → Line → Line
-line_past place (Turned turn) line = elim turn.input [ Opening ↦ new_line place | Bytes bytes ↦ record line { coming = drop (length bytes) line.coming } | _ ↦ line ]
-line_past place _ line = line
+abbrev pub wire_past : ℕ → Item → Wire → Wire
+wire_past place (Turned turn) wire = elim turn.input [ Opening ↦ new_wire place | Bytes bytes ↦ record wire { coming = drop (length bytes) wire.coming } | _ ↦ wire ]
+wire_past place _ wire = wire
 
 -- the server after these entries
-abbrev pub line_of : History → List Entry → Line
-line_of h [] = no_line
-line_of h (Goes_on place item ∷ earlier) = line_past place item (line_of h earlier)
-line_of h (Serves step payloads ∷ earlier) = line_on h step payloads (line_of h earlier)
+abbrev pub wire_of : History → List Entry → Wire
+wire_of h [] = no_wire
+wire_of h (Goes_on place item ∷ earlier) = wire_past place item (wire_of h earlier)
+wire_of h (Serves step payloads ∷ earlier) = wire_on h step payloads (wire_of h earlier)
 
 -- the payload is one of those that the servers have sent
 abbrev pub WasSent : List Entry → List ℕ → Type 0
@@ -147,16 +147,16 @@ WasSent (Goes_on place item ∷ earlier) payload = WasSent earlier payload
 WasSent (Serves step payloads ∷ earlier) payload = Among payload payloads ⊎ WasSent earlier payload
 
 -- What may come in a schedule: a connection begins at any place, what is received is a beginning of what was sent.
-abbrev pub MayEnter : History → Start → Entry → Past → Line → Type 0
-MayEnter h start (Goes_on place (Turned turn)) past line =
-    elim turn.input [ Opening ↦ place ≤ length h.transactions | Bytes bytes ↦ is_going past ≡ true → (rest : List ℕ) × (line.coming ≡ bytes ++ rest) | _ ↦ ⊤ ]
-MayEnter h start (Goes_on place _) past line = ⊤
-MayEnter h start (Serves step payloads) past line = MayServe h start step payloads past line
+abbrev pub MayEnter : History → Start → Entry → Past → Wire → Type 0
+MayEnter h start (Goes_on place (Turned turn)) past wire =
+    elim turn.input [ Opening ↦ place ≤ length h.transactions | Bytes bytes ↦ is_going past ≡ true → (rest : List ℕ) × (wire.coming ≡ bytes ++ rest) | _ ↦ ⊤ ]
+MayEnter h start (Goes_on place _) past wire = ⊤
+MayEnter h start (Serves step payloads) past wire = MayServe h start step payloads past wire
 
 -- A schedule has the newest entry first, as items have.
 abbrev pub IsServing : History → Start → List Entry → Type 0
 IsServing h start [] = ⊤
-IsServing h start (entry ∷ earlier) = MayEnter h start entry (past_of start (items_in earlier)) (line_of h earlier) × IsServing h start earlier
+IsServing h start (entry ∷ earlier) = MayEnter h start entry (past_of start (items_in earlier)) (wire_of h earlier) × IsServing h start earlier
 
 -- The client was served by servers that hold beginnings of the history: there is a schedule of its items.
 pub record Served (h : History) (start : Start) (items : List Item) : Type 0 where

@@ -1,5 +1,5 @@
 -- A server on one connection: what its watches fire, what it answers, and what a setWatches request does.
-use Rattle.zk_turns.specs.Kept.{names_of}
+use Rattle.zk_turns.specs.Past.{names_of}
 use Rattle.zk_cache.specs.Kept.{Answer, Absent, Known, Full, Names}
 use Rattle.std.specs.FinSet as set
 use Rattle.zk_turns.specs.Meaning.{Among}
@@ -7,12 +7,13 @@ use Rattle.std.specs.Prelude.{ℕ, ℤ, pos, negsuc, ◌≡◌, ◌≢◌, ◌<�
 use Rattle.std.specs.List.{list_any}
 use Rattle.std.specs.Ordering.{int_eq}
 use mathlib.Core.List.{IsPrefix}
-use Rattle.zk_history.specs.History.{Text, Name, NodePath, path_eq, text_of, path_of, Node, Tree, Change, Creates, Sets, Deletes, Transaction, History, after, newest, View, Absence, Contents, Children, view}
+use Rattle.zk_nodes.specs.Path.{Text, Name, NodePath, path_eq, text_of, path_of}
+use Rattle.zk_nodes.specs.History.{Node, Tree, Change, Creates, Sets, Deletes, Transaction, History, after, newest, View, Absence, Contents, Children, view}
 use Rattle.zk_conversation.specs.Calls.{Call}
 use Rattle.zk_conversation.specs.Calls as call
-use Rattle.zk_history.specs.declared.side.Side.{Side}
-use Rattle.zk_history.specs.declared.side.Side.TheVariants.{Data, Child}
-use Rattle.zk_history.specs.DataStats.{data_stat_of}
+use Rattle.zk_nodes.specs.declared.side.Side.{Side}
+use Rattle.zk_nodes.specs.declared.side.Side.TheVariants.{Data, Child}
+use Rattle.zk_nodes.specs.DataStats.{data_stat_of}
 use Rattle.zk_records.specs.declared.event.Event.{Event}
 use Rattle.zk_records.specs.declared.event.Event.TheVariants.{Created, Deleted, DataChanged, ChildrenChanged}
 use Rattle.zk_conversation.specs.Questions.{Question, Exists, GetData, GetChildren, question_of}

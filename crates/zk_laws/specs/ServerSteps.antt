@@ -1,6 +1,6 @@
 -- The steps of a server on a connection: when it may take each, what it sends, and where it stands then.
 use Rattle.std.specs.Prelude.{ℕ, suc, ◌≡◌, ◌≢◌, ◌<◌, ◌≤◌, Bool, if◌then◌else◌, List, [], ◌∷◌, ◌++◌, map, length, Some, None, slice_get}
-use Rattle.zk_history.specs.History.{Change, History}
+use Rattle.zk_nodes.specs.History.{Change, History}
 use Rattle.zk_watches.specs.Lists.{Lists}
 use Rattle.zk_conversation.specs.Pending.{closes}
 use Rattle.zk_conversation.specs.Questions.{question_of}

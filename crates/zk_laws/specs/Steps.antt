@@ -2,7 +2,7 @@
 -- this client beside the one of bytes.
 use Rattle.zk_conversation.specs.Pending.{closes}
 use Rattle.zk_conversation.specs.Calls.{Call}
-use Rattle.zk_history.specs.History.{History}
+use Rattle.zk_nodes.specs.History.{History}
 use Rattle.zk_watches.specs.Lists.{Lists}
 use Rattle.std.specs.Prelude.{ℕ, ◌≡◌, nat_lt, Bool, true, false, ◌&&◌, if◌then◌else◌, List, [], ◌∷◌, ◌++◌, is_some, IsTrue, ◌⊎◌}
 use Rattle.zk_laws.specs.Server.{Watches}

@@ -2,21 +2,22 @@
 #![tactic(auto)]
 
 ghost use Rattle.std.specs.Prelude.{◌⊎◌, ◌<◌, ◌^◌, ◌&&◌, ◌++◌, false, Bool, length, is_some, nat_lt, ◌≡◌, ◌≤◌, ◌↔◌, Option, Some, None, ℕ, ◌∷◌, [], List, if◌then◌else◌, ℤ, pos, map};
-ghost use Rattle.zk_session.specs.Kept.{Welcome};
+ghost use Rattle.zk_session.specs.SessionView.{Welcome};
 ghost use Rattle.zk_session.specs.declared.states.State.TheVariants.{Connecting, Connected};
 ghost use Rattle.zk_conversation.specs.Calls.{part_xid, connect_payload, Call};
 ghost use Rattle.zk_records.specs.Layouts.{connect_request};
 ghost use Rattle.zk_conversation.specs.Pending.{Pending, Call_waits, part_waits};
-ghost use Rattle.zk_turns.specs.Kept.{held_of, awaited, For_call, Asking, Accepted as Takes_acceptance, Expiry, Notifies as Takes_notice, Pong as Takes_pong, Watches_set as Takes_part, kept_data, kept_names, leaves_data, leaves_child, names_of, last_of, session_of, Began, Happening, Past, lists_of, Dropped, Took as Takes_in, Replies as Answers_call};
+ghost use Rattle.zk_turns.specs.Past.{held_of, awaited, For_call, Asking, Accepted as Takes_acceptance, Expiry, Notifies as Takes_notice, Pong as Takes_pong, Watches_set as Takes_part, kept_data, kept_names, leaves_data, leaves_child, names_of, last_of, session_of, Began, Happening, Past, lists_of, Dropped, Took as Takes_in, Replies as Answers_call};
 ghost use Rattle.zk_turns.specs.Taken.{cut, Payload, reading, past_of};
 ghost use Rattle.zk_laws.specs.Server.{Reads, Notice, zxid_held, sets};
 ghost use Rattle.zk_laws.specs.Messages.{Accepted, Expired as Expired_session, Notifies, Pong, Watches_set, Replies, from_zero};
-ghost use Rattle.zk_laws.specs.Served.{IsPayload, WasSent, Served, Entry, items_in, requests, IsServing, MayEnter, Line, no_line, line_of};
+ghost use Rattle.zk_laws.specs.Served.{IsPayload, WasSent, Served, Entry, items_in, requests, IsServing, MayEnter, Wire, no_wire, wire_of};
 ghost use Rattle.zk_laws.specs.Flight.{HasCode, Matches};
-ghost use Rattle.zk_history.specs.declared.side.Side.TheVariants.{Child, Data};
-ghost use Rattle.zk_history.specs.History.{Text, Name, Node, Tree, NodePath, History, IsHistory, path_of, tree_at, view, node_fields};
-ghost use Rattle.zk_history.specs.DataStats.{data_stat_of};
-ghost use Rattle.zk_history.specs.declared.stat.Stat.{Stat};
+ghost use Rattle.zk_nodes.specs.declared.side.Side.TheVariants.{Child, Data};
+ghost use Rattle.zk_nodes.specs.Path.{Text, Name, NodePath, path_of};
+ghost use Rattle.zk_nodes.specs.History.{Node, Tree, History, IsHistory, tree_at, view, node_fields};
+ghost use Rattle.zk_nodes.specs.DataStats.{data_stat_of};
+ghost use Rattle.zk_nodes.specs.declared.stat.Stat.{Stat};
 ghost use Rattle.std.specs.FinSet as set;
 ghost use Rattle.zk_conversation.specs.Questions.{question_of, Question, Exists, GetData, GetChildren};
 ghost use Rattle.zk_conversation.specs.Results.{Result, NoNode, Found, Read, Listing};
@@ -39,7 +40,7 @@ ghost use Rattle.zk_laws.specs.Meeting_example.{new_client, until_cut};
 ghost use Rattle.zk_turns.specs.Rule.{AllAsked, Stands, IsOpen};
 ghost use Rattle.zk_turns.specs.Sent.{sends, outputs_of};
 ghost use Rattle.zk_frames.specs.declared.fault.FrameFault.TheVariants.{TooLong};
-ghost use Rattle.zk_frames.specs.declared.reader.TheConstants.{LONGEST_INCOMING};
+ghost use Rattle.zk_limits.specs.declared.limits.TheConstants.{LONGEST_INCOMING};
 ghost use Rattle.zk_frames.specs.Frame.{length_field, frame, joined};
 ghost use Rattle.zk_laws.specs.Parsed.{AreTold, IsCutInto, IsRecord, AreReadAs, stream_of, payloads_of};
 ghost use Rattle.zk_turns.specs.Ranges.{IsResumable, IsTyped, AllAskOf};
@@ -84,11 +85,11 @@ pub fn coherence()
 /// The invariant between a client and its servers holds at the beginning, is kept by each turn and each move of a server,
 /// and gives coherence.
 pub fn one_entry()
-    ensures begins { (h : History) → IsHistory h → (start : Start) → Matches h start (WasSent []) [] no_line }
-    ensures goes_on { (h : History) → IsHistory h → (start : Start) (entry : Entry) (earlier : List Entry) → AllAsked (items_in (entry ∷ earlier)) → MayEnter h start entry (past_of start (items_in earlier)) (line_of h earlier)
-        → Matches h start (WasSent earlier) (past_of start (items_in earlier)) (line_of h earlier)
-        → Matches h start (WasSent (entry ∷ earlier)) (past_of start (items_in (entry ∷ earlier))) (line_of h (entry ∷ earlier)) }
-    ensures coherent { (h : History) → IsHistory h → (start : Start) (entries : List Entry) (items : List Client_item) (view : View) (line : Line) → Stands start items view → Matches h start (WasSent entries) (past_of start items) line → IsCoherentWith h view }
+    ensures begins { (h : History) → IsHistory h → (start : Start) → Matches h start (WasSent []) [] no_wire }
+    ensures goes_on { (h : History) → IsHistory h → (start : Start) (entry : Entry) (earlier : List Entry) → AllAsked (items_in (entry ∷ earlier)) → MayEnter h start entry (past_of start (items_in earlier)) (wire_of h earlier)
+        → Matches h start (WasSent earlier) (past_of start (items_in earlier)) (wire_of h earlier)
+        → Matches h start (WasSent (entry ∷ earlier)) (past_of start (items_in (entry ∷ earlier))) (wire_of h (entry ∷ earlier)) }
+    ensures coherent { (h : History) → IsHistory h → (start : Start) (entries : List Entry) (items : List Client_item) (view : View) (wire : Wire) → Stands start items view → Matches h start (WasSent entries) (past_of start items) wire → IsCoherentWith h view }
 {}
 
 /// Under such servers each read that was answered with 0 or -101 tells what there was at its reply's zxid, and each write

@@ -1,6 +1,6 @@
 -- How long a link waits, in milliseconds.
 use Rattle.std.specs.Prelude.{◌≡◌, ◌≤◌, ◌<◌, ◌⊎◌, ℕ, zero, suc, ◌*◌, ◌^◌, min, true, length}
-use Rattle.zk_turns.specs.Kept.{is_final}
+use Rattle.zk_turns.specs.Past.{is_final}
 use Rattle.zk_link.specs.Trails.{Trail}
 
 -- Before the next attempt, after so many that failed: none after none, then 100, and twice as long after each further one, up to 10,000.

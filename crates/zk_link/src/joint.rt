@@ -4,7 +4,7 @@ ghost use Rattle.std.specs.Prelude.{◌≡◌, ◌≢◌, ◌≤◌, ◌<◌, �
 ghost use Rattle.std.specs.List.{filter};
 ghost use Rattle.zk_conversation.specs.Views.{call_view};
 ghost use Rattle.zk_turns.specs.Turns.{Call as Calls, Cut};
-ghost use Rattle.zk_turns.specs.Kept.{is_final};
+ghost use Rattle.zk_turns.specs.Past.{is_final};
 ghost use Rattle.zk_turns.specs.Taken.{NothingIsDue};
 ghost use Rattle.zk_client.specs.Clients.{view_of};
 ghost use Rattle.zk_client.specs.Views.{input_view, said};
@@ -19,7 +19,7 @@ use crate::send::{queue, send};
 use crate::stop::Stop;
 use std::alloc::{AllocError, Allocator};
 use std::mem;
-use zk_client::{Call, Client, Input, Output, State};
+use zk_client::{Call, Client, Input, Output};
 
 /// The longest wait, in milliseconds: an hour.
 const LONGEST_WAIT: u64 = 3_600_000;
@@ -357,6 +357,6 @@ impl<A: Allocator + Copy, S: Stream> Joint<A, S> {
     pub(crate) fn is_over(&self) -> bool
         ensures { result ≡ is_final (view_of self.now.client).standing.state }
     {
-        matches!(self.client.state(), State::Expired | State::Closed)
+        self.client.state().is_final()
     }
 }

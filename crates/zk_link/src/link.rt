@@ -3,7 +3,7 @@
 ghost use Rattle.std.specs.Prelude.{◌≡◌, ◌≤◌, ◌⊎◌, true, false, is_some, IfErr, IfOk, IsTrue, ◌↔◌, OnOk};
 ghost use Rattle.zk_conversation.specs.Views.{call_view};
 ghost use Rattle.zk_turns.specs.Turns.{Call as Calls};
-ghost use Rattle.zk_turns.specs.Kept.{is_final};
+ghost use Rattle.zk_turns.specs.Past.{is_final};
 ghost use Rattle.zk_client.specs.Clients.{view_of};
 ghost use Rattle.zk_link.specs.Trails.{bare_of, trail_of, Asks, Comes, Stops};
 ghost use Rattle.zk_link.specs.Waits.{HasCome};

@@ -39,7 +39,7 @@ pub(crate) fn queue<A: Allocator>(
 }
 
 /// How many bytes a connection takes in one write: none for now where it can't take one, and nothing where it has failed.
-fn taken<S: Write>(stream: &mut S, bytes: &[u8]) -> Option<usize>
+fn write_some<S: Write>(stream: &mut S, bytes: &[u8]) -> Option<usize>
     ensures { IfSome result (λ count. count ≤ length bytes.now) }
 {
     match stream.write(bytes) {
@@ -69,7 +69,7 @@ pub(crate) fn send<A: Allocator, S: Write>(stream: &mut S, unsent: &mut Vec<u8, 
         if piece == 0 {
             return true;
         }
-        match taken(stream, &unsent.as_slice()[..piece]) {
+        match write_some(stream, &unsent.as_slice()[..piece]) {
             None => return false,
             Some(0) => return true,
             Some(count) => forget_front(unsent, count),

@@ -1,7 +1,7 @@
 -- What a line of a live script makes of a session, and how a script ends.
 use Rattle.std.proofs.Common.{◌≡◌, inl, inr, ℕ, Bool, true, false, List, [], refl, sym}
 use Rattle.std.specs.Prelude.{Some, None, Ok}
-use Rattle.zk_history.specs.History.{Text}
+use Rattle.zk_nodes.specs.Path.{Text}
 use Rattle.zk_turns.specs.View.{View, view_at}
 use Rattle.zk_script.specs.Pieces.{words_of}
 use Rattle.zk_script.specs.Scripts.{end_at, progress, IsDue}

@@ -1,7 +1,7 @@
 -- Addresses: four numbers, joined by dots, and a port.
 use Rattle.std.specs.Prelude.{ℕ, ◌==◌, ◌&&◌, not, nat_lt, is_some, Bool, false, if◌then◌else◌, length, Option, Some, None}
 use Rattle.std.specs.List.{position_or_len, before_first, after_first}
-use Rattle.zk_history.specs.History.{Text}
+use Rattle.zk_nodes.specs.Path.{Text}
 use Rattle.zk_script.specs.Numbers.{natural_of}
 
 -- what stands before the first byte of this value, and what stands behind it

@@ -1,6 +1,6 @@
 -- What the lines of a script say of the client that is to be made.
 use Rattle.std.specs.Prelude.{◌≡◌, ⊤, ℕ, ◌+◌, List, [], ◌∷◌, Option, Some, None, Result, Ok, Err}
-use Rattle.zk_history.specs.History.{Text}
+use Rattle.zk_nodes.specs.Path.{Text}
 use Rattle.zk_script.specs.Pieces.{words_of}
 use Rattle.zk_script.specs.declared.script.End.{End}
 use Rattle.zk_script.specs.declared.script.End.TheVariants.{Taken, Refused, Halted, Memory}

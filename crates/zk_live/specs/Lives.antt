@@ -1,6 +1,6 @@
 -- What a whole script makes of a client over a connection, and what it prints, line by line.
 use Rattle.std.specs.Prelude.{◌≡◌, ◌⊎◌, ℕ, Bool, true, false, List, [], ◌∷◌, Some, Ok, Err}
-use Rattle.zk_history.specs.History.{Text}
+use Rattle.zk_nodes.specs.Path.{Text}
 use Rattle.zk_turns.specs.Turns.{Cut, Now, Call}
 use Rattle.zk_turns.specs.View.{View, view_at}
 use Rattle.zk_client.specs.Clients.{view_of}

@@ -2,7 +2,7 @@
 #![tactic(auto)]
 
 pub mod address;
-mod begun;
+mod first_line;
 mod heard;
 pub mod link;
 pub mod live;

@@ -14,9 +14,9 @@ ghost use Rattle.zk_live.specs.Lines.{live_value_of};
 ghost use Rattle.zk_live.specs.LiveLines.{DrivesLine, says_at};
 ghost use Rattle.zk_live.specs.Lives.{position_of, rules, DoesLive, HaltsLine, HaltsLive, IsTranscript, Position, TakesLine};
 
-use crate::begun::begin_of;
+use crate::first_line::begin_of;
 use crate::link::Link;
-use crate::live_line::{LiveLine, said_line};
+use crate::live_line::{LiveLine, parse_live_line};
 use std::alloc::{AllocError, Allocator};
 use zk_client::Input;
 use zk_link::{Dial, Ring};
@@ -81,7 +81,7 @@ impl<A: Allocator + Copy, D: Dial> Session<'_, A, D> {
         ensures err { IfErr result (IsDueBy (says_at (words_of line.now) self.old.is_begun)) }
         ensures halt { IfErr result (IfHalted (HaltsLine line.now self.old.is_begun (view_of self.old.link.joint.client) (view_of self.new.link.joint.client))) }
     {
-        let Some(line) = said_line(alloc, line, self.is_begun)? else {
+        let Some(line) = parse_live_line(alloc, line, self.is_begun)? else {
             return Ok(String::new(alloc));
         };
         self.is_begun = true;

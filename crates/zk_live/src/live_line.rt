@@ -10,8 +10,8 @@ ghost use Rattle.zk_live.specs.Lines.{live_value_of};
 ghost use Rattle.zk_live.specs.LiveLines.{begins_at, keyword_of, placed_at, resume_at, says_at};
 
 use std::alloc::Allocator;
-use zk_replay::begin_line::{BeginKeyword, BeginLine, begin_line_at};
-use zk_replay::client_line::{ClientKeyword, ClientLine, client_line_at};
+use zk_replay::begin_line::{BeginKeyword, BeginLine, parse_begin_line};
+use zk_replay::client_line::{ClientKeyword, ClientLine, parse_client_line};
 use zk_script::pieces::words_of;
 use zk_script::reads::{is_named, is_remark};
 use zk_script::script_fault::ScriptFault;
@@ -57,7 +57,7 @@ pub enum LiveLine<A: Allocator> {
 }
 
 /// The session that the words behind `resume` take up: its number, its password and the last seen zxid.
-fn resume_at<A: Allocator + Copy>(alloc: A, words: &[&[u8]]) -> Result<BeginLine<A>, ScriptFault>
+fn parse_resume<A: Allocator + Copy>(alloc: A, words: &[&[u8]]) -> Result<BeginLine<A>, ScriptFault>
     ensures value { Reads begin_value_of result (resume_at (map (λ w. w.now) words.now)) }
     ensures can { IfOk result (λ line. CanBegin (begin_value_of line)) }
 {
@@ -65,11 +65,11 @@ fn resume_at<A: Allocator + Copy>(alloc: A, words: &[&[u8]]) -> Result<BeginLine
         return Err(ScriptFault::Words);
     };
     let words = [b"30000".as_slice(), *session, *password, *last];
-    begin_line_at(alloc, BeginKeyword::Resume, words.as_slice())
+    parse_begin_line(alloc, BeginKeyword::Resume, words.as_slice())
 }
 
 /// The line of a keyword and the words behind it. A session is taken up by the first line alone.
-fn placed_at<A: Allocator + Copy>(
+fn parse_placed<A: Allocator + Copy>(
     alloc: A,
     keyword: LiveKeyword,
     is_begun: bool,
@@ -80,7 +80,7 @@ fn placed_at<A: Allocator + Copy>(
     match keyword {
         LiveKeyword::Resume if is_begun => Err(ScriptFault::Place),
         LiveKeyword::Resume => {
-            let line = resume_at(alloc, words)?;
+            let line = parse_resume(alloc, words)?;
             Ok(LiveLine::Resume(line))
         }
         LiveKeyword::Open => match words {
@@ -88,14 +88,14 @@ fn placed_at<A: Allocator + Copy>(
             _ => Err(ScriptFault::Words),
         },
         LiveKeyword::Client(word) => {
-            let line = client_line_at(alloc, word, words)?;
+            let line = parse_client_line(alloc, word, words)?;
             Ok(LiveLine::Client(line))
         }
     }
 }
 
 /// What words say, if they are some and no remark.
-fn said_words<A: Allocator + Copy>(
+fn parse_words<A: Allocator + Copy>(
     alloc: A,
     words: &[&[u8]],
     is_begun: bool,
@@ -111,12 +111,12 @@ fn said_words<A: Allocator + Copy>(
     let Some(keyword) = LiveKeyword::named(first) else {
         return Err(ScriptFault::Unknown);
     };
-    let line = placed_at(alloc, keyword, is_begun, behind)?;
+    let line = parse_placed(alloc, keyword, is_begun, behind)?;
     Ok(Some(line))
 }
 
 /// What a line says, if it is neither empty nor a remark; or the first reason that refuses it.
-pub fn said_line<A: Allocator + Copy>(
+pub fn parse_live_line<A: Allocator + Copy>(
     alloc: A,
     line: &[u8],
     is_begun: bool,
@@ -124,13 +124,13 @@ pub fn said_line<A: Allocator + Copy>(
     ensures { Reads (option_map live_value_of) result (says_at (words_of line.now) is_begun) }
 {
     match words_of(alloc, line) {
-        Ok(words) => said_words(alloc, words.as_slice(), is_begun),
+        Ok(words) => parse_words(alloc, words.as_slice(), is_begun),
         Err(_) => Err(ScriptFault::Memory),
     }
 }
 
 /// The client that words ask for, if they are some and no remark.
-fn begun_words<A: Allocator + Copy>(
+fn parse_begin_words<A: Allocator + Copy>(
     alloc: A,
     words: &[&[u8]],
 ) -> Result<Option<BeginLine<A>>, ScriptFault>
@@ -146,12 +146,12 @@ fn begun_words<A: Allocator + Copy>(
     if !is_named(first, "resume") {
         return Ok(Some(BeginLine::Timeout(ASKED)));
     }
-    let line = resume_at(alloc, behind)?;
+    let line = parse_resume(alloc, behind)?;
     Ok(Some(line))
 }
 
 /// The client that a line asks for, if it is neither empty nor a remark: of no session yet where it is no line that takes one up.
-pub fn begun_line<A: Allocator + Copy>(
+pub fn parse_first_line<A: Allocator + Copy>(
     alloc: A,
     line: &[u8],
 ) -> Result<Option<BeginLine<A>>, ScriptFault>
@@ -159,7 +159,7 @@ pub fn begun_line<A: Allocator + Copy>(
     ensures can { IfOk result (λ found. IfSome found (λ line. CanBegin (begin_value_of line))) }
 {
     match words_of(alloc, line) {
-        Ok(words) => begun_words(alloc, words.as_slice()),
+        Ok(words) => parse_begin_words(alloc, words.as_slice()),
         Err(_) => Err(ScriptFault::Memory),
     }
 }

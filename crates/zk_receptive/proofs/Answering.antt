@@ -5,19 +5,21 @@ use Rattle.std.specs.FinSet as set
 use Rattle.std.proofs.lemmas.Bool.{lt-ltb, le-ltb}
 use Rattle.zk_jute.specs.Layout.{ustring, Value}
 use Rattle.zk_jute.specs.Spelling.{spelling, Fits}
-use Rattle.zk_history.specs.StatLayout.{stat}
-use Rattle.zk_history.specs.DataStats.{data_stat_of}
-use Rattle.zk_history.specs.History.{Text, Name, Node, History, Sets, Creates, Deletes, Transaction, path_of, node_fields, contents_of, children_of}
+use Rattle.zk_nodes.specs.StatLayout.{stat}
+use Rattle.zk_nodes.specs.DataStats.{data_stat_of}
+use Rattle.zk_nodes.specs.Path.{Text, Name, path_of}
+use Rattle.zk_nodes.specs.History.{Node, History, Sets, Creates, Deletes, Transaction, node_fields, contents_of, children_of}
 use Rattle.zk_cache.specs.Kept.{Absent, Known, Full}
 use Rattle.zk_records.specs.Layouts.{get_data_response, get_children2_response}
 use Rattle.zk_conversation.specs.Calls.{Call, Exists, GetData, GetChildren, SetData, Create, Delete, Close}
 use Rattle.zk_conversation.specs.Questions.{question_of}
 use Rattle.zk_conversation.specs.Results.{Result, NoNode, Refused, Found, Read, Listing, Made, Done, stat_of, texts_of}
 use Rattle.zk_turns.specs.Turns.{Start}
-use Rattle.zk_turns.specs.Kept.{names_of}
+use Rattle.zk_turns.specs.Past.{names_of}
 use Rattle.zk_turns.specs.Meaning.{Among}
 use Rattle.zk_turns.specs.Spelled.{HasResult}
-use Rattle.zk_laws.specs.Server.{Gives, IsOther, held, tree_held, Fits as FitsView, FitsNames, IsMadeOf}
+use Rattle.zk_laws.proofs.Moving.{refusal}
+use Rattle.zk_laws.specs.Server.{Gives, held, tree_held, Fits as FitsView, FitsNames, IsMadeOf}
 use Rattle.zk_laws.specs.Messages.{Ask}
 use Rattle.zk_laws.specs.ServerSteps.{Serving, Answers}
 use Rattle.zk_laws.specs.Served.{Entry, code_of}
@@ -36,18 +38,9 @@ pub closes : (h : History) (start : Start) (entries : List Entry) (xid : ℤ) (b
     → CanTake h start entries (Answers Close Done) (headed xid (zxid_of h entries) (pos 0) behind ∷ [])
 closes h start entries xid behind a can = answers h start entries Close xid Done behind a tt (tt, record { ignored = behind; fits = tt; whole = refl }, refl) can
 
-gives_refused : (h : History) (place : ℕ) (call : Call) (code : ℤ) → IsOther code → Gives h place call (Refused code)
-gives_refused h place (Exists path watch) code other = other
-gives_refused h place (GetData path watch) code other = other
-gives_refused h place (GetChildren path watch) code other = other
-gives_refused h place (SetData path content version) code other = other
-gives_refused h place (Create path content mode) code other = other
-gives_refused h place (Delete path version) code other = other
-gives_refused h place Close code other = other
-
 pub refuses : (h : History) (start : Start) (entries : List Entry) (call : Call) (xid code : ℤ) (behind : List ℕ) → Awaits h start entries Serving (Ask call) xid → code ≢ pos 0 → code ≢ negsuc 100
     → IsSendable xid (zxid_of h entries) code behind → CanTake h start entries (Answers call (Refused code)) (headed xid (zxid_of h entries) code behind ∷ [])
-refuses h start entries call xid code behind a some there can = answers h start entries call xid (Refused code) behind a (gives_refused h (end_of h entries).place call code (some, there)) tt can
+refuses h start entries call xid code behind a some there can = answers h start entries call xid (Refused code) behind a ((refusal h (end_of h entries).place call code).1 (some, there)) tt can
 
 -- ---- a write of a node that is not there
 

@@ -1,6 +1,6 @@
 -- What a server holds at its place.
 use Rattle.std.proofs.Common.{ℕ, ◌≡◌, List, [], ◌∷◌, ◌++◌, length, take, refl, ap, ◌∙◌}
-use Rattle.zk_history.specs.History.{Tree, Transaction, History, apply_all, after, newest}
+use Rattle.zk_nodes.specs.History.{Tree, Transaction, History, apply_all, after, newest}
 use Rattle.zk_laws.specs.Server.{held, tree_held, zxid_held}
 
 newest_last : (low : ℕ) (earlier : List Transaction) (last : Transaction) → newest low (earlier ++ last ∷ []) ≡ last.zxid

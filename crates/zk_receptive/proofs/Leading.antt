@@ -4,23 +4,23 @@ use Rattle.std.specs.Prelude.{◌≢◌, not}
 use Rattle.std.proofs.lemmas.Bool.{and_from}
 use Rattle.std.specs.List.{AllByRecursion}
 use Rattle.zk_frames.specs.Frame.{frame, joined, length_field}
-use Rattle.zk_history.specs.History.{Change, History}
+use Rattle.zk_nodes.specs.History.{Change, History}
 use Rattle.zk_watches.specs.Lists.{Lists}
 use Rattle.zk_conversation.specs.Calls.{Call, Exists, GetData, GetChildren, SetData, Create, Delete, Close}
 use Rattle.zk_conversation.specs.Questions.{question_of}
 use Rattle.zk_conversation.specs.Results.{Result}
 use Rattle.zk_turns.specs.Turns.{Start, Output, Forgets, Bytes, Cut, Now, Call as Calling}
-use Rattle.zk_turns.specs.Kept.{Past, is_open, is_talking, has_halted, held_of, state_of}
+use Rattle.zk_turns.specs.Past.{Past, is_open, is_talking, has_halted, held_of, state_of}
 use Rattle.zk_turns.specs.Taken.{past_of}
 use Rattle.zk_turns.specs.Meaning.{Among}
 use Rattle.zk_laws.specs.Server.{Notice, Watches, fires, fires_all, leaves_set, leaves_set_all, sets, tree_held, part_sets, times, AreSent}
 use Rattle.zk_laws.specs.Laws.{AreRestored}
 use Rattle.zk_laws.specs.Messages.{Request, Connect, Restore, Ask, Ping}
 use Rattle.zk_laws.specs.ServerSteps.{Serving, Ended, ServerStep, Advances, Admits, Refuses, Answers, Restores, Pongs, changes_next}
-use Rattle.zk_laws.specs.Served.{Sent, Entry, Goes_on, Serves, line_of, items_in, is_going, IsServing, Served}
+use Rattle.zk_laws.specs.Served.{Sent, Entry, Goes_on, Serves, wire_of, items_in, is_going, IsServing, Served}
 use Rattle.zk_laws.specs.Headline.{IsQuietAt}
 use Rattle.zk_laws.specs.Parsed.{IsCutInto}
-use Rattle.zk_serving.specs.Lines.{item_of}
+use Rattle.zk_serving.specs.Wires.{item_of}
 use Rattle.zk_receptive.specs.Next.{end_of}
 use Rattle.zk_receptive.specs.Leads.{IsBehind, awaited}
 
@@ -58,14 +58,14 @@ ponged h entries payloads = record { place = refl; watches = λ side path. refl;
 
 -- ---- what is on its way, and what stands next
 
-pub comes_behind : (h : History) (entries : List Entry) (step : ServerStep) (payloads : List (List ℕ)) → (line_of h (Serves step payloads ∷ entries)).coming ≡ (line_of h entries).coming ++ flat_map frame payloads
+pub comes_behind : (h : History) (entries : List Entry) (step : ServerStep) (payloads : List (List ℕ)) → (wire_of h (Serves step payloads ∷ entries)).coming ≡ (wire_of h entries).coming ++ flat_map frame payloads
 comes_behind h entries step payloads = refl
 
 drop_none : {A : Type 0} (n : ℕ) (xs : List A) → drop (n + 0) xs ≡ drop n xs
 drop_none n xs = ap (λ (k : ℕ). drop k xs) (omega arith)
 
 pub still_next : (h : History) (start : Start) (entries : List Entry) (sent : List Notice) (payloads : List (List ℕ)) → awaited h start (Serves (Advances sent) payloads ∷ entries) ≡ awaited h start entries
-still_next h start entries sent payloads = ap (λ (all : List Sent). map (λ sent. sent.request) all) (drop_none (line_of h entries).processed _)
+still_next h start entries sent payloads = ap (λ (all : List Sent). map (λ sent. sent.request) all) (drop_none (wire_of h entries).processed _)
 
 pub next_done : (h : History) (start : Start) (entries : List Entry) (step : ServerStep) (payloads : List (List ℕ)) (request : Request) (others : List Request) → ((sent : List Notice) → step ≢ Advances sent)
     → awaited h start entries ≡ request ∷ others → awaited h start (Serves step payloads ∷ entries) ≡ others
@@ -82,28 +82,28 @@ next_done h start entries step payloads request others on e = go step on
 
     go : (step : ServerStep) → ((sent : List Notice) → step ≢ Advances sent) → awaited h start (Serves step payloads ∷ entries) ≡ others
     go (Advances sent) on = absurd (on sent refl)
-    go (Admits seen) on = one_less (line_of h entries).processed _ e
-    go (Refuses seen) on = one_less (line_of h entries).processed _ e
-    go (Answers call result) on = one_less (line_of h entries).processed _ e
-    go (Restores is_last relative part sent) on = one_less (line_of h entries).processed _ e
-    go Pongs on = one_less (line_of h entries).processed _ e
+    go (Admits seen) on = one_less (wire_of h entries).processed _ e
+    go (Refuses seen) on = one_less (wire_of h entries).processed _ e
+    go (Answers call result) on = one_less (wire_of h entries).processed _ e
+    go (Restores is_last relative part sent) on = one_less (wire_of h entries).processed _ e
+    go Pongs on = one_less (wire_of h entries).processed _ e
 
--- ---- what leaves the line as it was
+-- ---- what leaves the wire as it was
 
-pub cut_stays : (h : History) (entries : List Entry) (place : ℕ) (outputs : List Output) → line_of h (Goes_on place (item_of Cut outputs) ∷ entries) ≡ line_of h entries
+pub cut_stays : (h : History) (entries : List Entry) (place : ℕ) (outputs : List Output) → wire_of h (Goes_on place (item_of Cut outputs) ∷ entries) ≡ wire_of h entries
 cut_stays h entries place outputs = refl
 
-pub tick_stays : (h : History) (entries : List Entry) (place moment : ℕ) (outputs : List Output) → line_of h (Goes_on place (item_of (Now moment) outputs) ∷ entries) ≡ line_of h entries
+pub tick_stays : (h : History) (entries : List Entry) (place moment : ℕ) (outputs : List Output) → wire_of h (Goes_on place (item_of (Now moment) outputs) ∷ entries) ≡ wire_of h entries
 tick_stays h entries place moment outputs = refl
 
-pub call_stays : (h : History) (entries : List Entry) (place ticket : ℕ) (call : Call) (outputs : List Output) → line_of h (Goes_on place (item_of (Calling ticket call) outputs) ∷ entries) ≡ line_of h entries
+pub call_stays : (h : History) (entries : List Entry) (place ticket : ℕ) (call : Call) (outputs : List Output) → wire_of h (Goes_on place (item_of (Calling ticket call) outputs) ∷ entries) ≡ wire_of h entries
 call_stays h entries place ticket call outputs = refl
 
-pub forgetting_stays : (h : History) (entries : List Entry) (place : ℕ) → line_of h (Goes_on place Forgets ∷ entries) ≡ line_of h entries
+pub forgetting_stays : (h : History) (entries : List Entry) (place : ℕ) → wire_of h (Goes_on place Forgets ∷ entries) ≡ wire_of h entries
 forgetting_stays h entries place = refl
 
 pub bytes_stay : (h : History) (entries : List Entry) (place : ℕ) (bytes : List ℕ) (outputs : List Output)
-    → (end_of h (Goes_on place (item_of (Bytes bytes) outputs) ∷ entries) ≡ end_of h entries) × ((line_of h (Goes_on place (item_of (Bytes bytes) outputs) ∷ entries)).processed ≡ (line_of h entries).processed)
+    → (end_of h (Goes_on place (item_of (Bytes bytes) outputs) ∷ entries) ≡ end_of h entries) × ((wire_of h (Goes_on place (item_of (Bytes bytes) outputs) ∷ entries)).processed ≡ (wire_of h entries).processed)
 bytes_stay h entries place bytes outputs = (refl, refl)
 
 -- ---- what is quiet
@@ -116,7 +116,7 @@ none_restores (Ask call ∷ more) none = none_restores more (λ l r p m. none l 
 none_restores (Ping ∷ more) none = none_restores more (λ l r p m. none l r p (inr m))
 
 pub quiet_so : (h : History) (start : Start) (entries : List Entry) → is_talking (state_of (past_of start (items_in entries))) ≡ true → is_going (past_of start (items_in entries)) ≡ true
-    → (line_of h entries).coming ≡ [] → held_of (past_of start (items_in entries)) ≡ [] → ((is_last : Bool) (relative : ℕ) (part : Lists) → Among (Restore is_last relative part) (awaited h start entries) → ⊥) → IsQuietAt h start entries
+    → (wire_of h entries).coming ≡ [] → held_of (past_of start (items_in entries)) ≡ [] → ((is_last : Bool) (relative : ℕ) (part : Lists) → Among (Restore is_last relative part) (awaited h start entries) → ⊥) → IsQuietAt h start entries
 quiet_so h start entries talks on received taken none = record { going = on; talking = talks; received = received; taken = taken; restored = none_restores (awaited h start entries) none }
 
 pub going_so : (past : Past) → is_open (state_of past) ≡ true → has_halted past ≡ false → is_going past ≡ true

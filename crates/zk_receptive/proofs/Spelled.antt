@@ -10,8 +10,8 @@ use Rattle.zk_records.specs.declared.event.Event.{Event}
 use Rattle.zk_records.specs.declared.event.Event.TheVariants.{Created, Deleted, DataChanged, ChildrenChanged}
 use Rattle.zk_records.specs.Events.{event_number}
 use Rattle.zk_records.specs.Layouts.{reply_header, watcher_event}
-use Rattle.zk_history.specs.DataStats.{data_stat_of}
-use Rattle.zk_history.specs.History.{Node, node_fields}
+use Rattle.zk_nodes.specs.DataStats.{data_stat_of}
+use Rattle.zk_nodes.specs.History.{Node, node_fields}
 use Rattle.zk_conversation.specs.Results.{stat_of}
 use Rattle.zk_turns.specs.Spelled.{IsHeaded, HasRecord}
 use Rattle.zk_laws.specs.Server.{Notice, times, AreSent}

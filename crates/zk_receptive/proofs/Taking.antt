@@ -2,7 +2,7 @@
 use Rattle.std.proofs.Common.{ℕ, ℤ, pos, true, false, ◌≡◌, ◌≤◌, ◌<◌, ◌^◌, List, [], ◌∷◌, ◌++◌, map, length, refl, sym, subst, ◌∙◌}
 use Rattle.std.specs.Prelude.{int_lt, ◌≢◌, Bool}
 use Rattle.std.specs.List.{AllByRecursion}
-use Rattle.zk_history.specs.History.{History}
+use Rattle.zk_nodes.specs.History.{History}
 use Rattle.zk_watches.specs.Lists.{Lists}
 use Rattle.zk_records.specs.Response.{Response, ResponseFits, EndsPayload, response_spelling, IsPayload as IsResponse}
 use Rattle.zk_conversation.specs.Calls.{ping_xid}
@@ -12,7 +12,7 @@ use Rattle.zk_turns.specs.Taken.{past_of}
 use Rattle.zk_laws.specs.Server.{Notice, AreSent, fires_all, part_tells, tree_held, zxid_held}
 use Rattle.zk_laws.specs.Messages.{Request, Connect, Restore, Ping, Watches_set}
 use Rattle.zk_laws.specs.ServerSteps.{Stage, Waiting, Serving, Ended, ServerStep, Advances, Admits, Refuses, Restores, Pongs, MayDo, messages_by, changes_next}
-use Rattle.zk_laws.specs.Served.{Sent, Entry, ArePayloads, first_xid, items_in, unread, line_of}
+use Rattle.zk_laws.specs.Served.{Sent, Entry, ArePayloads, first_xid, items_in, unread, wire_of}
 use Rattle.zk_receptive.specs.Next.{end_of, Reaches, Awaits, CanTake, headed, IsSendable, zxid_of, notice_payload, IsTellable}
 use Rattle.zk_receptive.specs.Told.{AllTell}
 use Rattle.zk_receptive.proofs.Spelled.{headed_so, notices_spelled, notices_alone, all_tell_more, all_tell_alone}
@@ -41,7 +41,7 @@ advances h start entries stage sent zxid err r on low all tells = (
   record {
     going = r.going;
     may = (λ ended. on (sym r.there ∙ ended), low, all);
-    told = notices_alone (first_xid (unread start (past_of start (items_in entries)) (line_of h entries))) zxid err sent tells;
+    told = notices_alone (first_xid (unread start (past_of start (items_in entries)) (wire_of h entries))) zxid err sent tells;
   },
   r.serving,
 )
@@ -81,7 +81,7 @@ tells_of_changes h start entries stage sent payloads r on low all tells = (
   record {
     going = r.going;
     may = (λ ended. on (sym r.there ∙ ended), low, all);
-    told = all_tell_alone (first_xid (unread start (past_of start (items_in entries)) (line_of h entries))) sent payloads tells;
+    told = all_tell_alone (first_xid (unread start (past_of start (items_in entries)) (wire_of h entries))) sent payloads tells;
   },
   r.serving,
 )

@@ -2,8 +2,8 @@
 use Rattle.std.specs.Prelude.{ℕ, ℤ, pos, negsuc, ◌≡◌, ◌<◌, ◌^◌, true, List, ◌∷◌, ◌++◌, length, Some}
 use Rattle.zk_jute.specs.Layout.{ustring, Value}
 use Rattle.zk_jute.specs.Spelling.{spelling, Fits}
-use Rattle.zk_history.specs.StatLayout.{stat}
-use Rattle.zk_history.specs.History.{Node, History, size_of}
+use Rattle.zk_nodes.specs.StatLayout.{stat}
+use Rattle.zk_nodes.specs.History.{Node, History, size_of}
 use Rattle.zk_records.specs.Events.{event_number}
 use Rattle.zk_records.specs.Layouts.{reply_header, watcher_event}
 use Rattle.zk_turns.specs.Turns.{Start}
@@ -11,11 +11,11 @@ use Rattle.zk_turns.specs.Taken.{past_of}
 use Rattle.zk_laws.specs.Server.{Notice, zxid_held}
 use Rattle.zk_laws.specs.Messages.{Request}
 use Rattle.zk_laws.specs.ServerSteps.{ServerEnd, ServerStep, Stage}
-use Rattle.zk_laws.specs.Served.{Sent, Entry, Serves, items_in, line_of, is_going, unread, IsServing}
+use Rattle.zk_laws.specs.Served.{Sent, Entry, Serves, items_in, wire_of, is_going, unread, IsServing}
 
 -- the server's end of the newest connection
 abbrev pub end_of : History → List Entry → ServerEnd
-end_of h entries = (line_of h entries).server
+end_of h entries = (wire_of h entries).server
 
 -- The entries are a schedule, and its server is at this stage of an open connection.
 pub record Reaches (h : History) (start : Start) (entries : List Entry) (stage : Stage) : Type 0 where
@@ -28,7 +28,7 @@ pub record Awaits (h : History) (start : Start) (entries : List Entry) (stage : 
   pub reaches : Reaches h start entries stage
   pub payload : List ℕ
   pub others : List Sent
-  pub next : unread start (past_of start (items_in entries)) (line_of h entries) ≡ record { payload = payload; xid = xid; request = request } ∷ others
+  pub next : unread start (past_of start (items_in entries)) (wire_of h entries) ≡ record { payload = payload; xid = xid; request = request } ∷ others
 
 -- The schedule goes on with this step of the server, which sends these payloads.
 abbrev pub CanTake : History → Start → List Entry → ServerStep → List (List ℕ) → Type 0

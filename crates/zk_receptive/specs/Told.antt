@@ -2,9 +2,10 @@
 use Rattle.std.specs.Prelude.{ℕ, ℤ, negsuc, ◌≡◌, ◌<◌, ◌≤◌, ◌^◌, List, [], ◌∷◌, ◌++◌, length, Option, Some, None, ⊤, ◌⊎◌, if◌then◌else◌}
 use Rattle.zk_jute.specs.Lenient.{or_empty}
 use Rattle.zk_jute.specs.Spelling.{spelling, Fits}
-use Rattle.zk_history.specs.History.{Text, NodePath, text_of, path_of, Node, Tree, Change, Creates, Sets, Deletes}
-use Rattle.zk_history.specs.declared.side.Side.{Side}
-use Rattle.zk_history.specs.declared.side.Side.TheVariants.{Data, Child}
+use Rattle.zk_nodes.specs.Path.{Text, NodePath, text_of, path_of}
+use Rattle.zk_nodes.specs.History.{Node, Tree, Change, Creates, Sets, Deletes}
+use Rattle.zk_nodes.specs.declared.side.Side.{Side}
+use Rattle.zk_nodes.specs.declared.side.Side.TheVariants.{Data, Child}
 use Rattle.zk_records.specs.declared.event.Event.{Event}
 use Rattle.zk_records.specs.declared.event.Event.TheVariants.{Created, Deleted, DataChanged, ChildrenChanged}
 use Rattle.zk_records.specs.Events.{event_number}

@@ -8,14 +8,15 @@ ghost use Rattle.zk_conversation.specs.Calls.{Call, ping_xid, Exists, GetData, G
 ghost use Rattle.zk_conversation.specs.Questions.{question_of};
 ghost use Rattle.zk_conversation.specs.Results.{Result, stat_of, response_timeout, NoNode, Refused, Found, Read, Listing, Made, Done, texts_of};
 ghost use Rattle.zk_frames.specs.Frame.{joined, length_field};
-ghost use Rattle.zk_history.specs.DataStats.{data_stat_of};
-ghost use Rattle.zk_history.specs.History.{History, Node, node_fields, Text, Name, Sets, Creates, Deletes, Transaction, Change, Tree, NodePath, path_of, after, apply_all};
-ghost use Rattle.zk_history.specs.StatLayout.{stat};
-ghost use Rattle.zk_history.specs.declared.side.Side.{Side};
+ghost use Rattle.zk_nodes.specs.DataStats.{data_stat_of};
+ghost use Rattle.zk_nodes.specs.Path.{Text, Name, NodePath, path_of};
+ghost use Rattle.zk_nodes.specs.History.{History, Node, node_fields, Sets, Creates, Deletes, Transaction, Change, Tree, after, apply_all};
+ghost use Rattle.zk_nodes.specs.StatLayout.{stat};
+ghost use Rattle.zk_nodes.specs.declared.side.Side.{Side};
 ghost use Rattle.zk_jute.specs.Layout.{Value, ustring};
 ghost use Rattle.zk_jute.specs.Spelling.{spelling, Fits};
 ghost use Rattle.zk_laws.specs.Messages.{Request, Connect, Restore, Ping, Ask};
-ghost use Rattle.zk_laws.specs.Served.{Entry, Goes_on, Serves, items_in, line_of, is_going, IsServing, Served};
+ghost use Rattle.zk_laws.specs.Served.{Entry, Goes_on, Serves, items_in, wire_of, is_going, IsServing, Served};
 ghost use Rattle.zk_laws.specs.Server.{Notice, AreSent, times, Watches, fires, leaves_set, leaves_set_all, sets, fires_all, part_tells, part_sets, tree_held, zxid_held, held};
 ghost use Rattle.zk_laws.specs.ServerSteps.{ServerStep, Stage, Waiting, Serving, Ended, Advances, Admits, Refuses, Restores, Pongs, changes_next, Answers};
 ghost use Rattle.zk_laws.specs.Headline.{IsQuietAt};
@@ -25,8 +26,8 @@ ghost use Rattle.zk_receptive.specs.Next.{headed, notice_payload, IsTellable, st
 ghost use Rattle.zk_records.specs.Layouts.{get_data_response, get_children2_response};
 ghost use Rattle.zk_records.specs.Response.{Response, ResponseFits, EndsPayload, response_spelling};
 ghost use Rattle.zk_receptive.specs.Told.{fired_by, notices_of, Fires, IsDue, IsSetAgain, AllTell};
-ghost use Rattle.zk_serving.specs.Lines.{item_of};
-ghost use Rattle.zk_turns.specs.Kept.{names_of, Past, is_open, is_talking, has_halted, held_of, state_of};
+ghost use Rattle.zk_serving.specs.Wires.{item_of};
+ghost use Rattle.zk_turns.specs.Past.{names_of, Past, is_open, is_talking, has_halted, held_of, state_of};
 ghost use Rattle.zk_turns.specs.Taken.{past_of};
 ghost use Rattle.zk_turns.specs.Meaning.{Among};
 ghost use Rattle.zk_turns.specs.Turns.{Start, Output, Forgets, Halts, Bytes, Cut, Now, Call as Calling, Opened as Opening};
@@ -35,22 +36,22 @@ ghost use Rattle.std.specs.FinSet as set;
 
 /// A connection may begin to a server at each place of the history, and the server stands there, with no watches; nothing is processed,
 /// and nothing on its way.
-#[tactic(auto, using(crate::proofs::Client::opens, crate::proofs::Client::opened_end, crate::proofs::Client::opened_line))]
+#[tactic(auto, using(crate::proofs::Client::opens, crate::proofs::Client::opened_end, crate::proofs::Client::opened_wire))]
 pub fn connections_begin()
     ensures opens { (h : History) (start : Start) (entries : List Entry) (place : ℕ) (outputs : List Output) → IsServing h start entries → place ≤ length h.transactions
         → IsServing h start (Goes_on place (item_of Opening outputs) ∷ entries) }
     ensures opened_end { (h : History) (entries : List Entry) (place : ℕ) (outputs : List Output) → IsBehind place (λ side path. false) Waiting (end_of h (Goes_on place (item_of Opening outputs) ∷ entries)) }
-    ensures opened_line { (h : History) (entries : List Entry) (place : ℕ) (outputs : List Output)
-        → ((line_of h (Goes_on place (item_of Opening outputs) ∷ entries)).processed ≡ 0) × ((line_of h (Goes_on place (item_of Opening outputs) ∷ entries)).coming ≡ []) }
+    ensures opened_wire { (h : History) (entries : List Entry) (place : ℕ) (outputs : List Output)
+        → ((wire_of h (Goes_on place (item_of Opening outputs) ∷ entries)).processed ≡ 0) × ((wire_of h (Goes_on place (item_of Opening outputs) ∷ entries)).coming ≡ []) }
 {}
 
 /// What waits may be received in any pieces: any beginning of it, behind which the rest waits. Without a connection any bytes may come.
 #[tactic(auto, using(crate::proofs::Client::receives, crate::proofs::Client::received_rest, crate::proofs::Client::strays))]
 pub fn bytes_come()
-    ensures receives { (h : History) (start : Start) (entries : List Entry) (place : ℕ) (bytes rest : List ℕ) (outputs : List Output) → IsServing h start entries → (line_of h entries).coming ≡ bytes ++ rest
+    ensures receives { (h : History) (start : Start) (entries : List Entry) (place : ℕ) (bytes rest : List ℕ) (outputs : List Output) → IsServing h start entries → (wire_of h entries).coming ≡ bytes ++ rest
         → IsServing h start (Goes_on place (item_of (Bytes bytes) outputs) ∷ entries) }
-    ensures received_rest { (h : History) (entries : List Entry) (place : ℕ) (bytes rest : List ℕ) (outputs : List Output) → (line_of h entries).coming ≡ bytes ++ rest
-        → (line_of h (Goes_on place (item_of (Bytes bytes) outputs) ∷ entries)).coming ≡ rest }
+    ensures received_rest { (h : History) (entries : List Entry) (place : ℕ) (bytes rest : List ℕ) (outputs : List Output) → (wire_of h entries).coming ≡ bytes ++ rest
+        → (wire_of h (Goes_on place (item_of (Bytes bytes) outputs) ∷ entries)).coming ≡ rest }
     ensures strays { (h : History) (start : Start) (entries : List Entry) (place : ℕ) (bytes : List ℕ) (outputs : List Output) → IsServing h start entries → is_going (past_of start (items_in entries)) ≡ false
         → IsServing h start (Goes_on place (item_of (Bytes bytes) outputs) ∷ entries) }
 {}
@@ -223,7 +224,7 @@ pub fn steps_lead_on()
 /// after it.
 #[tactic(auto, using(crate::proofs::Leading::comes_behind, crate::proofs::Leading::still_next, crate::proofs::Leading::next_done))]
 pub fn requests_are_processed()
-    ensures comes_behind { (h : History) (entries : List Entry) (step : ServerStep) (payloads : List (List ℕ)) → (line_of h (Serves step payloads ∷ entries)).coming ≡ (line_of h entries).coming ++ joined payloads }
+    ensures comes_behind { (h : History) (entries : List Entry) (step : ServerStep) (payloads : List (List ℕ)) → (wire_of h (Serves step payloads ∷ entries)).coming ≡ (wire_of h entries).coming ++ joined payloads }
     ensures still_next { (h : History) (start : Start) (entries : List Entry) (sent : List Notice) (payloads : List (List ℕ)) → awaited h start (Serves (Advances sent) payloads ∷ entries) ≡ awaited h start entries }
     ensures next_done { (h : History) (start : Start) (entries : List Entry) (step : ServerStep) (payloads : List (List ℕ)) (request : Request) (others : List Request) → ((sent : List Notice) → step ≢ Advances sent)
         → awaited h start entries ≡ request ∷ others → awaited h start (Serves step payloads ∷ entries) ≡ others }
@@ -232,13 +233,13 @@ pub fn requests_are_processed()
 /// A cut, a moment, a call and a client that forgets leave the server's end, and what is on its way, as they were; bytes that are received
 /// leave the server's end.
 #[tactic(auto, using(crate::proofs::Leading::cut_stays, crate::proofs::Leading::tick_stays, crate::proofs::Leading::call_stays, crate::proofs::Leading::forgetting_stays, crate::proofs::Leading::bytes_stay))]
-pub fn lines_stay()
-    ensures cut_stays { (h : History) (entries : List Entry) (place : ℕ) (outputs : List Output) → line_of h (Goes_on place (item_of Cut outputs) ∷ entries) ≡ line_of h entries }
-    ensures tick_stays { (h : History) (entries : List Entry) (place moment : ℕ) (outputs : List Output) → line_of h (Goes_on place (item_of (Now moment) outputs) ∷ entries) ≡ line_of h entries }
-    ensures call_stays { (h : History) (entries : List Entry) (place ticket : ℕ) (call : Call) (outputs : List Output) → line_of h (Goes_on place (item_of (Calling ticket call) outputs) ∷ entries) ≡ line_of h entries }
-    ensures forgetting_stays { (h : History) (entries : List Entry) (place : ℕ) → line_of h (Goes_on place Forgets ∷ entries) ≡ line_of h entries }
+pub fn wires_stay()
+    ensures cut_stays { (h : History) (entries : List Entry) (place : ℕ) (outputs : List Output) → wire_of h (Goes_on place (item_of Cut outputs) ∷ entries) ≡ wire_of h entries }
+    ensures tick_stays { (h : History) (entries : List Entry) (place moment : ℕ) (outputs : List Output) → wire_of h (Goes_on place (item_of (Now moment) outputs) ∷ entries) ≡ wire_of h entries }
+    ensures call_stays { (h : History) (entries : List Entry) (place ticket : ℕ) (call : Call) (outputs : List Output) → wire_of h (Goes_on place (item_of (Calling ticket call) outputs) ∷ entries) ≡ wire_of h entries }
+    ensures forgetting_stays { (h : History) (entries : List Entry) (place : ℕ) → wire_of h (Goes_on place Forgets ∷ entries) ≡ wire_of h entries }
     ensures bytes_stay { (h : History) (entries : List Entry) (place : ℕ) (bytes : List ℕ) (outputs : List Output)
-        → (end_of h (Goes_on place (item_of (Bytes bytes) outputs) ∷ entries) ≡ end_of h entries) × ((line_of h (Goes_on place (item_of (Bytes bytes) outputs) ∷ entries)).processed ≡ (line_of h entries).processed) }
+        → (end_of h (Goes_on place (item_of (Bytes bytes) outputs) ∷ entries) ≡ end_of h entries) × ((wire_of h (Goes_on place (item_of (Bytes bytes) outputs) ∷ entries)).processed ≡ (wire_of h entries).processed) }
 {}
 
 /// All is quiet where the client talks, nothing is on its way or half taken, and no part of watches waits; a connection is open as the
@@ -246,7 +247,7 @@ pub fn lines_stay()
 #[tactic(auto, using(crate::proofs::Leading::quiet_so, crate::proofs::Leading::going_so, crate::proofs::Leading::served_so))]
 pub fn quiet_places()
     ensures quiet_so { (h : History) (start : Start) (entries : List Entry) → is_talking (state_of (past_of start (items_in entries))) ≡ true → is_going (past_of start (items_in entries)) ≡ true
-        → (line_of h entries).coming ≡ [] → held_of (past_of start (items_in entries)) ≡ [] → ((is_last : Bool) (relative : ℕ) (part : Lists) → Among (Restore is_last relative part) (awaited h start entries) → ⊥) → IsQuietAt h start entries }
+        → (wire_of h entries).coming ≡ [] → held_of (past_of start (items_in entries)) ≡ [] → ((is_last : Bool) (relative : ℕ) (part : Lists) → Among (Restore is_last relative part) (awaited h start entries) → ⊥) → IsQuietAt h start entries }
     ensures going_so { (past : Past) → is_open (state_of past) ≡ true → has_halted past ≡ false → is_going past ≡ true }
     ensures served_so { (h : History) (start : Start) (entries : List Entry) → IsServing h start entries → Served h start (items_in entries) }
 {}

@@ -1,6 +1,6 @@
 -- The fields of each record, in wire order.
 use Rattle.zk_jute.specs.Layout.{Layout, int, long, boolean, buffer, ustring, vector, ◌⨾◌}
-use Rattle.zk_history.specs.StatLayout.{stat}
+use Rattle.zk_nodes.specs.StatLayout.{stat}
 
 -- protocolVersion, lastZxidSeen, timeOut, sessionId, passwd, readOnly
 abbrev pub connect_request : Layout

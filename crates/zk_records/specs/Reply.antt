@@ -5,7 +5,7 @@ use Rattle.zk_jute.specs.declared.fault.TakeError.{TakeError}
 use Rattle.zk_jute.specs.Layout.{Layout, Value}
 use Rattle.zk_jute.specs.Spelling.{spelling, Fits}
 use Rattle.zk_jute.specs.Reading.{◌>>=◌, reading}
-use Rattle.zk_records.specs.declared.answer.Reply.{Reply}
+use Rattle.zk_records.specs.declared.reply.Reply.{Reply}
 use Rattle.zk_records.specs.Layouts.{reply_header}
 
 abbrev pub ReplyValue : Layout → Type 0

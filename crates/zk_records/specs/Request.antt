@@ -2,8 +2,8 @@
 use Rattle.std.specs.Prelude.{map}
 use Rattle.std.specs.Option.{option_map}
 use Rattle.zk_jute.specs.Layout.{Value}
-use Rattle.zk_records.specs.declared.ask.ReadRequest.{ReadRequest}
-use Rattle.zk_records.specs.declared.create.Acl.{Acl}
+use Rattle.zk_records.specs.declared.read_request.ReadRequest.{ReadRequest}
+use Rattle.zk_records.specs.declared.acl.Acl.{Acl}
 use Rattle.zk_records.specs.declared.operation.Operation.{Operation}
 use Rattle.zk_records.specs.declared.operation.Operation.TheVariants as operation
 use Rattle.zk_records.specs.declared.request.Request.{Request}

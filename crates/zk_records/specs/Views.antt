@@ -1,9 +1,9 @@
 -- What a record is, without where it lies in memory.
 use Rattle.std.specs.Option.{option_map}
 use Rattle.zk_jute.specs.Layout.{Value}
-use Rattle.zk_records.specs.declared.connect.ConnectRequest.{ConnectRequest}
-use Rattle.zk_records.specs.declared.lent_response.ConnectResponseRef.{ConnectResponseRef}
-use Rattle.zk_records.specs.declared.response.ConnectResponse.{ConnectResponse}
+use Rattle.zk_records.specs.declared.connect_request.ConnectRequest.{ConnectRequest}
+use Rattle.zk_records.specs.declared.connect_response.ConnectResponseRef.{ConnectResponseRef}
+use Rattle.zk_records.specs.declared.connect_response.ConnectResponse.{ConnectResponse}
 use Rattle.zk_records.specs.Layouts.{connect_request}
 use Rattle.zk_records.specs.Response.{Response}
 

@@ -3,7 +3,7 @@
 ghost use Rattle.std.specs.Prelude.{◌≡◌};
 ghost use Rattle.zk_records.specs.Events.{event_of, event_number, concerns};
 
-use zk_history::Side;
+use zk_nodes::Side;
 
 /// What happened to a watched node: the event types of the ZooKeeper Programmer's Guide.
 #[derive(Clone, Copy, Debug, PartialEq, Eq)]

@@ -6,11 +6,13 @@ ghost use Rattle.zk_records.specs.Operations.{body_layout, request_layout};
 ghost use Rattle.zk_records.specs.Request.{operation_of, body_of};
 ghost use Rattle.zk_records.specs.Asked.{asked_of, asked_value};
 
-use crate::ask::{DeleteRequest, ReadRequest, SetDataRequest};
-use crate::create::CreateRequest;
-use crate::header::RequestHeader;
+use crate::create_request::CreateRequest;
+use crate::delete_request::DeleteRequest;
 use crate::operation::Operation;
-use crate::watches::SetWatches;
+use crate::read_request::ReadRequest;
+use crate::request_header::RequestHeader;
+use crate::set_data_request::SetDataRequest;
+use crate::set_watches::SetWatches;
 use std::alloc::Allocator;
 use zk_jute::{PutError, Record};
 

@@ -2,10 +2,11 @@
 use Rattle.std.proofs.Common.{◌≡◌, ℕ, ℤ, pos, negsuc, true, ◌&&◌, List, [], ◌∷◌, ◌++◌, refl, sym, ap, ap₂, subst, ◌∙◌}
 use Rattle.std.proofs.lemmas.Slice.Eq.{bytes_eq-Decides}
 use Rattle.std.specs.Prelude.{Option, Some, None, Ok}
-use Rattle.zk_history.specs.History.{Text, View as Sight, Absence, Contents, Children, tree_at}
-use Rattle.zk_history.specs.Kept.{Kept as History, history_of, natural}
-use Rattle.zk_history.specs.declared.data_stat.DataStat.{DataStat}
-use Rattle.zk_history.specs.declared.side.Side.TheVariants.{Data, Child}
+use Rattle.zk_nodes.specs.Path.{Text}
+use Rattle.zk_nodes.specs.History.{View as Sight, Absence, Contents, Children, tree_at}
+use Rattle.zk_history.specs.HistoryView.{HistoryView as History, history_of, natural}
+use Rattle.zk_nodes.specs.declared.data_stat.DataStat.{DataStat}
+use Rattle.zk_nodes.specs.declared.side.Side.TheVariants.{Data, Child}
 use Rattle.zk_cache.specs.Kept.{Answer, Absent, Known, Full, Names, same_fields}
 use Rattle.zk_cache.specs.declared.held.Kept.{Kept}
 use Rattle.zk_cache.specs.declared.held.Mark.{Mark}
@@ -22,7 +23,7 @@ use Rattle.zk_bench.specs.Stepping.{shown_of}
 use Rattle.zk_rehearse.specs.BenchLines.{GoodLine}
 use Rattle.zk_rehearse.specs.RehearseLines.{RehearseValue, BenchValueLine, says_at}
 use Rattle.zk_rehearse.specs.Good.{agrees, AreSame, same_content, sight, if_good, verdict_line, kept_verdict, agreeing, agreeing_path, agreeing_paths, TellsNamesLine, TellsKeptNames, TellsPath, TellsPaths}
-use Rattle.zk_rehearse.specs.Stages.{Scene, TellsGood, TellsAgreeing}
+use Rattle.zk_rehearse.specs.Scenes.{Scene, TellsGood, TellsAgreeing}
 use Rattle.zk_rehearse.specs.Coherent.{IsServed}
 use Rattle.zk_rehearse.specs.Rehearsed.{Position, Told, Staged, Does, TakesLine, Agrees, IsServedAt}
 

@@ -2,7 +2,7 @@
 use Rattle.std.proofs.Common.{◌≡◌, false, IfErr, IfOk}
 use Rattle.std.proofs.lemmas.Bool.{true≢false}
 use Rattle.std.specs.Prelude.{String, string_bytes, Option, Some, None, Result, Ok, Err}
-use Rattle.zk_history.specs.History.{Text}
+use Rattle.zk_nodes.specs.Path.{Text}
 use Rattle.zk_script.specs.Pieces.{words_of}
 use Rattle.zk_script.specs.Scripts.{IsDue}
 use Rattle.zk_script.specs.Stops.{IfHalted, IsDueBy}
@@ -10,7 +10,7 @@ use Rattle.zk_script.specs.declared.stop.Stop.{Stop}
 use Rattle.zk_script.specs.declared.stop.Stop.TheVariants.{Refused, Halted, Memory}
 use Rattle.zk_story.specs.Stories as story
 use Rattle.zk_rehearse.specs.RehearseLines.{RehearseValue, HistoryLine, BeginLine, BenchValueLine, says_at}
-use Rattle.zk_rehearse.specs.Stages.{Scene}
+use Rattle.zk_rehearse.specs.Scenes.{Scene}
 use Rattle.zk_rehearse.specs.Rehearsed.{Position, position_by, is_begun, by_words, by_history, Does, DoesHistory, HaltsLine, HaltsSaid, IsDueOf, TakesLine}
 use Rattle.zk_rehearse.specs.Scripts.{rules}
 

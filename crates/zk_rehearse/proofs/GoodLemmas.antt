@@ -11,10 +11,10 @@ use Rattle.std.specs.List.{list_any}
 use Rattle.std.specs.Option.{MatchOption}
 use Rattle.std.specs.Ordering.{nat_cmp, eq_by_cmp, is_eq}
 use Rattle.std.specs.String.{string_cmp, string_cmp_total}
-use Rattle.zk_history.specs.NamesKept.{names_of}
+use Rattle.zk_nodes.specs.Names.{names_of}
 use Rattle.zk_history.specs.Shown.{names_told}
-use Rattle.zk_history.specs.declared.answer.Names.{Names}
-use Rattle.zk_history.proofs.NamesLemmas.{contains-names_of}
+use Rattle.zk_nodes.specs.declared.names.Names.{Names}
+use Rattle.zk_nodes.proofs.NamesLemmas.{contains-names_of}
 use Rattle.zk_cache.specs.Contents.{names_in}
 use Rattle.zk_rehearse.specs.Good.{AgreesNames, HasNames}
 

@@ -4,17 +4,17 @@ use Rattle.std.proofs.lemmas.Bool.{true≢false}
 use Rattle.std.specs.Prelude.{◌<ℤ◌, unsigned_abs, Option, Some, None}
 use Rattle.zk_bench.specs.Served.{Served, disconnected}
 use Rattle.zk_client.specs.Clients.{saved_start, Tells}
-use Rattle.zk_history.specs.Kept.{Kept}
+use Rattle.zk_history.specs.HistoryView.{HistoryView}
 use Rattle.zk_story.specs.Stories as story
 use Rattle.zk_session.specs.declared.fields.Saved.{Saved}
 use Rattle.zk_turns.specs.Ranges.{IsResumable}
 use Rattle.zk_turns.specs.Turns.{new_start}
 use Rattle.zk_turns.specs.View.{View, view_at}
 use Rattle.zk_rehearse.specs.Rehearsed.{Staged, Begins, is_begun, position_by}
-use Rattle.zk_rehearse.specs.Stages.{Scene, first_scene, rejoined, taken_up}
+use Rattle.zk_rehearse.specs.Scenes.{Scene, first_scene, rejoined, taken_up}
 
 -- the scene that is made, in other words for the timeout and the history
-pub made_so : (scene : Scene) (first timeout : ℤ) (told history : Kept) → scene ≡ first_scene first told → first ≡ timeout → told ≡ history → scene ≡ first_scene timeout history
+pub made_so : (scene : Scene) (first timeout : ℤ) (told history : HistoryView) → scene ≡ first_scene first told → first ≡ timeout → told ≡ history → scene ≡ first_scene timeout history
 made_so scene first timeout told history made asked same = made ∙ (ap (λ n. first_scene n told) asked ∙ ap (first_scene timeout) same)
 
 -- where no client was made, one is made over the history so far

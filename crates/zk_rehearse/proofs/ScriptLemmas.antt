@@ -1,7 +1,7 @@
 -- From a position of a rehearsal to the next.
 use Rattle.std.proofs.Common.{◌≡◌, IfErr, IfOk, refl, subst}
 use Rattle.std.specs.Prelude.{String, string_bytes, Result, Ok, Err}
-use Rattle.zk_history.specs.History.{Text}
+use Rattle.zk_nodes.specs.Path.{Text}
 use Rattle.zk_script.specs.Scripts.{IsDue}
 use Rattle.zk_script.specs.declared.stop.Stop.{Stop}
 use Rattle.zk_rehearse.specs.declared.rehearsal.Rehearsal.{Rehearsal}

@@ -4,9 +4,10 @@ use Rattle.std.proofs.lemmas.Bool.{eqb-true, eqb-false}
 use Rattle.std.proofs.lemmas.List.{take-append-drop, get_or-set_other}
 use Rattle.std.proofs.lemmas.Int.{ints}
 use Rattle.std.specs.Prelude.{◌<ℤ◌, unsigned_abs, slice_index, slice_get, Option, Some, None}
-use Rattle.zk_history.specs.History.{Text, Transaction, after}
-use Rattle.zk_history.specs.Kept.{Kept, history_of, root_tree}
-use Rattle.zk_history.specs.declared.side.Side.TheVariants.{Data, Child}
+use Rattle.zk_nodes.specs.Path.{Text}
+use Rattle.zk_nodes.specs.History.{Transaction, after}
+use Rattle.zk_history.specs.HistoryView.{HistoryView, history_of, root_tree}
+use Rattle.zk_nodes.specs.declared.side.Side.TheVariants.{Data, Child}
 use Rattle.zk_turns.specs.Turns.{Input, Opened, Bytes, Cut, Now, Call, Start, Item, Forgets, new_start}
 use Rattle.zk_turns.specs.View.{View, view_at}
 use Rattle.zk_turns.specs.Rule.{Stands, forgotten}
@@ -16,7 +17,7 @@ use Rattle.zk_laws.specs.ServerSteps.{Waiting}
 use Rattle.zk_serving.specs.GoingOn.{GoesOn}
 use Rattle.zk_serving.specs.Shown as shows
 use Rattle.zk_serving.specs.Shown.{Shown, Hears}
-use Rattle.zk_serving.specs.Lines.{WasServed, is_up}
+use Rattle.zk_serving.specs.Wires.{WasServed, is_up}
 use Rattle.zk_serving.proofs.Later.{taken_at, taken_none}
 use Rattle.zk_serving.proofs.Views.{first_session, opened_session, received_session, cut_session, told_session, asked_session, forget_session, there_session, takes_session, rests_session, answers_session}
 use Rattle.zk_bench.specs.declared.phase.Phase.{Phase}
@@ -30,7 +31,7 @@ use Rattle.zk_replay.specs.CallLines.{Asked}
 use Rattle.zk_replay.specs.ClientLines.{ClientValue, CutLine, NowLine, CallLine, PeekLine, LastLine, ForgetLine, SavedLine}
 use Rattle.zk_rehearse.specs.BenchLines.{BenchValue, OpenLine, TakeLine, ProcessLine, DeliverLine, ExpireLine, GoodLine, RejoinLine, ClientValueLine}
 use Rattle.zk_rehearse.specs.Heard.{heard_all}
-use Rattle.zk_rehearse.specs.Stages.{Scene, first_scene, with_bench, Plays, Opens, TakesNext, Processes, Come, Delivers, Calls, Rejoins, taken_up, DoesClientLine, DoesBench}
+use Rattle.zk_rehearse.specs.Scenes.{Scene, first_scene, with_bench, Plays, Opens, TakesNext, Processes, Come, Delivers, Calls, Rejoins, taken_up, DoesClientLine, DoesBench}
 use Rattle.zk_rehearse.specs.Coherent.{IsServed}
 use Rattle.zk_rehearse.specs.RehearseLines.{RehearseValue, HistoryLine, BeginLine, BenchValueLine}
 use Rattle.zk_rehearse.specs.Rehearsed.{Position, Told, Staged, Does, TakesLine, IsServedAt}
@@ -62,7 +63,7 @@ first_stands start = record { standing = refl; saved = refl; lists = refl; cache
 first_served : (start : Start) (shown : Shown) → IsResumable start → 0 < start.timeout → WasServed (view_at start []) shown
 first_served start shown resumable timed = first_session start (view_at start []) shown resumable timed (first_stands start)
 
-ready_first : (history : Kept) → IsReady (started history)
+ready_first : (history : HistoryView) → IsReady (started history)
 ready_first history = record {
   taken = taken_none (history_of history) (started history).taken (refl, (refl, (refl, (refl, (refl, (refl, (refl, (refl, tt))))))));
   there = omega arith;
@@ -70,7 +71,7 @@ ready_first history = record {
 }
 
 -- the scene that a line makes
-pub begun_served : (timeout : ℤ) (history : Kept) → pos 0 <ℤ timeout → IsResumable (new_start (unsigned_abs timeout)) → IsServed (first_scene timeout history)
+pub begun_served : (timeout : ℤ) (history : HistoryView) → pos 0 <ℤ timeout → IsResumable (new_start (unsigned_abs timeout)) → IsServed (first_scene timeout history)
 begun_served timeout history above resumable = record {
   above = above;
   served = first_served (new_start (unsigned_abs timeout)) (shown_of (started history)) resumable (above_zero timeout above);
@@ -82,7 +83,7 @@ nothing_short : IsShort []
 nothing_short = record { positive = λ low. absurd (omega (arith, low)); short = λ low. absurd (omega (arith, low)) }
 
 -- what is shown of a history, a place and a connection
-abbrev shows_with : Kept → ℕ → Linked → Shown
+abbrev shows_with : HistoryView → ℕ → Linked → Shown
 shows_with history place connection = record {
   history = history_of history;
   server = record { place = place; watches = shown_watches connection; stage = stage_of connection.phase };

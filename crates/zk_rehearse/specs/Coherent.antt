@@ -1,8 +1,8 @@
 -- What a rehearsal keeps: its client was served by servers of the laws.
 use Rattle.std.specs.Prelude.{◌<ℤ◌, pos}
-use Rattle.zk_serving.specs.Lines.{WasServed}
+use Rattle.zk_serving.specs.Wires.{WasServed}
 use Rattle.zk_bench.specs.Stepping.{IsReady, shown_of}
-use Rattle.zk_rehearse.specs.Stages.{Scene}
+use Rattle.zk_rehearse.specs.Scenes.{Scene}
 
 -- The client has gone through what happened to it so far, and servers of the laws, which are those in memory, have served it; each of
 -- these holds a beginning of the history; and another client may be made with the timeout.

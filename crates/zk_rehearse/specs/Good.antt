@@ -1,11 +1,12 @@
 -- The good answers of a client, each compared with the history at its last seen zxid.
 use Rattle.std.specs.Prelude.{◌≡◌, ◌↔◌, IsTrue, ℕ, Bool, true, false, ◌&&◌, List, [], ◌∷◌, ◌++◌, codes, Option, Some, None, bytes_eq}
 use Rattle.std.specs.FinSet as set
-use Rattle.zk_history.specs.History.{Text, View as Sight, Absence, Contents, Children, path_of, tree_at, view}
-use Rattle.zk_history.specs.Kept.{Kept as History, history_of, natural}
-use Rattle.zk_history.specs.Replay.{Names as NameSet}
-use Rattle.zk_history.specs.declared.side.Side.{Side}
-use Rattle.zk_history.specs.declared.side.Side.TheVariants.{Data, Child}
+use Rattle.zk_nodes.specs.Path.{Text, path_of}
+use Rattle.zk_nodes.specs.History.{View as Sight, Absence, Contents, Children, tree_at, view}
+use Rattle.zk_history.specs.HistoryView.{HistoryView as History, history_of, natural}
+use Rattle.zk_nodes.specs.Names.{Names as NameSet}
+use Rattle.zk_nodes.specs.declared.side.Side.{Side}
+use Rattle.zk_nodes.specs.declared.side.Side.TheVariants.{Data, Child}
 use Rattle.zk_cache.specs.Kept.{Answer, Absent, Known, Full, Names, same_fields}
 use Rattle.zk_cache.specs.declared.held.Kept.{Kept}
 use Rattle.zk_cache.specs.declared.held.Mark.{Mark}

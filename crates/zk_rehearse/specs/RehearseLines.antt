@@ -2,7 +2,7 @@
 use Rattle.std.specs.Prelude.{◌≡◌, ◌<ℤ◌, ℤ, pos, Bool, true, false, if◌then◌else◌, List, [], ◌∷◌, codes, Option, Some, None, Result, Ok, Err, bytes_eq}
 use Rattle.std.specs.List.{list_all}
 use Rattle.std.specs.Option.{option_map}
-use Rattle.zk_history.specs.History.{Text}
+use Rattle.zk_nodes.specs.Path.{Text}
 use Rattle.zk_script.specs.declared.script_fault.ScriptFault.{ScriptFault}
 use Rattle.zk_script.specs.declared.script_fault.ScriptFault.TheVariants.{Unknown, Place, Words}
 use Rattle.zk_story.specs.declared.history_line.Keyword.{Keyword as HistoryKeyword}

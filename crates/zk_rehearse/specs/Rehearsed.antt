@@ -1,7 +1,7 @@
 -- What the lines of a rehearsal make of a history, and of a client with servers over it, and what they print.
 use Rattle.std.specs.Prelude.{◌≡◌, ◌<ℤ◌, pos, unsigned_abs, ⊤, ℕ, ℤ, Bool, true, false, List, [], Option, Some, None, Ok, Err}
 use Rattle.std.specs.Option.{option_map}
-use Rattle.zk_history.specs.History.{Text}
+use Rattle.zk_nodes.specs.Path.{Text}
 use Rattle.zk_script.specs.Pieces.{words_of}
 use Rattle.zk_script.specs.Said.{TakesSaid}
 use Rattle.zk_story.specs.Stories as story
@@ -14,7 +14,7 @@ use Rattle.zk_rehearse.specs.declared.rehearsal.Rehearsal.{Rehearsal}
 use Rattle.zk_rehearse.specs.BenchLines.{BenchValue, GoodLine}
 use Rattle.zk_rehearse.specs.RehearseLines.{RehearseValue, HistoryLine, BeginLine, BenchValueLine, says_at}
 use Rattle.zk_rehearse.specs.Coherent.{IsServed}
-use Rattle.zk_rehearse.specs.Stages.{Scene, scene_of, first_scene, DoesBench, HaltsBench, TellsAgreeing}
+use Rattle.zk_rehearse.specs.Scenes.{Scene, scene_of, first_scene, DoesBench, HaltsBench, TellsAgreeing}
 
 -- A history is told, and from the line on that makes the client there is a scene.
 pub data Position : Type 0 where

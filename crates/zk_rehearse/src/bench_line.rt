@@ -5,8 +5,8 @@ ghost use Rattle.zk_script.specs.Reads.{Reads};
 ghost use Rattle.zk_rehearse.specs.BenchLines.{bench_keyword_of, server_at, open_at, take_at, deliver_at, alone, bench_words_at, bench_line_at, bench_value_of, CanServe};
 
 use std::alloc::Allocator;
-use zk_replay::client_line::{ClientKeyword, ClientLine, client_line_at};
-use zk_replay::reads::natural_at;
+use zk_replay::client_line::{ClientKeyword, ClientLine, parse_client_line};
+use zk_replay::reads::parse_natural;
 use zk_script::numbers::natural_of;
 use zk_script::reads::{are_printed, is_named};
 use zk_script::script_fault::ScriptFault;
@@ -75,7 +75,7 @@ pub enum BenchLine<A: Allocator> {
 
 /// The number of a server that a word stands for, from 1 to 8.
 #[tactic(auto, unfolding(crate::specs::BenchLines::server_at))]
-fn server_at(word: &[u8]) -> Result<usize, ScriptFault>
+fn parse_server(word: &[u8]) -> Result<usize, ScriptFault>
     ensures value { Reads (λ n. n) result (server_at word.now) }
     ensures low { IfOk result (λ n. 1 ≤ n) }
     ensures high { IfOk result (λ n. n ≤ 8) }
@@ -92,36 +92,36 @@ fn server_at(word: &[u8]) -> Result<usize, ScriptFault>
     Err(ScriptFault::Number)
 }
 
-fn open_at<A: Allocator + Copy>(words: &[&[u8]]) -> Result<BenchLine<A>, ScriptFault>
+fn parse_open<A: Allocator + Copy>(words: &[&[u8]]) -> Result<BenchLine<A>, ScriptFault>
     ensures value { Reads bench_value_of result (open_at (map (λ w. w.now) words.now)) }
     ensures can { IfOk result (λ line. CanServe (bench_value_of line)) }
 {
     let [server] = words else {
         return Err(ScriptFault::Words);
     };
-    let server = server_at(server)?;
+    let server = parse_server(server)?;
     Ok(BenchLine::Open(server))
 }
 
-fn take_at<A: Allocator + Copy>(words: &[&[u8]]) -> Result<BenchLine<A>, ScriptFault>
+fn parse_take<A: Allocator + Copy>(words: &[&[u8]]) -> Result<BenchLine<A>, ScriptFault>
     ensures value { Reads bench_value_of result (take_at (map (λ w. w.now) words.now)) }
     ensures can { IfOk result (λ line. CanServe (bench_value_of line)) }
 {
     let [server] = words else {
         return Err(ScriptFault::Words);
     };
-    let server = server_at(server)?;
+    let server = parse_server(server)?;
     Ok(BenchLine::Take(server))
 }
 
-fn deliver_at<A: Allocator + Copy>(words: &[&[u8]]) -> Result<BenchLine<A>, ScriptFault>
+fn parse_deliver<A: Allocator + Copy>(words: &[&[u8]]) -> Result<BenchLine<A>, ScriptFault>
     ensures value { Reads bench_value_of result (deliver_at (map (λ w. w.now) words.now)) }
     ensures can { IfOk result (λ line. CanServe (bench_value_of line)) }
 {
     match words {
         [] => Ok(BenchLine::Deliver(usize::MAX)),
         [most] => {
-            let most = natural_at(most)?;
+            let most = parse_natural(most)?;
             Ok(BenchLine::Deliver(most as usize))
         }
         _ => Err(ScriptFault::Words),
@@ -144,7 +144,7 @@ fn alone<A: Allocator + Copy>(
 }
 
 /// The line of a keyword and the words behind it.
-pub fn bench_line_at<A: Allocator + Copy>(
+pub fn parse_bench_line<A: Allocator + Copy>(
     alloc: A,
     keyword: BenchKeyword,
     words: &[&[u8]],
@@ -156,15 +156,15 @@ pub fn bench_line_at<A: Allocator + Copy>(
         return Err(ScriptFault::Words);
     }
     match keyword {
-        BenchKeyword::Open => open_at(words),
-        BenchKeyword::Take => take_at(words),
+        BenchKeyword::Open => parse_open(words),
+        BenchKeyword::Take => parse_take(words),
         BenchKeyword::Process => alone(BenchLine::Process, words),
-        BenchKeyword::Deliver => deliver_at(words),
+        BenchKeyword::Deliver => parse_deliver(words),
         BenchKeyword::Expire => alone(BenchLine::Expire, words),
         BenchKeyword::Good => alone(BenchLine::Good, words),
         BenchKeyword::Rejoin => alone(BenchLine::Rejoin, words),
         BenchKeyword::Client(word) => {
-            let line = client_line_at(alloc, word, words)?;
+            let line = parse_client_line(alloc, word, words)?;
             Ok(BenchLine::Client(line))
         }
     }

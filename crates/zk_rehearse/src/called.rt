@@ -3,9 +3,9 @@
 ghost use Rattle.std.specs.Prelude.{◌≡◌, OnOk};
 ghost use Rattle.std.specs.Option.{option_copied};
 ghost use Rattle.zk_conversation.specs.Views.{call_view};
-ghost use Rattle.zk_history.specs.NamesKept.{names_of};
-ghost use Rattle.zk_serving.specs.Lines.{IsPathCall};
-ghost use Rattle.zk_rehearse.specs.Stages.{named_path, with_path};
+ghost use Rattle.zk_nodes.specs.Names.{names_of};
+ghost use Rattle.zk_serving.specs.Wires.{IsPathCall};
+ghost use Rattle.zk_rehearse.specs.Scenes.{named_path, with_path};
 
 use std::alloc::{AllocError, Allocator};
 use std::collections::BTreeSet;

@@ -7,11 +7,12 @@ ghost use Rattle.std.specs.Option.{option_map};
 ghost use Rattle.zk_cache.specs.Contents.{answer_of, names_in};
 ghost use Rattle.zk_cache.specs.Kept.{same_fields};
 ghost use Rattle.zk_client.specs.Clients.{view_of};
-ghost use Rattle.zk_history.specs.History.{path_of, tree_at, view};
-ghost use Rattle.zk_history.specs.Kept.{history_of, natural};
-ghost use Rattle.zk_history.specs.NamesKept.{names_of};
+ghost use Rattle.zk_nodes.specs.Path.{path_of};
+ghost use Rattle.zk_nodes.specs.History.{tree_at, view};
+ghost use Rattle.zk_history.specs.HistoryView.{history_of, natural};
+ghost use Rattle.zk_nodes.specs.Names.{names_of};
 ghost use Rattle.zk_history.specs.Shown.{data_told, names_told};
-ghost use Rattle.zk_history.specs.declared.side.Side.TheVariants as sides;
+ghost use Rattle.zk_nodes.specs.declared.side.Side.TheVariants as sides;
 ghost use Rattle.zk_replay.specs.Shown.{side_word};
 ghost use Rattle.zk_rehearse.specs.Good.{same_content, agrees, AgreesNames, HasNames, verdict_line, data_verdict, TellsNamesVerdict, TellsPath, TellsPaths};
 
@@ -19,7 +20,8 @@ use std::alloc::{AllocError, Allocator};
 use std::collections::BTreeSet;
 use zk_cache::{DataAnswer, Mark};
 use zk_client::Client;
-use zk_history::{Data, DataStat, History, Names, Path, Side};
+use zk_history::{Data, History};
+use zk_nodes::{DataStat, Names, Path, Side};
 use zk_script::values::push_name;
 
 /// Whether data are the same: both null, or the same bytes.

@@ -12,7 +12,7 @@ ghost use Rattle.zk_rehearse.specs.Scripts.{first_position, rules, IsAt};
 
 use crate::bench_line::BenchLine;
 use crate::rig::Rig;
-use crate::said::{Said, said_at};
+use crate::said::{Said, parse_said};
 use std::alloc::Allocator;
 use std::mem;
 use zk_history::History;
@@ -106,7 +106,7 @@ impl<A: Allocator + Copy> Rehearsal<A> {
         ensures halt { IfErr result (IfHalted ⊥) }
     {
         let words = words_of(alloc, line)?;
-        let said = said_at(alloc, words.as_slice(), self.is_begun())?;
+        let said = parse_said(alloc, words.as_slice(), self.is_begun())?;
         Ok(said)
     }
 

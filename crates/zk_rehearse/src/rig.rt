@@ -39,7 +39,7 @@ impl<A: Allocator + Copy> Rig<A> {
     ghost use Rattle.zk_script.specs.Stops.{IfHalted, IsWant};
     ghost use Rattle.zk_rehearse.specs.BenchLines.{TakeLine, ProcessLine, bench_value_of, CanServe, IsServer};
     ghost use Rattle.zk_rehearse.specs.Good.{TellsPaths};
-    ghost use Rattle.zk_rehearse.specs.Stages.{scene_of, first_scene, Plays, Delivers, Processes, TakesNext, Calls, Rejoins, TellsGood, DoesBench, DoesClientLine, HaltsBench};
+    ghost use Rattle.zk_rehearse.specs.Scenes.{scene_of, first_scene, Plays, Delivers, Processes, TakesNext, Calls, Rejoins, TellsGood, DoesBench, DoesClientLine, HaltsBench};
 
     /// A new client, and servers over a history. None is connected.
     pub fn new(alloc: A, timeout: i32, history: History<A>) -> Rig<A>

@@ -5,9 +5,9 @@ ghost use Rattle.std.specs.Option.{option_map};
 ghost use Rattle.zk_script.specs.Reads.{Reads};
 ghost use Rattle.zk_rehearse.specs.RehearseLines.{keyword_of, begin_at, placed_at, says_at, said_value, CanPlay};
 
-use crate::bench_line::{BenchKeyword, BenchLine, bench_line_at};
+use crate::bench_line::{BenchKeyword, BenchLine, parse_bench_line};
 use std::alloc::Allocator;
-use zk_replay::reads::timeout_at;
+use zk_replay::reads::parse_timeout;
 use zk_script::reads::{are_printed, is_named, is_remark};
 use zk_script::script_fault::ScriptFault;
 use zk_story::history_line::Keyword as HistoryKeyword;
@@ -55,7 +55,7 @@ pub enum Said<A: Allocator> {
     Bench(BenchLine<A>),
 }
 
-fn begin_at(words: &[&[u8]]) -> Result<i32, ScriptFault>
+fn parse_begin(words: &[&[u8]]) -> Result<i32, ScriptFault>
     ensures value { Reads (λ n. n) result (begin_at (map (λ w. w.now) words.now)) }
     ensures above { IfOk result (λ timeout. pos 0 <ℤ timeout) }
 {
@@ -65,10 +65,10 @@ fn begin_at(words: &[&[u8]]) -> Result<i32, ScriptFault>
     let [timeout] = words else {
         return Err(ScriptFault::Words);
     };
-    timeout_at(timeout)
+    parse_timeout(timeout)
 }
 
-fn placed_at<A: Allocator + Copy>(
+fn parse_placed<A: Allocator + Copy>(
     alloc: A,
     keyword: Keyword,
     begun: bool,
@@ -80,11 +80,11 @@ fn placed_at<A: Allocator + Copy>(
     match keyword {
         Keyword::History if !begun => Ok(Said::History),
         Keyword::Begin if !begun => {
-            let timeout = begin_at(words)?;
+            let timeout = parse_begin(words)?;
             Ok(Said::Begin(timeout))
         }
         Keyword::Bench(word) if begun => {
-            let line = bench_line_at(alloc, word, words)?;
+            let line = parse_bench_line(alloc, word, words)?;
             Ok(Said::Bench(line))
         }
         _ => Err(ScriptFault::Place),
@@ -92,7 +92,7 @@ fn placed_at<A: Allocator + Copy>(
 }
 
 /// What the words of a line say, where the client was made or not. An empty line and one that begins with `#` say nothing.
-pub fn said_at<A: Allocator + Copy>(
+pub fn parse_said<A: Allocator + Copy>(
     alloc: A,
     words: &[&[u8]],
     begun: bool,
@@ -109,6 +109,6 @@ pub fn said_at<A: Allocator + Copy>(
     let Some(keyword) = Keyword::named(first) else {
         return Err(ScriptFault::Unknown);
     };
-    let line = placed_at(alloc, keyword, begun, behind)?;
+    let line = parse_placed(alloc, keyword, begun, behind)?;
     Ok(Some(line))
 }

@@ -1,8 +1,8 @@
 -- A client stands where all that its lines made happen has led, and prints what the definitions give for that.
 use Rattle.std.proofs.Common.{◌≡◌, ℕ, List, [], ◌∷◌, IfOk, is_some, refl, sym, ap, subst, ◌∙◌}
 use Rattle.std.specs.Prelude.{Option, Some, None, Result, Ok, Err, String, string_bytes}
-use Rattle.zk_history.specs.History.{Text}
-use Rattle.zk_history.specs.declared.side.Side.TheVariants.{Data, Child}
+use Rattle.zk_nodes.specs.Path.{Text}
+use Rattle.zk_nodes.specs.declared.side.Side.TheVariants.{Data, Child}
 use Rattle.zk_turns.specs.Turns.{Input, Opened, Bytes, Cut, Now, Call, Output, Start, Item, Turned, Forgets}
 use Rattle.zk_turns.specs.View.{View, Cache, view_at}
 use Rattle.zk_turns.specs.Rule.{Stands, forgotten}

@@ -9,7 +9,7 @@ use Rattle.std.specs.FinSet as set
 use Rattle.std.specs.Prelude.{String}
 use Rattle.std.proofs.lemmas.Cmp.{nat_list_cmp_total}
 use Rattle.std.proofs.lemmas.Map.Text.{is_eq-slice_cmp}
-use Rattle.zk_history.specs.NamesKept.{names_of}
+use Rattle.zk_nodes.specs.Names.{names_of}
 
 same_test : (names : List (List ℕ)) (name : List ℕ) → list_any (bytes_eq name) names ≡ list_any (λ other. is_eq (slice_cmp nat_cmp name other)) names
 same_test [] name = refl

@@ -1,10 +1,10 @@
 -- What the lines of a replay print by all that they make happen: each input is a turn with the outputs that are due, and a look-up
 -- prints what the definitions give for the whole past. No client is named here but where it is said that one stands there.
 use Rattle.std.specs.Prelude.{◌≡◌, ⊤, is_some, ℕ, List, [], ◌∷◌, Option, Some, None}
-use Rattle.zk_history.specs.History.{Text}
-use Rattle.zk_history.specs.declared.side.Side.TheVariants.{Data, Child}
+use Rattle.zk_nodes.specs.Path.{Text}
+use Rattle.zk_nodes.specs.declared.side.Side.TheVariants.{Data, Child}
 use Rattle.zk_turns.specs.Turns.{Input, Opened, Bytes, Cut, Now, Call, Output, Start, Item, Turned, Forgets, signals_of}
-use Rattle.zk_turns.specs.Kept.{Past, kept_data, kept_names}
+use Rattle.zk_turns.specs.Past.{Past, kept_data, kept_names}
 use Rattle.zk_turns.specs.View.{View, view_at}
 use Rattle.zk_turns.specs.Taken.{past_of}
 use Rattle.zk_turns.specs.Rule.{Stands, due_signals}

@@ -5,6 +5,7 @@ use Rattle.zk_script.specs.declared.script_fault.ScriptFault.{ScriptFault}
 use Rattle.zk_script.specs.declared.script_fault.ScriptFault.TheVariants.{Words, Number, Hex}
 use Rattle.zk_script.specs.Numbers.{natural_of}
 use Rattle.zk_script.specs.Reads.{◌>>=◌, zxid_read, data_at}
+use Rattle.zk_limits.specs.declared.limits.TheConstants.{LONGEST_PASSWORD}
 
 -- a number, or the fault of a word that is none
 abbrev pub or_number : {X : Type 0} → Option X → Result X ScriptFault
@@ -60,7 +61,7 @@ bytes_at word = data_at word >>= not_null
 -- A password of more bytes than a server can bring is none of the words allowed, which is told before a number that is none. A
 -- word that is no hex is told behind it.
 abbrev pub password_read : Result (List ℕ) ScriptFault → Result (Option (List ℕ)) ScriptFault
-password_read (Ok bytes) = if nat_le (length bytes) 4194284 then Ok (Some bytes) else Err Words
+password_read (Ok bytes) = if nat_le (length bytes) LONGEST_PASSWORD then Ok (Some bytes) else Err Words
 password_read (Err fault) = Ok None
 
 unfoldable pub password_at : List ℕ → Result (Option (List ℕ)) ScriptFault

@@ -2,8 +2,7 @@
 use Rattle.std.specs.Prelude.{◌≤◌, ◌<ℤ◌, ◌≤ℤ◌, ℕ, ℤ, pos, Bool, true, false, if◌then◌else◌, length, List, [], ◌∷◌, codes, Option, Some, None, Result, Ok, Err, bytes_eq}
 use Rattle.std.specs.List.{list_all}
 use Rattle.std.specs.Option.{option_map}
-use Rattle.zk_history.specs.History.{Text}
-use Rattle.zk_conversation.specs.declared.conversation.TheConstants.{LONGEST_PASSWORD}
+use Rattle.zk_nodes.specs.Path.{Text}
 use Rattle.zk_script.specs.declared.script_fault.ScriptFault.{ScriptFault}
 use Rattle.zk_script.specs.declared.script_fault.ScriptFault.TheVariants.{Unknown, Place, Words, Hex}
 use Rattle.zk_script.specs.Reads.{◌>>=◌, time_at, is_printed}
@@ -16,6 +15,7 @@ use Rattle.zk_replay.specs.declared.player.Keyword.{Keyword}
 use Rattle.zk_replay.specs.declared.player.Keyword.TheVariants as keyword
 use Rattle.zk_replay.specs.ClientLines.{ClientValue, client_keyword_of, client_line_at, alone}
 use Rattle.zk_replay.specs.Reads.{timeout_at, session_at, bytes_at, password_at}
+use Rattle.zk_limits.specs.declared.limits.TheConstants.{LONGEST_PASSWORD}
 
 -- A line that makes the client
 
@@ -38,8 +38,8 @@ new_at (timeout ∷ []) = do
   Ok (TimeoutLine number)
 new_at words = Err Words
 
-unfoldable pub parse_session : (timeout session password last : Text) → Result BeginValue ScriptFault
-parse_session timeout session password last = do
+unfoldable pub saved_at : (timeout session password last : Text) → Result BeginValue ScriptFault
+saved_at timeout session password last = do
   found ← password_at password
   number ← timeout_at timeout
   id ← session_at session
@@ -48,7 +48,7 @@ parse_session timeout session password last = do
   Ok (ResumeLine number id bytes zxid)
 
 abbrev pub resume_at : List Text → Result BeginValue ScriptFault
-resume_at (timeout ∷ session ∷ password ∷ last ∷ []) = parse_session timeout session password last
+resume_at (timeout ∷ session ∷ password ∷ last ∷ []) = saved_at timeout session password last
 resume_at words = Err Words
 
 abbrev pub begin_words_at : BeginKeyword → List Text → Result BeginValue ScriptFault
@@ -77,18 +77,18 @@ pub data DriveValue : Type 0 where
   BytesLine : List ℕ → DriveValue
   ClientValueLine : ClientValue → DriveValue
 
-abbrev pub parse_bytes : List Text → Result DriveValue ScriptFault
-parse_bytes (bytes ∷ []) = do
+abbrev pub piece_at : List Text → Result DriveValue ScriptFault
+piece_at (bytes ∷ []) = do
   came ← bytes_at bytes
   Ok (BytesLine came)
-parse_bytes words = Err Words
+piece_at words = Err Words
 
-abbrev pub parse_bytes_line : List Text → Result DriveValue ScriptFault
-parse_bytes_line words = if list_all is_printed words then parse_bytes words else Err Words
+abbrev pub printed_piece_at : List Text → Result DriveValue ScriptFault
+printed_piece_at words = if list_all is_printed words then piece_at words else Err Words
 
 abbrev pub drive_line_at : DriveKeyword → List Text → Result DriveValue ScriptFault
 drive_line_at drive_keyword.Opened words = alone OpenedLine words
-drive_line_at drive_keyword.Bytes words = parse_bytes_line words
+drive_line_at drive_keyword.Bytes words = printed_piece_at words
 drive_line_at (drive_keyword.Client word) words = client_line_at word words >>= λ value. Ok (ClientValueLine value)
 
 -- A line

@@ -1,6 +1,6 @@
 -- The rules of a replay's lines.
 use Rattle.std.specs.Prelude.{◌≡◌, ℕ, List, Option, None}
-use Rattle.zk_history.specs.History.{Text}
+use Rattle.zk_nodes.specs.Path.{Text}
 use Rattle.zk_turns.specs.View.{View}
 use Rattle.zk_script.specs.Scripts.{Rules}
 use Rattle.zk_replay.specs.declared.player.Player.{Player}

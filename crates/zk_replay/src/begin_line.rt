@@ -3,9 +3,9 @@
 ghost use Rattle.std.specs.Prelude.{◌≡◌, IfOk, map};
 ghost use Rattle.zk_script.specs.Reads.{Reads};
 ghost use Rattle.zk_replay.specs.Lines.{begin_value_of};
-ghost use Rattle.zk_replay.specs.ReplayLines.{begin_keyword_of, new_at, parse_session, resume_at, begin_line_at, CanBegin};
+ghost use Rattle.zk_replay.specs.ReplayLines.{begin_keyword_of, new_at, saved_at, resume_at, begin_line_at, CanBegin};
 
-use crate::reads::{last_at, password_at, session_at, timeout_at};
+use crate::reads::{parse_last, parse_password, parse_session, parse_timeout};
 use std::alloc::Allocator;
 use zk_script::reads::{are_printed, is_named};
 use zk_script::script_fault::ScriptFault;
@@ -46,32 +46,32 @@ pub enum BeginLine<A: Allocator> {
     },
 }
 
-fn new_at<A: Allocator + Copy>(words: &[&[u8]]) -> Result<BeginLine<A>, ScriptFault>
+fn parse_new<A: Allocator + Copy>(words: &[&[u8]]) -> Result<BeginLine<A>, ScriptFault>
     ensures value { Reads begin_value_of result (new_at (map (λ w. w.now) words.now)) }
     ensures can { IfOk result (λ line. CanBegin (begin_value_of line)) }
 {
     let [timeout] = words else {
         return Err(ScriptFault::Words);
     };
-    let timeout = timeout_at(timeout)?;
+    let timeout = parse_timeout(timeout)?;
     Ok(BeginLine::Timeout(timeout))
 }
 
-#[tactic(auto, unfolding(crate::specs::ReplayLines::parse_session))]
-fn parse_session<A: Allocator + Copy>(
+#[tactic(auto, unfolding(crate::specs::ReplayLines::saved_at))]
+fn parse_saved<A: Allocator + Copy>(
     alloc: A,
     timeout: &[u8],
     session: &[u8],
     password: &[u8],
     last: &[u8],
 ) -> Result<BeginLine<A>, ScriptFault>
-    ensures value { Reads begin_value_of result (parse_session timeout.now session.now password.now last.now) }
+    ensures value { Reads begin_value_of result (saved_at timeout.now session.now password.now last.now) }
     ensures can { IfOk result (λ line. CanBegin (begin_value_of line)) }
 {
-    let found = password_at(alloc, password)?;
-    let timeout = timeout_at(timeout)?;
-    let session = session_at(session)?;
-    let last = last_at(last)?;
+    let found = parse_password(alloc, password)?;
+    let timeout = parse_timeout(timeout)?;
+    let session = parse_session(session)?;
+    let last = parse_last(last)?;
     let Some(password) = found else {
         return Err(ScriptFault::Hex);
     };
@@ -83,18 +83,18 @@ fn parse_session<A: Allocator + Copy>(
     })
 }
 
-fn resume_at<A: Allocator + Copy>(alloc: A, words: &[&[u8]]) -> Result<BeginLine<A>, ScriptFault>
+fn parse_resume<A: Allocator + Copy>(alloc: A, words: &[&[u8]]) -> Result<BeginLine<A>, ScriptFault>
     ensures value { Reads begin_value_of result (resume_at (map (λ w. w.now) words.now)) }
     ensures can { IfOk result (λ line. CanBegin (begin_value_of line)) }
 {
     let [timeout, session, password, last] = words else {
         return Err(ScriptFault::Words);
     };
-    parse_session(alloc, timeout, session, password, last)
+    parse_saved(alloc, timeout, session, password, last)
 }
 
 /// The line of a keyword and the words behind it.
-pub fn begin_line_at<A: Allocator + Copy>(
+pub fn parse_begin_line<A: Allocator + Copy>(
     alloc: A,
     keyword: BeginKeyword,
     words: &[&[u8]],
@@ -106,7 +106,7 @@ pub fn begin_line_at<A: Allocator + Copy>(
         return Err(ScriptFault::Words);
     }
     match keyword {
-        BeginKeyword::Timeout => new_at(words),
-        BeginKeyword::Resume => resume_at(alloc, words),
+        BeginKeyword::Timeout => parse_new(words),
+        BeginKeyword::Resume => parse_resume(alloc, words),
     }
 }

@@ -5,11 +5,11 @@ ghost use Rattle.zk_script.specs.Reads.{Reads};
 ghost use Rattle.zk_replay.specs.CallLines.{kind_read, watched_at, exists_at, get_data_at, get_children_at, set_data_at, create_at, delete_at, close_at, kind_at, numbered_at, call_at};
 ghost use Rattle.zk_replay.specs.Lines.{asked_of, watched_of};
 
-use crate::reads::{boolean_at, mode_at, natural_at, version_at};
+use crate::reads::{parse_boolean, parse_mode, parse_natural, parse_version};
 use std::alloc::Allocator;
 use zk_conversation::Call;
-use zk_history::Path;
-use zk_script::reads::{data_at, is_named, path_at, text_at};
+use zk_nodes::Path;
+use zk_script::reads::{is_named, parse_data, parse_path, parse_text};
 use zk_script::script_fault::ScriptFault;
 
 /// What a call asks for, by its second word.
@@ -61,7 +61,7 @@ fn kind_named(word: &[u8]) -> Result<CallKind, ScriptFault>
     }
 }
 
-fn watched_at<A: Allocator + Copy>(
+fn parse_watched<A: Allocator + Copy>(
     alloc: A,
     ticket: &[u8],
     words: &[&[u8]],
@@ -71,10 +71,10 @@ fn watched_at<A: Allocator + Copy>(
     let [path, watch] = words else {
         return Err(ScriptFault::Words);
     };
-    let path = text_at(alloc, path)?;
-    let watch = boolean_at(watch)?;
-    let ticket = natural_at(ticket)?;
-    let path = path_at(alloc, path.as_str())?;
+    let path = parse_text(alloc, path)?;
+    let watch = parse_boolean(watch)?;
+    let ticket = parse_natural(ticket)?;
+    let path = parse_path(alloc, path.as_str())?;
     Ok(Watched {
         ticket,
         path,
@@ -82,7 +82,7 @@ fn watched_at<A: Allocator + Copy>(
     })
 }
 
-fn exists_at<A: Allocator + Copy>(
+fn parse_exists<A: Allocator + Copy>(
     alloc: A,
     ticket: &[u8],
     words: &[&[u8]],
@@ -93,12 +93,12 @@ fn exists_at<A: Allocator + Copy>(
         ticket,
         path,
         watch,
-    } = watched_at(alloc, ticket, words)?;
+    } = parse_watched(alloc, ticket, words)?;
     let call = Call::Exists { path, watch };
     Ok(Asked { ticket, call })
 }
 
-fn get_data_at<A: Allocator + Copy>(
+fn parse_get_data<A: Allocator + Copy>(
     alloc: A,
     ticket: &[u8],
     words: &[&[u8]],
@@ -109,12 +109,12 @@ fn get_data_at<A: Allocator + Copy>(
         ticket,
         path,
         watch,
-    } = watched_at(alloc, ticket, words)?;
+    } = parse_watched(alloc, ticket, words)?;
     let call = Call::GetData { path, watch };
     Ok(Asked { ticket, call })
 }
 
-fn get_children_at<A: Allocator + Copy>(
+fn parse_get_children<A: Allocator + Copy>(
     alloc: A,
     ticket: &[u8],
     words: &[&[u8]],
@@ -125,12 +125,12 @@ fn get_children_at<A: Allocator + Copy>(
         ticket,
         path,
         watch,
-    } = watched_at(alloc, ticket, words)?;
+    } = parse_watched(alloc, ticket, words)?;
     let call = Call::GetChildren { path, watch };
     Ok(Asked { ticket, call })
 }
 
-fn set_data_at<A: Allocator + Copy>(
+fn parse_set_data<A: Allocator + Copy>(
     alloc: A,
     ticket: &[u8],
     words: &[&[u8]],
@@ -140,11 +140,11 @@ fn set_data_at<A: Allocator + Copy>(
     let [path, bytes, version] = words else {
         return Err(ScriptFault::Words);
     };
-    let path = text_at(alloc, path)?;
-    let version = version_at(version)?;
-    let ticket = natural_at(ticket)?;
-    let bytes = data_at(alloc, bytes)?;
-    let path = path_at(alloc, path.as_str())?;
+    let path = parse_text(alloc, path)?;
+    let version = parse_version(version)?;
+    let ticket = parse_natural(ticket)?;
+    let bytes = parse_data(alloc, bytes)?;
+    let path = parse_path(alloc, path.as_str())?;
     let call = Call::SetData {
         path,
         bytes,
@@ -153,7 +153,7 @@ fn set_data_at<A: Allocator + Copy>(
     Ok(Asked { ticket, call })
 }
 
-fn create_at<A: Allocator + Copy>(
+fn parse_create<A: Allocator + Copy>(
     alloc: A,
     ticket: &[u8],
     words: &[&[u8]],
@@ -163,16 +163,16 @@ fn create_at<A: Allocator + Copy>(
     let [path, bytes, mode] = words else {
         return Err(ScriptFault::Words);
     };
-    let path = text_at(alloc, path)?;
-    let mode = mode_at(mode)?;
-    let ticket = natural_at(ticket)?;
-    let bytes = data_at(alloc, bytes)?;
-    let path = path_at(alloc, path.as_str())?;
+    let path = parse_text(alloc, path)?;
+    let mode = parse_mode(mode)?;
+    let ticket = parse_natural(ticket)?;
+    let bytes = parse_data(alloc, bytes)?;
+    let path = parse_path(alloc, path.as_str())?;
     let call = Call::Create { path, bytes, mode };
     Ok(Asked { ticket, call })
 }
 
-fn delete_at<A: Allocator + Copy>(
+fn parse_delete<A: Allocator + Copy>(
     alloc: A,
     ticket: &[u8],
     words: &[&[u8]],
@@ -182,26 +182,26 @@ fn delete_at<A: Allocator + Copy>(
     let [path, version] = words else {
         return Err(ScriptFault::Words);
     };
-    let path = text_at(alloc, path)?;
-    let version = version_at(version)?;
-    let ticket = natural_at(ticket)?;
-    let path = path_at(alloc, path.as_str())?;
+    let path = parse_text(alloc, path)?;
+    let version = parse_version(version)?;
+    let ticket = parse_natural(ticket)?;
+    let path = parse_path(alloc, path.as_str())?;
     let call = Call::Delete { path, version };
     Ok(Asked { ticket, call })
 }
 
-fn close_at<A: Allocator + Copy>(ticket: &[u8], words: &[&[u8]]) -> Result<Asked<A>, ScriptFault>
+fn parse_close<A: Allocator + Copy>(ticket: &[u8], words: &[&[u8]]) -> Result<Asked<A>, ScriptFault>
     ensures { Reads asked_of result (close_at ticket.now (map (λ w. w.now) words.now)) }
 {
     let [] = words else {
         return Err(ScriptFault::Words);
     };
-    let ticket = natural_at(ticket)?;
+    let ticket = parse_natural(ticket)?;
     let call = Call::Close;
     Ok(Asked { ticket, call })
 }
 
-fn kind_at<A: Allocator + Copy>(
+fn parse_kind<A: Allocator + Copy>(
     alloc: A,
     kind: CallKind,
     ticket: &[u8],
@@ -210,18 +210,18 @@ fn kind_at<A: Allocator + Copy>(
     ensures { Reads asked_of result (kind_at kind ticket.now (map (λ w. w.now) words.now)) }
 {
     match kind {
-        CallKind::Exists => exists_at(alloc, ticket, words),
-        CallKind::GetData => get_data_at(alloc, ticket, words),
-        CallKind::GetChildren => get_children_at(alloc, ticket, words),
-        CallKind::SetData => set_data_at(alloc, ticket, words),
-        CallKind::Create => create_at(alloc, ticket, words),
-        CallKind::Delete => delete_at(alloc, ticket, words),
-        CallKind::Close => close_at(ticket, words),
+        CallKind::Exists => parse_exists(alloc, ticket, words),
+        CallKind::GetData => parse_get_data(alloc, ticket, words),
+        CallKind::GetChildren => parse_get_children(alloc, ticket, words),
+        CallKind::SetData => parse_set_data(alloc, ticket, words),
+        CallKind::Create => parse_create(alloc, ticket, words),
+        CallKind::Delete => parse_delete(alloc, ticket, words),
+        CallKind::Close => parse_close(ticket, words),
     }
 }
 
 /// The call that its number and the words behind it ask for.
-fn numbered_at<A: Allocator + Copy>(
+fn parse_numbered<A: Allocator + Copy>(
     alloc: A,
     ticket: &[u8],
     words: &[&[u8]],
@@ -232,11 +232,11 @@ fn numbered_at<A: Allocator + Copy>(
         return Err(ScriptFault::Words);
     };
     let kind = kind_named(kind)?;
-    kind_at(alloc, kind, ticket, words)
+    parse_kind(alloc, kind, ticket, words)
 }
 
 /// The call that the words behind `call` ask for: its number, its kind, and what the kind asks for.
-pub(crate) fn call_at<A: Allocator + Copy>(
+pub(crate) fn parse_call<A: Allocator + Copy>(
     alloc: A,
     words: &[&[u8]],
 ) -> Result<Asked<A>, ScriptFault>
@@ -245,5 +245,5 @@ pub(crate) fn call_at<A: Allocator + Copy>(
     let Some((ticket, words)) = words.split_first() else {
         return Err(ScriptFault::Words);
     };
-    numbered_at(alloc, ticket, words)
+    parse_numbered(alloc, ticket, words)
 }

@@ -5,11 +5,11 @@ ghost use Rattle.zk_script.specs.Reads.{Reads};
 ghost use Rattle.zk_replay.specs.ClientLines.{client_keyword_of, now_at, peek_at, alone, client_words_at, client_line_at};
 ghost use Rattle.zk_replay.specs.Lines.{client_value_of};
 
-use crate::call_line::{Asked, call_at};
-use crate::reads::natural_at;
+use crate::call_line::{Asked, parse_call};
+use crate::reads::parse_natural;
 use std::alloc::Allocator;
-use zk_history::{Path, Side};
-use zk_script::reads::{are_printed, is_named, path_at, side_at, text_at};
+use zk_nodes::{Path, Side};
+use zk_script::reads::{are_printed, is_named, parse_path, parse_side, parse_text};
 use zk_script::script_fault::ScriptFault;
 
 /// What a line does with a client, by its first word.
@@ -68,25 +68,25 @@ pub enum ClientLine<A: Allocator> {
     Saved,
 }
 
-fn now_at<A: Allocator + Copy>(words: &[&[u8]]) -> Result<ClientLine<A>, ScriptFault>
+fn parse_now<A: Allocator + Copy>(words: &[&[u8]]) -> Result<ClientLine<A>, ScriptFault>
     ensures { Reads client_value_of result (now_at (map (λ w. w.now) words.now)) }
 {
     let [moment] = words else {
         return Err(ScriptFault::Words);
     };
-    let moment = natural_at(moment)?;
+    let moment = parse_natural(moment)?;
     Ok(ClientLine::Now(moment))
 }
 
-fn peek_at<A: Allocator + Copy>(alloc: A, words: &[&[u8]]) -> Result<ClientLine<A>, ScriptFault>
+fn parse_peek<A: Allocator + Copy>(alloc: A, words: &[&[u8]]) -> Result<ClientLine<A>, ScriptFault>
     ensures { Reads client_value_of result (peek_at (map (λ w. w.now) words.now)) }
 {
     let [side, path] = words else {
         return Err(ScriptFault::Words);
     };
-    let side = side_at(side)?;
-    let path = text_at(alloc, path)?;
-    let path = path_at(alloc, path.as_str())?;
+    let side = parse_side(side)?;
+    let path = parse_text(alloc, path)?;
+    let path = parse_path(alloc, path.as_str())?;
     Ok(ClientLine::Peek(side, path))
 }
 
@@ -104,7 +104,7 @@ fn alone<A: Allocator + Copy>(
 }
 
 /// The line of a keyword and the words behind it.
-pub fn client_line_at<A: Allocator + Copy>(
+pub fn parse_client_line<A: Allocator + Copy>(
     alloc: A,
     keyword: ClientKeyword,
     words: &[&[u8]],
@@ -116,12 +116,12 @@ pub fn client_line_at<A: Allocator + Copy>(
     }
     match keyword {
         ClientKeyword::Cut => alone(ClientLine::Cut, words),
-        ClientKeyword::Now => now_at(words),
+        ClientKeyword::Now => parse_now(words),
         ClientKeyword::Call => {
-            let asked = call_at(alloc, words)?;
+            let asked = parse_call(alloc, words)?;
             Ok(ClientLine::Call(asked))
         }
-        ClientKeyword::Peek => peek_at(alloc, words),
+        ClientKeyword::Peek => parse_peek(alloc, words),
         ClientKeyword::Last => alone(ClientLine::Last, words),
         ClientKeyword::Forget => alone(ClientLine::Forget, words),
         ClientKeyword::Saved => alone(ClientLine::Saved, words),

@@ -3,10 +3,10 @@
 ghost use Rattle.std.specs.Prelude.{◌≡◌, map};
 ghost use Rattle.zk_script.specs.Reads.{Reads};
 ghost use Rattle.zk_replay.specs.Lines.{drive_value_of};
-ghost use Rattle.zk_replay.specs.ReplayLines.{drive_keyword_of, parse_bytes, parse_bytes_line, drive_line_at};
+ghost use Rattle.zk_replay.specs.ReplayLines.{drive_keyword_of, piece_at, printed_piece_at, drive_line_at};
 
-use crate::client_line::{ClientKeyword, ClientLine, client_line_at};
-use crate::reads::bytes_at;
+use crate::client_line::{ClientKeyword, ClientLine, parse_client_line};
+use crate::reads::parse_bytes;
 use std::alloc::Allocator;
 use zk_script::reads::{are_printed, is_named};
 use zk_script::script_fault::ScriptFault;
@@ -48,30 +48,30 @@ pub enum DriveLine<A: Allocator> {
     Client(ClientLine<A>),
 }
 
-fn parse_bytes<A: Allocator + Copy>(alloc: A, words: &[&[u8]]) -> Result<DriveLine<A>, ScriptFault>
-    ensures { Reads drive_value_of result (parse_bytes (map (λ w. w.now) words.now)) }
+fn parse_piece<A: Allocator + Copy>(alloc: A, words: &[&[u8]]) -> Result<DriveLine<A>, ScriptFault>
+    ensures { Reads drive_value_of result (piece_at (map (λ w. w.now) words.now)) }
 {
     let [bytes] = words else {
         return Err(ScriptFault::Words);
     };
-    let bytes = bytes_at(alloc, bytes)?;
+    let bytes = parse_bytes(alloc, bytes)?;
     Ok(DriveLine::Bytes(bytes))
 }
 
-fn parse_bytes_line<A: Allocator + Copy>(
+fn parse_printed_piece<A: Allocator + Copy>(
     alloc: A,
     words: &[&[u8]],
 ) -> Result<DriveLine<A>, ScriptFault>
-    ensures { Reads drive_value_of result (parse_bytes_line (map (λ w. w.now) words.now)) }
+    ensures { Reads drive_value_of result (printed_piece_at (map (λ w. w.now) words.now)) }
 {
     if !are_printed(words) {
         return Err(ScriptFault::Words);
     }
-    parse_bytes(alloc, words)
+    parse_piece(alloc, words)
 }
 
 /// The line of a keyword and the words behind it.
-pub fn drive_line_at<A: Allocator + Copy>(
+pub fn parse_drive_line<A: Allocator + Copy>(
     alloc: A,
     keyword: DriveKeyword,
     words: &[&[u8]],
@@ -83,9 +83,9 @@ pub fn drive_line_at<A: Allocator + Copy>(
             [] => Ok(DriveLine::Opened),
             _ => Err(ScriptFault::Words),
         },
-        DriveKeyword::Bytes => parse_bytes_line(alloc, words),
+        DriveKeyword::Bytes => parse_printed_piece(alloc, words),
         DriveKeyword::Client(word) => {
-            let line = client_line_at(alloc, word, words)?;
+            let line = parse_client_line(alloc, word, words)?;
             Ok(DriveLine::Client(line))
         }
     }

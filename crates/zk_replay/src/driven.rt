@@ -17,7 +17,7 @@ use crate::outputs::outputs_text;
 use crate::peeks::{data_line, last_line, names_line, saved_line};
 use std::alloc::{AllocError, Allocator};
 use zk_client::{Client, Input};
-use zk_history::{Path, Side};
+use zk_nodes::{Path, Side};
 use zk_script::stop::Stop;
 use zk_session::Saved;
 

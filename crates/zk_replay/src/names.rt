@@ -4,7 +4,7 @@ ghost use Rattle.std.specs.Prelude.{◌≡◌, ◌++◌, ℕ, List, IfOk, OnOk, 
 ghost use Rattle.std.specs.BTreeSet.{IsOrdered};
 ghost use Rattle.std.specs.FinSet as set;
 ghost use Rattle.std.specs.String.{string_cmp};
-ghost use Rattle.zk_history.specs.NamesKept.{names_of};
+ghost use Rattle.zk_nodes.specs.Names.{names_of};
 ghost use Rattle.zk_replay.specs.Shown.{names_words, TellsSet};
 
 use std::alloc::{AllocError, Allocator};

@@ -10,7 +10,7 @@ use crate::names::push_set;
 use crate::words::push_spaced;
 use std::alloc::{AllocError, Allocator};
 use zk_cache::{DataAnswer, Mark};
-use zk_history::Names;
+use zk_nodes::Names;
 use zk_script::values::{push_data_word, push_stat, push_word};
 use zk_script::words::bytes_to_word;
 use zk_session::Saved;

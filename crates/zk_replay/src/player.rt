@@ -9,8 +9,8 @@ ghost use Rattle.zk_replay.specs.Courses.{Course, Follows, StandsBy};
 ghost use Rattle.zk_replay.specs.Replays.{rules, IsAt, Position};
 ghost use Rattle.zk_script.specs.Stops.{IfHalted, IsDueBy};
 
-use crate::begin_line::{BeginKeyword, begin_line_at};
-use crate::drive_line::{DriveKeyword, drive_line_at};
+use crate::begin_line::{BeginKeyword, parse_begin_line};
+use crate::drive_line::{DriveKeyword, parse_drive_line};
 use crate::driven::{make_client, replayed};
 use std::alloc::Allocator;
 use zk_client::Client;
@@ -65,7 +65,7 @@ impl<A: Allocator + Copy> Player<A> {
         if self.client.is_some() {
             return Err(Stop::Refused(ScriptFault::Place));
         }
-        let line = begin_line_at(alloc, word, words)?;
+        let line = parse_begin_line(alloc, word, words)?;
         self.client = Some(make_client(alloc, line)?);
         Ok(String::new(alloc))
     }
@@ -79,7 +79,7 @@ impl<A: Allocator + Copy> Player<A> {
         let Some(client) = &mut self.client else {
             return Err(Stop::Refused(ScriptFault::Place));
         };
-        let line = drive_line_at(alloc, word, words)?;
+        let line = parse_drive_line(alloc, word, words)?;
         replayed(alloc, client, line)
     }
 

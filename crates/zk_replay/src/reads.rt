@@ -7,14 +7,15 @@ ghost use Rattle.zk_script.specs.Reads.{Reads, time_at};
 ghost use Rattle.zk_replay.specs.Reads.{natural_at, timeout_at, integer_of, below_zero, version_at, session_at, boolean_at, mode_at, bytes_at, password_at};
 
 use std::alloc::Allocator;
-use zk_conversation::{CreateMode, LONGEST_PASSWORD};
+use zk_conversation::CreateMode;
+use zk_limits::LONGEST_PASSWORD;
 use zk_script::numbers::natural_of;
-use zk_script::reads::data_at;
+use zk_script::reads::parse_data;
 use zk_script::script_fault::ScriptFault;
 
 /// The number from 0 to 2^64 - 1 that a word stands for.
 #[tactic(auto, unfolding(crate::specs::Reads::natural_at))]
-pub fn natural_at(word: &[u8]) -> Result<u64, ScriptFault>
+pub fn parse_natural(word: &[u8]) -> Result<u64, ScriptFault>
     ensures { Reads (λ n. n) result (natural_at word.now) }
 {
     natural_of(word, u64::MAX).ok_or(ScriptFault::Number)
@@ -22,7 +23,7 @@ pub fn natural_at(word: &[u8]) -> Result<u64, ScriptFault>
 
 /// The number of milliseconds from 1 to 2^31 - 1 that a word stands for.
 #[tactic(auto, unfolding(crate::specs::Reads::timeout_at))]
-pub fn timeout_at(word: &[u8]) -> Result<i32, ScriptFault>
+pub fn parse_timeout(word: &[u8]) -> Result<i32, ScriptFault>
     ensures value { Reads (λ n. n) result (timeout_at word.now) }
     ensures above { IfOk result (λ timeout. pos 0 <ℤ timeout) }
 {
@@ -69,7 +70,7 @@ fn integer_of(word: &[u8], greatest: u64, least: u64) -> Option<i64>
 
 /// The number from -2^31 to 2^31 - 1 that a word stands for.
 #[tactic(auto, unfolding(crate::specs::Reads::version_at))]
-pub(crate) fn version_at(word: &[u8]) -> Result<i32, ScriptFault>
+pub(crate) fn parse_version(word: &[u8]) -> Result<i32, ScriptFault>
     ensures { Reads (λ n. n) result (version_at word.now) }
 {
     match integer_of(word, 2_147_483_647, 2_147_483_648) {
@@ -80,7 +81,7 @@ pub(crate) fn version_at(word: &[u8]) -> Result<i32, ScriptFault>
 
 /// The number from -2^63 to 2^63 - 1 that a word stands for.
 #[tactic(auto, unfolding(crate::specs::Reads::session_at))]
-pub(crate) fn session_at(word: &[u8]) -> Result<i64, ScriptFault>
+pub(crate) fn parse_session(word: &[u8]) -> Result<i64, ScriptFault>
     ensures { Reads (λ n. n) result (session_at word.now) }
 {
     integer_of(word, 9_223_372_036_854_775_807, 9_223_372_036_854_775_808).ok_or(
@@ -89,7 +90,7 @@ pub(crate) fn session_at(word: &[u8]) -> Result<i64, ScriptFault>
 }
 
 /// The last seen zxid that a word stands for, from 0 to 2^63 - 1.
-pub(crate) fn last_at(word: &[u8]) -> Result<i64, ScriptFault>
+pub(crate) fn parse_last(word: &[u8]) -> Result<i64, ScriptFault>
     ensures value { Reads (λ n. n) result (time_at word.now) }
     ensures counts { IfOk result (λ n. pos 0 ≤ℤ n) }
 {
@@ -100,7 +101,7 @@ pub(crate) fn last_at(word: &[u8]) -> Result<i64, ScriptFault>
 }
 
 /// The boolean that a word is: 0 or 1.
-pub(crate) fn boolean_at(word: &[u8]) -> Result<bool, ScriptFault>
+pub(crate) fn parse_boolean(word: &[u8]) -> Result<bool, ScriptFault>
     ensures { Reads (λ b. b) result (boolean_at word.now) }
 {
     match word {
@@ -112,7 +113,7 @@ pub(crate) fn boolean_at(word: &[u8]) -> Result<bool, ScriptFault>
 
 /// The mode of a create that a word stands for, by the flags of its request: 0 to 3.
 #[tactic(auto, unfolding(crate::specs::Reads::mode_at))]
-pub(crate) fn mode_at(word: &[u8]) -> Result<CreateMode, ScriptFault>
+pub(crate) fn parse_mode(word: &[u8]) -> Result<CreateMode, ScriptFault>
     ensures { Reads mode_number result (mode_at word.now) }
 {
     match natural_of(word, 9) {
@@ -126,13 +127,13 @@ pub(crate) fn mode_at(word: &[u8]) -> Result<CreateMode, ScriptFault>
 
 /// The bytes that a word stands for. Null is none.
 #[tactic(auto, unfolding(crate::specs::Reads::bytes_at))]
-pub(crate) fn bytes_at<A: Allocator + Copy>(
+pub(crate) fn parse_bytes<A: Allocator + Copy>(
     alloc: A,
     word: &[u8],
 ) -> Result<Vec<u8, A>, ScriptFault>
     ensures { Reads (λ v. v.items) result (bytes_at word.now) }
 {
-    match data_at(alloc, word) {
+    match parse_data(alloc, word) {
         Ok(Some(bytes)) => Ok(bytes),
         Ok(None) => Err(ScriptFault::Hex),
         Err(fault) => Err(fault),
@@ -142,14 +143,14 @@ pub(crate) fn bytes_at<A: Allocator + Copy>(
 /// The password that a word stands for, and none where the word is no hex: that is told behind a number that is none. A
 /// password of more bytes than a server can bring is none of the words allowed.
 #[tactic(auto, unfolding(crate::specs::Reads::password_at))]
-pub(crate) fn password_at<A: Allocator + Copy>(
+pub(crate) fn parse_password<A: Allocator + Copy>(
     alloc: A,
     word: &[u8],
 ) -> Result<Option<Vec<u8, A>>, ScriptFault>
     ensures value { Reads (option_map (λ v. v.items)) result (password_at word.now) }
     ensures fits { IfOk result (λ password. IfSome password (λ bytes. length bytes.items ≤ LONGEST_PASSWORD)) }
 {
-    match bytes_at(alloc, word) {
+    match parse_bytes(alloc, word) {
         Ok(bytes) if bytes.len() > LONGEST_PASSWORD => Err(ScriptFault::Words),
         Ok(bytes) => Ok(Some(bytes)),
         Err(ScriptFault::Memory) => Err(ScriptFault::Memory),

@@ -8,7 +8,7 @@ use Rattle.zk_conversation.specs.Calls.{Call}
 use Rattle.zk_conversation.specs.Questions.{Close}
 use Rattle.zk_conversation.specs.Results.{Result, NoNode, Refused, Done, record_of}
 use Rattle.zk_turns.specs.Turns.{Start, Item, Outcome, Signal, Opens, Comes, Cuts, Ticks, Calls, Forget, Halt, signals}
-use Rattle.zk_turns.specs.Kept.{Past, Happening, Came, Took, Lost, Denied, Pinged, Ticked, Forgot, Halted, Replies, state_of, has_halted, held_of, is_final, is_talking}
+use Rattle.zk_turns.specs.Past.{Past, Happening, Came, Took, Lost, Denied, Pinged, Ticked, Forgot, Halted, Replies, state_of, has_halted, held_of, is_final, is_talking}
 use Rattle.zk_turns.specs.View.{View, view_at}
 use Rattle.zk_turns.specs.Taken.{happenings, caused, opens, if_open, comes, of_cutting, cut, Cutting, Unfinished, Bad, Payload, due, timeout_of, refusal_when_connected, joined, past_after, past_of}
 use Rattle.zk_turns.specs.Meaning.{Among}

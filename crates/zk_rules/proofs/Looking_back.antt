@@ -2,12 +2,12 @@
 use Rattle.std.proofs.Common.{◌≡◌, ◌≢◌, ◌⊎◌, List, [], ◌∷◌, ◌++◌, Option, Some, None, inl, inr, refl, sym, ap, ◌∙◌}
 use Rattle.std.specs.Prelude.{◌↔◌}
 use Rattle.std.specs.List.{AllByRecursion}
-use Rattle.zk_history.specs.History.{Text}
+use Rattle.zk_nodes.specs.Path.{Text}
 use Rattle.zk_cache.specs.Kept.{Answer, Names, good, if_good, stale, without_stale}
 use Rattle.zk_cache.specs.declared.held.Kept.{Kept}
 use Rattle.zk_cache.specs.declared.held.Mark.{Mark}
 use Rattle.zk_cache.specs.declared.held.Mark.TheVariants.{Good, Stale}
-use Rattle.zk_turns.specs.Kept.{Happening, Began, Lost, Pinged, Forgot, Halted, Came, Ticked, Took, Dropped, Asked, Denied, Past, Word, Says, Ends, Empties, Nothing, kept_by, kept_data, kept_names, word_data, word_child, good_answer}
+use Rattle.zk_turns.specs.Past.{Happening, Began, Lost, Pinged, Forgot, Halted, Came, Ticked, Took, Dropped, Asked, Denied, Past, Word, Says, Ends, Empties, Nothing, kept_by, kept_data, kept_names, word_data, word_child, good_answer}
 use Rattle.zk_rules.specs.Rules.{as_stale, IsStaleSince, LeavesStale}
 
 module _ {A : Type 0} where

@@ -1,7 +1,7 @@
 -- The xids of the calls.
 use Rattle.std.proofs.Common.{◌≡◌, ◌≤◌, ◌<◌, ◌+◌, ◌%◌, ℕ, suc, cond, [], refl, sym, ap, ◌∙◌, arith}
 use Rattle.zk_turns.specs.Turns.{Calls, signals_of}
-use Rattle.zk_turns.specs.Kept.{Asked, calls_sent}
+use Rattle.zk_turns.specs.Past.{Asked, calls_sent}
 use Rattle.zk_turns.specs.Taken.{caused}
 use Rattle.zk_turns.specs.Rule.{says_all, says_signals}
 use Rattle.zk_turns.proofs.Words.{calls}

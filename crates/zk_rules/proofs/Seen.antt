@@ -3,21 +3,21 @@ use Rattle.std.proofs.Common.{◌≡◌, ℕ, ℤ, pos, length, Bool, true, fals
 use Rattle.std.specs.Prelude.{◌≤ℤ◌, nat_le, nat_lt, ◌*◌, ◌-◌}
 use Rattle.std.specs.List.{flat_map}
 use Rattle.std.proofs.lemmas.Int.{ints}
-use Rattle.zk_history.specs.History.{Text}
-use Rattle.zk_history.specs.declared.side.Side.{Side}
-use Rattle.zk_history.specs.declared.side.Side.TheVariants.{Data, Child}
+use Rattle.zk_nodes.specs.Path.{Text}
+use Rattle.zk_nodes.specs.declared.side.Side.{Side}
+use Rattle.zk_nodes.specs.declared.side.Side.TheVariants.{Data, Child}
 use Rattle.zk_records.specs.declared.event.Event.{Event}
 use Rattle.zk_session.specs.declared.states.State.{State}
 use Rattle.zk_session.specs.declared.states.State.TheVariants.{Idle, Connecting, Connected, Expired, Closed}
 use Rattle.zk_watches.specs.Lists.{Lists, fires}
 use Rattle.zk_watches.specs.Parts.{parts}
-use Rattle.zk_frames.specs.declared.put.TheConstants.{LONGEST_OUTGOING}
 use Rattle.zk_conversation.specs.Calls.{Call, call_payload}
 use Rattle.zk_conversation.specs.Questions.{Question, Close, question_of, watched_side}
 use Rattle.zk_conversation.specs.Results.{Result}
 use Rattle.zk_conversation.specs.Pending.{Pending, Waiting, Part_waits, Call_waits, is_close_pending, calls_pending}
 use Rattle.zk_turns.specs.Turns.{Outcome, Replied, ConnectionLoss, SessionClosed, TooManyPending, TooManyWatches, TooLarge, Output, Answer, Report, Signal, Opens, Comes, Cuts, Ticks, Calls, Forget, Halt, signals_of}
-use Rattle.zk_turns.specs.Kept.{Happening, Began, Came, Took, Dropped, Lost, Asked, Denied, Pinged, Ticked, Forgot, Halted, Message, Accepted, Expiry, Replies, Watches_set, Notifies, Pong, Skipped, is_talking, later}
+use Rattle.zk_turns.specs.Past.{Happening, Began, Came, Took, Dropped, Lost, Asked, Denied, Pinged, Ticked, Forgot, Halted, Message, Accepted, Expiry, Replies, Watches_set, Notifies, Pong, Skipped, is_talking}
+use Rattle.std.specs.Int.{int_max}
 use Rattle.zk_turns.specs.View.{View}
 use Rattle.zk_turns.specs.Taken.{happenings, caused, opens, if_open, comes, of_cutting, cut, Cutting, Unfinished, Bad, Payload, due, timeout_of, is_full_on}
 use Rattle.zk_turns.specs.Meaning.{Among}
@@ -25,6 +25,7 @@ use Rattle.zk_turns.specs.Rule.{says, next, next_reply, next_message, seen, loss
 use Rattle.zk_turns.proofs.Words.{calls, refusal_in, closing}
 use Rattle.zk_turns.proofs.Stream.{of_reading}
 use Rattle.zk_rules.specs.Seeing.{LaterMoves, EarlierLeaves, TurnsRaise, RepliesAreSeen}
+use Rattle.zk_limits.specs.declared.limits.TheConstants.{LONGEST_OUTGOING, MOST_PENDING}
 
 reply_saved : (question : Question) (zxid : ℤ) (result : Result) (view : View) → (next_reply view question zxid result).saved ≡ seen zxid view
 reply_saved Close zxid result view = refl
@@ -38,10 +39,10 @@ earlier_leaves ticket question zxid result view e = ap (λ s. s.last) (reply_sav
 
 -- ---- it never falls
 
-le_later : (a b : ℤ) → b ≤ℤ later a b
+le_later : (a b : ℤ) → b ≤ℤ int_max a b
 le_later a b = grind (arith, ints)
 
-first_later : (a b : ℤ) → a ≤ℤ later a b
+first_later : (a b : ℤ) → a ≤ℤ int_max a b
 first_later a b = grind (arith, ints)
 
 le_self : (a : ℤ) → a ≤ℤ a
@@ -117,9 +118,9 @@ plain_refusal Connected view call =
     let size = nat_lt LONGEST_OUTGOING (length (call_payload (pos view.xid) call)) in
     let long : Option Outcome = cond size (Some TooLarge) None in
     let full : Option Outcome = cond (is_full_on view (watched_side (question_of call))) (Some TooManyWatches) long in
-    let many : Option Outcome = cond (nat_le 1024 (calls_pending view.pending)) (Some TooManyPending) full in
+    let many : Option Outcome = cond (nat_le MOST_PENDING (calls_pending view.pending)) (Some TooManyPending) full in
     no_reply_cond (is_close_pending view.pending) (Some SessionClosed) many (λ r. r)
-    (no_reply_cond (nat_le 1024 (calls_pending view.pending)) (Some TooManyPending) full (λ r. r)
+    (no_reply_cond (nat_le MOST_PENDING (calls_pending view.pending)) (Some TooManyPending) full (λ r. r)
     (no_reply_cond (is_full_on view (watched_side (question_of call))) (Some TooManyWatches) long (λ r. r)
     (no_reply_cond size (Some TooLarge) None (λ r. r) tt)))
 plain_refusal Idle view call = λ r. r
@@ -203,7 +204,7 @@ module _ (ticket : ℕ) (zxid : ℤ) (result : Result) where
   seen_message Expiry view (inr a) = absurd a
   seen_message (Replies other question z r) view (inl e) =
       let same : zxid ≡ z = cc in
-      subst (λ s. zxid ≤ℤ s.last) (sym (reply_saved question z r view)) (subst (λ t. t ≤ℤ later z view.saved.last) (sym same) (first_later z view.saved.last))
+      subst (λ s. zxid ≤ℤ s.last) (sym (reply_saved question z r view)) (subst (λ t. t ≤ℤ int_max z view.saved.last) (sym same) (first_later z view.saved.last))
   seen_message (Replies other question z r) view (inr a) = absurd (no_closing question a)
   seen_message (Watches_set last z) view a = absurd a
   seen_message (Notifies event path) view a =

@@ -3,17 +3,17 @@ use Rattle.std.proofs.Common.{◌≡◌, ℤ, Bool, true, false, cond, List, [],
 use Rattle.std.specs.List.{flat_map}
 use Rattle.std.proofs.lemmas.List.{append_assoc}
 use Rattle.std.proofs.lemmas.Grind.{flat_map-append}
-use Rattle.zk_history.specs.History.{Text}
-use Rattle.zk_history.specs.declared.side.Side.TheVariants.{Data, Child}
+use Rattle.zk_nodes.specs.Path.{Text}
+use Rattle.zk_nodes.specs.declared.side.Side.TheVariants.{Data, Child}
 use Rattle.zk_records.specs.declared.event.Event.{Event}
 use Rattle.zk_session.specs.declared.states.State.{State}
 use Rattle.zk_session.specs.declared.states.State.TheVariants.{Idle, Connected}
 use Rattle.zk_watches.specs.Lists.{Lists, fires}
 use Rattle.zk_watches.specs.Parts.{parts}
 use Rattle.zk_conversation.specs.Pending.{Pending, Waiting, Part_waits, Call_waits}
-use Rattle.zk_conversation.specs.Questions.{Exists, GetData, GetChildren, SetData, Create, Delete, Close}
+use Rattle.zk_conversation.specs.Questions.{Close}
 use Rattle.zk_turns.specs.Turns.{Output, Answer, ConnectionLoss, Report, Enters}
-use Rattle.zk_turns.specs.Kept.{Happening, Began, Lost, Pinged, Forgot, Halted, Came, Ticked, Took, Dropped, Asked, Denied, Past, Accepted, Expiry, Pong, Skipped, Replies, Watches_set, Notifies, state_of}
+use Rattle.zk_turns.specs.Past.{Happening, Lost, Took, Dropped, Past, Accepted, Replies, Watches_set, Notifies, state_of}
 use Rattle.zk_turns.specs.View.{View}
 use Rattle.zk_turns.specs.Rule.{next, says, says_all, part_frame, loss}
 use Rattle.zk_rules.specs.Rules.{entered, states_in, brings, brought}
@@ -40,29 +40,14 @@ losses_tell (one ∷ more) =
     ap states_in (append_assoc (loss one) (flat_map loss more) (Enters Idle ∷ [])) ∙ one_lost one one.waiting refl (flat_map loss more ++ Enters Idle ∷ []) ∙ losses_tell more
 
 pub told : (view : View) (happening : Happening) → states_in (says view happening) ≡ brings happening
-told view Began = refl
-told view Pinged = refl
-told view Forgot = refl
-told view Halted = refl
-told view (Came byte) = refl
-told view (Ticked moment) = refl
 told view Lost = losses_tell view.pending
 told view (Dropped fault) = losses_tell view.pending
 told view (Took (Accepted welcome)) = ap (λ (more : List State). Connected ∷ more) (parts_tell view.saved.last (parts view.lists))
-told view (Took Expiry) = refl
-told view (Took Pong) = refl
-told view (Took Skipped) = refl
-told view (Took (Replies ticket (Exists path watch) zxid result)) = refl
-told view (Took (Replies ticket (GetData path watch) zxid result)) = refl
-told view (Took (Replies ticket (GetChildren path watch) zxid result)) = refl
-told view (Took (Replies ticket (SetData path) zxid result)) = refl
-told view (Took (Replies ticket (Create path) zxid result)) = refl
-told view (Took (Replies ticket (Delete path) zxid result)) = refl
-told view (Took (Replies ticket Close zxid result)) = refl
-told view (Took (Watches_set last zxid)) = refl
 told view (Took (Notifies event path)) = reports_tell (fires view.lists event Data path) (fires view.lists event Child path) path event
-told view (Asked ticket call) = refl
-told view (Denied ticket why) = refl
+told view (Took (Replies ticket Close zxid result)) = refl
+told view (Took (Replies ticket _ zxid result)) = refl
+told view (Took _) = refl
+told view _ = refl
 
 -- one behind the other
 pub all_told : (view : View) (happenings : List Happening) → states_in (says_all view happenings) ≡ flat_map brings happenings
@@ -72,52 +57,15 @@ all_told view (happening ∷ more) =
     ∙ ap (λ (rest : List State). brings happening ++ rest) (all_told (next view happening) more)
 
 pub state : (happening : Happening) (past : Past) → state_of (happening ∷ past) ≡ brought (brings happening) (state_of past)
-state Began past = refl
-state Pinged past = refl
-state Forgot past = refl
-state Halted past = refl
-state (Came byte) past = refl
-state (Ticked moment) past = refl
-state Lost past = refl
-state (Dropped fault) past = refl
-state (Took (Accepted welcome)) past = refl
-state (Took Expiry) past = refl
-state (Took Pong) past = refl
-state (Took Skipped) past = refl
-state (Took (Replies ticket (Exists path watch) zxid result)) past = refl
-state (Took (Replies ticket (GetData path watch) zxid result)) past = refl
-state (Took (Replies ticket (GetChildren path watch) zxid result)) past = refl
-state (Took (Replies ticket (SetData path) zxid result)) past = refl
-state (Took (Replies ticket (Create path) zxid result)) past = refl
-state (Took (Replies ticket (Delete path) zxid result)) past = refl
 state (Took (Replies ticket Close zxid result)) past = refl
-state (Took (Watches_set last zxid)) past = refl
-state (Took (Notifies event path)) past = refl
-state (Asked ticket call) past = refl
-state (Denied ticket why) past = refl
+state (Took (Replies ticket _ zxid result)) past = refl
+state (Took _) past = refl
+state _ past = refl
 
 pub next_state : (view : View) (happening : Happening) → (next view happening).standing.state ≡ brought (brings happening) view.standing.state
-next_state view Began = refl
-next_state view Pinged = refl
-next_state view Forgot = refl
-next_state view Halted = refl
-next_state view (Came byte) = refl
-next_state view (Ticked moment) = refl
-next_state view Lost = refl
-next_state view (Dropped fault) = refl
-next_state view (Took (Accepted welcome)) = refl
-next_state view (Took Expiry) = refl
-next_state view (Took Pong) = refl
-next_state view (Took Skipped) = refl
-next_state view (Took (Replies ticket (Exists path watch) zxid result)) = refl
-next_state view (Took (Replies ticket (GetData path watch) zxid result)) = refl
-next_state view (Took (Replies ticket (GetChildren path watch) zxid result)) = refl
-next_state view (Took (Replies ticket (SetData path) zxid result)) = refl
-next_state view (Took (Replies ticket (Create path) zxid result)) = refl
-next_state view (Took (Replies ticket (Delete path) zxid result)) = refl
 next_state view (Took (Replies ticket Close zxid result)) = refl
+next_state view (Took (Replies ticket _ zxid result)) = refl
 next_state view (Took (Watches_set true zxid)) = refl
 next_state view (Took (Watches_set false zxid)) = refl
-next_state view (Took (Notifies event path)) = refl
-next_state view (Asked ticket call) = refl
-next_state view (Denied ticket why) = refl
+next_state view (Took _) = refl
+next_state view _ = refl

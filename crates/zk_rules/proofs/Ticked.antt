@@ -8,7 +8,7 @@ use Rattle.zk_session.specs.declared.states.State.TheVariants.{Idle, Connecting,
 use Rattle.zk_frames.specs.Frame.{frame}
 use Rattle.zk_conversation.specs.Calls.{ping_payload}
 use Rattle.zk_turns.specs.Turns.{Turn, Output, Send, Drop, Silent, Ticks, signals_of}
-use Rattle.zk_turns.specs.Kept.{is_open, is_talking, Happening, Pinged, Dropped, Ticked}
+use Rattle.zk_turns.specs.Past.{is_open, is_talking, Happening, Pinged, Dropped, Ticked}
 use Rattle.zk_turns.specs.View.{View}
 use Rattle.zk_turns.specs.Taken.{if_open, caused}
 use Rattle.zk_turns.specs.Rule.{IsOpen, losses, next, says_all, says_signals}

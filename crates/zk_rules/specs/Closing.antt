@@ -1,12 +1,12 @@
 -- What the reply to a close ends.
 use Rattle.std.specs.Prelude.{◌≡◌, ℕ, ℤ, List, [], ◌∷◌, None, Ok}
-use Rattle.zk_history.specs.History.{Text}
+use Rattle.zk_nodes.specs.Path.{Text}
 use Rattle.zk_watches.specs.Lists.{no_lists}
 use Rattle.zk_session.specs.declared.states.State.TheVariants.{Closed}
 use Rattle.zk_conversation.specs.Questions.{Close}
 use Rattle.zk_conversation.specs.Results.{Result, result_of}
 use Rattle.zk_turns.specs.Turns.{Start, Item, Answer, Replied, Enters}
-use Rattle.zk_turns.specs.Kept.{Took, Replies}
+use Rattle.zk_turns.specs.Past.{Took, Replies}
 use Rattle.zk_turns.specs.View.{View}
 use Rattle.zk_turns.specs.Taken.{past_of}
 use Rattle.zk_turns.specs.Meaning.{Among}

@@ -8,7 +8,7 @@ use Rattle.zk_turns.specs.Turns.{Output, Enters}
 use Rattle.zk_cache.specs.Kept.{good}
 use Rattle.zk_cache.specs.declared.held.Kept.{Kept}
 use Rattle.zk_cache.specs.declared.held.Mark.TheVariants.{Stale}
-use Rattle.zk_turns.specs.Kept.{Happening, Began, Lost, Forgot, Took, Dropped, Accepted, Expiry, Replies, Past, Word, Ends, Nothing}
+use Rattle.zk_turns.specs.Past.{Happening, Began, Lost, Forgot, Took, Dropped, Accepted, Expiry, Replies, Past, Word, Ends, Nothing}
 
 -- the answer, marked stale
 abbrev pub as_stale : {A : Type 0} → A → Option (Kept A)

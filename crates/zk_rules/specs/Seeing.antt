@@ -3,7 +3,7 @@ use Rattle.std.specs.Prelude.{◌≡◌, ◌≤ℤ◌, ℕ, ℤ, int_lt, true, f
 use Rattle.zk_conversation.specs.Questions.{Question}
 use Rattle.zk_conversation.specs.Results.{Result}
 use Rattle.zk_turns.specs.Turns.{Turn, Answer, Replied}
-use Rattle.zk_turns.specs.Kept.{Took, Replies}
+use Rattle.zk_turns.specs.Past.{Took, Replies}
 use Rattle.zk_turns.specs.View.{View}
 use Rattle.zk_turns.specs.Meaning.{Among}
 use Rattle.zk_turns.specs.Rule.{Rule, next}

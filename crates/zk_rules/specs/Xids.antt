@@ -4,7 +4,7 @@ use Rattle.zk_frames.specs.Frame.{frame}
 use Rattle.zk_conversation.specs.Calls.{Call, call_payload, ping_xid, part_xid}
 use Rattle.zk_turns.specs.Turns as turns
 use Rattle.zk_turns.specs.Turns.{Turn, Start, Item, Send}
-use Rattle.zk_turns.specs.Kept.{Past, Happening, Asked, xid_of}
+use Rattle.zk_turns.specs.Past.{Past, Happening, Asked, xid_of}
 use Rattle.zk_turns.specs.View.{View}
 use Rattle.zk_turns.specs.Taken.{past_of, refusal}
 use Rattle.zk_turns.specs.Rule.{Rule, Stands}

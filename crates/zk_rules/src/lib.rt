@@ -8,11 +8,11 @@ ghost use Rattle.zk_rules.specs.Xids.{FirstIsOne, AreInRange, RunOn, BeginAgain,
 ghost use Rattle.zk_rules.specs.Closing.{CloseSays, CloseStays, CodeIsNoMatter};
 ghost use Rattle.std.specs.Prelude.{◌≡◌, ◌↔◌, List, ◌∷◌};
 ghost use Rattle.std.specs.List.{flat_map};
-ghost use Rattle.zk_history.specs.History.{Text};
-ghost use Rattle.zk_session.specs.Kept.{Welcome};
+ghost use Rattle.zk_nodes.specs.Path.{Text};
+ghost use Rattle.zk_session.specs.SessionView.{Welcome};
 ghost use Rattle.zk_cache.specs.Kept.{Answer as Kept_answer, Names, without_stale};
 ghost use Rattle.zk_turns.specs.Turns.{Fault};
-ghost use Rattle.zk_turns.specs.Kept.{Happening, Past, Began, Lost, Forgot, Took, Dropped, Accepted, state_of, kept_data, kept_names, word_data, word_child};
+ghost use Rattle.zk_turns.specs.Past.{Happening, Past, Began, Lost, Forgot, Took, Dropped, Accepted, state_of, kept_data, kept_names, word_data, word_child};
 ghost use Rattle.zk_turns.specs.View.{View};
 ghost use Rattle.zk_turns.specs.Rule.{next, says, says_all};
 ghost use Rattle.zk_rules.specs.Rules.{states_in, brings, brought, IsStaleSince, as_stale};

@@ -5,7 +5,7 @@ use Rattle.std.specs.List.{FoldsTo}
 use Rattle.std.proofs.Math.Seq.{drop-cons}
 use Rattle.std.proofs.lemmas.Fn.{FoldsTo-push}
 use Rattle.std.proofs.lemmas.List.{map-append, take_more, take_all, take-append-drop, length-take, length-map}
-use Rattle.zk_history.specs.History.{Text}
+use Rattle.zk_nodes.specs.Path.{Text}
 use Rattle.zk_script.specs.declared.stop.Stop.{Stop}
 use Rattle.zk_script.specs.declared.stop.Stop.TheVariants as stops
 use Rattle.zk_script.specs.Scripts.{Rules, Progress, Prints, PrintsFirst, Goes, IsDue, IsTranscript, progress, end_at}

@@ -1,6 +1,6 @@
 -- What a line says by its words, and what it does by what it says.
 use Rattle.std.specs.Prelude.{◌≡◌, ℕ, ◌==◌, Bool, false, if◌then◌else◌, List, [], ◌∷◌, Option, Some, None, Result, Ok, Err}
-use Rattle.zk_history.specs.History.{Text}
+use Rattle.zk_nodes.specs.Path.{Text}
 use Rattle.zk_script.specs.declared.script_fault.ScriptFault.{ScriptFault}
 
 -- a remark begins with #

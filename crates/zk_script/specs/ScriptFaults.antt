@@ -1,6 +1,6 @@
 -- How the reason is shown for which a line of a script is refused.
 use Rattle.std.specs.Prelude.{ℕ, List, ◌++◌, codes}
-use Rattle.zk_history.specs.FaultText.{path_fault_code}
+use Rattle.zk_nodes.specs.FaultText.{path_fault_code}
 use Rattle.zk_script.specs.declared.script_fault.ScriptFault.{ScriptFault}
 use Rattle.zk_script.specs.declared.script_fault.ScriptFault.TheVariants.{Unknown, Place, Words, Number, Hex, Path, Order, Illegal, Memory}
 

@@ -5,8 +5,8 @@ use Rattle.std.specs.Fmt.{signed_decimal}
 use Rattle.std.specs.List.{flat_map, list_any}
 use Rattle.std.specs.List.Sorted.{IsStrictlySortedBy}
 use Rattle.std.specs.Ordering.{nat_cmp}
-use Rattle.zk_history.specs.History.{Text}
-use Rattle.zk_history.specs.declared.data_stat.DataStat.{DataStat}
+use Rattle.zk_nodes.specs.Path.{Text}
+use Rattle.zk_nodes.specs.declared.data_stat.DataStat.{DataStat}
 use Rattle.zk_script.specs.Words.{text_word}
 
 -- a word with a space before it

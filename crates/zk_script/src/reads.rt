@@ -13,7 +13,7 @@ use crate::texts::unescaped;
 use crate::words::{EMPTY, NULL};
 use hex::FromHexError;
 use std::alloc::Allocator;
-use zk_history::{Path, PathFault, Side};
+use zk_nodes::{Path, PathFault, Side};
 
 /// The greatest number of 64 bits with a sign.
 const GREATEST: u64 = 9_223_372_036_854_775_807;
@@ -26,7 +26,7 @@ pub fn is_named(word: &[u8], name: &str) -> bool
 }
 
 /// The number from 0 to 2^63 - 1 that a word stands for.
-pub fn time_at(word: &[u8]) -> Result<i64, ScriptFault>
+pub fn parse_time(word: &[u8]) -> Result<i64, ScriptFault>
     ensures { Reads (λ n. n) result (time_at word.now) }
 {
     match natural_of(word, GREATEST) {
@@ -36,7 +36,7 @@ pub fn time_at(word: &[u8]) -> Result<i64, ScriptFault>
 }
 
 /// The number from 1 to 2^63 - 1 that a word stands for.
-pub fn zxid_at(word: &[u8]) -> Result<i64, ScriptFault>
+pub fn parse_zxid(word: &[u8]) -> Result<i64, ScriptFault>
     ensures { Reads (λ n. n) result (zxid_at word.now) }
 {
     match natural_of(word, GREATEST) {
@@ -47,7 +47,7 @@ pub fn zxid_at(word: &[u8]) -> Result<i64, ScriptFault>
 }
 
 /// The bytes that a word stands for, or null.
-pub fn data_at<A: Allocator + Copy>(
+pub fn parse_data<A: Allocator + Copy>(
     alloc: A,
     word: &[u8],
 ) -> Result<Option<Vec<u8, A>>, ScriptFault>
@@ -90,7 +90,7 @@ fn text_of<A: Allocator + Copy>(alloc: A, bytes: &[u8]) -> Result<String<A>, Scr
 }
 
 /// The text that a word stands for. Null is none.
-pub fn text_at<A: Allocator + Copy>(alloc: A, word: &[u8]) -> Result<String<A>, ScriptFault>
+pub fn parse_text<A: Allocator + Copy>(alloc: A, word: &[u8]) -> Result<String<A>, ScriptFault>
     ensures { Reads string_bytes result (text_at word.now) }
 {
     if word == EMPTY.as_bytes() {
@@ -104,7 +104,7 @@ pub fn text_at<A: Allocator + Copy>(alloc: A, word: &[u8]) -> Result<String<A>, 
 }
 
 /// The path that a text is.
-pub fn path_at<A: Allocator + Copy>(alloc: A, text: &str) -> Result<Path<A>, ScriptFault>
+pub fn parse_path<A: Allocator + Copy>(alloc: A, text: &str) -> Result<Path<A>, ScriptFault>
     ensures { Reads (λ path. path) result (path_at text.now) }
 {
     match Path::new(alloc, text) {
@@ -115,7 +115,7 @@ pub fn path_at<A: Allocator + Copy>(alloc: A, text: &str) -> Result<Path<A>, Scr
 }
 
 /// The side that a word names.
-pub fn side_at(word: &[u8]) -> Result<Side, ScriptFault>
+pub fn parse_side(word: &[u8]) -> Result<Side, ScriptFault>
     ensures { Reads (λ s. s) result (side_read word.now) }
 {
     if is_named(word, "data") {

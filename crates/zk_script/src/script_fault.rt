@@ -6,7 +6,7 @@ ghost use Rattle.zk_script.specs.declared.script_fault.ScriptFault.TheVariants a
 use std::alloc::AllocError;
 use std::error::Error;
 use std::fmt;
-use zk_history::PathFault;
+use zk_nodes::PathFault;
 
 /// Why a line of a script is refused: the first reason that applies, in this order.
 #[derive(Clone, Copy, Debug, PartialEq, Eq)]

@@ -9,7 +9,7 @@ use crate::words::{NULL, bytes_to_word, text_to_word};
 use std::alloc::{AllocError, Allocator};
 use std::collections::BTreeSet;
 use std::fmt::Display;
-use zk_history::DataStat;
+use zk_nodes::DataStat;
 
 /// Adds the word that a value is shown as.
 pub fn push_value<A: Allocator + Copy, D: Display>(

@@ -1,6 +1,6 @@
 -- A client that was served goes on to be.
 use Rattle.std.proofs.Common.{ℕ, ℤ, ◌≡◌, ◌≢◌, ◌≤◌, ◌<◌, true, List, [], ◌∷◌, ◌++◌, map, length, refl, ap, sym, ◌∙◌, subst, inl, inr, ◌⊎◌}
-use Rattle.zk_history.specs.History.{IsHistory}
+use Rattle.zk_nodes.specs.History.{IsHistory}
 use Rattle.zk_conversation.specs.Calls.{Call}
 use Rattle.zk_turns.specs.Turns.{Start, Output, Item, IsAskable, Turned, Forgets, Halts, Bytes, Cut, Now, Call as Calling, Opened as Opening, Opens, Comes, Ticks, Calls}
 use Rattle.zk_turns.specs.View.{View}
@@ -10,12 +10,12 @@ use Rattle.zk_turns.specs.Ranges.{IsResumable, IsTyped, AllAskOf}
 use Rattle.zk_laws.specs.ServerSteps.{ServerEnd}
 use Rattle.zk_laws.specs.Messages.{Request}
 use Rattle.zk_serving.specs.GoingOn.{GoesOn}
-use Rattle.zk_laws.specs.Served.{Sent, Goes_on, items_in, line_of, is_going, unread, Served}
+use Rattle.zk_laws.specs.Served.{Sent, Goes_on, items_in, wire_of, is_going, unread, Served}
 use Rattle.zk_laws.specs.Headline.{IsCoherentWith}
 use Rattle.zk_laws.proofs.Headlines.{coherent_client}
 use Rattle.zk_serving.specs.Steps.{Step, behind}
 use Rattle.zk_serving.specs.Shown.{Shown, Apart, Open, Over, connected, with_output, Hears, Takes, Processes}
-use Rattle.zk_serving.specs.Lines.{Shows, IsServedBy, IsPathCall, StandsFirst, IsCutAt, IsFor}
+use Rattle.zk_serving.specs.Wires.{Shows, IsServedBy, IsPathCall, StandsFirst, IsCutAt, IsFor}
 use Rattle.zk_serving.proofs.Stepping.{items_behind}
 use Rattle.zk_serving.proofs.Turning.{framed}
 use Rattle.zk_serving.proofs.Keeping.{opened_shown, bytes_shown, cut_shown, moment_shown, call_shown, forget_shown, halt_shown, takes_shown, processes_shown, rests_shown}
@@ -23,7 +23,7 @@ use Rattle.zk_serving.proofs.Waiting.{first_stands, stream_cut}
 use Rattle.zk_serving.proofs.Staged.{for_stage}
 
 pub nobody : (start : Start) (shown : Shown) → IsServedBy start [] shown
-nobody start shown = record { entries = []; whole = refl; shows = record { serving = tt; line = λ going. absurd cc } }
+nobody start shown = record { entries = []; whole = refl; shows = record { serving = tt; wire = λ going. absurd cc } }
 
 pub served_so : (start : Start) (items : List Item) (shown : Shown) → IsServedBy start items shown → Served shown.history start items
 served_so start items shown s = record { entries = s.entries; whole = s.whole; may = s.shows.serving }
@@ -84,10 +84,10 @@ module _ (start : Start) (items : List Item) (old : Shown) (s : IsServedBy start
       record { entries = s.entries; whole = s.whole; shows = rests_shown start s.entries old new s.shows g (λ going. rests (subst (λ is. is_going (past_of start is) ≡ true) s.whole going)) }
 
   pub there_served : is_going (past_of start items) ≡ true → old.phase ≢ Apart
-  there_served going = (s.shows.line (here (λ is. is_going (past_of start is) ≡ true) going)).there
+  there_served going = (s.shows.wire (here (λ is. is_going (past_of start is) ≡ true) going)).there
 
   module _ (view : View) (from : IsResumable start) (timed : 0 < start.timeout) (typed : AllAskOf IsTyped items) (paths : AllAskOf IsPathCall items) (stands : Stands start items view) (going : is_going (past_of start items) ≡ true) (up : old.phase ≡ Open) where
-    stands_first : (first : Sent) (more : List Sent) → unread start (past_of start (items_in s.entries)) (line_of old.history s.entries) ≡ first ∷ more → StandsFirst first.request first.xid first.payload (framed more) old.requests
+    stands_first : (first : Sent) (more : List Sent) → unread start (past_of start (items_in s.entries)) (wire_of old.history s.entries) ≡ first ∷ more → StandsFirst first.request first.xid first.payload (framed more) old.requests
     stands_first first more e =
         first_stands start s.entries view old first more from timed (here (λ is. AllAskOf IsTyped is) typed) (here (λ is. AllAskOf IsPathCall is) paths) (here (λ is. Stands start is view) stands) s.shows
         (here (λ is. is_going (past_of start is) ≡ true) going) up e
@@ -96,44 +96,44 @@ module _ (start : Start) (items : List Item) (old : Shown) (s : IsServedBy start
     abbrev pub Waits : Type 0
     Waits = (request : Request) × (xid : ℤ) × (payload : List ℕ) × (rest : List ℕ) × StandsFirst request xid payload rest old.requests
 
-    waits_by : (waiting : List Sent) → unread start (past_of start (items_in s.entries)) (line_of old.history s.entries) ≡ waiting → (old.requests ≡ []) ⊎ Waits
-    waits_by [] e = inl ((s.shows.line (here (λ is. is_going (past_of start is) ≡ true) going)).waiting up ∙ ap framed e)
+    waits_by : (waiting : List Sent) → unread start (past_of start (items_in s.entries)) (wire_of old.history s.entries) ≡ waiting → (old.requests ≡ []) ⊎ Waits
+    waits_by [] e = inl ((s.shows.wire (here (λ is. is_going (past_of start is) ≡ true) going)).waiting up ∙ ap framed e)
     waits_by (first ∷ more) e = inr (first.request, first.xid, first.payload, framed more, stands_first first more e)
 
     pub waits_served : (old.requests ≡ []) ⊎ Waits
-    waits_served = waits_by (unread start (past_of start (items_in s.entries)) (line_of old.history s.entries)) refl
+    waits_served = waits_by (unread start (past_of start (items_in s.entries)) (wire_of old.history s.entries)) refl
 
-    processes_by : (new : Shown) (waiting : List Sent) → unread start (past_of start (items_in s.entries)) (line_of old.history s.entries) ≡ waiting → old.requests ≢ []
+    processes_by : (new : Shown) (waiting : List Sent) → unread start (past_of start (items_in s.entries)) (wire_of old.history s.entries) ≡ waiting → old.requests ≢ []
         → ((request : Request) (xid : ℤ) (payload rest : List ℕ) → StandsFirst request xid payload rest old.requests → (steps : List Step) × Processes request xid payload steps old new) → IsServedBy start items new
-    processes_by new [] e some does = absurd (some ((s.shows.line (here (λ is. is_going (past_of start is) ≡ true) going)).waiting up ∙ ap framed e))
+    processes_by new [] e some does = absurd (some ((s.shows.wire (here (λ is. is_going (past_of start is) ≡ true) going)).waiting up ∙ ap framed e))
     processes_by new (first ∷ more) e some does =
         let d = does first.request first.xid first.payload (framed more) (stands_first first more e) in
         by_steps d.0 new (processes_shown start s.entries first more d.0 old new s.shows (here (λ is. is_going (past_of start is) ≡ true) going) up e d.1)
 
     pub processes_served : (new : Shown) → old.requests ≢ []
         → ((request : Request) (xid : ℤ) (payload rest : List ℕ) → StandsFirst request xid payload rest old.requests → (steps : List Step) × Processes request xid payload steps old new) → IsServedBy start items new
-    processes_served new some does = processes_by new (unread start (past_of start (items_in s.entries)) (line_of old.history s.entries)) refl some does
+    processes_served new some does = processes_by new (unread start (past_of start (items_in s.entries)) (wire_of old.history s.entries)) refl some does
 
-    first_for : IsHistory old.history → (first : Sent) (more : List Sent) → unread start (past_of start (items_in s.entries)) (line_of old.history s.entries) ≡ first ∷ more → IsFor first.request old.server.stage
+    first_for : IsHistory old.history → (first : Sent) (more : List Sent) → unread start (past_of start (items_in s.entries)) (wire_of old.history s.entries) ≡ first ∷ more → IsFor first.request old.server.stage
     first_for is first more e =
-        let line = s.shows.line (here (λ is. is_going (past_of start is) ≡ true) going) in
-        subst (λ (server : ServerEnd). IsFor first.request server.stage) (line.server up)
+        let wire = s.shows.wire (here (λ is. is_going (past_of start is) ≡ true) going) in
+        subst (λ (server : ServerEnd). IsFor first.request server.stage) (wire.server up)
         (for_stage old.history is start s.entries first more (here (λ is. AllAskOf IsAskable is) stands.asked) s.shows.serving (here (λ is. is_going (past_of start is) ≡ true) going) e)
 
-    answers_by : IsHistory old.history → (new : Shown) (waiting : List Sent) → unread start (past_of start (items_in s.entries)) (line_of old.history s.entries) ≡ waiting → old.requests ≢ []
+    answers_by : IsHistory old.history → (new : Shown) (waiting : List Sent) → unread start (past_of start (items_in s.entries)) (wire_of old.history s.entries) ≡ waiting → old.requests ≢ []
         → ((request : Request) (xid : ℤ) (payload rest : List ℕ) → StandsFirst request xid payload rest old.requests → IsFor request old.server.stage → (steps : List Step) × Processes request xid payload steps old new) → IsServedBy start items new
-    answers_by is new [] e some does = absurd (some ((s.shows.line (here (λ is. is_going (past_of start is) ≡ true) going)).waiting up ∙ ap framed e))
+    answers_by is new [] e some does = absurd (some ((s.shows.wire (here (λ is. is_going (past_of start is) ≡ true) going)).waiting up ∙ ap framed e))
     answers_by is new (first ∷ more) e some does =
         let d = does first.request first.xid first.payload (framed more) (stands_first first more e) (first_for is first more e) in
         by_steps d.0 new (processes_shown start s.entries first more d.0 old new s.shows (here (λ is. is_going (past_of start is) ≡ true) going) up e d.1)
 
     pub answers_served : IsHistory old.history → (new : Shown) → old.requests ≢ []
         → ((request : Request) (xid : ℤ) (payload rest : List ℕ) → StandsFirst request xid payload rest old.requests → IsFor request old.server.stage → (steps : List Step) × Processes request xid payload steps old new) → IsServedBy start items new
-    answers_served is new some does = answers_by is new (unread start (past_of start (items_in s.entries)) (line_of old.history s.entries)) refl some does
+    answers_served is new some does = answers_by is new (unread start (past_of start (items_in s.entries)) (wire_of old.history s.entries)) refl some does
 
   pub cut_served_at : (view : View) → IsResumable start → Stands start items view → is_going (past_of start items) ≡ true → old.phase ≡ Open → (processed : ℕ) × IsCutAt items processed old.requests
   cut_served_at view from stands going up = (
-    (line_of old.history s.entries).processed,
-    subst (λ is. IsCutAt is (line_of old.history s.entries).processed old.requests) s.whole
+    (wire_of old.history s.entries).processed,
+    subst (λ is. IsCutAt is (wire_of old.history s.entries).processed old.requests) s.whole
         (stream_cut start s.entries view old from (here (λ is. Stands start is view) stands) s.shows (here (λ is. is_going (past_of start is) ≡ true) going) up),
   )

@@ -4,17 +4,17 @@ use Rattle.std.specs.Bool.{⊤}
 use Rattle.std.specs.Prelude.{slice_get}
 use Rattle.std.specs.List.{flat_map}
 use Rattle.zk_frames.specs.Frame.{frame}
-use Rattle.zk_history.specs.History.{Transaction, Change, History, Tree, after}
+use Rattle.zk_nodes.specs.History.{Transaction, Change, History, Tree, after}
 use Rattle.zk_conversation.specs.Calls as call
 use Rattle.zk_conversation.specs.Calls.{Call}
 use Rattle.zk_conversation.specs.Results.{Result, NoNode, Refused, Found, Read, Listing, Made, Done}
 use Rattle.zk_turns.specs.Turns.{Start, Item, Turned, Forgets, Halts, Input, Bytes, Cut, Now, Call as Calling, Opened as Opening}
-use Rattle.zk_turns.specs.Kept.{Past}
+use Rattle.zk_turns.specs.Past.{Past}
 use Rattle.zk_turns.specs.Taken.{past_of}
 use Rattle.zk_laws.specs.Server.{held, tree_held, zxid_held, Gives, AreSent, fires_all, leaves_set_all}
 use Rattle.zk_laws.specs.Messages.{Message, Request}
 use Rattle.zk_laws.specs.ServerSteps.{ServerEnd, ServerStep, Advances, Admits, Refuses, Answers, Restores, Pongs, changes_next, MayDo, messages_by, end_after}
-use Rattle.zk_laws.specs.Served.{Entry, Goes_on, Serves, Line, new_line, line_of, line_on, line_past, items_in, MayServe, IsServing, Served, ArePayloads, first_xid, unread, is_going}
+use Rattle.zk_laws.specs.Served.{Entry, Goes_on, Serves, Wire, new_wire, wire_of, wire_on, wire_past, items_in, MayServe, IsServing, Served, ArePayloads, first_xid, unread, is_going}
 use Rattle.zk_serving.specs.GoingOn.{GoesOn}
 
 -- these transactions more
@@ -137,69 +137,69 @@ place_after h (Restores is_last relative part sent) server requests low m = low
 place_after h Pongs server requests low m = low
 
 -- what an input asks of where the server stands
-abbrev pub MayCome : History → (place : ℕ) → Input → Past → Line → Type 0
-MayCome h place input past line =
-    elim input [ Opening ↦ place ≤ length h.transactions | Bytes bytes ↦ is_going past ≡ true → (rest : List ℕ) × (line.coming ≡ bytes ++ rest) | _ ↦ ⊤ ]
+abbrev pub MayCome : History → (place : ℕ) → Input → Past → Wire → Type 0
+MayCome h place input past wire =
+    elim input [ Opening ↦ place ≤ length h.transactions | Bytes bytes ↦ is_going past ≡ true → (rest : List ℕ) × (wire.coming ≡ bytes ++ rest) | _ ↦ ⊤ ]
 
-abbrev pub line_with : (place : ℕ) → Input → Line → Line
-line_with place input line = elim input [ Opening ↦ new_line place | Bytes bytes ↦ record line { coming = drop (length bytes) line.coming } | _ ↦ line ]
+abbrev pub wire_with : (place : ℕ) → Input → Wire → Wire
+wire_with place input wire = elim input [ Opening ↦ new_wire place | Bytes bytes ↦ record wire { coming = drop (length bytes) wire.coming } | _ ↦ wire ]
 
-place_with : (h : History) (place : ℕ) (input : Input) (past : Past) (line : Line) → MayCome h place input past line → line.server.place ≤ length h.transactions
-    → (line_with place input line).server.place ≤ length h.transactions
-place_with h place Opening past line m low = m
-place_with h place Cut past line m low = low
-place_with h place (Bytes bytes) past line m low = low
-place_with h place (Now moment) past line m low = low
-place_with h place (Calling ticket asked) past line m low = low
+place_with : (h : History) (place : ℕ) (input : Input) (past : Past) (wire : Wire) → MayCome h place input past wire → wire.server.place ≤ length h.transactions
+    → (wire_with place input wire).server.place ≤ length h.transactions
+place_with h place Opening past wire m low = m
+place_with h place Cut past wire m low = low
+place_with h place (Bytes bytes) past wire m low = low
+place_with h place (Now moment) past wire m low = low
+place_with h place (Calling ticket asked) past wire m low = low
 
-come_more : (h : History) (more : List Transaction) (place : ℕ) (input : Input) (past : Past) (line : Line) → MayCome h place input past line → MayCome (longer h more) place input past line
-come_more h more place Opening past line m = let longer_is = length_more h.transactions more in omega (arith, m, longer_is)
-come_more h more place Cut past line m = m
-come_more h more place (Bytes bytes) past line m = m
-come_more h more place (Now moment) past line m = m
-come_more h more place (Calling ticket asked) past line m = m
+come_more : (h : History) (more : List Transaction) (place : ℕ) (input : Input) (past : Past) (wire : Wire) → MayCome h place input past wire → MayCome (longer h more) place input past wire
+come_more h more place Opening past wire m = let longer_is = length_more h.transactions more in omega (arith, m, longer_is)
+come_more h more place Cut past wire m = m
+come_more h more place (Bytes bytes) past wire m = m
+come_more h more place (Now moment) past wire m = m
+come_more h more place (Calling ticket asked) past wire m = m
 
 -- the server's place is one of the history
-pub place_low : (h : History) (start : Start) (entries : List Entry) → IsServing h start entries → (line_of h entries).server.place ≤ length h.transactions
+pub place_low : (h : History) (start : Start) (entries : List Entry) → IsServing h start entries → (wire_of h entries).server.place ≤ length h.transactions
 place_low h start [] s = omega arith
 place_low h start (Goes_on place (Turned turn) ∷ earlier) s =
-    place_with h place turn.input (past_of start (items_in earlier)) (line_of h earlier) s.0 (place_low h start earlier s.1)
+    place_with h place turn.input (past_of start (items_in earlier)) (wire_of h earlier) s.0 (place_low h start earlier s.1)
 place_low h start (Goes_on place Forgets ∷ earlier) s = place_low h start earlier s.1
 place_low h start (Goes_on place Halts ∷ earlier) s = place_low h start earlier s.1
 place_low h start (Serves step payloads ∷ earlier) s =
-    place_after h step (line_of h earlier).server (map (λ sent. sent.request) (unread start (past_of start (items_in earlier)) (line_of h earlier))) (place_low h start earlier s.1) s.0.may
+    place_after h step (wire_of h earlier).server (map (λ sent. sent.request) (unread start (past_of start (items_in earlier)) (wire_of h earlier))) (place_low h start earlier s.1) s.0.may
 
-serves_more : (h : History) (more : List Transaction) (start : Start) (step : ServerStep) (payloads : List (List ℕ)) (past : Past) (line : Line) → line.server.place ≤ length h.transactions
-    → MayServe h start step payloads past line → MayServe (longer h more) start step payloads past line
-serves_more h more start step payloads past line low m = record {
+serves_more : (h : History) (more : List Transaction) (start : Start) (step : ServerStep) (payloads : List (List ℕ)) (past : Past) (wire : Wire) → wire.server.place ≤ length h.transactions
+    → MayServe h start step payloads past wire → MayServe (longer h more) start step payloads past wire
+serves_more h more start step payloads past wire low m = record {
   going = m.going;
-  may = may_more h more step line.server (map (λ sent. sent.request) (unread start past line)) low m.may;
-  told = subst (λ (ms : List Message). ArePayloads (first_xid (unread start past line)) ms payloads) (sym (says_more h more step line.server.place low)) m.told;
+  may = may_more h more step wire.server (map (λ sent. sent.request) (unread start past wire)) low m.may;
+  told = subst (λ (ms : List Message). ArePayloads (first_xid (unread start past wire)) ms payloads) (sym (says_more h more step wire.server.place low)) m.told;
 }
 
 -- The servers end where they did.
-pub line_more : (h : History) (more : List Transaction) (start : Start) (entries : List Entry) → IsServing h start entries → line_of (longer h more) entries ≡ line_of h entries
-line_more h more start [] s = refl
-line_more h more start (Goes_on place item ∷ earlier) s = ap (line_past place item) (line_more h more start earlier s.1)
-line_more h more start (Serves step payloads ∷ earlier) s =
-    let line : Line = line_of h earlier in
-    let same : end_after (longer h more) step line.server ≡ end_after h step line.server =
-    ends_more h more step line.server (map (λ sent. sent.request) (unread start (past_of start (items_in earlier)) line)) (place_low h start earlier s.1) s.0.may in
-    ap (line_on (longer h more) step payloads) (line_more h more start earlier s.1)
-    ∙ ap (λ (server : ServerEnd). record { server = server; processed = line.processed + (elim step [ Advances sent ↦ 0 | _ ↦ 1 ]); coming = line.coming ++ flat_map frame payloads }) same
+pub wire_more : (h : History) (more : List Transaction) (start : Start) (entries : List Entry) → IsServing h start entries → wire_of (longer h more) entries ≡ wire_of h entries
+wire_more h more start [] s = refl
+wire_more h more start (Goes_on place item ∷ earlier) s = ap (wire_past place item) (wire_more h more start earlier s.1)
+wire_more h more start (Serves step payloads ∷ earlier) s =
+    let wire : Wire = wire_of h earlier in
+    let same : end_after (longer h more) step wire.server ≡ end_after h step wire.server =
+    ends_more h more step wire.server (map (λ sent. sent.request) (unread start (past_of start (items_in earlier)) wire)) (place_low h start earlier s.1) s.0.may in
+    ap (wire_on (longer h more) step payloads) (wire_more h more start earlier s.1)
+    ∙ ap (λ (server : ServerEnd). record { server = server; processed = wire.processed + (elim step [ Advances sent ↦ 0 | _ ↦ 1 ]); coming = wire.coming ++ flat_map frame payloads }) same
 
 -- A schedule stays one.
 pub serving_more : (h : History) (more : List Transaction) (start : Start) (entries : List Entry) → IsServing h start entries → IsServing (longer h more) start entries
 serving_more h more start [] s = s
 serving_more h more start (Goes_on place (Turned turn) ∷ earlier) s = (
-  subst (λ (line : Line). MayCome (longer h more) place turn.input (past_of start (items_in earlier)) line) (sym (line_more h more start earlier s.1)) (come_more h more place turn.input (past_of start (items_in earlier)) (line_of h earlier) s.0),
+  subst (λ (wire : Wire). MayCome (longer h more) place turn.input (past_of start (items_in earlier)) wire) (sym (wire_more h more start earlier s.1)) (come_more h more place turn.input (past_of start (items_in earlier)) (wire_of h earlier) s.0),
   serving_more h more start earlier s.1,
 )
 serving_more h more start (Goes_on place Forgets ∷ earlier) s = (s.0, serving_more h more start earlier s.1)
 serving_more h more start (Goes_on place Halts ∷ earlier) s = (s.0, serving_more h more start earlier s.1)
 serving_more h more start (Serves step payloads ∷ earlier) s = (
-  subst (λ (line : Line). MayServe (longer h more) start step payloads (past_of start (items_in earlier)) line) (sym (line_more h more start earlier s.1))
-      (serves_more h more start step payloads (past_of start (items_in earlier)) (line_of h earlier) (place_low h start earlier s.1) s.0),
+  subst (λ (wire : Wire). MayServe (longer h more) start step payloads (past_of start (items_in earlier)) wire) (sym (wire_more h more start earlier s.1))
+      (serves_more h more start step payloads (past_of start (items_in earlier)) (wire_of h earlier) (place_low h start earlier s.1) s.0),
   serving_more h more start earlier s.1,
 )
 
@@ -214,8 +214,8 @@ is_longer h later g = sym (cc_ext h later g)
 pub goes_serving : (h later : History) (start : Start) (entries : List Entry) → GoesOn h later → IsServing h start entries → IsServing later start entries
 goes_serving h later start entries g s = subst (λ (x : History). IsServing x start entries) (is_longer h later g) (serving_more h g.more start entries s)
 
-pub goes_line : (h later : History) (start : Start) (entries : List Entry) → GoesOn h later → IsServing h start entries → line_of later entries ≡ line_of h entries
-goes_line h later start entries g s = subst (λ (x : History). line_of x entries ≡ line_of h entries) (is_longer h later g) (line_more h g.more start entries s)
+pub goes_wire : (h later : History) (start : Start) (entries : List Entry) → GoesOn h later → IsServing h start entries → wire_of later entries ≡ wire_of h entries
+goes_wire h later start entries g s = subst (λ (x : History). wire_of x entries ≡ wire_of h entries) (is_longer h later g) (wire_more h g.more start entries s)
 
 pub goes_served : (h later : History) (start : Start) (items : List Item) → GoesOn h later → Served h start items → Served later start items
 goes_served h later start items g s = record { entries = s.entries; whole = s.whole; may = goes_serving h later start s.entries g s.may }

@@ -3,13 +3,13 @@ use Rattle.std.proofs.Common.{ℕ, zero, suc, ℤ, ◌≡◌, ◌≤◌, ◌+◌
 use Rattle.std.proofs.lemmas.List.{append-nil}
 use Rattle.std.specs.Bool.{⊤}
 use Rattle.zk_frames.specs.Frame.{joined}
-use Rattle.zk_history.specs.History.{History}
+use Rattle.zk_nodes.specs.History.{History}
 use Rattle.zk_turns.specs.Turns.{Start}
 use Rattle.zk_turns.specs.Taken.{past_of}
 use Rattle.zk_laws.specs.Server.{Notice}
 use Rattle.zk_laws.specs.Messages.{Request, Notifies}
 use Rattle.zk_laws.specs.ServerSteps.{ServerEnd, ServerStep, Advances, Admits, Refuses, Answers, Restores, Pongs, IsNext, MayDo, messages_by, end_after}
-use Rattle.zk_laws.specs.Served.{Sent, Entry, Serves, items_in, Line, line_of, is_going, unread, first_xid, requests, ArePayloads, IsServing}
+use Rattle.zk_laws.specs.Served.{Sent, Entry, Serves, items_in, Wire, wire_of, is_going, unread, first_xid, requests, ArePayloads, IsServing}
 use Rattle.zk_serving.specs.Steps.{Step, used_by, Moves, ended_by, sent_by, processed_by, behind}
 
 -- ---- lists
@@ -82,18 +82,18 @@ pub items_behind : (steps : List Step) (earlier : List Entry) → items_in (behi
 items_behind [] earlier = refl
 items_behind (one ∷ more) earlier = items_behind more (Serves one.step one.payloads ∷ earlier)
 
-pub server_behind : (h : History) (steps : List Step) (earlier : List Entry) → (line_of h (behind steps earlier)).server ≡ ended_by h steps (line_of h earlier).server
+pub server_behind : (h : History) (steps : List Step) (earlier : List Entry) → (wire_of h (behind steps earlier)).server ≡ ended_by h steps (wire_of h earlier).server
 server_behind h [] earlier = refl
 server_behind h (one ∷ more) earlier = server_behind h more (Serves one.step one.payloads ∷ earlier)
 
-pub processed_behind : (h : History) (steps : List Step) (earlier : List Entry) → (line_of h (behind steps earlier)).processed ≡ (line_of h earlier).processed + processed_by steps
+pub processed_behind : (h : History) (steps : List Step) (earlier : List Entry) → (wire_of h (behind steps earlier)).processed ≡ (wire_of h earlier).processed + processed_by steps
 processed_behind h [] earlier = omega arith
 processed_behind h (one ∷ more) earlier = let r = processed_behind h more (Serves one.step one.payloads ∷ earlier) in omega (arith, r)
 
-pub coming_behind : (h : History) (steps : List Step) (earlier : List Entry) → (line_of h (behind steps earlier)).coming ≡ (line_of h earlier).coming ++ sent_by steps
-coming_behind h [] earlier = sym (append-nil (line_of h earlier).coming)
+pub coming_behind : (h : History) (steps : List Step) (earlier : List Entry) → (wire_of h (behind steps earlier)).coming ≡ (wire_of h earlier).coming ++ sent_by steps
+coming_behind h [] earlier = sym (append-nil (wire_of h earlier).coming)
 coming_behind h (one ∷ more) earlier =
-    coming_behind h more (Serves one.step one.payloads ∷ earlier) ∙ append_assoc (line_of h earlier).coming (joined one.payloads) (sent_by more)
+    coming_behind h more (Serves one.step one.payloads ∷ earlier) ∙ append_assoc (wire_of h earlier).coming (joined one.payloads) (sent_by more)
 
 -- ---- a list of at most one request, and those that wait
 
@@ -156,17 +156,17 @@ waits_on xid asked sent n Pongs w = gone xid asked (drop n sent) (drop (n + 1) s
 
 -- Steps that may be taken are entries that may stand there.
 pub serving_behind : (h : History) (start : Start) (xid : ℤ) (asked : List Request) (steps : List Step) (earlier : List Entry) → is_going (past_of start (items_in earlier)) ≡ true
-    → Waits xid asked (unread start (past_of start (items_in earlier)) (line_of h earlier)) → Moves h xid asked steps (line_of h earlier).server → IsServing h start earlier → IsServing h start (behind steps earlier)
+    → Waits xid asked (unread start (past_of start (items_in earlier)) (wire_of h earlier)) → Moves h xid asked steps (wire_of h earlier).server → IsServing h start earlier → IsServing h start (behind steps earlier)
 serving_behind h start xid asked [] earlier going w m s = s
 serving_behind h start xid asked (one ∷ more) earlier going w m s =
     let past = past_of start (items_in earlier) in
-    let line : Line = line_of h earlier in
+    let wire : Wire = wire_of h earlier in
     serving_behind h start xid (drop (used_by one.step) asked) more (Serves one.step one.payloads ∷ earlier) going
-    (waits_on xid asked (requests start past) line.processed one.step w) m.2 (
+    (waits_on xid asked (requests start past) wire.processed one.step w) m.2 (
       record {
         going = going;
-        may = may_waits h xid asked (unread start past line) one.step line.server w m.0;
-        told = told_waits h xid asked (unread start past line) one.step line.server one.payloads w m.0 m.1;
+        may = may_waits h xid asked (unread start past wire) one.step wire.server w m.0;
+        told = told_waits h xid asked (unread start past wire) one.step wire.server one.payloads w m.0 m.1;
       },
       s,
     )

@@ -1,11 +1,11 @@
 -- A client with a view, and servers in memory.
 use Rattle.std.proofs.Common.{ℕ, ℤ, length, ◌≡◌, ◌≢◌, ◌≤◌, ◌<◌, true, List, [], ◌∷◌, ◌++◌, ap, sym, ◌∙◌, ◌⊎◌}
 use Rattle.std.specs.Prelude.{◌&&◌, not}
-use Rattle.zk_history.specs.History.{IsHistory}
+use Rattle.zk_nodes.specs.History.{IsHistory}
 use Rattle.zk_conversation.specs.Calls.{Call}
 use Rattle.zk_turns.specs.Turns.{Start, Output, Input, Item, Forgets, Bytes, Cut, Now, Call as Calling, Opened as Opening}
 use Rattle.zk_turns.specs.View.{View, Standing}
-use Rattle.zk_turns.specs.Kept.{is_open}
+use Rattle.zk_turns.specs.Past.{is_open}
 use Rattle.zk_turns.specs.Taken.{past_of}
 use Rattle.zk_turns.specs.Rule.{Rule, Stands}
 use Rattle.zk_turns.specs.Ranges.{IsResumable, IsTyped, AsksOf}
@@ -16,7 +16,7 @@ use Rattle.zk_laws.specs.Served.{is_going}
 use Rattle.zk_laws.specs.Headline.{IsCoherentWith}
 use Rattle.zk_serving.specs.Steps.{Step}
 use Rattle.zk_serving.specs.Shown.{Shown, Apart, Open, Over, connected, with_output, Hears, Takes, Processes}
-use Rattle.zk_serving.specs.Lines.{IsServedBy, IsPathCall, StandsFirst, IsFor, WasServed, item_of, is_up}
+use Rattle.zk_serving.specs.Wires.{IsServedBy, IsPathCall, StandsFirst, IsFor, WasServed, item_of, is_up}
 use Rattle.zk_serving.proofs.Entries.{nobody, coherent_so, opened_served, bytes_served, cut_served, moment_served, call_served, forget_served, there_served, takes_served, rests_served, waits_served, processes_served, answers_served}
 
 pub first_session : (start : Start) (view : View) (shown : Shown) → IsResumable start → 0 < start.timeout → Stands start [] view → WasServed view shown

@@ -1,13 +1,12 @@
 -- What stands first in the bytes that wait.
-use Rattle.std.proofs.Common.{ℕ, zero, suc, ℤ, pos, negsuc, ◌≡◌, ◌<◌, ◌≤◌, ◌≤ℤ◌, ◌^◌, Bool, true, false, List, [], ◌∷◌, ◌++◌, map, drop, take, length, Some, refl, ap, sym, ◌∙◌, subst, arith, append_assoc}
+use Rattle.std.proofs.Common.{ℕ, zero, suc, ℤ, pos, ◌≡◌, ◌<◌, ◌≤◌, ◌^◌, Bool, true, false, List, [], ◌∷◌, ◌++◌, map, drop, take, length, Some, refl, ap, sym, ◌∙◌, subst, arith, append_assoc}
 use Rattle.std.specs.Prelude.{◌&&◌}
 use Rattle.std.specs.List.{AllByRecursion}
 use Rattle.std.proofs.lemmas.List.{append-nil, take-append-drop}
-use Rattle.std.proofs.lemmas.Int.{ints}
 use Rattle.zk_frames.specs.Frame.{joined}
 use Rattle.zk_records.specs.Layouts.{connect_request}
-use Rattle.zk_history.specs.History.{Text}
-use Rattle.zk_history.specs.PathFault.{IsPath}
+use Rattle.zk_nodes.specs.Path.{Text}
+use Rattle.zk_nodes.specs.PathFault.{IsPath}
 use Rattle.zk_conversation.specs.Calls as call
 use Rattle.zk_conversation.specs.Calls.{Call, connect_payload}
 use Rattle.zk_conversation.specs.Questions.{question_of}
@@ -15,19 +14,18 @@ use Rattle.zk_watches.specs.Lists.{Lists}
 use Rattle.zk_watches.specs.Parts.{parts}
 use Rattle.zk_turns.specs.Turns.{Start, Item}
 use Rattle.zk_turns.specs.View.{View}
-use Rattle.zk_turns.specs.Kept.{Past, Happening, Began, Asked, Pinged, Took as Takes_in, Accepted as Accepts, Expiry, Replies as Answers_call, Watches_set as Sets_watches, Notifies as Tells, Pong as Echo, Skipped, is_open, state_of, last_of, session_of, lists_of, in_known, in_missing, in_parents, path_of_read}
+use Rattle.zk_turns.specs.Past.{Past, Happening, Began, Asked, Pinged, Took as Takes_in, Accepted as Accepts, Expiry, Replies as Answers_call, Watches_set as Sets_watches, Notifies as Tells, Pong as Echo, Skipped, is_open, state_of, last_of, session_of, lists_of, in_known, in_missing, in_parents, path_of_read}
 use Rattle.zk_turns.specs.Taken.{past_of}
 use Rattle.zk_turns.specs.Rule.{Stands, IsOpen}
 use Rattle.zk_turns.specs.Ranges.{IsResumable, IsTyped, AllAskOf}
 use Rattle.zk_turns.proofs.Ranged.{all_append, AreRanged, items_ranged, listed_short}
 use Rattle.zk_turns.proofs.Fitting.{IsShort, IsSmall, parts_small}
-use Rattle.zk_turns.proofs.Meant.{is_last_seen}
 use Rattle.zk_laws.specs.Messages.{Connect, from_zero}
-use Rattle.zk_laws.specs.Served.{Sent, Entry, items_in, Line, line_of, is_going, unread, requests, part_requests}
+use Rattle.zk_laws.specs.Served.{Sent, Entry, items_in, Wire, wire_of, is_going, unread, requests, part_requests}
 use Rattle.zk_laws.specs.Parsed.{AreTold, IsRecord, IsReadAs, AreReadAs, stream_of, payloads_of}
-use Rattle.zk_laws.proofs.Found.{all_told, first_found, each_read, connect_found}
+use Rattle.zk_laws.proofs.Found.{all_told, first_found, each_read, connect_found, last_counted}
 use Rattle.zk_serving.specs.Shown.{Shown, Open}
-use Rattle.zk_serving.specs.Lines.{Shows, IsPathCall, IsFit, StandsFirst, IsCutAt}
+use Rattle.zk_serving.specs.Wires.{Shows, IsPathCall, IsFit, StandsFirst, IsCutAt}
 use Rattle.zk_serving.proofs.Turning.{framed, framed_more}
 
 -- ---- what is known of each request
@@ -59,16 +57,6 @@ parts_paths : (past : Past) → AreRanged IsPathCall past → AllByRecursion (Is
 parts_paths past r =
     parts_small IsPath (lists_of past) (listed_short IsPathCall IsPath path_of_call in_known past r) (listed_short IsPathCall IsPath path_of_call in_missing past r)
     (listed_short IsPathCall IsPath path_of_call in_parents past r)
-
-counted : (z : ℤ) → pos 0 ≤ℤ z → z ≡ pos (from_zero z)
-counted (pos n) l = refl
-counted (negsuc n) l = absurd (omega (arith, ints))
-
-last_counted : (start : Start) (past : Past) → IsResumable start → last_of start past ≡ pos (from_zero (last_of start past))
-last_counted start past s =
-    let saved = (is_last_seen start past).saved in
-    let counts = s.counts in
-    counted (last_of start past) (omega (arith, ints))
 
 module _ (start : Start) (items : List Item) (from : IsResumable start) (timed : 0 < start.timeout) where
   connects : (since : List Happening) (before : Past) → past_of start items ≡ since ++ Began ∷ before
@@ -142,17 +130,17 @@ all_read start items view s up from typed =
 
 pub first_stands : (start : Start) (entries : List Entry) (view : View) (shown : Shown) (first : Sent) (more : List Sent) → IsResumable start → 0 < start.timeout → AllAskOf IsTyped (items_in entries) → AllAskOf IsPathCall (items_in entries)
     → Stands start (items_in entries) view → Shows start entries shown → is_going (past_of start (items_in entries)) ≡ true → shown.phase ≡ Open
-    → unread start (past_of start (items_in entries)) (line_of shown.history entries) ≡ first ∷ more → StandsFirst first.request first.xid first.payload (framed more) shown.requests
+    → unread start (past_of start (items_in entries)) (wire_of shown.history entries) ≡ first ∷ more → StandsFirst first.request first.xid first.payload (framed more) shown.requests
 first_stands start entries view shown first more from timed typed paths s shows going was e =
     let items : List Item = items_in entries in
     let past : Past = past_of start items in
-    let line : Line = line_of shown.history entries in
+    let wire : Wire = wire_of shown.history entries in
     let up = going_open start items view s going in
     record {
-      whole = (shows.line going).waiting was ∙ ap framed e;
-      small = first_told line.processed (requests start past) first more e (all_told start items from);
-      read = first_read line.processed (requests start past) first more e (all_read start items view s up from typed);
-      fit = first_all IsSentFit line.processed (requests start past) first more e
+      whole = (shows.wire going).waiting was ∙ ap framed e;
+      small = first_told wire.processed (requests start past) first more e (all_told start items from);
+      read = first_read wire.processed (requests start past) first more e (all_read start items view s up from typed);
+      fit = first_all IsSentFit wire.processed (requests start past) first more e
           (sent_fit start items from timed [] past refl (items_ranged IsPathCall start items paths) (items_ranged IsTyped start items typed));
     }
 
@@ -174,15 +162,15 @@ so_many (suc n) (s ∷ sent) low = ap suc (so_many n sent (omega (arith, low)))
 
 -- The bytes that were sent are the frames of what was processed, and what waits.
 pub stream_cut : (start : Start) (entries : List Entry) (view : View) (shown : Shown) → IsResumable start → Stands start (items_in entries) view → Shows start entries shown → is_going (past_of start (items_in entries)) ≡ true → shown.phase ≡ Open
-    → IsCutAt (items_in entries) (line_of shown.history entries).processed shown.requests
+    → IsCutAt (items_in entries) (wire_of shown.history entries).processed shown.requests
 stream_cut start entries view shown from s shows going up =
     let items : List Item = items_in entries in
     let sent : List Sent = requests start (past_of start items) in
-    let line : Line = line_of shown.history entries in
+    let wire : Wire = wire_of shown.history entries in
     let f = first_found start items view [] (stream_of items) s (going_open start items view s going) from tt refl in
     record {
-      found = map (λ s. s.payload) (take line.processed sent);
-      told = first_told_all line.processed sent (all_told start items from);
-      count = so_many line.processed sent (shows.line going).processed;
-      stream = ap (λ t. joined (map (λ s. s.payload) (take line.processed sent)) ++ t) ((shows.line going).waiting up) ∙ cut_at line.processed sent ∙ ap joined f.1 ∙ sym f.2;
+      found = map (λ s. s.payload) (take wire.processed sent);
+      told = first_told_all wire.processed sent (all_told start items from);
+      count = so_many wire.processed sent (shows.wire going).processed;
+      stream = ap (λ t. joined (map (λ s. s.payload) (take wire.processed sent)) ++ t) ((shows.wire going).waiting up) ∙ cut_at wire.processed sent ∙ ap joined f.1 ∙ sym f.2;
     }

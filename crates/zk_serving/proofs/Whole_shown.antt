@@ -6,7 +6,7 @@ use lib.Utf8.{encode}
 use Rattle.zk_jute.specs.Layout.{Value}
 use Rattle.zk_jute.specs.Spelling.{int_bytes, long_bytes, counted_bytes}
 use Rattle.zk_jute.specs.Reading.{bytes_at, int_at, long_at, boolean_at, length_of, length_at, counted_at, text_bytes_at, elements_at}
-use Rattle.zk_history.specs.StatLayout.{stat}
+use Rattle.zk_nodes.specs.StatLayout.{stat}
 use Rattle.zk_records.specs.Layouts.{watcher_event}
 use Rattle.zk_records.specs.Response.{Response, IsPayload as IsResponse, flag_at, response_at}
 use Rattle.zk_conversation.specs.Arriving.{arriving}
@@ -16,8 +16,8 @@ use Rattle.zk_turns.specs.Spelled.{IsHeaded, HasRecord}
 use Rattle.zk_cache.specs.Kept.{Full, good}
 use Rattle.zk_cache.specs.declared.held.Mark.TheVariants.{Stale}
 use Rattle.zk_session.specs.declared.states.State.TheVariants.{Expired}
-use Rattle.zk_history.specs.History.{IsHistory}
-use Rattle.zk_turns.specs.Kept.{kept_data, last_of, state_of}
+use Rattle.zk_nodes.specs.History.{IsHistory}
+use Rattle.zk_turns.specs.Past.{kept_data, last_of, state_of}
 use Rattle.zk_turns.specs.View.{view_at}
 use Rattle.zk_turns.specs.Taken.{cut, past_of}
 use Rattle.zk_turns.specs.Rule.{Stands}
@@ -27,7 +27,7 @@ use Rattle.zk_serving.specs.GoingOn.{GoesOn}
 use Rattle.zk_serving.proofs.GoingOn.{goes_serving}
 use Rattle.zk_laws.specs.ServerSteps.{Waiting, Serving, Ended}
 use Rattle.zk_laws.specs.Messages.{Connect, Restore, Ask, Ping}
-use Rattle.zk_laws.specs.Served.{items_in, line_of, requests, unread, IsServing}
+use Rattle.zk_laws.specs.Served.{items_in, wire_of, requests, unread, IsServing}
 use Rattle.zk_laws.specs.Example.{two_changes, at_a, fields_at_five, just_a, a_changed}
 use Rattle.zk_laws.specs.Meeting_example.{welcome_payload, notice_payload, new_client, until_half_read}
 use Rattle.zk_laws.proofs.Shown.{all_sent, is_history}
@@ -208,7 +208,7 @@ unfolding is_utf8 chars encode cut arriving connect_payload call_payload part_pa
 good_then = refl
 
 -- the server of the second connection held the first transaction alone
-pub behind_then : (line_of three_changes until_back).server.place ≡ 1
+pub behind_then : (wire_of three_changes until_back).server.place ≡ 1
 behind_then = refl
 
 -- the change that was missed made the answer stale
@@ -222,7 +222,7 @@ unfolding is_utf8 chars encode cut arriving connect_payload call_payload part_pa
 asked_then = refl
 
 -- and each was processed
-pub answered_then : unread new_client (past_of new_client (items_in until_written)) (line_of three_changes until_written) ≡ []
+pub answered_then : unread new_client (past_of new_client (items_in until_written)) (wire_of three_changes until_written) ≡ []
 unfolding is_utf8 chars encode cut arriving connect_payload call_payload part_payload ping_payload int_bytes long_bytes counted_bytes bytes_at int_at long_at boolean_at length_of length_at counted_at text_bytes_at elements_at flag_at response_at record_of
 answered_then = refl
 

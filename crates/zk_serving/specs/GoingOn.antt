@@ -1,6 +1,6 @@
 -- A history that goes on.
 use Rattle.std.specs.Prelude.{◌≡◌, List, ◌++◌}
-use Rattle.zk_history.specs.History.{Transaction, History}
+use Rattle.zk_nodes.specs.History.{Transaction, History}
 
 -- the same first tree, and transactions behind those that were there
 pub record GoesOn (h later : History) : Type 0 where

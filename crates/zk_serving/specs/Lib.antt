@@ -1,5 +1,5 @@
 pub mod GoingOn
 pub mod Steps
 pub mod Shown
-pub mod Lines
+pub mod Wires
 pub mod Whole_example

@@ -2,12 +2,12 @@
 use Rattle.std.specs.Prelude.{ℕ, ℤ, pos, ◌≡◌, ◌≢◌, ◌≤◌, false, List, [], ◌∷◌, ◌++◌, length}
 use Rattle.std.specs.List.{All, AllByRecursion}
 use Rattle.zk_frames.specs.Frame.{frame}
-use Rattle.zk_history.specs.History.{History}
+use Rattle.zk_nodes.specs.History.{History}
 use Rattle.zk_turns.specs.Turns.{Output, Send, ends_connection}
 use Rattle.zk_laws.specs.Messages.{Request}
 use Rattle.zk_serving.specs.GoingOn.{GoesOn}
 use Rattle.zk_laws.specs.ServerSteps.{ServerEnd}
-use Rattle.zk_laws.specs.Served.{new_line}
+use Rattle.zk_laws.specs.Served.{new_wire}
 use Rattle.zk_serving.specs.Steps.{Step, Moves, ended_by, sent_by, processed_by}
 
 -- how far the connection is: there is none, its server takes requests, its server has ended it
@@ -29,7 +29,7 @@ AllTaken h taken = All (λ place. place ≤ length h.transactions) taken
 
 -- a new connection to a server that holds so many transactions
 abbrev pub connected : ℕ → Shown → Shown
-connected place shown = record { history = shown.history; server = (new_line place).server; phase = Open; requests = []; output = [] }
+connected place shown = record { history = shown.history; server = (new_wire place).server; phase = Open; requests = []; output = [] }
 
 -- what is left once the first bytes are received
 abbrev pub with_output : List ℕ → Shown → Shown

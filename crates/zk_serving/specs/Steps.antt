@@ -1,7 +1,7 @@
 -- What a server does on a connection, step after step, with the payloads of what it sends.
 use Rattle.std.specs.Prelude.{ℕ, ℤ, ◌+◌, List, [], ◌∷◌, ◌++◌, drop, ⊤}
 use Rattle.zk_frames.specs.Frame.{joined}
-use Rattle.zk_history.specs.History.{History}
+use Rattle.zk_nodes.specs.History.{History}
 use Rattle.zk_laws.specs.Messages.{Request}
 use Rattle.zk_laws.specs.ServerSteps.{ServerEnd, ServerStep, Advances, MayDo, messages_by, end_after}
 use Rattle.zk_laws.specs.Served.{ArePayloads, Entry, Serves}

@@ -3,8 +3,9 @@
 -- behind; the watches are set again in two parts, and the first tells of the change that was missed. A ping is answered; a write is
 -- taken and answered; then the session expires over a third connection.
 use Rattle.std.specs.Prelude.{ℕ, pos, negsuc, true, false, List, [], ◌∷◌, ◌++◌, replicate, Some}
-use Rattle.zk_history.specs.declared.stat.Stat.{Stat}
-use Rattle.zk_history.specs.History.{Text, Sets, Transaction, History}
+use Rattle.zk_nodes.specs.declared.stat.Stat.{Stat}
+use Rattle.zk_nodes.specs.Path.{Text}
+use Rattle.zk_nodes.specs.History.{Sets, Transaction, History}
 use Rattle.zk_frames.specs.Frame.{frame}
 use Rattle.zk_watches.specs.Lists.{Lists}
 use Rattle.zk_conversation.specs.Calls.{Call, Exists, SetData}

@@ -4,11 +4,11 @@
 
 ghost use Rattle.std.specs.Prelude.{◌≡◌, ◌≢◌, ◌≤◌, ◌<◌, ◌⊎◌, ◌++◌, ◌+◌, ◌^◌, true, false, map, List, [], ◌∷◌, ℕ, ℤ, pos, Some, take, drop, slice_index, slice_set, length as length_of};
 ghost use Rattle.std.specs.List.{AllByRecursion};
-ghost use Rattle.zk_history.specs.History.{History, IsHistory};
+ghost use Rattle.zk_nodes.specs.History.{History, IsHistory};
 ghost use Rattle.zk_conversation.specs.Calls.{Call};
 ghost use Rattle.zk_turns.specs.Turns.{Start, Output, Send, ends_connection, Item as Client_item, Forgets, Halts, Bytes, Cut, Now, Call as Calling, Opened as Opening};
 ghost use Rattle.zk_turns.specs.View.{View, view_at};
-ghost use Rattle.zk_turns.specs.Kept.{kept_data, last_of, state_of};
+ghost use Rattle.zk_turns.specs.Past.{kept_data, last_of, state_of};
 ghost use Rattle.zk_cache.specs.Kept.{Full};
 ghost use Rattle.zk_cache.specs.declared.held.Mark.TheVariants.{Good, Stale};
 ghost use Rattle.zk_session.specs.declared.states.State.TheVariants.{Expired};
@@ -23,17 +23,17 @@ ghost use Rattle.zk_laws.specs.ServerSteps.{ServerEnd, MayDo, messages_by, end_a
 ghost use Rattle.zk_frames.specs.Frame.{frame, joined as frames, length_field};
 ghost use Rattle.zk_laws.specs.Headline.{IsCoherentWith, IsQuietAt};
 ghost use Rattle.zk_serving.specs.GoingOn.{GoesOn};
-ghost use Rattle.zk_laws.specs.Served.{ArePayloads, Entry, is_going, items_in, line_of, requests, unread, IsServing, Served};
+ghost use Rattle.zk_laws.specs.Served.{ArePayloads, Entry, is_going, items_in, wire_of, requests, unread, IsServing, Served};
 ghost use Rattle.zk_serving.specs.Steps.{Step, used_by, Moves, ended_by, sent_by, processed_by};
 ghost use Rattle.zk_serving.specs.Shown.{Shown, Apart, Open, Over, AllTaken, connected, with_output, more_requests, Hears, Takes, Processes};
-ghost use Rattle.zk_serving.specs.Lines.{IsServedBy, IsPathCall, StandsFirst, IsFor, IsCutAt, WasServed, item_of, is_up};
+ghost use Rattle.zk_serving.specs.Wires.{IsServedBy, IsPathCall, StandsFirst, IsFor, IsCutAt, WasServed, item_of, is_up};
 
 /// A schedule stays one when the history goes on, its servers end where they did, and each stands at a place of the history.
-#[tactic(auto, using(crate::proofs::GoingOn::goes_serving, crate::proofs::GoingOn::goes_line, crate::proofs::GoingOn::place_low, crate::proofs::GoingOn::goes_served))]
+#[tactic(auto, using(crate::proofs::GoingOn::goes_serving, crate::proofs::GoingOn::goes_wire, crate::proofs::GoingOn::place_low, crate::proofs::GoingOn::goes_served))]
 pub fn history_goes_on()
     ensures serving { (h later : History) (start : Start) (entries : List Entry) → GoesOn h later → IsServing h start entries → IsServing later start entries }
-    ensures line { (h later : History) (start : Start) (entries : List Entry) → GoesOn h later → IsServing h start entries → line_of later entries ≡ line_of h entries }
-    ensures place { (h : History) (start : Start) (entries : List Entry) → IsServing h start entries → (line_of h entries).server.place ≤ length_of h.transactions }
+    ensures wire { (h later : History) (start : Start) (entries : List Entry) → GoesOn h later → IsServing h start entries → wire_of later entries ≡ wire_of h entries }
+    ensures place { (h : History) (start : Start) (entries : List Entry) → IsServing h start entries → (wire_of h entries).server.place ≤ length_of h.transactions }
     ensures served { (h later : History) (start : Start) (items : List Client_item) → GoesOn h later → Served h start items → Served later start items }
 {}
 
@@ -195,10 +195,10 @@ pub fn whole_schedule()
     ensures resumable { IsResumable new_client }
     ensures typed { AllAskOf IsTyped (items_in until_expired) }
     ensures kept { kept_data at_a (past_of new_client (items_in until_lost)) ≡ Some (record { answer = Full (Some (104 ∷ 105 ∷ [])) fields_at_five; mark = Good }) }
-    ensures behind { (line_of three_changes until_back).server.place ≡ 1 }
+    ensures behind { (wire_of three_changes until_back).server.place ≡ 1 }
     ensures stale { kept_data at_a (past_of new_client (items_in until_told)) ≡ Some (record { answer = Full (Some (104 ∷ 105 ∷ [])) fields_at_five; mark = Stale }) }
     ensures asked { map (λ sent. sent.request) (requests new_client (past_of new_client (items_in until_written))) ≡ Connect 5 ∷ Restore false 5 just_a ∷ Restore true 5 just_long ∷ Ping ∷ Ask write_a ∷ [] }
-    ensures answered { unread new_client (past_of new_client (items_in until_written)) (line_of three_changes until_written) ≡ [] }
+    ensures answered { unread new_client (past_of new_client (items_in until_written)) (wire_of three_changes until_written) ≡ [] }
     ensures quiet { IsQuietAt three_changes new_client until_written }
     ensures written { last_of new_client (past_of new_client (items_in until_written)) ≡ pos 7 }
     ensures expired { state_of (past_of new_client (items_in until_expired)) ≡ Expired }

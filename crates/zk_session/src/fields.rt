@@ -1,9 +1,5 @@
 //! What goes into a session and comes out of it by fields.
 
-/// The most bytes of a password. A payload has at most 4,194,304 bytes, and 20 of a response stand outside its password, so
-/// no response can bring more.
-pub const LONGEST_PASSWORD: usize = 4_194_284;
-
 /// What another session can be resumed from: the id and the password by which a server knows the session, and the greatest
 /// zxid seen.
 #[derive(Clone, Copy, Debug, PartialEq, Eq)]

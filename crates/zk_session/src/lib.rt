@@ -4,10 +4,10 @@
 #![tactic(auto)]
 
 mod fields;
-mod kept;
+mod session;
 pub mod laws;
 mod states;
 
-pub use fields::{ConnectFields, LONGEST_PASSWORD, Response, Saved};
-pub use kept::Session;
+pub use fields::{ConnectFields, Response, Saved};
+pub use session::Session;
 pub use states::{Accepted, Due, State};

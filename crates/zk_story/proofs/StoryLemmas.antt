@@ -1,7 +1,7 @@
 -- What a line does, by what its words say.
 use Rattle.std.proofs.Common.{◌≡◌, ◌≢◌, IfOk, IfErr}
 use Rattle.std.specs.Prelude.{String, string_bytes, Result, Ok, Err, Some}
-use Rattle.zk_history.specs.History.{Text}
+use Rattle.zk_nodes.specs.Path.{Text}
 use Rattle.zk_script.specs.declared.script_fault.ScriptFault.{ScriptFault}
 use Rattle.zk_script.specs.declared.script_fault.ScriptFault.TheVariants as faults
 use Rattle.zk_script.specs.declared.script_fault.ScriptFault.TheVariants.{Memory}

@@ -1,7 +1,8 @@
 -- The lines that answer look-ups of a history.
 use Rattle.std.specs.Prelude.{◌≡◌, ℕ, ℤ, List, [], ◌∷◌, ◌++◌, length, codes}
 use Rattle.std.specs.Fmt.{decimal, signed_decimal}
-use Rattle.zk_history.specs.History.{Text, View, Absence, Contents, Children}
+use Rattle.zk_nodes.specs.Path.{Text}
+use Rattle.zk_nodes.specs.History.{View, Absence, Contents, Children}
 use Rattle.zk_script.specs.Values.{AreNames, names_text, spaced, stat_words}
 use Rattle.zk_script.specs.Words.{bytes_word}
 

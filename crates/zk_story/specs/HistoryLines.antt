@@ -2,9 +2,10 @@
 use Rattle.std.specs.Prelude.{ℕ, ℤ, if◌then◌else◌, List, [], ◌∷◌, codes, Option, Some, None, Result, Ok, Err, bytes_eq}
 use Rattle.std.specs.Option.{option_map}
 use Rattle.std.specs.List.{list_all}
-use Rattle.zk_history.specs.History.{Text, Change, Creates, Sets, Deletes, path_of}
+use Rattle.zk_nodes.specs.Path.{Text, path_of}
+use Rattle.zk_nodes.specs.History.{Change, Creates, Sets, Deletes}
 use Rattle.zk_history.specs.Made.{change_of}
-use Rattle.zk_history.specs.declared.side.Side.{Side}
+use Rattle.zk_nodes.specs.declared.side.Side.{Side}
 use Rattle.zk_story.specs.declared.history_line.HistoryLine.{HistoryLine}
 use Rattle.zk_story.specs.declared.history_line.HistoryLine.TheVariants as line
 use Rattle.zk_story.specs.declared.history_line.Keyword.{Keyword}

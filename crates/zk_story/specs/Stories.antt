@@ -1,12 +1,13 @@
 -- What a line of a script makes of a history, and what it prints.
 use Rattle.std.specs.Prelude.{◌≡◌, ◌≢◌, ◌<ℤ◌, ⊤, ℕ, Bool, true, false, not, ◌&&◌, if◌then◌else◌, pos, List, [], Option, Some, None, Result, Ok, Err}
-use Rattle.zk_history.specs.History.{Text, Creates, newest, path_of, view, tree_at}
-use Rattle.zk_history.specs.Kept.{Kept, IsAccepted, empty_kept, history_of, natural, newest_tree, with_node, with_transaction, with_change}
+use Rattle.zk_nodes.specs.Path.{Text, path_of}
+use Rattle.zk_nodes.specs.History.{Creates, newest, view, tree_at}
+use Rattle.zk_history.specs.HistoryView.{HistoryView, IsAccepted, empty_kept, history_of, natural, newest_tree, with_node, with_transaction, with_change}
 use Rattle.zk_history.specs.Refused.{NodeRefused, BeginRefused, ChangeRefused}
 use Rattle.zk_history.specs.declared.history_fault.HistoryFault.{HistoryFault}
 use Rattle.zk_history.specs.declared.history_fault.HistoryFault.TheVariants as refused
-use Rattle.zk_history.specs.declared.side.Side.{Side}
-use Rattle.zk_history.specs.declared.side.Side.TheVariants.{Data, Child}
+use Rattle.zk_nodes.specs.declared.side.Side.{Side}
+use Rattle.zk_nodes.specs.declared.side.Side.TheVariants.{Data, Child}
 use Rattle.zk_story.specs.declared.history_line.Keyword.{Keyword}
 use Rattle.zk_story.specs.declared.history_line.Keyword.TheVariants as keyword
 use Rattle.zk_script.specs.declared.script_fault.ScriptFault.{ScriptFault}
@@ -20,7 +21,7 @@ use Rattle.zk_script.specs.Scripts.{Rules}
 
 -- Where a script stands: the history that its lines made, whether a transaction was begun, and whether it was asked.
 pub record Position : Type 0 where
-  pub history : Kept
+  pub history : HistoryView
   pub begun : Bool
   pub asked : Bool
 
@@ -61,26 +62,26 @@ allowed (Ok done) = Ok done
 allowed (Err why) = Err (reason_of why)
 
 -- what is answered at a zxid and a path
-abbrev pub IsAnswer : Side → Kept → ℕ → Text → List ℕ → Type 0
+abbrev pub IsAnswer : Side → HistoryView → ℕ → Text → List ℕ → Type 0
 IsAnswer Data kept zxid path answer = answer ≡ data_text (view Data (tree_at (history_of kept) zxid) (path_of path))
 IsAnswer Child kept zxid path answer = TellsNames (view Child (tree_at (history_of kept) zxid) (path_of path)) answer
 
 -- What a line that is taken makes of the history that was kept, and what it answers.
-abbrev pub Does : LineValue → Kept → Kept → List ℕ → Type 0
+abbrev pub Does : LineValue → HistoryView → HistoryView → List ℕ → Type 0
 Does (NodeLine path content time) old new answer = (new ≡ with_node old (path_of path) content time) × (answer ≡ [])
 Does (BeginLine zxid time) old new answer = (new ≡ with_transaction old (natural zxid) time) × (answer ≡ [])
 Does (ChangeLine change) old new answer = (new ≡ with_change old change) × (answer ≡ [])
 Does (AskLine side zxid path) old new answer = (new ≡ old) × IsAnswer side old (natural zxid) path answer
 
 -- When the history that is kept takes a line: a node before the first transaction, zxids that rise, and changes that are legal.
-abbrev pub Allows : LineValue → Kept → Type 0
+abbrev pub Allows : LineValue → HistoryView → Type 0
 Allows (NodeLine path content time) old = (old.transactions ≡ []) × IsAccepted (Creates (path_of path) content (pos 0)) (newest_tree old)
 Allows (BeginLine zxid time) old = pos (newest 0 old.transactions) <ℤ zxid
 Allows (ChangeLine change) old = (old.transactions ≢ []) × IsAccepted change (newest_tree old)
 Allows (AskLine side zxid path) old = ⊤
 
 -- Why a line is refused by the history that is kept.
-abbrev pub IsRefused : LineValue → Kept → ScriptFault → Type 0
+abbrev pub IsRefused : LineValue → HistoryView → ScriptFault → Type 0
 IsRefused (NodeLine path content time) old fault = (why : HistoryFault) × (fault ≡ reason_of why) × NodeRefused old (path_of path) content why
 IsRefused (BeginLine zxid time) old fault = (why : HistoryFault) × (fault ≡ reason_of why) × BeginRefused old zxid why
 IsRefused (ChangeLine change) old fault = (why : HistoryFault) × (fault ≡ reason_of why) × ChangeRefused old change why

@@ -7,7 +7,8 @@ ghost use Rattle.zk_history.specs.Shown.{data_told, names_told};
 ghost use Rattle.zk_story.specs.Answers.{data_text, names_line, TellsNames};
 
 use std::alloc::{AllocError, Allocator};
-use zk_history::{Data, Names};
+use zk_history::Data;
+use zk_nodes::Names;
 use zk_script::values::{push_all, push_data_word, push_stat, push_word};
 
 /// Adds the line that answers a look-up of data.

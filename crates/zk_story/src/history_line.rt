@@ -5,9 +5,10 @@ ghost use Rattle.zk_script.specs.Reads.{Reads};
 ghost use Rattle.zk_story.specs.HistoryLines.{keyword_of, value_of, node_at, begin_at, create_at, set_at, delete_at, look_up_at, ask_at, line_at};
 
 use std::alloc::Allocator;
-use zk_history::{Change, Path, Side};
+use zk_history::Change;
+use zk_nodes::{Path, Side};
 use zk_script::reads::{
-    are_printed, data_at, is_named, path_at, side_at, text_at, time_at, zxid_at,
+    are_printed, is_named, parse_data, parse_path, parse_side, parse_text, parse_time, parse_zxid,
 };
 use zk_script::script_fault::ScriptFault;
 
@@ -58,68 +59,74 @@ pub enum HistoryLine<A: Allocator> {
     Ask(Side, i64, Path<A>),
 }
 
-fn node_at<A: Allocator + Copy>(alloc: A, words: &[&[u8]]) -> Result<HistoryLine<A>, ScriptFault>
+fn parse_node<A: Allocator + Copy>(alloc: A, words: &[&[u8]]) -> Result<HistoryLine<A>, ScriptFault>
     ensures { Reads value_of result (node_at (map (λ w. w.now) words.now)) }
 {
     let [path, bytes, time] = words else {
         return Err(ScriptFault::Words);
     };
-    let path = text_at(alloc, path)?;
-    let time = time_at(time)?;
-    let bytes = data_at(alloc, bytes)?;
-    let path = path_at(alloc, path.as_str())?;
+    let path = parse_text(alloc, path)?;
+    let time = parse_time(time)?;
+    let bytes = parse_data(alloc, bytes)?;
+    let path = parse_path(alloc, path.as_str())?;
     Ok(HistoryLine::Node(path, bytes, time))
 }
 
-fn begin_at<A: Allocator + Copy>(words: &[&[u8]]) -> Result<HistoryLine<A>, ScriptFault>
+fn parse_begin<A: Allocator + Copy>(words: &[&[u8]]) -> Result<HistoryLine<A>, ScriptFault>
     ensures { Reads value_of result (begin_at (map (λ w. w.now) words.now)) }
 {
     let [zxid, time] = words else {
         return Err(ScriptFault::Words);
     };
-    let zxid = zxid_at(zxid)?;
-    let time = time_at(time)?;
+    let zxid = parse_zxid(zxid)?;
+    let time = parse_time(time)?;
     Ok(HistoryLine::Begin(zxid, time))
 }
 
-fn create_at<A: Allocator + Copy>(alloc: A, words: &[&[u8]]) -> Result<HistoryLine<A>, ScriptFault>
+fn parse_create<A: Allocator + Copy>(
+    alloc: A,
+    words: &[&[u8]],
+) -> Result<HistoryLine<A>, ScriptFault>
     ensures { Reads value_of result (create_at (map (λ w. w.now) words.now)) }
 {
     let [path, bytes, owner] = words else {
         return Err(ScriptFault::Words);
     };
-    let path = text_at(alloc, path)?;
-    let owner = time_at(owner)?;
-    let bytes = data_at(alloc, bytes)?;
-    let path = path_at(alloc, path.as_str())?;
+    let path = parse_text(alloc, path)?;
+    let owner = parse_time(owner)?;
+    let bytes = parse_data(alloc, bytes)?;
+    let path = parse_path(alloc, path.as_str())?;
     Ok(HistoryLine::Change(Change::Create(path, bytes, owner)))
 }
 
-fn set_at<A: Allocator + Copy>(alloc: A, words: &[&[u8]]) -> Result<HistoryLine<A>, ScriptFault>
+fn parse_set<A: Allocator + Copy>(alloc: A, words: &[&[u8]]) -> Result<HistoryLine<A>, ScriptFault>
     ensures { Reads value_of result (set_at (map (λ w. w.now) words.now)) }
 {
     let [path, bytes] = words else {
         return Err(ScriptFault::Words);
     };
-    let path = text_at(alloc, path)?;
-    let bytes = data_at(alloc, bytes)?;
-    let path = path_at(alloc, path.as_str())?;
+    let path = parse_text(alloc, path)?;
+    let bytes = parse_data(alloc, bytes)?;
+    let path = parse_path(alloc, path.as_str())?;
     Ok(HistoryLine::Change(Change::Set(path, bytes)))
 }
 
-fn delete_at<A: Allocator + Copy>(alloc: A, words: &[&[u8]]) -> Result<HistoryLine<A>, ScriptFault>
+fn parse_delete<A: Allocator + Copy>(
+    alloc: A,
+    words: &[&[u8]],
+) -> Result<HistoryLine<A>, ScriptFault>
     ensures { Reads value_of result (delete_at (map (λ w. w.now) words.now)) }
 {
     let [path] = words else {
         return Err(ScriptFault::Words);
     };
-    let path = text_at(alloc, path)?;
-    let path = path_at(alloc, path.as_str())?;
+    let path = parse_text(alloc, path)?;
+    let path = parse_path(alloc, path.as_str())?;
     Ok(HistoryLine::Change(Change::Delete(path)))
 }
 
 #[tactic(auto, unfolding(crate::specs::HistoryLines::look_up_at))]
-fn look_up_at<A: Allocator + Copy>(
+fn parse_look_up<A: Allocator + Copy>(
     alloc: A,
     zxid: &[u8],
     side: &[u8],
@@ -127,24 +134,24 @@ fn look_up_at<A: Allocator + Copy>(
 ) -> Result<HistoryLine<A>, ScriptFault>
     ensures { Reads value_of result (look_up_at zxid.now side.now path.now) }
 {
-    let side = side_at(side)?;
-    let path = text_at(alloc, path)?;
-    let zxid = time_at(zxid)?;
-    let path = path_at(alloc, path.as_str())?;
+    let side = parse_side(side)?;
+    let path = parse_text(alloc, path)?;
+    let zxid = parse_time(zxid)?;
+    let path = parse_path(alloc, path.as_str())?;
     Ok(HistoryLine::Ask(side, zxid, path))
 }
 
-fn ask_at<A: Allocator + Copy>(alloc: A, words: &[&[u8]]) -> Result<HistoryLine<A>, ScriptFault>
+fn parse_ask<A: Allocator + Copy>(alloc: A, words: &[&[u8]]) -> Result<HistoryLine<A>, ScriptFault>
     ensures { Reads value_of result (ask_at (map (λ w. w.now) words.now)) }
 {
     let [zxid, side, path] = words else {
         return Err(ScriptFault::Words);
     };
-    look_up_at(alloc, zxid, side, path)
+    parse_look_up(alloc, zxid, side, path)
 }
 
 /// The line of a keyword and the words behind it.
-pub fn line_at<A: Allocator + Copy>(
+pub(crate) fn parse_line<A: Allocator + Copy>(
     alloc: A,
     keyword: Keyword,
     words: &[&[u8]],
@@ -155,11 +162,11 @@ pub fn line_at<A: Allocator + Copy>(
         return Err(ScriptFault::Words);
     }
     match keyword {
-        Keyword::Node => node_at(alloc, words),
-        Keyword::Tx => begin_at(words),
-        Keyword::Create => create_at(alloc, words),
-        Keyword::Set => set_at(alloc, words),
-        Keyword::Delete => delete_at(alloc, words),
-        Keyword::Ask => ask_at(alloc, words),
+        Keyword::Node => parse_node(alloc, words),
+        Keyword::Tx => parse_begin(words),
+        Keyword::Create => parse_create(alloc, words),
+        Keyword::Set => parse_set(alloc, words),
+        Keyword::Delete => parse_delete(alloc, words),
+        Keyword::Ask => parse_ask(alloc, words),
     }
 }

@@ -2,18 +2,20 @@
 
 ghost use Rattle.std.specs.Prelude.{◌≡◌, ◌≢◌, ◌++◌, List, ℕ, OnOk, OnErr, IfOk, IfErr, map, string_bytes};
 ghost use Rattle.std.specs.Option.{option_map};
-ghost use Rattle.zk_history.specs.History.{path_of, view, tree_at};
-ghost use Rattle.zk_history.specs.Kept.{history_of, natural};
-ghost use Rattle.zk_history.specs.declared.side.Side.TheVariants.{Data, Child};
+ghost use Rattle.zk_nodes.specs.Path.{path_of};
+ghost use Rattle.zk_nodes.specs.History.{view, tree_at};
+ghost use Rattle.zk_history.specs.HistoryView.{history_of, natural};
+ghost use Rattle.zk_nodes.specs.declared.side.Side.TheVariants.{Data, Child};
 ghost use Rattle.zk_story.specs.Answers.{data_text, TellsNames};
 ghost use Rattle.zk_story.specs.HistoryLines.{value_of};
 ghost use Rattle.zk_script.specs.Reads.{Reads};
 ghost use Rattle.zk_story.specs.Stories.{Position, allowed, first_position, may_stand, position_of, rules, said, IsAnswer, IsRefused, RefusesLine, Takes, TakesLine};
 
 use crate::answers::{push_data, push_names};
-use crate::history_line::{HistoryLine, Keyword, line_at};
+use crate::history_line::{HistoryLine, Keyword, parse_line};
 use std::alloc::{AllocError, Allocator};
-use zk_history::{History, HistoryFault, Path, Side};
+use zk_history::{History, HistoryFault};
+use zk_nodes::{Path, Side};
 use zk_script::pieces::words_of;
 use zk_script::reads::is_remark;
 use zk_script::script::LineReader;
@@ -152,7 +154,7 @@ impl<A: Allocator + Copy> Story<A> {
         if !self.takes(keyword) {
             return Err(ScriptFault::Place);
         }
-        let line = line_at(alloc, keyword, behind)?;
+        let line = parse_line(alloc, keyword, behind)?;
         Ok(Some(line))
     }
 

@@ -13,12 +13,12 @@ use Rattle.zk_conversation.specs.declared.phase.Phase.{Phase}
 use Rattle.zk_conversation.specs.declared.phase.Phase.TheVariants.{Talking, Opening, Closed}
 use Rattle.zk_conversation.specs.declared.fault.TalkFault.{TalkFault}
 use Rattle.zk_conversation.specs.declared.fault.TalkFault.TheVariants.{OtherXid}
-use Rattle.zk_history.specs.History.{Text}
+use Rattle.zk_nodes.specs.Path.{Text}
 use Rattle.zk_conversation.specs.Questions.{Question}
 use Rattle.zk_conversation.specs.Results.{Result, result_of}
 use Rattle.zk_conversation.specs.Pending.{Pending, Waiting, Part_waits, Call_waits}
 use Rattle.zk_conversation.specs.Arriving.{Arrived, Connected, Replied, Watches_set, Pong, Skipped, header_of, first_arriving, noticed, notice_arriving, call_arriving, reply_arriving, oldest_arriving, header_arriving, later_arriving, arriving}
-use Rattle.zk_records.specs.declared.header.ReplyHeader.{ReplyHeader}
+use Rattle.zk_records.specs.declared.reply_header.ReplyHeader.{ReplyHeader}
 
 -- this waits first
 abbrev pub First : Waiting → List Pending → Type 0

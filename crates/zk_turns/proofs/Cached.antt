@@ -3,14 +3,14 @@ use Rattle.std.proofs.Common.{◌≡◌, ℕ, ℤ, Bool, true, false, cond, ◌&
 use Rattle.std.specs.Prelude.{bytes_eq}
 use Rattle.std.specs.Ordering.{int_eq}
 use Rattle.std.proofs.lemmas.Bool.Decides.{Decides-int_eq}
-use Rattle.zk_history.specs.History.{Text}
-use Rattle.zk_history.specs.declared.data_stat.DataStat.{DataStat}
-use Rattle.zk_history.specs.declared.side.Side.TheVariants.{Data, Child}
+use Rattle.zk_nodes.specs.Path.{Text}
+use Rattle.zk_nodes.specs.declared.data_stat.DataStat.{DataStat}
+use Rattle.zk_nodes.specs.declared.side.Side.TheVariants.{Data, Child}
 use Rattle.zk_records.specs.declared.event.Event.{Event}
 use Rattle.zk_conversation.specs.Questions.{Question, Close}
 use Rattle.zk_conversation.specs.Results.{Result}
 use Rattle.zk_turns.specs.Turns.{Start}
-use Rattle.zk_turns.specs.Kept.{Past, Happening, Began, Took, Forgot, Replies, Notifies, Left, Word, Says, Ends, Empties, Nothing, if_at, word_data, leaves_data, leaves_child, data_by, data_with, kept_by, Message, good_answer, kept_data, kept_names}
+use Rattle.zk_turns.specs.Past.{Past, Happening, Began, Took, Forgot, Replies, Notifies, Left, Word, Says, Ends, Empties, Nothing, if_at, word_data, leaves_data, leaves_child, data_by, data_with, kept_by, Message, good_answer, kept_data, kept_names}
 use Rattle.zk_cache.specs.Kept.{Answer, Absent, Known, Full, Names, same_fields, good, stale, without_stale, merged}
 use Rattle.zk_cache.specs.declared.held.Kept.{Kept}
 use Rattle.zk_cache.specs.declared.held.Mark.{Mark}
@@ -32,6 +32,17 @@ first_true false b e = absurd cc
 
 same_int : (a b : ℤ) → int_eq a b ≡ true → a ≡ b
 same_int a b e = (Decides-int_eq a b).0 e
+
+pub fields_same-refl : (a : DataStat) → same_fields a a ≡ true
+fields_same-refl a =
+    let e1 = (Decides-int_eq a.czxid a.czxid).1 refl in
+    let e2 = (Decides-int_eq a.mzxid a.mzxid).1 refl in
+    let e3 = (Decides-int_eq a.ctime a.ctime).1 refl in
+    let e4 = (Decides-int_eq a.mtime a.mtime).1 refl in
+    let e5 = (Decides-int_eq a.version a.version).1 refl in
+    let e6 = (Decides-int_eq a.ephemeral_owner a.ephemeral_owner).1 refl in
+    let e7 = (Decides-int_eq a.data_length a.data_length).1 refl in
+    rw (e1, e2, e3, e4, e5, e6, e7) refl
 
 pub fields_same : (a b : DataStat) → same_fields a b ≡ true → a ≡ b
 fields_same a b e0 =

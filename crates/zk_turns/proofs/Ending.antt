@@ -8,7 +8,6 @@ use Rattle.zk_frames.specs.Frame.{length_field}
 use Rattle.zk_frames.specs.Stream.{StandsNext}
 use Rattle.zk_frames.specs.declared.fault.FrameFault.{FrameFault}
 use Rattle.zk_frames.specs.declared.fault.FrameFault.TheVariants.{Negative, TooLong, Memory}
-use Rattle.zk_frames.specs.declared.reader.TheConstants.{LONGEST_INCOMING}
 use Rattle.zk_session.specs.declared.states.State.{State}
 use Rattle.zk_session.specs.declared.states.State.TheVariants.{Idle, Connecting, Connected, Expired, Closed}
 use Rattle.zk_conversation.specs.declared.fault.TalkFault.{TalkFault}
@@ -17,7 +16,7 @@ use Rattle.zk_conversation.specs.Results.{Result}
 use Rattle.zk_conversation.specs.Calls.{Call}
 use Rattle.zk_conversation.specs.Arriving.{Arrived, Connected as Welcomed, Replied, Watches_set as Part_set, Notice, Pong as Ponged, Skipped as Passed, arriving}
 use Rattle.zk_turns.specs.Turns.{Outcome, Fault, Framed, Talked, Silent, Behind, WatchesRefused, Signal, Opens, Comes, Cuts, Ticks, Calls, Forget, Halt}
-use Rattle.zk_turns.specs.Kept.{is_talking, Happening, Took, Dropped, Lost, Pinged, Replies, Watches_set}
+use Rattle.zk_turns.specs.Past.{is_talking, Happening, Took, Dropped, Lost, Pinged, Replies, Watches_set}
 use Rattle.zk_turns.specs.View.{View}
 use Rattle.zk_turns.specs.Taken.{Cutting, Unfinished, Bad, Payload, cut, of_cutting, phase_of, taken_of, reading, leaves_watch, opens, if_open, due, timeout_of, refusal, caused, happenings, comes}
 use Rattle.zk_turns.specs.Rule.{IsOpen}
@@ -25,6 +24,7 @@ use Rattle.zk_turns.specs.Meaning.{Among}
 use Rattle.zk_turns.specs.Causes.{EndsBy, ByteEnds, IsFrameOf, IsGivenUp}
 use Rattle.zk_turns.proofs.Pieces.{cut_there, cut_short}
 use Rattle.zk_turns.proofs.Words.{happening_of, calls}
+use Rattle.zk_limits.specs.declared.limits.TheConstants.{LONGEST_INCOMING}
 
 -- ---- lengths
 

@@ -1,25 +1,25 @@
 -- How long the requests are, and that they fit their layouts.
-use Rattle.std.proofs.Common.{◌≡◌, ℕ, ℤ, pos, ◌+◌, ◌<◌, ◌≤◌, ◌^◌, Bool, true, false, cond, List, [], ◌∷◌, ◌++◌, map, length, Some, None, refl, sym, subst, arith, length-append, append-nil, leb-true}
+use Rattle.std.proofs.Common.{◌≡◌, ℕ, ℤ, pos, ◌+◌, ◌<◌, ◌≤◌, ◌^◌, Bool, true, false, cond, List, [], ◌∷◌, ◌++◌, map, length, Some, None, refl, sym, subst, arith, append-nil, leb-true}
 use Rattle.std.specs.Prelude.{FitsSigned, nat_le, codes, ⊤}
-use Rattle.std.specs.List.{flat_map, AllByRecursion}
+use Rattle.std.specs.List.{AllByRecursion}
 use Rattle.std.specs.Int.{w64}
 use Rattle.std.specs.Str.{is_utf8}
 use Rattle.std.proofs.lemmas.Str.{is_utf8-from_IsUtf8}
 use Rattle.zk_jute.specs.Layout.{ustring, vector}
-use Rattle.zk_jute.specs.Spelling.{int_bytes, long_bytes, counted_bytes, spelling, Fits}
-use Rattle.zk_history.specs.History.{Text}
+use Rattle.zk_jute.specs.Spelling.{Fits}
+use Rattle.zk_nodes.specs.Path.{Text}
 use Rattle.zk_records.specs.Layouts.{connect_request, acl}
 use Rattle.zk_records.specs.OpenAcl.{open_acl}
 use Rattle.zk_records.specs.Operations.{operation_number, request_layout}
 use Rattle.zk_records.specs.declared.operation.Operation.TheVariants.{Ping, SetWatches}
-use Rattle.zk_frames.specs.declared.put.TheConstants.{LONGEST_OUTGOING}
-use Rattle.zk_conversation.specs.Calls.{Call, Exists, GetData, GetChildren, SetData, Create, Delete, Close, call_operation, call_body, call_payload, ping_xid, part_xid, part_payload, texts_value}
-use Rattle.zk_conversation.proofs.Lengths.{length-exists, length-get_data, length-get_children, length-set_data, length-create, length-delete}
+use Rattle.zk_conversation.specs.Calls.{Call, Exists, GetData, GetChildren, SetData, Create, Delete, Close, call_operation, call_body, call_payload, ping_xid, part_xid, texts_value}
+use Rattle.zk_conversation.proofs.Lengths.{weights, length-exists, length-get_data, length-get_children, length-set_data, length-create, length-delete}
 use Rattle.zk_conversation.specs.Questions.{question_of}
 use Rattle.zk_watches.specs.Lists.{Lists, no_lists}
 use Rattle.zk_watches.specs.Parts.{Watch, OnData, OnExist, OnChild, path_of, watches_of, weight_of, put_first, into_first, rest_of_parts, parts_of_watches, parts}
-use Rattle.zk_turns.specs.Kept.{path_of_read}
+use Rattle.zk_turns.specs.Past.{path_of_read}
 use Rattle.zk_turns.specs.Ranges.{IsTyped}
+use Rattle.zk_limits.specs.declared.limits.TheConstants.{LONGEST_OUTGOING, MOST_WEIGHT}
 
 -- ---- calls
 
@@ -81,21 +81,14 @@ typed_paths (Create path bytes mode) t = tt
 typed_paths (Delete path version) t = tt
 typed_paths Close t = tt
 
+all_any : (paths : List Text) → AllByRecursion (λ path. ⊤) paths
+all_any [] = tt
+all_any (path ∷ paths) = (tt, all_any paths)
+
 pub any_paths : (call : Call) → ⊤ → AllByRecursion (λ path. ⊤) (path_of_read (question_of call))
-any_paths (Exists path watch) t = (tt, tt)
-any_paths (GetData path watch) t = (tt, tt)
-any_paths (GetChildren path watch) t = (tt, tt)
-any_paths (SetData path bytes version) t = tt
-any_paths (Create path bytes mode) t = tt
-any_paths (Delete path version) t = tt
-any_paths Close t = tt
+any_paths call t = all_any (path_of_read (question_of call))
 
 -- ---- parts
-
--- the bytes that these paths take
-abbrev pub weights : List Text → ℕ
-weights [] = 0
-weights (path ∷ paths) = (4 + length path) + weights paths
 
 abbrev pub part_weight : Lists → ℕ
 part_weight part = weights part.data_watches + (weights part.exist_watches + weights part.child_watches)
@@ -146,12 +139,12 @@ module _ (Q : Text → Type 0) where
 
   rest_small : (n : ℕ) (watches : List Watch) → n ≤ LONGEST_OUTGOING → AllByRecursion OfShort watches → AreSmall n (rest_of_parts n watches)
   rest_small n [] l all = (omega arith, none_small, tt)
-  rest_small n (watch ∷ watches) l all = by (nat_le (n + weight_of watch) 131072) refl (λ m. λ k. rest_small m watches k all.1)
+  rest_small n (watch ∷ watches) l all = by (nat_le (n + weight_of watch) MOST_WEIGHT) refl (λ m. λ k. rest_small m watches k all.1)
     where
-      by : (b : Bool) → nat_le (n + weight_of watch) 131072 ≡ b → ((m : ℕ) → m ≤ LONGEST_OUTGOING → AreSmall m (rest_of_parts m watches))
+      by : (b : Bool) → nat_le (n + weight_of watch) MOST_WEIGHT ≡ b → ((m : ℕ) → m ≤ LONGEST_OUTGOING → AreSmall m (rest_of_parts m watches))
           → AreSmall n (cond b (into_first watch (rest_of_parts (n + weight_of watch) watches)) (no_lists ∷ into_first watch (rest_of_parts (weight_of watch) watches)))
       by true e ih =
-          let le = leb-true (n + weight_of watch) 131072 e in
+          let le = leb-true (n + weight_of watch) MOST_WEIGHT e in
           let within : n + weight_of watch ≤ LONGEST_OUTGOING = omega arith in
           into_small watch n (n + weight_of watch) (rest_of_parts (n + weight_of watch) watches) all.0 (omega arith) within (ih (n + weight_of watch) within)
       by false e ih =
@@ -178,38 +171,6 @@ module _ (Q : Text → Type 0) where
       cut_small (watches_of lists) (tagged OnData (λ p. refl) lists.data_watches (map OnExist lists.exist_watches ++ map OnChild lists.child_watches) d exist)
 
 -- ---- the requests of parts
-
-length-int : (z : ℤ) → length (int_bytes z) ≡ 4
-unfolding int_bytes
-length-int z = refl
-
-length-long : (z : ℤ) → length (long_bytes z) ≡ 8
-unfolding long_bytes
-length-long z = refl
-
-length-text : (text : Text) → length (spelling ustring (Some text)) ≡ 4 + length text
-unfolding counted_bytes int_bytes
-length-text text = omega arith
-
-length-texts : (texts : List Text) → length (flat_map (spelling ustring) (map Some texts)) ≡ weights texts
-length-texts [] = refl
-length-texts (text ∷ texts) =
-    let a = length-append (spelling ustring (Some text)) (flat_map (spelling ustring) (map Some texts)) in
-    let b = length-text text in
-    let c = length-texts texts in
-    omega arith
-
-length-vector : (texts : List Text) → length (counted_bytes (flat_map (spelling ustring)) (Some (map Some texts))) ≡ 4 + weights texts
-unfolding counted_bytes
-length-vector texts =
-    let a = length-append (int_bytes (pos (length (map Some texts)))) (flat_map (spelling ustring) (map Some texts)) in
-    let b = length-int (pos (length (map Some texts))) in
-    let c = length-texts texts in
-    omega arith
-
-pub length-part : (relative : ℤ) (known missing parents : List Text) → length (part_payload relative known missing parents) ≡ 28 + (weights known + (weights missing + weights parents))
-unfolding part_payload
-length-part relative known missing parents = simp (length-append, length-int, length-long, length-vector) (omega arith)
 
 few : (texts : List Text) → length (map Some texts) ≤ weights texts
 few [] = omega arith

@@ -1,5 +1,5 @@
 -- After each happening the view is what the look back gives.
-use Rattle.zk_turns.specs.Kept.{Asking, For_call, pending_for, Past, Happening, Began, Came, Took, Dropped, Lost, Asked, Denied, Pinged, Ticked, Forgot, Halted, Accepted, Expiry, Replies, Watches_set, Notifies, Pong, Skipped, is_talking, state_of, now_of, heard_of, sent_of, calls_sent, xid_of, questions, answered, lists_of}
+use Rattle.zk_turns.specs.Past.{Asking, For_call, pending_for, Past, Happening, Began, Came, Took, Dropped, Lost, Asked, Denied, Pinged, Ticked, Forgot, Halted, Accepted, Expiry, Replies, Watches_set, Notifies, Pong, Skipped, is_talking, state_of, now_of, heard_of, sent_of, calls_sent, xid_of, questions, answered, lists_of}
 use Rattle.std.proofs.Common.{◌≡◌, ℕ, zero, suc, ◌+◌, ◌%◌, ◌≤◌, ◌<◌, ◌≢◌, ℤ, Bool, true, false, cond, eqb, List, [], ◌∷◌, ◌++◌, map, drop, length, refl, sym, ap, ◌∙◌, arith}
 use Rattle.std.proofs.lemmas.List.{drop-append-le, map-append}
 use Rattle.std.proofs.lemmas.Bool.Decides.{Decides-eqb}

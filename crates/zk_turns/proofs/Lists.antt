@@ -5,8 +5,8 @@ use Rattle.std.proofs.lemmas.List.{reverse-append, append-nil}
 use Rattle.std.proofs.lemmas.List.Elements.{filter_agree, filter-append}
 use Rattle.std.proofs.lemmas.Bool.Decides.{same_from_decides}
 use Rattle.std.proofs.lemmas.Slice.Eq.{bytes_eq-Decides}
-use Rattle.zk_history.specs.History.{Text}
-use Rattle.zk_turns.specs.Kept.{Past, Happening, firsts, arrivals, listed, path_of_reply}
+use Rattle.zk_nodes.specs.Path.{Text}
+use Rattle.zk_turns.specs.Past.{Past, Happening, firsts, arrivals, listed, path_of_reply}
 use Rattle.zk_watches.specs.Lists.{without, has, with_path}
 
 -- ---- tests of texts

@@ -3,13 +3,13 @@ use Rattle.zk_watches.specs.Lists.{side_has, has}
 use Rattle.std.proofs.Common.{◌≡◌, ℕ, true, false, cond, ◌&&◌, ◌||◌, List, [], ◌∷◌, ◌++◌, Option, Some, None, refl, ap, ◌∙◌}
 use Rattle.std.specs.Prelude.{bytes_eq, is_some, if◌then◌else◌}
 use Rattle.std.specs.List.{AllByRecursion}
-use Rattle.zk_history.specs.History.{Text}
-use Rattle.zk_history.specs.declared.side.Side.{Side}
-use Rattle.zk_history.specs.declared.side.Side.TheVariants.{Data, Child}
+use Rattle.zk_nodes.specs.Path.{Text}
+use Rattle.zk_nodes.specs.declared.side.Side.{Side}
+use Rattle.zk_nodes.specs.declared.side.Side.TheVariants.{Data, Child}
 use Rattle.zk_records.specs.declared.event.Event.{Event}
-use Rattle.zk_history.specs.declared.data_stat.DataStat.{DataStat}
+use Rattle.zk_nodes.specs.declared.data_stat.DataStat.{DataStat}
 use Rattle.zk_turns.specs.Turns.{Start, Report}
-use Rattle.zk_turns.specs.Kept.{Past, Happening, Took, Forgot, Notifies, Word, Says, Ends, Empties, Nothing, word_data, word_child, standing, is_good, in_known, in_missing, listed, lists_of, data_with, good_answer, kept_by, kept_data, kept_names, IsMarked, fields_in, AgreesWith}
+use Rattle.zk_turns.specs.Past.{Past, Happening, Took, Forgot, Notifies, Word, Says, Ends, Empties, Nothing, word_data, word_child, standing, is_good, in_known, in_missing, listed, lists_of, data_with, good_answer, kept_by, kept_data, kept_names, IsMarked, fields_in, AgreesWith}
 use Rattle.zk_cache.specs.Kept.{Answer, Absent, Known, Full, Names, stale, without_stale, is_marked_good}
 use Rattle.zk_cache.specs.declared.held.Kept.{Kept}
 use Rattle.zk_cache.specs.declared.held.Mark.{Mark}

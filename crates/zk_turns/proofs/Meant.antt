@@ -3,26 +3,26 @@ use Rattle.std.proofs.Common.{◌≡◌, ℕ, ℤ, Bool, true, false, cond, ◌&
 use Rattle.std.specs.Prelude.{bytes_eq, is_some, ◌≤ℤ◌, int_lt}
 use Rattle.std.specs.List.{AllByRecursion}
 use Rattle.std.proofs.lemmas.Int.{ints}
-use Rattle.std.proofs.lemmas.Bool.Decides.{Decides-int_eq}
-use Rattle.zk_history.specs.History.{Text}
-use Rattle.zk_history.specs.declared.side.Side.{Side}
-use Rattle.zk_history.specs.declared.side.Side.TheVariants.{Data, Child}
+use Rattle.zk_nodes.specs.Path.{Text}
+use Rattle.zk_nodes.specs.declared.side.Side.{Side}
+use Rattle.zk_nodes.specs.declared.side.Side.TheVariants.{Data, Child}
 use Rattle.zk_records.specs.declared.event.Event.{Event}
-use Rattle.zk_history.specs.declared.stat.Stat.{Stat}
-use Rattle.zk_history.specs.declared.data_stat.DataStat.{DataStat}
-use Rattle.zk_history.specs.DataStats.{data_stat_of}
+use Rattle.zk_nodes.specs.declared.stat.Stat.{Stat}
+use Rattle.zk_nodes.specs.declared.data_stat.DataStat.{DataStat}
+use Rattle.zk_nodes.specs.DataStats.{data_stat_of}
 use Rattle.zk_conversation.specs.Questions.{Question, Exists, GetData, GetChildren, SetData, Create, Delete, Close}
 use Rattle.zk_conversation.specs.Results.{Result, NoNode, Found, Read, Listing}
 use Rattle.zk_turns.specs.Turns.{Start}
-use Rattle.zk_turns.specs.Kept.{reply_word, Past, Happening, Took, Forgot, Halted, Message, Accepted, Expiry, Replies, Watches_set, Notifies, Pong, Skipped, names_of, Word, Says, Ends, Empties, Nothing, leaves_data, leaves_child, word_data, word_child, standing, is_good, kept_by, data_by, data_with, good_answer, kept_data, last_of, later}
-use Rattle.zk_cache.specs.Kept.{Answer, Absent, Known, Full, Names, good, stale, without_stale, same_fields}
+use Rattle.zk_turns.specs.Past.{Left, word_on, reply_word, Past, Happening, Took, Forgot, Halted, Message, Accepted, Expiry, Replies, Watches_set, Notifies, Pong, Skipped, names_of, Word, Says, Ends, Empties, Nothing, leaves_data, leaves_child, word_data, word_child, standing, is_good, kept_by, data_by, data_with, good_answer, kept_data, last_of}
+use Rattle.std.specs.Int.{int_max}
+use Rattle.zk_cache.specs.Kept.{Answer, Absent, Known, Full, good, stale, without_stale, same_fields}
 use Rattle.zk_cache.specs.declared.held.Kept.{Kept}
 use Rattle.zk_cache.specs.declared.held.Mark.{Mark}
 use Rattle.zk_cache.specs.declared.held.Mark.TheVariants.{Good, Stale}
 use Rattle.zk_records.specs.Events.{concerns}
 use Rattle.zk_turns.specs.Meaning.{Among, LeavesWatch, EndsGood, LeavesAt, IsGoodSince, SaysSame, HasData, Counts, IsLastSeen}
 use Rattle.zk_turns.proofs.Lists.{same_text, bytes_eq-refl}
-use Rattle.zk_turns.proofs.Cached.{fields_same}
+use Rattle.zk_turns.proofs.Cached.{fields_same, fields_same-refl}
 use Rattle.zk_turns.proofs.Words.{notice_word, after_word, unless_forgot, with_data}
 
 -- ---- the word of a happening
@@ -78,27 +78,23 @@ notice_means A side path at event true true e f = ((e, same_text at path f), λ 
 notice_means A side path at event true false e f = ((λ m. let s = ap (λ t. bytes_eq t path) m.1 in let r = bytes_eq-refl path in cc), λ l. l)
 notice_means A side path at event false c e f = ((λ m. let s = m.0 in cc), λ l. l)
 
+on_means : {A : Type 0} (side : Side) (leaves : Question → Result → Option (Left A)) (path : Text)
+    → ((t : ℕ) (q : Question) (z : ℤ) (r : Result) → Means side path (Took (Replies t q z r)) (reply_word q (leaves q r) path)) → (x : Happening) → Means side path x (word_on side leaves path x)
+on_means side leaves path reply (Took (Replies t q z r)) = reply t q z r
+on_means {A} side leaves path reply (Took (Notifies event at)) = notice_means A side path at event (concerns event side) (bytes_eq at path) refl refl
+on_means side leaves path reply (Took Expiry) = (tt, λ l. l)
+on_means side leaves path reply Halted = (tt, λ l. l)
+on_means side leaves path reply (Took (Accepted w)) = (λ n. n, λ n. n)
+on_means side leaves path reply (Took (Watches_set b z)) = (λ n. n, λ n. n)
+on_means side leaves path reply (Took Pong) = (λ n. n, λ n. n)
+on_means side leaves path reply (Took Skipped) = (λ n. n, λ n. n)
+on_means side leaves path reply _ = (λ n. n, λ n. n)
+
 pub data_means : (path : Text) (x : Happening) → Means Data path x (word_data path x)
-data_means path (Took (Replies t q z r)) = data_reply path t q z r
-data_means path (Took (Notifies event at)) = notice_means Answer Data path at event (concerns event Data) (bytes_eq at path) refl refl
-data_means path (Took Expiry) = (tt, λ l. l)
-data_means path Halted = (tt, λ l. l)
-data_means path (Took (Accepted w)) = (λ n. n, λ n. n)
-data_means path (Took (Watches_set b z)) = (λ n. n, λ n. n)
-data_means path (Took Pong) = (λ n. n, λ n. n)
-data_means path (Took Skipped) = (λ n. n, λ n. n)
-data_means path _ = (λ n. n, λ n. n)
+data_means path x = on_means Data leaves_data path (data_reply path) x
 
 pub child_means : (path : Text) (x : Happening) → Means Child path x (word_child path x)
-child_means path (Took (Replies t q z r)) = child_reply path t q z r
-child_means path (Took (Notifies event at)) = notice_means Names Child path at event (concerns event Child) (bytes_eq at path) refl refl
-child_means path (Took Expiry) = (tt, λ l. l)
-child_means path Halted = (tt, λ l. l)
-child_means path (Took (Accepted w)) = (λ n. n, λ n. n)
-child_means path (Took (Watches_set b z)) = (λ n. n, λ n. n)
-child_means path (Took Pong) = (λ n. n, λ n. n)
-child_means path (Took Skipped) = (λ n. n, λ n. n)
-child_means path _ = (λ n. n, λ n. n)
+child_means path x = on_means Child leaves_child path (child_reply path) x
 
 -- ---- since when an answer is good
 
@@ -324,17 +320,6 @@ module _ (path : Text) where
 
   -- ---- the other way
 
-  same_self : (a : DataStat) → same_fields a a ≡ true
-  same_self a =
-      let e1 = (Decides-int_eq a.czxid a.czxid).1 refl in
-      let e2 = (Decides-int_eq a.mzxid a.mzxid).1 refl in
-      let e3 = (Decides-int_eq a.ctime a.ctime).1 refl in
-      let e4 = (Decides-int_eq a.mtime a.mtime).1 refl in
-      let e5 = (Decides-int_eq a.version a.version).1 refl in
-      let e6 = (Decides-int_eq a.ephemeral_owner a.ephemeral_owner).1 refl in
-      let e7 = (Decides-int_eq a.data_length a.data_length).1 refl in
-      rw (e1, e2, e3, e4, e5, e6, e7) refl
-
   -- kept whole, and so would be seven fields that come
   abbrev Whole : Option (List ℕ) → DataStat → Past → Type 0
   Whole bytes fields past = (kept_data path past ≡ whole_good bytes fields) × (data_with path fields past ≡ Some bytes)
@@ -343,7 +328,7 @@ module _ (path : Text) where
   whole_first bytes fields t z stat before e =
       let w : word_data path (Took (Replies t (GetData path true) z (Read bytes stat))) ≡ Says (Full bytes (data_stat_of stat)) = says_here path path (Full bytes (data_stat_of stat)) refl in (
         ap (λ v. kept_by v (λ answer. good_answer path answer before) (Took (Replies t (GetData path true) z (Read bytes stat))) (kept_data path before)) w ∙ ap (λ f. whole_good bytes f) e,
-        ap (λ v. data_by v fields (data_with path fields before)) w ∙ ap (λ f. data_by (Says (Full bytes f)) fields (data_with path fields before)) e ∙ ap (λ b. cond b (Some bytes) None) (same_self fields),
+        ap (λ v. data_by v fields (data_with path fields before)) w ∙ ap (λ f. data_by (Says (Full bytes f)) fields (data_with path fields before)) e ∙ ap (λ b. cond b (Some bytes) None) (fields_same-refl fields),
       )
 
   found_word : (fields : DataStat) (x : Happening) → LeavesAt Data path x → SaysSame path fields x → word_data path x ≡ Says (Known fields)
@@ -370,7 +355,7 @@ module _ (path : Text) where
   whole_more bytes fields x past (Says a) e n s m =
       let known : Says a ≡ Says (Known fields) = sym e ∙ found_word fields x (subst (λ w. Means Data path x w) e (data_means path x)).0 s in (
         ap (λ v. kept_by v (λ answer. good_answer path answer past) x (kept_data path past)) known ∙ ap (λ k. good (with_data fields k)) m.1,
-        ap (λ v. data_by v fields (data_with path fields past)) known ∙ ap (λ b. cond b (data_with path fields past) None) (same_self fields) ∙ m.1,
+        ap (λ v. data_by v fields (data_with path fields past)) known ∙ ap (λ b. cond b (data_with path fields past) None) (fields_same-refl fields) ∙ m.1,
       )
   whole_more bytes fields x past Ends e n s m = absurd (n (subst (λ w. Means Data path x w) e (data_means path x)).0)
   whole_more bytes fields x past Empties e n s m = absurd (n (subst (λ w. Means Data path x w) e (data_means path x)).0)
@@ -408,13 +393,13 @@ module _ (start : Start) where
   le_self : (a : ℤ) → a ≤ℤ a
   le_self a = grind (arith, ints)
 
-  le_later : (a b c : ℤ) → a ≤ℤ b → a ≤ℤ later c b
+  le_later : (a b c : ℤ) → a ≤ℤ b → a ≤ℤ int_max c b
   le_later a b c p = grind (arith, ints)
 
-  later_first : (a b : ℤ) → a ≤ℤ later a b
+  later_first : (a b : ℤ) → a ≤ℤ int_max a b
   later_first a b = grind (arith, ints)
 
-  later_one : (a b : ℤ) → (later a b ≡ a) ⊎ (later a b ≡ b)
+  later_one : (a b : ℤ) → (int_max a b ≡ a) ⊎ (int_max a b ≡ b)
   later_one a b = by (int_lt b a)
     where
       by : (t : Bool) → (cond t a b ≡ a) ⊎ (cond t a b ≡ b)
@@ -428,10 +413,10 @@ module _ (start : Start) where
     one = elim m.one [ inl e ↦ inl e | inr c ↦ inr (counts_more last x past c) ];
   }
 
-  one_brought : (x : Happening) (past : Past) (last zxid : ℤ) → ((z : ℤ) → Brings z x → z ≡ zxid) → Counts zxid (x ∷ past) → IsLastSeen start past last → IsLastSeen start (x ∷ past) (later zxid last)
+  one_brought : (x : Happening) (past : Past) (last zxid : ℤ) → ((z : ℤ) → Brings z x → z ≡ zxid) → Counts zxid (x ∷ past) → IsLastSeen start past last → IsLastSeen start (x ∷ past) (int_max zxid last)
   one_brought x past last zxid only here m = record {
     saved = le_later start.last last zxid m.saved;
-    counted = λ z c. elim (counts_split z x past c) [ inl b ↦ subst (λ t. t ≤ℤ later zxid last) (sym (only z b)) (later_first zxid last) | inr d ↦ le_later z last zxid (m.counted z d) ];
+    counted = λ z c. elim (counts_split z x past c) [ inl b ↦ subst (λ t. t ≤ℤ int_max zxid last) (sym (only z b)) (later_first zxid last) | inr d ↦ le_later z last zxid (m.counted z d) ];
     one = elim (later_one zxid last) [
       | inl e ↦ inr (subst (λ t. Counts t (x ∷ past)) (sym e) here)
       | inr e ↦ elim m.one [ inl f ↦ inl (e ∙ f) | inr c ↦ inr (subst (λ t. Counts t (x ∷ past)) (sym e) (counts_more last x past c)) ]

@@ -7,7 +7,8 @@ use Rattle.zk_turns.specs.Turns.{Start, Outcome, Signal, Opens, Comes, Cuts, Tic
 use Rattle.zk_conversation.specs.Questions.{Close}
 use Rattle.zk_session.specs.declared.states.State.{State}
 use Rattle.zk_session.specs.declared.states.State.TheVariants.{Idle, Connecting, Connected, Expired, Closed}
-use Rattle.zk_turns.specs.Kept.{is_talking, Past, Happening, Began, Came, Took, Dropped, Lost, Denied, Pinged, Ticked, Forgot, Halted, Accepted, Expiry, Replies, Watches_set, is_final, is_over, has_halted, state_of, KeepsNothing, later, last_of, held_of}
+use Rattle.zk_turns.specs.Past.{is_talking, Past, Happening, Began, Came, Took, Dropped, Lost, Denied, Pinged, Ticked, Forgot, Halted, Accepted, Expiry, Replies, Watches_set, is_final, is_over, has_halted, state_of, KeepsNothing, last_of, held_of}
+use Rattle.std.specs.Int.{int_max}
 use Rattle.zk_cache.specs.Kept.{without_stale}
 use Rattle.zk_turns.specs.View.{View, view_at}
 use Rattle.zk_turns.specs.Taken.{happenings, caused, opens, if_open, of_cutting, cut, Cutting, Unfinished, Bad, Payload, due, timeout_of, refusal_when_connected, joined, past_after, past_of}
@@ -148,7 +149,7 @@ module _ (start : Start) where
 
   -- ---- the last seen zxid
 
-  later_le : (a b : ℤ) → b ≤ℤ later a b
+  later_le : (a b : ℤ) → b ≤ℤ int_max a b
   later_le a b = grind (arith, ints)
 
   le_itself : (a : ℤ) → a ≤ℤ a

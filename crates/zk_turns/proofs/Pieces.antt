@@ -15,13 +15,13 @@ use Rattle.zk_turns.specs.Turns.{Comes}
 use Rattle.zk_conversation.specs.Questions.{Close}
 use Rattle.zk_frames.specs.declared.fault.FrameFault.TheVariants.{Negative, TooLong}
 use Rattle.zk_frames.specs.Frame.{frame, length_field, IsUnfinished}
-use Rattle.zk_turns.specs.Kept.{Happening, Came, Dropped, Took, Message, Accepted, Expiry, Replies, Watches_set, Notifies, Pong, Skipped}
+use Rattle.zk_turns.specs.Past.{Happening, Came, Dropped, Took, Message, Accepted, Expiry, Replies, Watches_set, Notifies, Pong, Skipped}
 use Rattle.zk_turns.specs.View.{View}
 use Rattle.zk_turns.specs.Taken.{cut, cut_at, Cutting, Unfinished, Bad, Payload, of_cutting, happenings, caused, if_open}
-use Rattle.zk_frames.specs.declared.reader.TheConstants.{LONGEST_INCOMING}
 use Rattle.zk_turns.specs.Rule.{IsOpen, Hears, heard, arrival, next, says, after_all, says_all, after_signals, says_signals, fed, heard_now}
 use Rattle.zk_turns.proofs.Stepped.{after_append, says_append}
 use Rattle.zk_turns.proofs.Stream.{of_reading}
+use Rattle.zk_limits.specs.declared.limits.TheConstants.{LONGEST_INCOMING}
 
 -- a length that is not admitted, as soon as it is there
 abbrev IsBadLength : List ℕ → FrameFault → Type 0
@@ -319,45 +319,39 @@ same_says : (view : View) (held payload : List ℕ) → says (record view { mome
 same_says view held payload =
     of_reading (λ h. says (record view { moments = heard_now view; held = held }) h ≡ says (heard view) h) (same_words view held) (λ fault. refl) view.standing.state view.pending view.saved.last payload
 
--- a whole frame stands first
-pub frame_view : (view : View) (left payload rest : List ℕ) → Hears view → IsUnfinished view.held → length payload ≤ LONGEST_INCOMING → view.held ++ left ≡ frame payload ++ rest
-    → after_signals view (map Comes left) ≡ after_signals (next (heard view) (arrival view payload)) (map Comes rest)
-frame_view view left payload rest h u le e =
+-- a whole frame stands first: the rest of it, and what it makes of the view
+frame_rest : (view : View) (left payload rest : List ℕ) → Hears view → IsUnfinished view.held → length payload ≤ LONGEST_INCOMING → view.held ++ left ≡ frame payload ++ rest
+    → (piece : List ℕ) × (left ≡ piece ++ rest) × (0 < length piece) × (view.held ++ piece ≡ frame payload) × (after_signals view (map Comes piece) ≡ next (heard view) (arrival view payload))
+frame_rest view left payload rest h u le e =
     let short = shorter_than_frame view.held left payload rest le u e in
     let s = append_split view.held left (frame payload) rest e (omega arith) in
     let n : length (frame payload) ≡ length (view.held ++ s.0) = ap length s.1 in
     let l = length-append view.held s.0 in
     let some : 0 < length s.0 = omega arith in
-    ap (λ t. after_signals view (map Comes t)) s.2
+    (s.0, s.2, some, sym s.1, payload_view s.0 view payload h some le (sym s.1) ∙ ap (λ v. next v (arrival view payload)) (fed_as s.0 view some) ∙ same_next view (view.held ++ s.0) payload)
+
+pub frame_view : (view : View) (left payload rest : List ℕ) → Hears view → IsUnfinished view.held → length payload ≤ LONGEST_INCOMING → view.held ++ left ≡ frame payload ++ rest
+    → after_signals view (map Comes left) ≡ after_signals (next (heard view) (arrival view payload)) (map Comes rest)
+frame_view view left payload rest h u le e =
+    let s = frame_rest view left payload rest h u le e in
+    ap (λ t. after_signals view (map Comes t)) s.1
     ∙ ap (after_signals view) (map-append Comes s.0 rest)
     ∙ after_append (map Comes s.0) (map Comes rest) view
-    ∙ ap (λ v. after_signals v (map Comes rest)) (
-    payload_view s.0 view payload h some le (sym s.1)
-    ∙ ap (λ v. next v (arrival view payload)) (fed_as s.0 view some)
-    ∙ same_next view (view.held ++ s.0) payload
-    )
+    ∙ ap (λ v. after_signals v (map Comes rest)) s.4
 
 pub frame_says : (view : View) (left payload rest : List ℕ) → Hears view → IsUnfinished view.held → length payload ≤ LONGEST_INCOMING → view.held ++ left ≡ frame payload ++ rest
     → says_signals view (map Comes left) ≡ says (heard view) (arrival view payload) ++ says_signals (next (heard view) (arrival view payload)) (map Comes rest)
 frame_says view left payload rest h u le e =
-    let short = shorter_than_frame view.held left payload rest le u e in
-    let s = append_split view.held left (frame payload) rest e (omega arith) in
-    let n : length (frame payload) ≡ length (view.held ++ s.0) = ap length s.1 in
-    let l = length-append view.held s.0 in
-    let some : 0 < length s.0 = omega arith in
-    ap (λ t. says_signals view (map Comes t)) s.2
+    let s = frame_rest view left payload rest h u le e in
+    ap (λ t. says_signals view (map Comes t)) s.1
     ∙ ap (says_signals view) (map-append Comes s.0 rest)
     ∙ says_append (map Comes s.0) (map Comes rest) view
     ∙ ap (λ t. t ++ says_signals (after_signals view (map Comes s.0)) (map Comes rest)) (
-    payload_says s.0 view payload h some le (sym s.1)
-    ∙ ap (λ v. says v (arrival view payload)) (fed_as s.0 view some)
+    payload_says s.0 view payload h s.2 le s.3
+    ∙ ap (λ v. says v (arrival view payload)) (fed_as s.0 view s.2)
     ∙ same_says view (view.held ++ s.0) payload
     )
-    ∙ ap (λ v. says (heard view) (arrival view payload) ++ says_signals v (map Comes rest)) (
-    payload_view s.0 view payload h some le (sym s.1)
-    ∙ ap (λ v. next v (arrival view payload)) (fed_as s.0 view some)
-    ∙ same_next view (view.held ++ s.0) payload
-    )
+    ∙ ap (λ v. says (heard view) (arrival view payload) ++ says_signals v (map Comes rest)) s.4
 
 -- a length that is not admitted stands first
 shorter_than_length : (held left : List ℕ) (fault : FrameFault) → IsUnfinished held → StandsBad (held ++ left) fault → length held < 4

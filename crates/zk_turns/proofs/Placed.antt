@@ -2,9 +2,9 @@
 use Rattle.std.proofs.Common.{◌≡◌, ◌<◌, Bool, true, false, cond, ◌&&◌, ◌||◌, List, [], ◌∷◌, ◌++◌, length, refl, sym, ap, subst, ◌∙◌, inl, inr, ◌⊎◌, arith}
 use Rattle.std.specs.Prelude.{bytes_eq, not, filter}
 use Rattle.std.proofs.lemmas.List.{length-append}
-use Rattle.zk_history.specs.History.{Text}
+use Rattle.zk_nodes.specs.Path.{Text}
 use Rattle.zk_conversation.specs.Questions.{Question, Exists, GetData, GetChildren}
-use Rattle.zk_turns.specs.Kept.{Past, Happening, Took, Replies, path_of_read, path_of_reply, arrivals, listed}
+use Rattle.zk_turns.specs.Past.{Past, Happening, Took, Replies, path_of_read, path_of_reply, arrivals, listed}
 use Rattle.zk_watches.specs.Lists.{has}
 use Rattle.zk_turns.specs.Meaning.{Among, StaysIn, CameIn, StandsBefore}
 use Rattle.zk_turns.proofs.Lists.{same_text, bytes_eq-refl, Tracks, has_listed, grows}

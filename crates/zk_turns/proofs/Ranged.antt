@@ -8,16 +8,14 @@ use Rattle.std.proofs.lemmas.Bool.Decides.{Decides-eqb}
 use Rattle.zk_jute.specs.declared.fault.TakeError.{TakeError}
 use Rattle.zk_jute.specs.Layout.{Value}
 use Rattle.zk_jute.specs.Reading.{reading}
-use Rattle.zk_history.specs.History.{Text}
+use Rattle.zk_nodes.specs.Path.{Text}
 use Rattle.zk_records.specs.Events.{event_of}
 use Rattle.zk_records.specs.declared.event.Event.{Event}
-use Rattle.zk_records.specs.declared.header.ReplyHeader.{ReplyHeader}
+use Rattle.zk_records.specs.declared.reply_header.ReplyHeader.{ReplyHeader}
 use Rattle.zk_records.specs.Layouts.{reply_header, watcher_event}
 use Rattle.zk_records.specs.Response.{Response, response_at}
 use Rattle.zk_frames.specs.Frame.{length_field}
 use Rattle.zk_frames.specs.declared.fault.FrameFault.TheVariants.{Negative, TooLong}
-use Rattle.zk_frames.specs.declared.put.TheConstants.{LONGEST_OUTGOING}
-use Rattle.zk_frames.specs.declared.reader.TheConstants.{LONGEST_INCOMING}
 use Rattle.zk_session.specs.declared.states.State.{State}
 use Rattle.zk_session.specs.declared.states.State.TheVariants.{Idle, Connecting, Connected}
 use Rattle.zk_conversation.specs.declared.fault.TalkFault.{TalkFault}
@@ -32,7 +30,8 @@ use Rattle.zk_conversation.specs.Arriving.{Arrived, Connected as Welcomed, Repli
 use Rattle.zk_watches.specs.Lists.{Lists}
 use Rattle.zk_watches.specs.Parts.{parts}
 use Rattle.zk_turns.specs.Turns.{Start, Outcome, SessionClosed, TooManyWatches, TooLarge, TooManyPending, Behind, WatchesRefused, Input, Opened, Bytes, Cut, Now, Call as Asks, Signal, Opens, Comes, Cuts, Ticks, Calls, Forget, Halt, Item, Turned, Forgets, Halts, signals_of}
-use Rattle.zk_turns.specs.Kept.{Past, Happening, Began, Came, Took, Dropped, Lost, Asked, Pinged, Ticked, Message, Accepted, Expiry, Replies, Watches_set, Notifies, Pong, Skipped, Asking, For_part, For_call, pending_for, parts_asked, questions, answered, awaited, pending_of, is_talking, state_of, held_of, has_halted, xid_of, lists_of, later, last_of, session_of, path_of_read, path_of_reply, arrivals, firsts, listed}
+use Rattle.zk_turns.specs.Past.{Past, Happening, Began, Came, Took, Dropped, Lost, Asked, Pinged, Ticked, Message, Accepted, Expiry, Replies, Watches_set, Notifies, Pong, Skipped, Asking, For_part, For_call, pending_for, parts_asked, questions, answered, awaited, pending_of, is_talking, state_of, held_of, has_halted, xid_of, lists_of, last_of, session_of, path_of_read, path_of_reply, arrivals, firsts, listed}
+use Rattle.std.specs.Int.{int_max}
 use Rattle.zk_turns.specs.View.{View, view_at}
 use Rattle.zk_turns.specs.Taken.{cut, cut_at, Cutting, Unfinished, Bad, Payload, of_cutting, comes, phase_of, welcome_by, leaves_watch, taken_of, timeout_of, due, is_full_on, refusal, opens, if_open, caused, happenings, joined, past_after, past_of}
 use Rattle.zk_turns.specs.Ranges.{AsksOf, AllAskOf, IsResumable}
@@ -41,6 +40,7 @@ use Rattle.zk_turns.proofs.Fitting.{IsShort, read_short}
 use Rattle.zk_turns.proofs.Lists.{reverse-cons}
 use Rattle.zk_turns.proofs.Pieces.{cut_there, cut_short}
 use Rattle.zk_turns.proofs.Words.{happening_of, refusal_in, calls}
+use Rattle.zk_limits.specs.declared.limits.TheConstants.{LONGEST_INCOMING, LONGEST_OUTGOING, MOST_PENDING}
 
 -- ---- all of a list
 
@@ -270,9 +270,9 @@ module _ (P : Call → Type 0) where
       let long = ltb LONGEST_OUTGOING (length (call_payload (pos view.xid) call)) in
       let third : Option Outcome = cond long (Some TooLarge) None in
       let second : Option Outcome = cond (is_full_on view (watched_side (question_of call))) (Some TooManyWatches) third in
-      let first : Option Outcome = cond (nat_le 1024 (calls_pending view.pending)) (Some TooManyPending) second in
+      let first : Option Outcome = cond (nat_le MOST_PENDING (calls_pending view.pending)) (Some TooManyPending) second in
       let a = not_this (is_close_pending view.pending) SessionClosed first e in
-      let b = not_this (nat_le 1024 (calls_pending view.pending)) TooManyPending second a in
+      let b = not_this (nat_le MOST_PENDING (calls_pending view.pending)) TooManyPending second a in
       let c = not_this (is_full_on view (watched_side (question_of call))) TooManyWatches third b in
       ltb-false LONGEST_OUTGOING (length (call_payload (pos view.xid) call)) (not_long long c)
   sent_short _ view call e = absurd cc
@@ -355,7 +355,7 @@ module _ (P : Call → Type 0) where
 
     -- ---- what is asked for as a connection begins
 
-    later_fits : (a b : ℤ) → FitsSigned w64 a → FitsSigned w64 b → FitsSigned w64 (later a b)
+    later_fits : (a b : ℤ) → FitsSigned w64 a → FitsSigned w64 b → FitsSigned w64 (int_max a b)
     later_fits a b p q = by (int_lt b a)
       where
         by : (c : Bool) → FitsSigned w64 (cond c a b)

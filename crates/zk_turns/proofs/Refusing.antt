@@ -3,8 +3,7 @@ use Rattle.std.proofs.Common.{◌≡◌, ◌≤◌, ◌<◌, ◌+◌, ℕ, pos, 
 use Rattle.std.specs.Prelude.{nat_le, nat_lt}
 use Rattle.std.specs.List.{list_any}
 use Rattle.std.proofs.lemmas.Bool.Decides.{nat_tests}
-use Rattle.zk_frames.specs.declared.put.TheConstants.{LONGEST_OUTGOING}
-use Rattle.zk_history.specs.declared.side.Side.{Side}
+use Rattle.zk_nodes.specs.declared.side.Side.{Side}
 use Rattle.zk_session.specs.declared.states.State.{State}
 use Rattle.zk_session.specs.declared.states.State.TheVariants.{Idle, Connecting, Connected, Expired, Closed}
 use Rattle.zk_watches.specs.Lists.{count_of}
@@ -17,6 +16,7 @@ use Rattle.zk_turns.specs.Taken.{is_full_on, refusal}
 use Rattle.zk_turns.specs.Meaning.{Among}
 use Rattle.zk_turns.specs.Causes.{IsFirstOf, in_turn}
 use Rattle.zk_turns.proofs.Words.{refusal_in}
+use Rattle.zk_limits.specs.declared.limits.TheConstants.{LONGEST_OUTGOING, MOST_PATHS, MOST_PENDING}
 
 any_close : (ps : List Pending) → list_any is_close ps ≡ true → (close : Pending) × Among close ps × (is_close close ≡ true)
 any_close [] e = absurd cc
@@ -52,13 +52,13 @@ lt_or a b = by (nat_lt a b) refl
 
 module _ (view : View) (call : Call) where
   abbrev Full : Option Side → Type 0
-  Full watched = (side : Side) × (watched ≡ Some side) × (65536 ≤ count_of view.lists side + watches_pending side view.pending)
+  Full watched = (side : Side) × (watched ≡ Some side) × (MOST_PATHS ≤ count_of view.lists side + watches_pending side view.pending)
 
   full_or : (watched : Option Side) → (Full watched × (is_full_on view watched ≡ true)) ⊎ ((Full watched → ⊥) × (is_full_on view watched ≡ false))
   full_or None = inr (λ f. let e = f.1 in cc, refl)
-  full_or (Some side) = elim (le_or 65536 (count_of view.lists side + watches_pending side view.pending)) [
+  full_or (Some side) = elim (le_or MOST_PATHS (count_of view.lists side + watches_pending side view.pending)) [
     | inl t ↦ inl ((side, refl, t.0), t.1)
-    | inr t ↦ inr (λ f. t.0 (let s : side ≡ f.0 = let e = f.1 in cc in subst (λ x. 65536 ≤ count_of view.lists x + watches_pending x view.pending) (sym s) f.2), t.1)
+    | inr t ↦ inr (λ f. t.0 (let s : side ≡ f.0 = let e = f.1 in cc in subst (λ x. MOST_PATHS ≤ count_of view.lists x + watches_pending x view.pending) (sym s) f.2), t.1)
   ]
 
   -- the tests of a connected client, one behind the other
@@ -74,9 +74,9 @@ module _ (view : View) (call : Call) where
     | inr t ↦ inr (t.0, more (e ∙ ap (λ b. cond b (Some TooManyWatches) rest) t.1))
   ]
 
-  many : (why rest : Option Outcome) → why ≡ cond (nat_le 1024 (calls_pending view.pending)) (Some TooManyPending) rest → (why ≡ rest → IsFirstOf (TooManyWatches ∷ TooLarge ∷ []) view call why)
+  many : (why rest : Option Outcome) → why ≡ cond (nat_le MOST_PENDING (calls_pending view.pending)) (Some TooManyPending) rest → (why ≡ rest → IsFirstOf (TooManyWatches ∷ TooLarge ∷ []) view call why)
       → IsFirstOf (TooManyPending ∷ TooManyWatches ∷ TooLarge ∷ []) view call why
-  many why rest e more = elim (le_or 1024 (calls_pending view.pending)) [
+  many why rest e more = elim (le_or MOST_PENDING (calls_pending view.pending)) [
     | inl t ↦ inl (t.0, e ∙ ap (λ b. cond b (Some TooManyPending) rest) t.1)
     | inr t ↦ inr (t.0, more (e ∙ ap (λ b. cond b (Some TooManyPending) rest) t.1))
   ]

@@ -3,12 +3,12 @@ use Rattle.zk_turns.specs.Rule.{says_there, with_node, with_children, after_repl
 use Rattle.zk_watches.specs.Lists.{registered, Lists, no_lists, without, has, with_path, fired}
 use Rattle.std.proofs.Common.{◌≡◌, ℕ, ℤ, Bool, true, false, not, cond, ◌&&◌, ◌||◌, List, [], ◌∷◌, ◌++◌, Option, Some, None, refl, sym, ap, subst, ◌∙◌}
 use Rattle.std.specs.Prelude.{filter, bytes_eq, is_some}
-use Rattle.zk_history.specs.History.{Text}
-use Rattle.zk_history.specs.declared.side.Side.TheVariants.{Data, Child}
+use Rattle.zk_nodes.specs.Path.{Text}
+use Rattle.zk_nodes.specs.declared.side.Side.TheVariants.{Data, Child}
 use Rattle.zk_records.specs.declared.event.Event.{Event}
 use Rattle.zk_conversation.specs.Questions.{Question, Exists, GetData, GetChildren, Close}
 use Rattle.zk_conversation.specs.Results.{Result, NoNode, Found, Read, Listing}
-use Rattle.zk_turns.specs.Kept.{Past, Happening, Took, Replies, Notifies, Left, Word, Says, Ends, Empties, Nothing, if_at, word_data, word_child, standing, leaves_data, leaves_child, path_of_read, path_of_reply, in_known, in_missing, in_parents, arrivals, listed, lists_of}
+use Rattle.zk_turns.specs.Past.{Past, Happening, Took, Replies, Notifies, Left, Word, Says, Ends, Empties, Nothing, if_at, word_data, word_child, standing, leaves_data, leaves_child, path_of_read, path_of_reply, in_known, in_missing, in_parents, arrivals, listed, lists_of}
 use Rattle.zk_cache.specs.Kept.{Answer, Absent, Known, Full, Names}
 use Rattle.zk_records.specs.Events.{concerns}
 use Rattle.zk_turns.proofs.Lists.{same_text, shown, stays, leaves, empties, comes, Tracks, has_listed}

@@ -1,25 +1,25 @@
 -- The reports among the outputs are those of the past.
 use Rattle.std.proofs.Common.{◌≡◌, ℤ, Bool, true, false, cond, ◌&&◌, List, [], ◌∷◌, ◌++◌, map, refl, sym, ap, ◌∙◌}
 use Rattle.std.specs.List.{flat_map}
-use Rattle.zk_history.specs.History.{Text}
-use Rattle.zk_history.specs.declared.side.Side.{Side}
-use Rattle.zk_history.specs.declared.side.Side.TheVariants.{Data, Child}
+use Rattle.zk_nodes.specs.Path.{Text}
+use Rattle.zk_nodes.specs.declared.side.Side.{Side}
+use Rattle.zk_nodes.specs.declared.side.Side.TheVariants.{Data, Child}
 use Rattle.zk_records.specs.declared.event.Event.{Event}
-use Rattle.zk_turns.specs.Turns.{Start, Signal, Output, Report, Enters, Drop, Item, Turned, Forgets, Halts, signals_of}
+use Rattle.zk_turns.specs.Turns.{Start, Output, Report, Enters, Drop, Item}
 use Rattle.zk_conversation.specs.Questions.{Close}
 use Rattle.zk_session.specs.declared.states.State.TheVariants.{Idle}
-use Rattle.zk_turns.specs.Kept.{Past, Happening, Began, Took, Dropped, Lost, Forgot, Halted, Message, Accepted, Expiry, Replies, Watches_set, Notifies, Pong, Skipped, lists_of, last_of, is_good}
+use Rattle.zk_turns.specs.Past.{Past, Happening, Began, Took, Dropped, Lost, Message, Accepted, Expiry, Replies, Watches_set, Notifies, Pong, Skipped, lists_of, last_of, is_good}
 use Rattle.zk_watches.specs.Lists.{Lists}
 use Rattle.zk_watches.specs.Parts.{parts}
 use Rattle.zk_conversation.specs.Pending.{Pending, Waiting, Part_waits, Call_waits}
 use Rattle.zk_records.specs.Events.{concerns}
 use Rattle.zk_turns.specs.View.{View, view_at}
-use Rattle.zk_turns.specs.Taken.{happenings, joined, past_after, past_of}
-use Rattle.zk_turns.specs.Rule.{says, part_frame, loss, report, due_happenings, due_signals, AllSaid, Stands}
+use Rattle.zk_turns.specs.Taken.{happenings, past_of}
+use Rattle.zk_turns.specs.Rule.{says, part_frame, loss, report, Stands}
 use Rattle.zk_turns.specs.Sent.{outputs_of}
 use Rattle.zk_turns.specs.Reported.{report_on, reports_of, reports_in}
 use Rattle.zk_turns.proofs.Marks.{report_is}
-use Rattle.zk_turns.proofs.Sending.{onto, outputs_onto, onto-append}
+use Rattle.zk_turns.proofs.Sending.{onto, onto-append, happenings_hold, items_hold}
 
 parts_silent : (relative : ℤ) (ps : List Lists) (outs : List Output) → reports_in (onto (map (part_frame relative) ps) outs) ≡ reports_in outs
 parts_silent relative [] outs = refl
@@ -69,26 +69,6 @@ module _ (start : Start) where
   happening_reports Lost past outs s = losses_silent (view_at start past).pending outs ∙ s
   happening_reports _ past outs s = s
 
-  all_reports : (more : List Happening) (past : Past) (outs : List Output) → reports_in outs ≡ reports_of past → reports_in (onto (due_happenings start past more) outs) ≡ reports_of (joined past more)
-  all_reports [] past outs s = s
-  all_reports (happening ∷ more) past outs s =
-      ap reports_in (onto-append (says (view_at start past) happening) (due_happenings start (happening ∷ past) more) outs)
-      ∙ all_reports more (happening ∷ past) (onto (says (view_at start past) happening) outs) (happening_reports happening past outs s)
-
-  signal_reports : (more : List Signal) (past : Past) (outs : List Output) → reports_in outs ≡ reports_of past → reports_in (onto (due_signals start past more) outs) ≡ reports_of (past_after start past more)
-  signal_reports [] past outs s = s
-  signal_reports (signal ∷ more) past outs s =
-      let now = joined past (happenings (view_at start past) signal) in
-      ap reports_in (onto-append (due_happenings start past (happenings (view_at start past) signal)) (due_signals start now more) outs)
-      ∙ signal_reports more now (onto (due_happenings start past (happenings (view_at start past) signal)) outs) (all_reports (happenings (view_at start past) signal) past outs s)
-
-  item_reports : (items : List Item) → AllSaid start items → reports_in (outputs_of items) ≡ reports_of (past_of start items)
-  item_reports [] said = refl
-  item_reports (Turned turn ∷ items) said =
-      ap reports_in (outputs_onto turn items) ∙ ap (λ t. reports_in (onto t (outputs_of items))) said.0
-      ∙ signal_reports (signals_of turn.input) (past_of start items) (outputs_of items) (item_reports items said.1)
-  item_reports (Forgets ∷ items) said = all_reports (Forgot ∷ []) (past_of start items) (outputs_of items) (item_reports items said)
-  item_reports (Halts ∷ items) said = all_reports (Halted ∷ []) (past_of start items) (outputs_of items) (item_reports items said)
-
   pub reports_are : (items : List Item) (view : View) → Stands start items view → reports_in (outputs_of items) ≡ reports_of (past_of start items)
-  reports_are items view s = item_reports items s.said
+  reports_are items view s =
+      items_hold start (λ past outs. reports_in outs ≡ reports_of past) (λ signal past. happenings_hold start (λ past outs. reports_in outs ≡ reports_of past) happening_reports (happenings (view_at start past) signal) past) refl (λ past outs s. (s, s)) items s.said

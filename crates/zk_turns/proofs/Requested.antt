@@ -4,23 +4,24 @@ use Rattle.std.specs.Prelude.{⊤}
 use Rattle.std.specs.List.{AllByRecursion}
 use Rattle.std.specs.Str.{is_utf8}
 use Rattle.zk_jute.specs.Spelling.{Fits}
-use Rattle.zk_history.specs.History.{Text}
+use Rattle.zk_nodes.specs.Path.{Text}
 use Rattle.zk_records.specs.Layouts.{connect_request}
 use Rattle.zk_records.specs.Operations.{operation_number, request_layout}
 use Rattle.zk_records.specs.declared.operation.Operation.TheVariants.{SetWatches}
-use Rattle.zk_frames.specs.declared.put.TheConstants.{LONGEST_OUTGOING}
 use Rattle.zk_conversation.specs.Calls.{Call, call_operation, call_body, call_payload, connect_payload, part_xid, part_payload, texts_value}
 use Rattle.zk_conversation.specs.Questions.{question_of}
 use Rattle.zk_conversation.proofs.Lengths.{length-connect}
-use Rattle.zk_session.specs.Kept.{Welcome}
+use Rattle.zk_session.specs.SessionView.{Welcome}
 use Rattle.zk_watches.specs.Lists.{Lists}
 use Rattle.zk_watches.specs.Parts.{parts}
 use Rattle.zk_turns.specs.Turns.{Start, new_start, Item, Turned, Forgets, Halts, Input, Opened, Bytes, Cut, Now, Call as Asks}
-use Rattle.zk_turns.specs.Kept.{Past, Happening, Began, Took, Asked, Accepted, last_of, session_of, lists_of, xid_of, in_known, in_missing, in_parents, path_of_read}
+use Rattle.zk_turns.specs.Past.{Past, Happening, Began, Took, Asked, Accepted, last_of, session_of, lists_of, xid_of, in_known, in_missing, in_parents, path_of_read}
 use Rattle.zk_turns.specs.Taken.{past_of}
 use Rattle.zk_turns.specs.Ranges.{IsResumable, IsTyped, AsksOf, AllAskOf}
-use Rattle.zk_turns.proofs.Fitting.{IsSmall, parts_small, call_fits, connect_fits, length-part, part_fits, typed_paths, any_paths}
+use Rattle.zk_turns.proofs.Fitting.{IsSmall, parts_small, call_fits, connect_fits, part_fits, typed_paths, any_paths}
+use Rattle.zk_conversation.proofs.Lengths.{length-part}
 use Rattle.zk_turns.proofs.Ranged.{IsRanged, AreRanged, items_ranged, last_fits, session_ranged, listed_short}
+use Rattle.zk_limits.specs.declared.limits.TheConstants.{LONGEST_OUTGOING}
 
 -- ---- premises
 

@@ -4,10 +4,10 @@ use Prim.Native.String.{String}
 use Rattle.std.specs.Char.{digit_value}
 use Rattle.std.specs.List.{flat_map}
 use Rattle.std.specs.FinSet as set
-use Rattle.zk_history.specs.declared.side.Side.TheVariants.{Data, Child}
+use Rattle.zk_nodes.specs.declared.side.Side.TheVariants.{Data, Child}
 use Rattle.zk_records.specs.declared.event.Event.TheVariants.{Deleted, DataChanged}
-use Rattle.zk_history.specs.declared.stat.Stat.{Stat}
-use Rattle.zk_history.specs.DataStats.{data_stat_of}
+use Rattle.zk_nodes.specs.declared.stat.Stat.{Stat}
+use Rattle.zk_nodes.specs.DataStats.{data_stat_of}
 use Rattle.zk_conversation.specs.Calls.{Exists, GetData, GetChildren, SetData, Create, Delete, Close}
 use Rattle.zk_conversation.specs.Arriving.{arriving}
 use Rattle.zk_conversation.specs.Results.{record_of}

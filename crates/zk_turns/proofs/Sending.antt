@@ -2,20 +2,20 @@
 use Rattle.zk_watches.specs.Lists.{fires, Lists}
 use Rattle.zk_turns.specs.Turns.{Turn, Framed, Start, Outcome, Signal, Opens, Comes, Cuts, Ticks, Calls, Forget, Halt, Output, Report, Enters, Drop, Item, Turned, Forgets, Halts, signals_of}
 use Rattle.zk_conversation.specs.Calls.{Call, call_payload, ping_payload}
-use Rattle.zk_history.specs.History.{Text}
+use Rattle.zk_nodes.specs.Path.{Text}
 use Rattle.std.proofs.Common.{◌≡◌, ℕ, ℤ, pos, Bool, true, false, cond, List, [], ◌∷◌, ◌++◌, map, Option, Some, None, refl, sym, ap, subst, ◌∙◌, append_assoc}
 use Rattle.std.specs.Prelude.{reverse, ◌&&◌, if◌then◌else◌, nat_le, ◌*◌, ◌-◌}
 use Rattle.std.specs.List.{flat_map}
 use Rattle.std.proofs.lemmas.List.{append-nil}
 use mathlib.Core.List.{reverse_aux, reverse_aux-eq}
-use Rattle.zk_history.specs.declared.side.Side.{Side}
-use Rattle.zk_history.specs.declared.side.Side.TheVariants.{Data, Child}
+use Rattle.zk_nodes.specs.declared.side.Side.{Side}
+use Rattle.zk_nodes.specs.declared.side.Side.TheVariants.{Data, Child}
 use Rattle.zk_records.specs.declared.event.Event.{Event}
 use Rattle.zk_conversation.specs.Questions.{Close}
 use Rattle.zk_session.specs.declared.states.State.{State}
 use Rattle.zk_session.specs.declared.states.State.TheVariants.{Idle, Connecting, Connected}
 use Rattle.zk_frames.specs.Frame.{frame}
-use Rattle.zk_turns.specs.Kept.{is_talking, xid_of, Past, Happening, Began, Came, Took, Dropped, Lost, Asked, Denied, Pinged, Ticked, Message, Accepted, Expiry, Replies, Watches_set, Notifies, Pong, Skipped, state_of, held_of, has_halted, lists_of, last_of}
+use Rattle.zk_turns.specs.Past.{is_talking, xid_of, Past, Happening, Began, Came, Took, Dropped, Lost, Forgot, Halted, Asked, Denied, Pinged, Ticked, Message, Accepted, Expiry, Replies, Watches_set, Notifies, Pong, Skipped, state_of, held_of, has_halted, lists_of, last_of}
 use Rattle.zk_watches.specs.Parts.{parts}
 use Rattle.zk_turns.specs.View.{View, view_at}
 use Rattle.zk_turns.specs.Taken.{reading, caused, happenings, opens, of_cutting, cut, Cutting, Unfinished, Bad, Payload, due, timeout_of, refusal, joined, past_after, past_of, comes, if_open}
@@ -43,17 +43,54 @@ pub onto-append : (xs ys outs : List Output) → onto (xs ++ ys) outs ≡ onto y
 onto-append [] ys outs = refl
 onto-append (x ∷ xs) ys outs = onto-append xs ys (x ∷ outs)
 
+-- What holds of the past and of the outputs so far, the newest first, and goes on, holds after happenings, signals and items.
+module _ (start : Start) (Holds : Past → List Output → Type 0) where
+  abbrev AfterAll : List Happening → Past → List Output → Type 0
+  AfterAll more past outs = Holds (joined past more) (onto (due_happenings start past more) outs)
+
+  pub happenings_hold : ((happening : Happening) (past : Past) (outs : List Output) → Holds past outs → Holds (happening ∷ past) (onto (says (view_at start past) happening) outs))
+      → (more : List Happening) (past : Past) (outs : List Output) → Holds past outs → AfterAll more past outs
+  happenings_hold step [] past outs s = s
+  happenings_hold step (happening ∷ more) past outs s =
+      subst (Holds (joined (happening ∷ past) more)) (sym (onto-append (says (view_at start past) happening) (due_happenings start (happening ∷ past) more) outs))
+      (happenings_hold step more (happening ∷ past) (onto (says (view_at start past) happening) outs) (step happening past outs s))
+
+  module _ (by_signal : (signal : Signal) (past : Past) (outs : List Output) → Holds past outs → AfterAll (happenings (view_at start past) signal) past outs) where
+    signals_hold : (more : List Signal) (past : Past) (outs : List Output) → Holds past outs → Holds (past_after start past more) (onto (due_signals start past more) outs)
+    signals_hold [] past outs s = s
+    signals_hold (signal ∷ more) past outs s =
+        let now = joined past (happenings (view_at start past) signal) in
+        subst (Holds (past_after start now more)) (sym (onto-append (due_happenings start past (happenings (view_at start past) signal)) (due_signals start now more) outs))
+        (signals_hold more now (onto (due_happenings start past (happenings (view_at start past) signal)) outs) (by_signal signal past outs s))
+
+    pub items_hold : Holds [] [] → ((past : Past) (outs : List Output) → Holds past outs → Holds (Forgot ∷ past) outs × Holds (Halted ∷ past) outs)
+        → (items : List Item) → AllSaid start items → Holds (past_of start items) (outputs_of items)
+    items_hold none marks [] said = none
+    items_hold none marks (Turned turn ∷ items) said =
+        subst (Holds (past_of start (Turned turn ∷ items))) (sym (outputs_onto turn items ∙ ap (λ t. onto t (outputs_of items)) said.0))
+        (signals_hold (signals_of turn.input) (past_of start items) (outputs_of items) (items_hold none marks items said.1))
+    items_hold none marks (Forgets ∷ items) said = (marks (past_of start items) (outputs_of items) (items_hold none marks items said)).0
+    items_hold none marks (Halts ∷ items) said = (marks (past_of start items) (outputs_of items) (items_hold none marks items said)).1
+
+-- what does not read reports reads nothing of them
+silent_report : {A : Type 0} (read : List Output → A) → ((path : Text) (side : Side) (event : Event) (outs : List Output) → read (Report path side event ∷ outs) ≡ read outs)
+    → (view : View) (event : Event) (path : Text) (side : Side) (outs : List Output) → read (onto (report view event path side) outs) ≡ read outs
+silent_report read silent view event path side outs = by (fires view.lists event side path)
+  where
+    by : (b : Bool) → read (onto (cond b (Report path side event ∷ []) []) outs) ≡ read outs
+    by true = silent path side event outs
+    by false = refl
+
+silent_reports : {A : Type 0} (read : List Output → A) → ((path : Text) (side : Side) (event : Event) (outs : List Output) → read (Report path side event ∷ outs) ≡ read outs)
+    → (view : View) (event : Event) (path : Text) (outs : List Output) → read (onto (report view event path Data ++ report view event path Child) outs) ≡ read outs
+silent_reports read silent view event path outs =
+    ap read (onto-append (report view event path Data) (report view event path Child) outs)
+    ∙ silent_report read silent view event path Child (onto (report view event path Data) outs) ∙ silent_report read silent view event path Data outs
+
 sends_parts : (relative : ℤ) (ps : List Lists) (outs : List Output) → sends (onto (map (part_frame relative) ps) outs) ≡ sends outs ++ map (part_of relative) ps
 sends_parts relative [] outs = sym (append-nil (sends outs))
 sends_parts relative (p ∷ ps) outs =
     sends_parts relative ps (part_frame relative p ∷ outs) ∙ append_assoc (sends outs) (part_of relative p ∷ []) (map (part_of relative) ps)
-
-sends_report : (view : View) (event : Event) (path : Text) (side : Side) (outs : List Output) → sends (onto (report view event path side) outs) ≡ sends outs
-sends_report view event path side outs = by (fires view.lists event side path)
-  where
-    by : (b : Bool) → sends (onto (cond b (Report path side event ∷ []) []) outs) ≡ sends outs
-    by true = refl
-    by false = refl
 
 module _ (start : Start) where
   abbrev Sent : Past → List Output → Type 0
@@ -71,11 +108,7 @@ module _ (start : Start) where
   message_sends (Replies ticket Close zxid result) past outs up s o = absurd cc
   message_sends (Replies ticket question zxid result) past outs up s o = s up
   message_sends (Watches_set last zxid) past outs up s o = s up
-  message_sends (Notifies event path) past outs up s o =
-      ap sends (onto-append (report (view_at start past) event path Data) (report (view_at start past) event path Child) outs)
-      ∙ sends_report (view_at start past) event path Child (onto (report (view_at start past) event path Data) outs)
-      ∙ sends_report (view_at start past) event path Data outs
-      ∙ s up
+  message_sends (Notifies event path) past outs up s o = silent_reports sends (λ p side e o. refl) (view_at start past) event path outs ∙ s up
   message_sends Pong past outs up s o = s up
   message_sends Skipped past outs up s o = s up
 
@@ -151,36 +184,14 @@ module _ (start : Start) where
   signal_sends Halt past outs s = s
   signal_sends signal past outs s = cond_sends (has_halted past) [] (caused (view_at start past) signal) past outs s (caused_sends signal past outs s)
 
-  signals_send : (more : List Signal) (past : Past) (outs : List Output) → Sent past outs → Sent (past_after start past more) (onto (due_signals start past more) outs)
-  signals_send [] past outs s o = s o
-  signals_send (signal ∷ more) past outs s o =
-      let now = joined past (happenings (view_at start past) signal) in
-      ap sends (onto-append (due_happenings start past (happenings (view_at start past) signal)) (due_signals start now more) outs)
-      ∙ signals_send more now (onto (due_happenings start past (happenings (view_at start past) signal)) outs) (signal_sends signal past outs s) o
-
-  items_send : (items : List Item) → AllSaid start items → Sent (past_of start items) (outputs_of items)
-  items_send [] said o = absurd cc
-  items_send (Turned turn ∷ items) said o =
-      ap sends (outputs_onto turn items) ∙ ap (λ t. sends (onto t (outputs_of items))) said.0
-      ∙ signals_send (signals_of turn.input) (past_of start items) (outputs_of items) (items_send items said.1) o
-  items_send (Forgets ∷ items) said o = items_send items said o
-  items_send (Halts ∷ items) said o = items_send items said o
-
   pub sent_is : (items : List Item) (view : View) → Stands start items view → IsOpen view.standing.state → sends (outputs_of items) ≡ sent start (past_of start items)
-  sent_is items view s up = items_send items s.said (subst IsOpen (ap (λ t. t.state) s.standing) up)
+  sent_is items view s up = items_hold start Sent signal_sends (λ up. absurd cc) (λ past outs s. (s, s)) items s.said (subst IsOpen (ap (λ t. t.state) s.standing) up)
 
 -- ---- the state that was told last
 
 told_parts : (relative : ℤ) (ps : List Lists) (outs : List Output) → told_state (onto (map (part_frame relative) ps) outs) ≡ told_state outs
 told_parts relative [] outs = refl
 told_parts relative (p ∷ ps) outs = told_parts relative ps (part_frame relative p ∷ outs)
-
-told_report : (view : View) (event : Event) (path : Text) (side : Side) (outs : List Output) → told_state (onto (report view event path side) outs) ≡ told_state outs
-told_report view event path side outs = by (fires view.lists event side path)
-  where
-    by : (b : Bool) → told_state (onto (cond b (Report path side event ∷ []) []) outs) ≡ told_state outs
-    by true = refl
-    by false = refl
 
 module _ (start : Start) where
   told_losses : (view : View) (outs : List Output) → told_state (onto (losses view) outs) ≡ Idle
@@ -192,11 +203,7 @@ module _ (start : Start) where
   told_message (Replies ticket Close zxid result) past outs s = refl
   told_message (Replies ticket question zxid result) past outs s = s
   told_message (Watches_set last zxid) past outs s = s
-  told_message (Notifies event path) past outs s =
-      ap told_state (onto-append (report (view_at start past) event path Data) (report (view_at start past) event path Child) outs)
-      ∙ told_report (view_at start past) event path Child (onto (report (view_at start past) event path Data) outs)
-      ∙ told_report (view_at start past) event path Data outs
-      ∙ s
+  told_message (Notifies event path) past outs s = silent_reports told_state (λ p side e o. refl) (view_at start past) event path outs ∙ s
   told_message Pong past outs s = s
   told_message Skipped past outs s = s
 
@@ -207,26 +214,7 @@ module _ (start : Start) where
   told_step Lost past outs s = told_losses (view_at start past) outs
   told_step _ past outs s = s
 
-  told_all : (more : List Happening) (past : Past) (outs : List Output) → told_state outs ≡ state_of past → told_state (onto (due_happenings start past more) outs) ≡ state_of (joined past more)
-  told_all [] past outs s = s
-  told_all (happening ∷ more) past outs s =
-      ap told_state (onto-append (says (view_at start past) happening) (due_happenings start (happening ∷ past) more) outs)
-      ∙ told_all more (happening ∷ past) (onto (says (view_at start past) happening) outs) (told_step happening past outs s)
-
-  told_signals : (more : List Signal) (past : Past) (outs : List Output) → told_state outs ≡ state_of past → told_state (onto (due_signals start past more) outs) ≡ state_of (past_after start past more)
-  told_signals [] past outs s = s
-  told_signals (signal ∷ more) past outs s =
-      let now = joined past (happenings (view_at start past) signal) in
-      ap told_state (onto-append (due_happenings start past (happenings (view_at start past) signal)) (due_signals start now more) outs)
-      ∙ told_signals more now (onto (due_happenings start past (happenings (view_at start past) signal)) outs) (told_all (happenings (view_at start past) signal) past outs s)
-
-  told_items : (items : List Item) → AllSaid start items → told_state (outputs_of items) ≡ state_of (past_of start items)
-  told_items [] said = refl
-  told_items (Turned turn ∷ items) said =
-      ap told_state (outputs_onto turn items) ∙ ap (λ t. told_state (onto t (outputs_of items))) said.0
-      ∙ told_signals (signals_of turn.input) (past_of start items) (outputs_of items) (told_items items said.1)
-  told_items (Forgets ∷ items) said = told_items items said
-  told_items (Halts ∷ items) said = told_items items said
-
   pub told_is : (items : List Item) (view : View) → Stands start items view → told_state (outputs_of items) ≡ view.standing.state
-  told_is items view s = told_items items s.said ∙ sym (ap (λ t. t.state) s.standing)
+  told_is items view s =
+      items_hold start (λ past outs. told_state outs ≡ state_of past) (λ signal past. happenings_hold start (λ past outs. told_state outs ≡ state_of past) told_step (happenings (view_at start past) signal) past) refl (λ past outs s. (s, s)) items s.said
+      ∙ sym (ap (λ t. t.state) s.standing)

@@ -17,7 +17,7 @@ use Rattle.zk_conversation.specs.Questions.{Question}
 use Rattle.zk_conversation.specs.Results.{Result, result_layout, result_from, record_of}
 use Rattle.zk_conversation.specs.Pending.{Pending}
 use Rattle.zk_conversation.specs.Arriving.{Connected, first_arriving, arriving}
-use Rattle.zk_history.specs.History.{Text}
+use Rattle.zk_nodes.specs.Path.{Text}
 use Rattle.zk_turns.specs.Spelled.{BeginsWith}
 
 pub spelt : (layout : Layout) (end : ℕ) (bytes : List ℕ) (value : Value layout) (rest : List ℕ) → IsBytes bytes → reading layout end bytes ≡ Ok (value, rest) → Fits layout value × (bytes ≡ spelling layout value ++ rest)

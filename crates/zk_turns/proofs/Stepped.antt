@@ -1,7 +1,7 @@
 -- A step keeps what a client stands for.
 use Rattle.zk_conversation.specs.Results.{response_timeout, response_session, response_password}
 use Rattle.zk_turns.proofs.Arriving.{IsOf, AreOf, of_arriving}
-use Rattle.zk_turns.specs.Kept.{Asking, For_call, pending_for, awaited}
+use Rattle.zk_turns.specs.Past.{Asking, For_call, pending_for, awaited}
 use Rattle.zk_conversation.specs.declared.phase.Phase.{Phase}
 use Rattle.zk_conversation.specs.Calls.{Call}
 use Rattle.zk_turns.specs.Taken.{phase_of, taken_of, welcome_by}
@@ -14,7 +14,7 @@ use Rattle.std.proofs.lemmas.List.{length-append, map-append, append-nil}
 use Rattle.zk_turns.specs.Turns.{Start, Outcome, Behind, WatchesRefused, Signal, Opens, Comes, Cuts, Ticks, Calls, Forget, Halt, Bytes, Turn, Item, Turned, Halts, signals, signals_of}
 use Rattle.zk_session.specs.declared.states.State.{State}
 use Rattle.zk_session.specs.declared.states.State.TheVariants.{Idle, Connecting, Connected}
-use Rattle.zk_turns.specs.Kept.{Past, Happening, Began, Came, Took, Dropped, Lost, Asked, Pinged, Ticked, Halted, Accepted, Expiry, Replies, Watches_set, is_talking, state_of, questions, answered, pending_of, held_of, xid_of, has_halted}
+use Rattle.zk_turns.specs.Past.{Past, Happening, Began, Came, Took, Dropped, Lost, Asked, Pinged, Ticked, Halted, Accepted, Expiry, Replies, Watches_set, is_talking, state_of, questions, answered, pending_of, held_of, xid_of, has_halted}
 use Rattle.zk_conversation.specs.Pending.{Pending}
 use Rattle.zk_turns.specs.View.{View, view_at}
 use Rattle.zk_turns.specs.Taken.{reading, leaves_watch, timeout_of, opens, refusal, caused, happenings, of_cutting, cut, Cutting, Unfinished, Bad, Payload, due, joined, past_after, past_of, comes, if_open}

@@ -3,10 +3,10 @@ use Rattle.zk_watches.specs.Lists.{fires, Lists}
 use Rattle.zk_conversation.specs.Pending.{call_waits, Pending, Waiting, Part_waits, Call_waits, is_close}
 use Rattle.zk_conversation.specs.Results.{response_timeout, response_session, response_password}
 use Rattle.zk_turns.proofs.Arriving.{First, IsQuiet, IsOf, AreOf, of_arriving}
-use Rattle.zk_turns.specs.Kept.{pending_for, parts_asked, Past, Happening, Began, Came, Took, Dropped, Lost, Asked, Denied, Pinged, Ticked, Forgot, Halted, Accepted, Expiry, Replies, Watches_set, Notifies, Pong, Skipped, is_talking, state_of, questions, answered, pending_of, held_of, has_halted}
+use Rattle.zk_turns.specs.Past.{pending_for, parts_asked, Past, Happening, Began, Came, Took, Dropped, Lost, Asked, Denied, Pinged, Ticked, Forgot, Halted, Accepted, Expiry, Replies, Watches_set, Notifies, Pong, Skipped, is_talking, state_of, questions, answered, pending_of, held_of, has_halted}
 use Rattle.zk_conversation.specs.declared.phase.Phase.{Phase}
 use Rattle.zk_conversation.specs.Calls.{Call as Asked_call}
-use Rattle.zk_history.specs.History.{Text}
+use Rattle.zk_nodes.specs.Path.{Text}
 use Rattle.zk_turns.specs.Taken.{phase_of, taken_of, welcome_by, reading, leaves_watch, refusal, caused, happenings, opens, of_cutting, cut, Cutting, Unfinished, Bad, Payload, due, timeout_of, joined, past_after, past_of, comes, if_open}
 use Rattle.zk_conversation.specs.Arriving.{Arrived, Connected as Welcomed, Replied, Watches_set as Part_set, Notice, Pong as Ponged, Skipped as Passed, arriving}
 use Rattle.zk_conversation.specs.declared.fault.TalkFault.{TalkFault}
@@ -14,8 +14,8 @@ use Rattle.std.proofs.Common.{◌≡◌, ℕ, zero, ◌+◌, ◌≤◌, ℤ, pos
 use Rattle.std.specs.Prelude.{if◌then◌else◌, int_lt, nat_le, max, ◌==◌, ◌*◌, ◌-◌, Result as Reading}
 use Rattle.std.specs.List.{list_any, flat_map}
 use Rattle.std.specs.Ordering.{int_eq}
-use Rattle.zk_history.specs.declared.side.Side.{Side}
-use Rattle.zk_history.specs.declared.side.Side.TheVariants.{Data, Child}
+use Rattle.zk_nodes.specs.declared.side.Side.{Side}
+use Rattle.zk_nodes.specs.declared.side.Side.TheVariants.{Data, Child}
 use Rattle.zk_turns.specs.Turns.{Start, Outcome, Behind, WatchesRefused, Signal, Opens, Comes, Cuts, Ticks, Calls, Forget, Halt, Input, Opened, Bytes, Cut, Now, Call, Output, Report, Enters, Item, Turned, Forgets, Halts, signals_of}
 use Rattle.zk_conversation.specs.Questions.{Question, Close}
 use Rattle.zk_session.specs.declared.states.State.{State}

@@ -2,8 +2,8 @@
 use Rattle.zk_cache.specs.declared.held.Kept.{Kept}
 use Rattle.zk_cache.specs.Kept.{Answer, Absent, Known, Full, without_stale}
 use Rattle.std.specs.Prelude.{ℕ, ℤ, Bool, true, false, ◌&&◌, List, [], ◌∷◌, Option, Some, None, Ok, Err, bytes_eq, if◌then◌else◌, Result as Reading}
-use Rattle.zk_history.specs.History.{Text}
-use Rattle.zk_history.specs.declared.data_stat.DataStat.{DataStat}
+use Rattle.zk_nodes.specs.Path.{Text}
+use Rattle.zk_nodes.specs.declared.data_stat.DataStat.{DataStat}
 use Rattle.zk_conversation.specs.Calls.{Call}
 use Rattle.zk_conversation.specs.Questions.{Question, Close}
 use Rattle.zk_conversation.specs.Arriving.{Arrived}
@@ -11,7 +11,7 @@ use Rattle.zk_conversation.specs.declared.fault.TalkFault.{TalkFault}
 use Rattle.zk_session.specs.declared.states.State.{State}
 use Rattle.zk_session.specs.declared.states.State.TheVariants.{Connected, Expired, Closed}
 use Rattle.zk_turns.specs.Turns.{Outcome, SessionExpired, SessionClosed, NotConnected, Talked, Output, Enters}
-use Rattle.zk_turns.specs.Kept.{Happening, Asked, Denied, Dropped, Forgot, Word, Says, Ends, Nothing}
+use Rattle.zk_turns.specs.Past.{Happening, Asked, Denied, Dropped, Forgot, Word, Says, Ends, Nothing}
 use Rattle.zk_turns.specs.View.{View}
 use Rattle.zk_turns.specs.Taken.{taken_of, refusal_when_connected}
 

@@ -1,10 +1,8 @@
 -- When a call is refused and when a connection is given up, each condition said by itself.
 use Rattle.std.specs.Prelude.{◌≡◌, ◌≢◌, ◌≤◌, ◌<◌, ◌+◌, ◌*◌, ◌-◌, ℕ, ℤ, pos, length, drop, max, int_lt, Bool, true, List, [], ◌∷◌, ◌++◌, Option, Some, None, Ok, Err, ◌⊎◌}
-use Rattle.zk_history.specs.declared.side.Side.{Side}
+use Rattle.zk_nodes.specs.declared.side.Side.{Side}
 use Rattle.zk_frames.specs.Frame.{length_field}
 use Rattle.zk_frames.specs.Stream.{StandsNext}
-use Rattle.zk_frames.specs.declared.put.TheConstants.{LONGEST_OUTGOING}
-use Rattle.zk_frames.specs.declared.reader.TheConstants.{LONGEST_INCOMING}
 use Rattle.zk_session.specs.declared.states.State.TheVariants.{Connected, Expired, Closed}
 use Rattle.zk_watches.specs.Lists.{count_of}
 use Rattle.zk_conversation.specs.Calls.{Call, call_payload}
@@ -17,6 +15,7 @@ use Rattle.zk_turns.specs.View.{View}
 use Rattle.zk_turns.specs.Taken.{phase_of, timeout_of, leaves_watch}
 use Rattle.zk_turns.specs.Rule.{IsOpen}
 use Rattle.zk_turns.specs.Meaning.{Among}
+use Rattle.zk_limits.specs.declared.limits.TheConstants.{LONGEST_INCOMING, LONGEST_OUTGOING, MOST_PATHS, MOST_PENDING}
 
 -- Calls
 
@@ -26,8 +25,8 @@ abbrev pub Applies : Outcome → View → Call → Type 0
 Applies SessionExpired view call = view.standing.state ≡ Expired
 Applies SessionClosed view call = (view.standing.state ≡ Closed) ⊎ ((view.standing.state ≡ Connected) × ((close : Pending) × Among close view.pending × (is_close close ≡ true)))
 Applies NotConnected view call = view.standing.state ≢ Connected
-Applies TooManyPending view call = 1024 ≤ calls_pending view.pending
-Applies TooManyWatches view call = (side : Side) × (watched_side (question_of call) ≡ Some side) × (65536 ≤ count_of view.lists side + watches_pending side view.pending)
+Applies TooManyPending view call = MOST_PENDING ≤ calls_pending view.pending
+Applies TooManyWatches view call = (side : Side) × (watched_side (question_of call) ≡ Some side) × (MOST_PATHS ≤ count_of view.lists side + watches_pending side view.pending)
 Applies TooLarge view call = LONGEST_OUTGOING < length (call_payload (pos view.xid) call)
 Applies _ view call = ⊥
 

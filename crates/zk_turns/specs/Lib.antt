@@ -1,5 +1,5 @@
 pub mod Turns
-pub mod Kept
+pub mod Past
 pub mod View
 pub mod Taken
 pub mod Rule

@@ -1,16 +1,16 @@
 -- What the look-backs mean, in the words of watches: which reply leaves a watch, what ends it, and since when an answer is good.
 use Rattle.std.specs.Prelude.{◌≡◌, ◌≤ℤ◌, ℕ, ℤ, Bool, true, false, List, [], ◌∷◌, ◌++◌, Option, ⊤, ◌⊎◌}
 use Rattle.std.specs.List.{AllByRecursion}
-use Rattle.zk_history.specs.History.{Text}
-use Rattle.zk_history.specs.declared.side.Side.{Side}
-use Rattle.zk_history.specs.declared.side.Side.TheVariants.{Data, Child}
-use Rattle.zk_history.specs.declared.stat.Stat.{Stat}
-use Rattle.zk_history.specs.declared.data_stat.DataStat.{DataStat}
-use Rattle.zk_history.specs.DataStats.{data_stat_of}
+use Rattle.zk_nodes.specs.Path.{Text}
+use Rattle.zk_nodes.specs.declared.side.Side.{Side}
+use Rattle.zk_nodes.specs.declared.side.Side.TheVariants.{Data, Child}
+use Rattle.zk_nodes.specs.declared.stat.Stat.{Stat}
+use Rattle.zk_nodes.specs.declared.data_stat.DataStat.{DataStat}
+use Rattle.zk_nodes.specs.DataStats.{data_stat_of}
 use Rattle.zk_conversation.specs.Questions.{Question, Exists, GetData, GetChildren, Close}
 use Rattle.zk_conversation.specs.Results.{Result, NoNode, Found, Read, Listing}
 use Rattle.zk_turns.specs.Turns.{Start}
-use Rattle.zk_turns.specs.Kept.{Past, Happening, Took, Halted, Replies, Watches_set, Notifies, Expiry}
+use Rattle.zk_turns.specs.Past.{Past, Happening, Took, Halted, Replies, Watches_set, Notifies, Expiry}
 use Rattle.zk_records.specs.Events.{concerns}
 
 -- x is one of the list

@@ -2,9 +2,9 @@
 use Rattle.std.specs.Prelude.{◌≡◌, ◌<◌, ◌≤◌, ◌≤ℤ◌, ◌^◌, pos, length, true, ⊤, FitsSigned}
 use Rattle.std.specs.Int.{w32, w64}
 use Rattle.std.specs.Str.{is_utf8}
-use Rattle.zk_session.specs.declared.fields.TheConstants.{LONGEST_PASSWORD}
 use Rattle.zk_conversation.specs.Calls as call
 use Rattle.zk_turns.specs.Turns.{Start}
+use Rattle.zk_limits.specs.declared.limits.TheConstants.{LONGEST_PASSWORD}
 pub use Rattle.zk_turns.specs.Turns.{AsksOf, AllAskOf}
 
 -- What may be taken up: the numbers are of their types and the last seen zxid is not below 0, and the password is not longer

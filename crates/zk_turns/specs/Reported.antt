@@ -1,11 +1,11 @@
 -- Which notices are reported.
 use Rattle.std.specs.Prelude.{Bool, true, false, ◌&&◌, List, [], ◌∷◌, ◌++◌, filter, if◌then◌else◌}
-use Rattle.zk_history.specs.History.{Text}
-use Rattle.zk_history.specs.declared.side.Side.{Side}
-use Rattle.zk_history.specs.declared.side.Side.TheVariants.{Data, Child}
+use Rattle.zk_nodes.specs.Path.{Text}
+use Rattle.zk_nodes.specs.declared.side.Side.{Side}
+use Rattle.zk_nodes.specs.declared.side.Side.TheVariants.{Data, Child}
 use Rattle.zk_records.specs.declared.event.Event.{Event}
 use Rattle.zk_turns.specs.Turns.{Output, Report}
-use Rattle.zk_turns.specs.Kept.{Past, Took, Notifies, is_good}
+use Rattle.zk_turns.specs.Past.{Past, Took, Notifies, is_good}
 use Rattle.zk_records.specs.Events.{concerns}
 
 -- a notice's report on a side: where it is about that side and the answer there was good

@@ -5,15 +5,16 @@ use Rattle.zk_cache.specs.declared.held.Kept.{Kept}
 use Rattle.zk_watches.specs.Lists.{Lists, registered, fired, fires, no_lists}
 use Rattle.zk_turns.specs.Turns.{IsAskable, AllAskOf, IsAsked, Replied, ConnectionLoss, Output, Send, Answer, Report, Enters, Drop, Now, Turn, Item, Turned, Start, Signal, signals_of}
 use Rattle.zk_records.specs.Events.{concerns}
-use Rattle.zk_turns.specs.Kept.{pending_for, Happening, Began, Came, Took, Dropped, Lost, Asked, Denied, Pinged, Ticked, Forgot, Halted, Past, Message, Accepted, Expiry, Replies, Watches_set, Notifies, Pong, Skipped, Left, leaves_data, leaves_child, parts_asked, later, has_halted, is_open}
+use Rattle.zk_turns.specs.Past.{pending_for, Happening, Began, Came, Took, Dropped, Lost, Asked, Denied, Pinged, Ticked, Forgot, Halted, Past, Message, Accepted, Expiry, Replies, Watches_set, Notifies, Pong, Skipped, Left, leaves_data, leaves_child, parts_asked, has_halted, is_open}
+use Rattle.std.specs.Int.{int_max}
 use Rattle.zk_watches.specs.Parts.{parts}
 use Rattle.zk_conversation.specs.Pending.{next_xid, call_waits, Pending, Part_waits, Call_waits}
 use Rattle.std.specs.Prelude.{◌≡◌, ◌⊎◌, ℕ, ℤ, pos, max, Bool, true, false, ◌&&◌, List, [], ◌∷◌, ◌++◌, map, drop, Option, Some, None, bytes_eq, if◌then◌else◌}
 use Rattle.std.specs.List.{flat_map}
-use Rattle.zk_history.specs.History.{Text}
+use Rattle.zk_nodes.specs.Path.{Text}
 use Rattle.zk_conversation.specs.Calls.{connect_payload, call_payload, ping_payload, part_payload}
-use Rattle.zk_history.specs.declared.side.Side.{Side}
-use Rattle.zk_history.specs.declared.side.Side.TheVariants.{Data, Child}
+use Rattle.zk_nodes.specs.declared.side.Side.{Side}
+use Rattle.zk_nodes.specs.declared.side.Side.TheVariants.{Data, Child}
 use Rattle.zk_records.specs.declared.event.Event.{Event}
 use Rattle.zk_conversation.specs.Questions.{Question, Close}
 use Rattle.zk_conversation.specs.Results.{Result}
@@ -21,7 +22,7 @@ use Rattle.zk_session.specs.declared.states.State.{State}
 use Rattle.zk_session.specs.declared.states.State.TheVariants.{Idle, Connecting, Connected, Expired, Closed}
 use Rattle.zk_frames.specs.Frame.{frame}
 use Rattle.zk_turns.specs.View.{View, Standing, Cache, view_at}
-use Rattle.zk_session.specs.Kept.{Saved, Moments}
+use Rattle.zk_session.specs.SessionView.{Saved, Moments}
 use Rattle.zk_turns.specs.Taken.{reading, happenings, past_of, past_after}
 
 -- Lists
@@ -114,7 +115,7 @@ abbrev pub enters : State → View → Standing
 enters state view = record { halted = view.standing.halted; state = state }
 
 abbrev pub seen : ℤ → View → Saved
-seen zxid view = record { asked = view.saved.asked; session = view.saved.session; last = later zxid view.saved.last }
+seen zxid view = record { asked = view.saved.asked; session = view.saved.session; last = int_max zxid view.saved.last }
 
 abbrev pub heard_now : View → Moments
 heard_now view = record { now = view.moments.now; heard = view.moments.now; sent = view.moments.sent }

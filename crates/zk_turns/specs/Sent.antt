@@ -5,7 +5,7 @@ use Rattle.zk_session.specs.declared.states.State.{State}
 use Rattle.zk_session.specs.declared.states.State.TheVariants.{Idle, Connecting}
 use Rattle.zk_frames.specs.Frame.{frame}
 use Rattle.zk_conversation.specs.Calls.{connect_payload, call_payload, ping_payload, part_payload}
-use Rattle.zk_turns.specs.Kept.{Past, Began, Took, Asked, Pinged, Accepted, session_of, last_of, lists_of, xid_of}
+use Rattle.zk_turns.specs.Past.{Past, Began, Took, Asked, Pinged, Accepted, session_of, last_of, lists_of, xid_of}
 use Rattle.zk_watches.specs.Lists.{Lists}
 use Rattle.zk_watches.specs.Parts.{parts}
 

@@ -1,7 +1,6 @@
 -- What each signal makes happen: what is taken from the bytes that come, when a connection ends and why, which calls
 -- are refused. It depends on the view alone.
 use Rattle.zk_watches.specs.Lists.{count_of}
-use Rattle.zk_frames.specs.declared.put.TheConstants.{LONGEST_OUTGOING}
 use Rattle.zk_turns.specs.Turns.{Framed, Talked, Outcome, SessionExpired, SessionClosed, NotConnected, TooManyWatches, TooLarge, TooManyPending, Silent, Behind, WatchesRefused, Start, Item, signals, Signal, Opens, Comes, Cuts, Ticks, Calls, Forget, Halt}
 use Rattle.zk_frames.specs.declared.fault.FrameFault.{FrameFault}
 use Rattle.zk_conversation.specs.declared.phase.Phase.TheVariants.{Opening, Talking, Closed as Nowhere}
@@ -11,18 +10,18 @@ use Rattle.zk_conversation.specs.Results.{response_timeout, response_session, re
 use Rattle.zk_conversation.specs.Questions.{question_of, watched_side, Question}
 use Rattle.zk_conversation.specs.Pending.{calls_pending, watches_pending, is_close_pending, Pending}
 use Rattle.zk_conversation.specs.Calls.{Call, call_payload}
-use Rattle.zk_frames.specs.declared.reader.TheConstants.{LONGEST_INCOMING}
 use Rattle.zk_frames.specs.Frame.{length_field}
 use Rattle.std.specs.Prelude.{◌≡◌, ℕ, ℤ, pos, negsuc, ◌+◌, ◌-◌, ◌*◌, ◌^◌, Bool, false, ◌&&◌, ◌||◌, ◌==◌, nat_lt, nat_le, int_lt, max, List, [], ◌∷◌, ◌++◌, length, drop, Option, Some, None, Ok, Err, is_some, if◌then◌else◌}
 use Rattle.std.specs.List.{flat_map, AllByRecursion}
 use Rattle.std.specs.Ordering.{int_eq}
-use Rattle.zk_history.specs.declared.side.Side.{Side}
+use Rattle.zk_nodes.specs.declared.side.Side.{Side}
 use Rattle.zk_frames.specs.declared.fault.FrameFault.TheVariants.{Negative, TooLong}
 use Rattle.zk_session.specs.declared.states.State.{State}
 use Rattle.zk_session.specs.declared.states.State.TheVariants.{Idle, Connecting, Connected, Expired, Closed}
 use Rattle.zk_records.specs.Response.{Response}
-use Rattle.zk_turns.specs.Kept.{Happening, Began, Came, Took, Dropped, Lost, Asked, Denied, Pinged, Ticked, Forgot, Halted, Past, Message, Accepted, Expiry, Replies, Watches_set, Notifies, Pong, Skipped, is_talking, is_open, leaves_data, leaves_child, held_of}
+use Rattle.zk_turns.specs.Past.{Happening, Began, Came, Took, Dropped, Lost, Asked, Denied, Pinged, Ticked, Forgot, Halted, Past, Message, Accepted, Expiry, Replies, Watches_set, Notifies, Pong, Skipped, is_talking, is_open, leaves_data, leaves_child, held_of}
 use Rattle.zk_turns.specs.View.{View, view_at}
+use Rattle.zk_limits.specs.declared.limits.TheConstants.{LONGEST_INCOMING, LONGEST_OUTGOING, MOST_PATHS, MOST_PENDING}
 
 -- Payloads
 
@@ -112,13 +111,13 @@ NothingIsDue view moment = due_at view moment ≡ []
 
 abbrev pub is_full_on : View → Option Side → Bool
 is_full_on view None = false
-is_full_on view (Some side) = nat_le 65536 (count_of view.lists side + watches_pending side view.pending)
+is_full_on view (Some side) = nat_le MOST_PATHS (count_of view.lists side + watches_pending side view.pending)
 
 -- why a call that could be sent is not: a close is pending, too many calls are, too many paths are watched, or it is too long
 abbrev pub refusal_when_connected : View → Call → Option Outcome
 refusal_when_connected view call =
     if is_close_pending view.pending then Some SessionClosed
-    else (if nat_le 1024 (calls_pending view.pending) then Some TooManyPending
+    else (if nat_le MOST_PENDING (calls_pending view.pending) then Some TooManyPending
     else (if is_full_on view (watched_side (question_of call)) then Some TooManyWatches
     else (if nat_lt LONGEST_OUTGOING (length (call_payload (pos view.xid) call)) then Some TooLarge else None)))
 

@@ -1,12 +1,12 @@
 -- What goes into a client and what comes out of it, turn after turn.
-use Rattle.zk_history.specs.History.{IsPathText, Text}
+use Rattle.zk_nodes.specs.Path.{IsPathText, Text}
 use Rattle.zk_conversation.specs.Results.{Result}
 use Rattle.zk_conversation.specs.declared.fault.TalkFault.{TalkFault}
 use Rattle.zk_frames.specs.declared.fault.FrameFault.{FrameFault}
-use Rattle.zk_history.specs.declared.side.Side.{Side}
+use Rattle.zk_nodes.specs.declared.side.Side.{Side}
 use Rattle.zk_records.specs.declared.event.Event.{Event}
 use Rattle.zk_session.specs.declared.states.State.{State}
-use Rattle.zk_session.specs.declared.states.State.TheVariants.{Expired, Closed}
+use Rattle.zk_session.specs.States.{is_final}
 use Rattle.std.specs.Prelude.{⊤, ℕ, ℤ, Bool, true, false, List, [], ◌∷◌, map, replicate}
 use Rattle.zk_conversation.specs.Calls as call
 
@@ -50,8 +50,7 @@ pub data Output : Type 0 where
 -- With this output the connection is over: it is given up, or the session has ended.
 abbrev pub ends_connection : Output → Bool
 ends_connection (Drop fault) = true
-ends_connection (Enters Expired) = true
-ends_connection (Enters Closed) = true
+ends_connection (Enters state) = is_final state
 ends_connection _ = false
 
 -- an input with the outputs that it gave

@@ -6,8 +6,8 @@ use Rattle.std.proofs.KnownBytes.{Appends-nil, Appends-trans}
 use Rattle.std.specs.List.{filter, slice_index_or, Contains, FoldsTo}
 use Rattle.std.proofs.lemmas.List.{append-nil, length-map}
 use Rattle.std.proofs.Math.ListN.{get_or-map}
-use Rattle.zk_history.specs.History.{Text}
-use Rattle.zk_history.specs.declared.side.Side.{Side}
+use Rattle.zk_nodes.specs.Path.{Text}
+use Rattle.zk_nodes.specs.declared.side.Side.{Side}
 use Rattle.zk_session.specs.declared.states.State.TheVariants.{Expired}
 use Rattle.zk_turns.specs.Turns.{Input, Output, Send, Answer, Report, Enters, Drop, Turn, Turned, Start, Item, new_start}
 use Rattle.zk_turns.specs.View.{View, view_at}

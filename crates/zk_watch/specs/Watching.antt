@@ -1,8 +1,8 @@
 -- What a watch prints: what its clients say, and what they keep of its subjects.
 use Rattle.std.specs.Prelude.{◌≡◌, ◌⊎◌, ⊤, ℕ, ℤ, Bool, true, false, List, [], ◌∷◌, ◌++◌, map, codes, Some}
 use Rattle.std.specs.List.{flat_map, Contains, FoldsTo}
-use Rattle.zk_history.specs.History.{Text}
-use Rattle.zk_history.specs.declared.side.Side.{Side}
+use Rattle.zk_nodes.specs.Path.{Text}
+use Rattle.zk_nodes.specs.declared.side.Side.{Side}
 use Rattle.zk_session.specs.declared.states.State.TheVariants.{Expired}
 use Rattle.zk_turns.specs.Turns.{Output, Answer, Enters, Drop, Turn, Start, Item, new_start}
 use Rattle.zk_turns.specs.View.{View, view_at}

@@ -95,7 +95,7 @@ impl<A: Allocator> Note<A> {
 }
 
 /// Notes of so many subjects that were not read yet.
-pub(crate) fn begun<A: Allocator + Copy>(
+pub(crate) fn new_notes<A: Allocator + Copy>(
     alloc: A,
     count: usize,
 ) -> Result<Vec<Note<A>, A>, AllocError> {

@@ -10,7 +10,7 @@ ghost use Rattle.zk_watch.specs.Watching.{aims_of, Adds, Prints, TellsEach};
 
 use crate::end::End;
 use crate::lines::{is_known, kept_line, none_line, push_subject};
-use crate::notes::{Note, begin_read, begun, first_moment, is_told, set_told};
+use crate::notes::{Note, begin_read, first_moment, is_told, new_notes, set_told};
 use crate::plan::Subject;
 use crate::told::heard_text;
 use std::alloc::{AllocError, Allocator};
@@ -323,7 +323,7 @@ impl<'a, A: Allocator + Copy, D: Dial + Drop, C: Clock + Drop> Watcher<'a, A, D,
     fn begin_notes(&mut self, count: usize) -> Result<(), AllocError>
         ensures { self.new.link ≡ self.old.link }
     {
-        self.notes = begun(self.alloc, count)?;
+        self.notes = new_notes(self.alloc, count)?;
         Ok(())
     }
 

@@ -3,9 +3,10 @@ use Rattle.std.proofs.Common.{◌≡◌, ℕ, ◌+◌, ◌<◌, ◌≤◌, Bool,
 use Rattle.std.proofs.lemmas.Bool.{leb-true, leb-false, le-leb, lt-leb}
 use Rattle.std.proofs.lemmas.List.Elements.{All-head, All-tail, All-cons, All-nil}
 use Rattle.std.proofs.lemmas.List.Sums.{sum_by-cons}
-use Rattle.zk_history.specs.History.{Text}
+use Rattle.zk_nodes.specs.Path.{Text}
 use Rattle.zk_watches.specs.Lists.{Lists, no_lists}
 use Rattle.zk_watches.specs.Parts.{Watch, OnData, OnExist, OnChild, path_of, weight_of, total_of, watches_of, put_first, into_first, rest_of_parts, parts_of_watches, parts, IsFull, AreFull, ArePartsOf}
+use Rattle.zk_limits.specs.declared.limits.TheConstants.{LONGEST_PATH, MOST_WEIGHT}
 
 abbrev head : Watch → List Watch → Watch
 head other [] = other
@@ -53,24 +54,24 @@ none part h = none-by part.data_watches part.exist_watches part.child_watches h
 abbrev AreGood : List Lists → Type 0
 AreGood [] = Unit {0}
 AreGood (part ∷ ps) =
-    (0 < length (watches_of part)) × (total_of (watches_of part) ≤ 131072) × IsFull (total_of (watches_of part)) (flat_map watches_of ps) × AreGood ps
+    (0 < length (watches_of part)) × (total_of (watches_of part) ≤ MOST_WEIGHT) × IsFull (total_of (watches_of part)) (flat_map watches_of ps) × AreGood ps
 
-good_from : (l : Lists) (ps : List Lists) → All (λ part. 0 < length (watches_of part)) ps → All (λ part. total_of (watches_of part) ≤ 131072) ps → AreFull ps → AreGood ps
+good_from : (l : Lists) (ps : List Lists) → All (λ part. 0 < length (watches_of part)) ps → All (λ part. total_of (watches_of part) ≤ MOST_WEIGHT) ps → AreFull ps → AreGood ps
 good_from l [] some within full = tt
 good_from l (part ∷ ps) some within full = (
   All-head (λ q. 0 < length (watches_of q)) part ps some,
-  All-head (λ q. total_of (watches_of q) ≤ 131072) part ps within,
+  All-head (λ q. total_of (watches_of q) ≤ MOST_WEIGHT) part ps within,
   full.0,
-  good_from l ps (All-tail (λ q. 0 < length (watches_of q)) part ps some) (All-tail (λ q. total_of (watches_of q) ≤ 131072) part ps within) full.1,
+  good_from l ps (All-tail (λ q. 0 < length (watches_of q)) part ps some) (All-tail (λ q. total_of (watches_of q) ≤ MOST_WEIGHT) part ps within) full.1,
 )
 
 some_of : (ps : List Lists) → AreGood ps → All (λ part. 0 < length (watches_of part)) ps
 some_of [] good = All-nil (λ part. 0 < length (watches_of part))
 some_of (part ∷ ps) good = All-cons (λ q. 0 < length (watches_of q)) part ps good.0 (some_of ps good.3)
 
-within_of : (ps : List Lists) → AreGood ps → All (λ part. total_of (watches_of part) ≤ 131072) ps
-within_of [] good = All-nil (λ part. total_of (watches_of part) ≤ 131072)
-within_of (part ∷ ps) good = All-cons (λ q. total_of (watches_of q) ≤ 131072) part ps good.1 (within_of ps good.3)
+within_of : (ps : List Lists) → AreGood ps → All (λ part. total_of (watches_of part) ≤ MOST_WEIGHT) ps
+within_of [] good = All-nil (λ part. total_of (watches_of part) ≤ MOST_WEIGHT)
+within_of (part ∷ ps) good = All-cons (λ q. total_of (watches_of q) ≤ MOST_WEIGHT) part ps good.1 (within_of ps good.3)
 
 full_of : (ps : List Lists) → AreGood ps → AreFull ps
 full_of [] good = tt
@@ -81,7 +82,7 @@ full_of (part ∷ ps) good = (good.2, full_of ps good.3)
 -- what a cut of the rest of the watches is, where a part has this weight
 abbrev IsRest : List Watch → Type 0
 IsRest ws =
-    (weight : ℕ) (part : Lists) (ps : List Lists) → watches_of part ++ flat_map watches_of ps ≡ ws → weight + total_of (watches_of part) ≤ 131072
+    (weight : ℕ) (part : Lists) (ps : List Lists) → watches_of part ++ flat_map watches_of ps ≡ ws → weight + total_of (watches_of part) ≤ MOST_WEIGHT
     → IsFull (weight + total_of (watches_of part)) (flat_map watches_of ps) → AreGood ps → part ∷ ps ≡ rest_of_parts weight ws
 
 -- parts that begin with this path
@@ -97,7 +98,7 @@ begun x xs part ps rest h good = by (watches_of part) refl
         let sum : total_of (watches_of part) ≡ weight_of x + total_of (watches_of s.rest) =
         ap total_of (e ∙ ap (λ w. w ∷ ys) (ap (head x) whole)) ∙ sum_by-cons weight_of x ys ∙ ap (λ l. weight_of x + total_of l) (sym s.watches) in
         ap (λ q. q ∷ ps) s.is
-        ∙ ap (into_first x) (rest (weight_of x) s.rest ps (ap (λ l. l ++ flat_map watches_of ps) s.watches ∙ ap tail whole) (subst (λ n. n ≤ 131072) sum good.1) (subst (λ n. IsFull n (flat_map watches_of ps)) sum good.2) good.3)
+        ∙ ap (into_first x) (rest (weight_of x) s.rest ps (ap (λ l. l ++ flat_map watches_of ps) s.watches ∙ ap tail whole) (subst (λ n. n ≤ MOST_WEIGHT) sum good.1) (subst (λ n. IsFull n (flat_map watches_of ps)) sum good.2) good.3)
 
 rest_is : (ws : List Watch) → IsRest ws
 rest_is [] weight part ps h light full good = by (watches_of part) refl ps h good
@@ -117,8 +118,8 @@ rest_is (x ∷ xs) weight part ps h light full good = by (rest_is xs) (watches_o
     by rest [] e (q ∷ qs) h full good =
         let joined : watches_of q ++ flat_map watches_of qs ≡ x ∷ xs = ap (λ l. l ++ (watches_of q ++ flat_map watches_of qs)) (sym e) ∙ h in
         let empty : total_of (watches_of part) ≡ 0 = ap total_of e in
-        let past : 131072 < weight + total_of (watches_of part) + weight_of x = subst (IsFull (weight + total_of (watches_of part))) joined full in
-        let closes : leb (weight + weight_of x) 131072 ≡ false = lt-leb (weight + weight_of x) 131072 (omega (arith, past, empty)) in
+        let past : MOST_WEIGHT < weight + total_of (watches_of part) + weight_of x = subst (IsFull (weight + total_of (watches_of part))) joined full in
+        let closes : leb (weight + weight_of x) MOST_WEIGHT ≡ false = lt-leb (weight + weight_of x) MOST_WEIGHT (omega (arith, past, empty)) in
         (λ i. none part e i ∷ begun x xs q qs rest joined good i)
         ∙ ap (λ b. if b then into_first x (rest_of_parts (weight + weight_of x) xs) else no_lists ∷ into_first x (rest_of_parts (weight_of x) xs)) (sym closes)
     by rest (y ∷ ys) e qs h full good =
@@ -127,10 +128,10 @@ rest_is (x ∷ xs) weight part ps h light full good = by (rest_is xs) (watches_o
         let sum : total_of (watches_of part) ≡ weight_of x + total_of (watches_of s.rest) =
         ap total_of (e ∙ ap (λ w. w ∷ ys) (ap (head x) whole)) ∙ sum_by-cons weight_of x ys ∙ ap (λ l. weight_of x + total_of l) (sym s.watches) in
         let moved : weight + total_of (watches_of part) ≡ weight + weight_of x + total_of (watches_of s.rest) = omega (arith, sum) in
-        let fits : leb (weight + weight_of x) 131072 ≡ true = le-leb (weight + weight_of x) 131072 (omega (arith, light, sum)) in
+        let fits : leb (weight + weight_of x) MOST_WEIGHT ≡ true = le-leb (weight + weight_of x) MOST_WEIGHT (omega (arith, light, sum)) in
         ap (λ q. q ∷ qs) s.is
         ∙ ap (into_first x)
-        (rest (weight + weight_of x) s.rest qs (ap (λ l. l ++ flat_map watches_of qs) s.watches ∙ ap tail whole) (subst (λ n. n ≤ 131072) moved light) (subst (λ n. IsFull n (flat_map watches_of qs)) moved full) good)
+        (rest (weight + weight_of x) s.rest qs (ap (λ l. l ++ flat_map watches_of qs) s.watches ∙ ap tail whole) (subst (λ n. n ≤ MOST_WEIGHT) moved light) (subst (λ n. IsFull n (flat_map watches_of qs)) moved full) good)
         ∙ ap (λ b. if b then into_first x (rest_of_parts (weight + weight_of x) xs) else no_lists ∷ into_first x (rest_of_parts (weight_of x) xs)) (sym fits)
 
 -- What is so cut is the parts.
@@ -189,7 +190,7 @@ put x part ws h = put-by x part.data_watches part.exist_watches part.child_watch
 abbrev IsCut : List Watch → ℕ → List Lists → Type 0
 IsCut ws weight [] = ⊥
 IsCut ws weight (part ∷ ps) =
-    (watches_of part ++ flat_map watches_of ps ≡ ws) × (weight + total_of (watches_of part) ≤ 131072) × IsFull (weight + total_of (watches_of part)) (flat_map watches_of ps) × AreGood ps
+    (watches_of part ++ flat_map watches_of ps ≡ ws) × (weight + total_of (watches_of part) ≤ MOST_WEIGHT) × IsFull (weight + total_of (watches_of part)) (flat_map watches_of ps) × AreGood ps
 
 abbrev IsWhole : List Watch → List Lists → Type 0
 IsWhole ws ps = (flat_map watches_of ps ≡ ws) × AreGood ps
@@ -205,7 +206,7 @@ module _ (x : Watch) (xs : List Watch) (follows : Follows x xs) where
       let e : watches_of (put_first x part) ≡ x ∷ watches_of part = put x part (flat_map watches_of ps) (subst (Follows x) (sym c.0) follows) in
       let sum = total_put part e in
       let moved : weight + weight_of x + total_of (watches_of part) ≡ weight + total_of (watches_of (put_first x part)) = omega (arith, sum) in
-      (ap (λ l. l ++ flat_map watches_of ps) e ∙ ap (λ l. x ∷ l) c.0, subst (λ n. n ≤ 131072) moved c.1, subst (λ n. IsFull n (flat_map watches_of ps)) moved c.2, c.3)
+      (ap (λ l. l ++ flat_map watches_of ps) e ∙ ap (λ l. x ∷ l) c.0, subst (λ n. n ≤ MOST_WEIGHT) moved c.1, subst (λ n. IsFull n (flat_map watches_of ps)) moved c.2, c.3)
 
   -- a part begins with it
   begin_cut : (ps : List Lists) → IsCut xs (weight_of x) ps → IsWhole (x ∷ xs) (into_first x ps)
@@ -214,39 +215,39 @@ module _ (x : Watch) (xs : List Watch) (follows : Follows x xs) where
       let e : watches_of (put_first x part) ≡ x ∷ watches_of part = put x part (flat_map watches_of ps) (subst (Follows x) (sym c.0) follows) in
       let sum = sym (total_put part e) in (
         ap (λ l. l ++ flat_map watches_of ps) e ∙ ap (λ l. x ∷ l) c.0,
-        (let n = ap length e in omega arith, subst (λ n. n ≤ 131072) sum c.1, subst (λ n. IsFull n (flat_map watches_of ps)) sum c.2, c.3),
+        (let n = ap length e in omega arith, subst (λ n. n ≤ MOST_WEIGHT) sum c.1, subst (λ n. IsFull n (flat_map watches_of ps)) sum c.2, c.3),
       )
 
   -- the part before it is full
-  close_cut : (weight : ℕ) (ps : List Lists) → weight ≤ 131072 → 131072 < weight + weight_of x → IsWhole (x ∷ xs) ps → IsCut (x ∷ xs) weight (no_lists ∷ ps)
+  close_cut : (weight : ℕ) (ps : List Lists) → weight ≤ MOST_WEIGHT → MOST_WEIGHT < weight + weight_of x → IsWhole (x ∷ xs) ps → IsCut (x ∷ xs) weight (no_lists ∷ ps)
   close_cut weight ps light past whole = (whole.0, omega arith, subst (IsFull (weight + 0)) (sym whole.0) (omega (arith, past)), whole.1)
 
 abbrev AreShort : List Watch → Type 0
-AreShort ws = All (λ watch. length (path_of watch) ≤ 4096) ws
+AreShort ws = All (λ watch. length (path_of watch) ≤ LONGEST_PATH) ws
 
-cut_is : (ws : List Watch) (weight : ℕ) → IsOrdered ws → AreShort ws → weight ≤ 131072 → IsCut ws weight (rest_of_parts weight ws)
+cut_is : (ws : List Watch) (weight : ℕ) → IsOrdered ws → AreShort ws → weight ≤ MOST_WEIGHT → IsCut ws weight (rest_of_parts weight ws)
 cut_is [] weight ordered short light = (refl, omega arith, tt, tt)
-cut_is (x ∷ xs) weight ordered short light = by (leb (weight + weight_of x) 131072) refl (cut_is xs)
+cut_is (x ∷ xs) weight ordered short light = by (leb (weight + weight_of x) MOST_WEIGHT) refl (cut_is xs)
   where
-    here : length (path_of x) ≤ 4096
-    here = All-head (λ watch. length (path_of watch) ≤ 4096) x xs short
+    here : length (path_of x) ≤ LONGEST_PATH
+    here = All-head (λ watch. length (path_of watch) ≤ LONGEST_PATH) x xs short
 
     below : AreShort xs
-    below = All-tail (λ watch. length (path_of watch) ≤ 4096) x xs short
+    below = All-tail (λ watch. length (path_of watch) ≤ LONGEST_PATH) x xs short
 
-    by : (b : Bool) → leb (weight + weight_of x) 131072 ≡ b → ((w : ℕ) → IsOrdered xs → AreShort xs → w ≤ 131072 → IsCut xs w (rest_of_parts w xs))
+    by : (b : Bool) → leb (weight + weight_of x) MOST_WEIGHT ≡ b → ((w : ℕ) → IsOrdered xs → AreShort xs → w ≤ MOST_WEIGHT → IsCut xs w (rest_of_parts w xs))
         → IsCut (x ∷ xs) weight (if b then into_first x (rest_of_parts (weight + weight_of x) xs) else no_lists ∷ into_first x (rest_of_parts (weight_of x) xs))
-    by true e rest = put_cut x xs ordered.0 weight (rest_of_parts (weight + weight_of x) xs) (rest (weight + weight_of x) ordered.1 below (leb-true (weight + weight_of x) 131072 e))
+    by true e rest = put_cut x xs ordered.0 weight (rest_of_parts (weight + weight_of x) xs) (rest (weight + weight_of x) ordered.1 below (leb-true (weight + weight_of x) MOST_WEIGHT e))
     by false e rest =
-        close_cut x xs ordered.0 weight (into_first x (rest_of_parts (weight_of x) xs)) light (leb-false (weight + weight_of x) 131072 e)
+        close_cut x xs ordered.0 weight (into_first x (rest_of_parts (weight_of x) xs)) light (leb-false (weight + weight_of x) MOST_WEIGHT e)
         (begin_cut x xs ordered.0 (rest_of_parts (weight_of x) xs) (rest (weight_of x) ordered.1 below (omega (arith, here))))
 
 whole_is : (ws : List Watch) → IsOrdered ws → AreShort ws → IsWhole ws (parts_of_watches ws)
 whole_is [] ordered short = (refl, tt)
 whole_is (x ∷ xs) ordered short =
-    let here : length (path_of x) ≤ 4096 = All-head (λ watch. length (path_of watch) ≤ 4096) x xs short in
+    let here : length (path_of x) ≤ LONGEST_PATH = All-head (λ watch. length (path_of watch) ≤ LONGEST_PATH) x xs short in
     begin_cut x xs ordered.0 (rest_of_parts (weight_of x) xs)
-    (cut_is xs (weight_of x) ordered.1 (All-tail (λ watch. length (path_of watch) ≤ 4096) x xs short) (omega (arith, here)))
+    (cut_is xs (weight_of x) ordered.1 (All-tail (λ watch. length (path_of watch) ≤ LONGEST_PATH) x xs short) (omega (arith, here)))
 
 -- The parts are so cut.
 pub parts_are_full : (l : Lists) → AreShort (watches_of l) → ArePartsOf l (parts l)

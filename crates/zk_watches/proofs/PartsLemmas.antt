@@ -10,6 +10,7 @@ use Rattle.std.proofs.lemmas.List.Sums.{sum_by_more, sum_by-take-drop}
 use Rattle.zk_watches.specs.Lists.{Lists}
 use Rattle.zk_watches.specs.Parts.{Watch, OnData, OnExist, OnChild, weight_of, total_of, watches_of, IsFull, AreFull, ArePartsOf}
 use Rattle.zk_watches.proofs.CutLemmas.{run-append, run-map, take_all}
+use Rattle.zk_limits.specs.declared.limits.TheConstants.{MOST_WEIGHT}
 
 -- the run of each list that a part lends, joined, is the run of all
 pub run-watches : (l : Lists) (start end : ℕ) → start ≤ end
@@ -51,11 +52,11 @@ full-alone (part ∷ parts) h = (subst (IsFull (total_of (watches_of part))) (ap
 pub record PartsSoFar (watches : List Watch) (parts : List Lists) (start weight at : ℕ) : Type 0 where
   pub joined : flat_map watches_of parts ≡ take start watches
   pub weighed : weight + total_of (take start watches) ≡ total_of (take at watches)
-  pub light : weight ≤ 131072
+  pub light : weight ≤ MOST_WEIGHT
   pub behind : start ≤ at
   pub ahead : 0 < at → start < at
   pub some : All (λ part. 0 < length (watches_of part)) parts
-  pub within : All (λ part. total_of (watches_of part) ≤ 131072) parts
+  pub within : All (λ part. total_of (watches_of part) ≤ MOST_WEIGHT) parts
   pub full : AreFullThen parts (drop start watches)
 
 -- one more part, where what follows it does not fit
@@ -81,7 +82,7 @@ so_far-none watches = record {
 
 module _ (watches : List Watch) (parts : List Lists) (start weight at : ℕ) (s : PartsSoFar watches parts start weight at) where
   -- one more path that fits
-  pub so_far-fits : (more : ℕ) → at < length watches → ((w : Watch) → more ≡ weight_of (get_or watches at w)) → weight + more ≤ 131072 → PartsSoFar watches parts start (weight + more) (at + 1)
+  pub so_far-fits : (more : ℕ) → at < length watches → ((w : Watch) → more ≡ weight_of (get_or watches at w)) → weight + more ≤ MOST_WEIGHT → PartsSoFar watches parts start (weight + more) (at + 1)
   so_far-fits more h w f =
       let e : total_of (take (at + 1) watches) ≡ total_of (take at watches) + more = sum_by_more weight_of watches at (OnData []) h ∙ ap (λ n. total_of (take at watches) + n) (sym (w (OnData []))) in
       record {
@@ -128,7 +129,7 @@ module _ (watches : List Watch) (parts : List Lists) (start weight at : ℕ) (s 
     full-part f = full-push parts part (drop at watches) (subst (AreFullThen parts) follows-part s.full) f
 
     -- the part is cut where the next path does not fit
-    pub so_far-cut : (more : ℕ) → at < length watches → ((w : Watch) → more ≡ weight_of (get_or watches at w)) → more ≤ 4100 → 131072 < weight + more → PartsSoFar watches (parts ++ part ∷ []) at (0 + more) (at + 1)
+    pub so_far-cut : (more : ℕ) → at < length watches → ((w : Watch) → more ≡ weight_of (get_or watches at w)) → more ≤ 4100 → MOST_WEIGHT < weight + more → PartsSoFar watches (parts ++ part ∷ []) at (0 + more) (at + 1)
     so_far-cut more in_list w small past =
         let e : total_of (take (at + 1) watches) ≡ total_of (take at watches) + more = sum_by_more weight_of watches at (OnData []) in_list ∙ ap (λ n. total_of (take at watches) + n) (sym (w (OnData []))) in
         let long : 0 < length (watches_of part) = elim (cases_lt start at) as (λ _. 0 < length (watches_of part)) [
@@ -142,7 +143,7 @@ module _ (watches : List Watch) (parts : List Lists) (start weight at : ℕ) (s 
           behind = omega arith;
           ahead = λ _. omega arith;
           some = All-push (λ p. 0 < length (watches_of p)) parts part s.some long;
-          within = All-push (λ p. total_of (watches_of p) ≤ 131072) parts part s.within (let l = s.light in let e = weight-part in omega arith);
+          within = All-push (λ p. total_of (watches_of p) ≤ MOST_WEIGHT) parts part s.within (let l = s.light in let e = weight-part in omega arith);
           full = full-part (subst (IsFull (total_of (watches_of part))) (sym (drop-cons watches at (OnData []) in_list)) (omega (arith, weight-part, w (OnData []))));
         }
 
@@ -151,7 +152,7 @@ module _ (watches : List Watch) (parts : List Lists) (start weight at : ℕ) (s 
     so_far-last l e n less = record {
       joined = joined-part ∙ take_all at watches (omega arith) ∙ e;
       some = All-push (λ p. 0 < length (watches_of p)) parts part s.some (omega (arith, length-part));
-      within = All-push (λ p. total_of (watches_of p) ≤ 131072) parts part s.within (let l = s.light in let e = weight-part in omega arith);
+      within = All-push (λ p. total_of (watches_of p) ≤ MOST_WEIGHT) parts part s.within (let l = s.light in let e = weight-part in omega arith);
       full = full-alone (parts ++ part ∷ []) (subst (AreFullThen (parts ++ part ∷ [])) (drop_of_length-le watches (omega arith)) (full-part (subst (IsFull (total_of (watches_of part))) (sym (drop_of_length-le watches (omega arith))) tt)));
     }
 

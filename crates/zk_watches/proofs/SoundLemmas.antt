@@ -7,9 +7,10 @@ use Rattle.std.proofs.lemmas.Map.Views.{any-filter_same}
 use Rattle.std.proofs.lemmas.List.Folds.{list_any-append}
 use Rattle.std.proofs.lemmas.List.Elements.{All-filter, All-push}
 use Rattle.std.proofs.lemmas.Cmp.{nat_list_eq_equiv}
-use Rattle.zk_history.specs.declared.side.Side.TheVariants.{Data, Child}
+use Rattle.zk_nodes.specs.declared.side.Side.TheVariants.{Data, Child}
 use Rattle.zk_watches.specs.Lists.{Lists, has, with_path, without, side_has, count_of, registered, IsSound}
 use Rattle.zk_watches.proofs.RowLemmas.{without-none}
+use Rattle.zk_limits.specs.declared.limits.TheConstants.{LONGEST_PATH, MOST_PATHS}
 
 -- a filter keeps what each element is apart from
 apart-filter : (R : List ℕ → Type 0) (test : List ℕ → Bool) (xs : List (List ℕ)) → AllByRecursion R xs → AllByRecursion R (filter test xs)
@@ -87,12 +88,12 @@ module _ (path : List ℕ) where
       by true e = d
       by false e = IsDistinct-push nat_list_eq_equiv paths path d e
 
-  short-with_path : (paths : List (List ℕ)) → length path ≤ 4096 → All (λ p. length p ≤ 4096) paths → All (λ p. length p ≤ 4096) (with_path paths path)
+  short-with_path : (paths : List (List ℕ)) → length path ≤ LONGEST_PATH → All (λ p. length p ≤ LONGEST_PATH) paths → All (λ p. length p ≤ LONGEST_PATH) (with_path paths path)
   short-with_path paths short all = by (has paths path)
     where
-      by : (b : Bool) → All (λ p. length p ≤ 4096) (if b then paths else paths ++ path ∷ [])
+      by : (b : Bool) → All (λ p. length p ≤ LONGEST_PATH) (if b then paths else paths ++ path ∷ [])
       by true = all
-      by false = All-push (λ p. length p ≤ 4096) paths path all short
+      by false = All-push (λ p. length p ≤ LONGEST_PATH) paths path all short
 
   length-with_path : (paths : List (List ℕ)) → length (with_path paths path) ≡ length paths + (if has paths path then 0 else 1)
   length-with_path paths = by (has paths path)
@@ -101,10 +102,10 @@ module _ (path : List ℕ) where
       by true = omega arith
       by false = omega (arith, length-append paths (path ∷ []))
 
-  room : (xs ys : List (List ℕ)) → length xs + length ys ≤ 65536 → ((has xs path || has ys path) ≡ false → length xs + length ys < 65536) → length (with_path xs path) + length (without ys path) ≤ 65536
+  room : (xs ys : List (List ℕ)) → length xs + length ys ≤ MOST_PATHS → ((has xs path || has ys path) ≡ false → length xs + length ys < MOST_PATHS) → length (with_path xs path) + length (without ys path) ≤ MOST_PATHS
   room xs ys most some = by (has xs path) (has ys path) refl refl (length-with_path xs)
     where
-      by : (a b : Bool) → has xs path ≡ a → has ys path ≡ b → length (with_path xs path) ≡ length xs + (if a then 0 else 1) → length (with_path xs path) + length (without ys path) ≤ 65536
+      by : (a b : Bool) → has xs path ≡ a → has ys path ≡ b → length (with_path xs path) ≡ length xs + (if a then 0 else 1) → length (with_path xs path) + length (without ys path) ≤ MOST_PATHS
       by true b p q e = omega (arith, length-without-le ys path)
       by false true p q e = omega (arith, length-without-less ys path q)
       by false false p q e = let less = some (ap (λ a. a || has ys path) p ∙ q) in omega (arith, length-without-le ys path)
@@ -140,7 +141,7 @@ module _ (l : Lists) (path : List ℕ) (s : IsSound l) where
   data-same h = without-none l.data_watches path (apart-swap l.data_watches l.exist_watches s.apart path h)
 
   -- a path that was found there comes to side Data
-  pub sound-there : (side_has l Data path ≡ false → count_of l Data < 65536) → length path ≤ 4096 → IsSound (registered l Data true path)
+  pub sound-there : (side_has l Data path ≡ false → count_of l Data < MOST_PATHS) → length path ≤ LONGEST_PATH → IsSound (registered l Data true path)
   sound-there some short = record {
     data_distinct = distinct-with_path path l.data_watches s.data_distinct;
     exist_distinct = distinct-filter (λ other. not (bytes_eq path other)) l.exist_watches s.exist_distinct;
@@ -149,29 +150,29 @@ module _ (l : Lists) (path : List ℕ) (s : IsSound l) where
     data_room = room path l.data_watches l.exist_watches s.data_room some;
     child_room = s.child_room;
     data_short = short-with_path path l.data_watches short s.data_short;
-    exist_short = All-filter (λ other. not (bytes_eq path other)) (λ p. length p ≤ 4096) l.exist_watches s.exist_short;
+    exist_short = All-filter (λ other. not (bytes_eq path other)) (λ p. length p ≤ LONGEST_PATH) l.exist_watches s.exist_short;
     child_short = s.child_short;
   }
 
   -- one that was found absent
-  pub sound-absent : (side_has l Data path ≡ false → count_of l Data < 65536) → length path ≤ 4096 → IsSound (registered l Data false path)
+  pub sound-absent : (side_has l Data path ≡ false → count_of l Data < MOST_PATHS) → length path ≤ LONGEST_PATH → IsSound (registered l Data false path)
   sound-absent some short = record {
     data_distinct = distinct-filter (λ other. not (bytes_eq path other)) l.data_watches s.data_distinct;
     exist_distinct = distinct-with_path path l.exist_watches s.exist_distinct;
     child_distinct = s.child_distinct;
     apart = apart-swap (with_path l.exist_watches path) (without l.data_watches path) (apart-moved l.exist_watches l.data_watches path (apart-swap l.data_watches l.exist_watches s.apart));
     data_room =
-        let turned : length (with_path l.exist_watches path) + length (without l.data_watches path) ≤ 65536 =
+        let turned : length (with_path l.exist_watches path) + length (without l.data_watches path) ≤ MOST_PATHS =
         room path l.exist_watches l.data_watches (let h = s.data_room in omega arith) (λ e. let less = some (or_swap (has l.data_watches path) (has l.exist_watches path) ∙ e) in omega arith) in
         omega arith;
     child_room = s.child_room;
-    data_short = All-filter (λ other. not (bytes_eq path other)) (λ p. length p ≤ 4096) l.data_watches s.data_short;
+    data_short = All-filter (λ other. not (bytes_eq path other)) (λ p. length p ≤ LONGEST_PATH) l.data_watches s.data_short;
     exist_short = short-with_path path l.exist_watches short s.exist_short;
     child_short = s.child_short;
   }
 
   -- one that comes to side Child
-  pub sound-child : (has l.child_watches path ≡ false → length l.child_watches < 65536) → length path ≤ 4096 → (b : Bool) → IsSound (registered l Child b path)
+  pub sound-child : (has l.child_watches path ≡ false → length l.child_watches < MOST_PATHS) → length path ≤ LONGEST_PATH → (b : Bool) → IsSound (registered l Child b path)
   sound-child some short b = record {
     data_distinct = s.data_distinct;
     exist_distinct = s.exist_distinct;
@@ -195,8 +196,8 @@ module _ (l : Lists) (path : List ℕ) (s : IsSound l) where
     apart = λ p h. has-without_less l.exist_watches path p (s.apart p (stays (has l.data_watches p) p refl h));
     data_room = omega (arith, s.data_room, length-without-le l.data_watches path, length-without-le l.exist_watches path);
     child_room = s.child_room;
-    data_short = All-filter (λ other. not (bytes_eq path other)) (λ p. length p ≤ 4096) l.data_watches s.data_short;
-    exist_short = All-filter (λ other. not (bytes_eq path other)) (λ p. length p ≤ 4096) l.exist_watches s.exist_short;
+    data_short = All-filter (λ other. not (bytes_eq path other)) (λ p. length p ≤ LONGEST_PATH) l.data_watches s.data_short;
+    exist_short = All-filter (λ other. not (bytes_eq path other)) (λ p. length p ≤ LONGEST_PATH) l.exist_watches s.exist_short;
     child_short = s.child_short;
   }
     where
@@ -215,7 +216,7 @@ module _ (l : Lists) (path : List ℕ) (s : IsSound l) where
     child_room = omega (arith, s.child_room, length-without-le l.child_watches path);
     data_short = s.data_short;
     exist_short = s.exist_short;
-    child_short = All-filter (λ other. not (bytes_eq path other)) (λ p. length p ≤ 4096) l.child_watches s.child_short;
+    child_short = All-filter (λ other. not (bytes_eq path other)) (λ p. length p ≤ LONGEST_PATH) l.child_watches s.child_short;
   }
 
 -- no lists

@@ -1,6 +1,6 @@
 -- The lists that a part lends.
 use Rattle.std.specs.Prelude.{map}
-use Rattle.zk_records.specs.declared.lent_watches.SetWatchesRef.{SetWatchesRef}
+use Rattle.zk_records.specs.declared.set_watches.SetWatchesRef.{SetWatchesRef}
 use Rattle.zk_watches.specs.Lists.{Lists}
 
 abbrev pub lists_of : SetWatchesRef → Lists

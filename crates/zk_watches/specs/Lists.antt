@@ -1,11 +1,12 @@
 -- The lists of a registry, and what each call makes of them.
 use Rattle.std.specs.Prelude.{◌≡◌, ℕ, ◌+◌, ◌≤◌, Bool, true, false, not, ◌&&◌, ◌||◌, List, [], ◌∷◌, ◌++◌, length, filter, All, bytes_eq, if◌then◌else◌}
 use Rattle.std.specs.List.{list_any, IsDistinct}
-use Rattle.zk_history.specs.History.{Text}
-use Rattle.zk_history.specs.declared.side.Side.{Side}
-use Rattle.zk_history.specs.declared.side.Side.TheVariants.{Data, Child}
+use Rattle.zk_nodes.specs.Path.{Text}
+use Rattle.zk_nodes.specs.declared.side.Side.{Side}
+use Rattle.zk_nodes.specs.declared.side.Side.TheVariants.{Data, Child}
 use Rattle.zk_records.specs.declared.event.Event.{Event}
 use Rattle.zk_records.specs.Events.{concerns}
+use Rattle.zk_limits.specs.declared.limits.TheConstants.{LONGEST_PATH, MOST_PATHS}
 
 -- the watched paths, each list in the order in which its paths last came into it
 pub record Lists : Type 0 where
@@ -81,8 +82,8 @@ pub record IsSound (lists : Lists) : Type 0 where
   pub exist_distinct : IsDistinct bytes_eq lists.exist_watches
   pub child_distinct : IsDistinct bytes_eq lists.child_watches
   pub apart : (path : Text) → has lists.data_watches path ≡ true → has lists.exist_watches path ≡ false
-  pub data_room : length lists.data_watches + length lists.exist_watches ≤ 65536
-  pub child_room : length lists.child_watches ≤ 65536
-  pub data_short : All (λ path. length path ≤ 4096) lists.data_watches
-  pub exist_short : All (λ path. length path ≤ 4096) lists.exist_watches
-  pub child_short : All (λ path. length path ≤ 4096) lists.child_watches
+  pub data_room : length lists.data_watches + length lists.exist_watches ≤ MOST_PATHS
+  pub child_room : length lists.child_watches ≤ MOST_PATHS
+  pub data_short : All (λ path. length path ≤ LONGEST_PATH) lists.data_watches
+  pub exist_short : All (λ path. length path ≤ LONGEST_PATH) lists.exist_watches
+  pub child_short : All (λ path. length path ≤ LONGEST_PATH) lists.child_watches

@@ -1,7 +1,8 @@
 -- The lists, cut into parts that are each small enough for one request.
 use Rattle.std.specs.Prelude.{◌≡◌, ℕ, ◌+◌, ◌<◌, ◌≤◌, List, [], ◌∷◌, ◌++◌, map, length, All, flat_map, sum_by, nat_le, if◌then◌else◌}
-use Rattle.zk_history.specs.History.{Text}
+use Rattle.zk_nodes.specs.Path.{Text}
 use Rattle.zk_watches.specs.Lists.{Lists, no_lists}
+use Rattle.zk_limits.specs.declared.limits.TheConstants.{LONGEST_PATH, MOST_WEIGHT}
 
 -- a path of one of the three lists
 pub data Watch : Type 0 where
@@ -39,7 +40,7 @@ into_first watch (part ∷ parts) = put_first watch part ∷ parts
 abbrev pub rest_of_parts : ℕ → List Watch → List Lists
 rest_of_parts weight [] = no_lists ∷ []
 rest_of_parts weight (watch ∷ watches) =
-    if nat_le (weight + weight_of watch) 131072 then into_first watch (rest_of_parts (weight + weight_of watch) watches)
+    if nat_le (weight + weight_of watch) MOST_WEIGHT then into_first watch (rest_of_parts (weight + weight_of watch) watches)
     else no_lists ∷ into_first watch (rest_of_parts (weight_of watch) watches)
 
 abbrev pub parts_of_watches : List Watch → List Lists
@@ -55,7 +56,7 @@ parts lists = parts_of_watches (watches_of lists)
 -- the first of the watches that follow, if there is one, would take a part of this weight past the most
 abbrev pub IsFull : ℕ → List Watch → Type 0
 IsFull weight [] = Unit {0}
-IsFull weight (next ∷ _) = 131072 < weight + weight_of next
+IsFull weight (next ∷ _) = MOST_WEIGHT < weight + weight_of next
 
 -- each part is full
 abbrev pub AreFull : List Lists → Type 0
@@ -66,13 +67,13 @@ AreFull (part ∷ parts) = IsFull (total_of (watches_of part)) (flat_map watches
 pub record ArePartsOf (lists : Lists) (parts : List Lists) : Type 0 where
   pub joined : flat_map watches_of parts ≡ watches_of lists
   pub some : All (λ part. 0 < length (watches_of part)) parts
-  pub within : All (λ part. total_of (watches_of part) ≤ 131072) parts
+  pub within : All (λ part. total_of (watches_of part) ≤ MOST_WEIGHT) parts
   pub full : AreFull parts
 
 -- Where each path has at most 4,096 bytes, the parts joined are the lists, none of them is empty, and each is within its
 -- weight and full.
 abbrev pub PartsAreFull : Type 0
-PartsAreFull = (lists : Lists) → All (λ watch. length (path_of watch) ≤ 4096) (watches_of lists) → ArePartsOf lists (parts lists)
+PartsAreFull = (lists : Lists) → All (λ watch. length (path_of watch) ≤ LONGEST_PATH) (watches_of lists) → ArePartsOf lists (parts lists)
 
 -- Nothing else is so cut.
 abbrev pub PartsAreOne : Type 0

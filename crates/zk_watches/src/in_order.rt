@@ -7,10 +7,8 @@ ghost use Rattle.zk_watches.specs.Lent.{lists_of};
 use crate::parts::{weight_in, window};
 use std::alloc::{AllocError, Allocator};
 use std::marker::Model;
+use zk_limits::MOST_WEIGHT;
 use zk_records::SetWatchesRef;
-
-// The most that the paths of a part weigh. A path weighs what it takes in a request: 4 for its length, and its bytes.
-const MOST_WEIGHT: usize = 131_072;
 
 /// The lists of a registry, each in its order.
 #[derive(Drop)]

@@ -13,4 +13,4 @@ mod registry;
 
 pub use in_order::InOrder;
 pub use register_fault::RegisterFault;
-pub use registry::{Fired, MOST_PATHS, Registry};
+pub use registry::{Fired, Registry};

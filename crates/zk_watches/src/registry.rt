@@ -1,17 +1,16 @@
 //! The registry: three lists of paths.
 ghost use Rattle.std.specs.Prelude.{◌≡◌, ◌<◌, ◌≤◌, length, true, false, ◌↔◌, IsOk, OnOk, OnErr, IsErrOf, IfOk};
 ghost use Rattle.zk_watches.specs.Lists.{no_lists, has, list_has, side_has, count_of, registered, fires, fired, without, IsSound};
+ghost use Rattle.zk_limits.specs.declared.limits.TheConstants.{LONGEST_PATH};
 
 use crate::in_order::InOrder;
 use crate::ordered::Ordered;
 use crate::register_fault::RegisterFault;
 use std::alloc::{AllocError, Allocator};
 use std::marker::Model;
-use zk_history::{Path, Side};
+use zk_limits::MOST_PATHS;
+use zk_nodes::{Path, Side};
 use zk_records::Event;
-
-/// The most paths that are watched on a side.
-pub const MOST_PATHS: usize = 65_536;
 
 /// The paths that a client watches, seen as three lists of texts: those whose data it watches, those whose making it waits
 /// for, and those whose children it watches. Each is in the order in which its paths last came into it. The first two are the
@@ -87,23 +86,33 @@ impl<A: Allocator + Copy> Registry<A> {
     ) -> Result<(), RegisterFault>
         ensures ok { OnOk result (self.new ≡ registered self.old side present path.now) }
         ensures there { list_has self.old side present path.now ≡ true → IsOk result }
-        ensures full { IsErrOf result RegisterFault.Full ↔ ((side_has self.old side path.now ≡ false) × (count_of self.old side ≡ 65536)) }
+        ensures full { IsErrOf result RegisterFault.Full ↔ ((side_has self.old side path.now ≡ false) × (count_of self.old side ≡ MOST_PATHS)) }
         ensures err { OnErr result (self.new ≡ self.old) }
     {
-        let text = path.as_str();
-        if self.len(side) == MOST_PATHS && !self.contains(side, text) {
+        if self.len(side) == MOST_PATHS && !self.contains(side, path.as_str()) {
             return Err(RegisterFault::Full);
         }
-        match side {
-            Side::Data => self.add_to_data(text, present)?,
-            Side::Child => self.add_to_child(text)?,
-        }
+        self.watch(side, path, present)?;
         Ok(())
     }
 
+    /// Puts the path on the side as [`register`](Registry::register) does, for a caller that has seen that there is room. An
+    /// error is want of memory, and nothing has changed then.
+    pub fn watch(&mut self, side: Side, path: &Path<A>, present: bool) -> Result<(), AllocError>
+        requires { side_has self.old side path.now ≡ false → count_of self.old side < MOST_PATHS }
+        ensures ok { OnOk result (self.new ≡ registered self.old side present path.now) }
+        ensures there { list_has self.old side present path.now ≡ true → IsOk result }
+        ensures err { OnErr result (self.new ≡ self.old) }
+    {
+        match side {
+            Side::Data => self.add_to_data(path.as_str(), present),
+            Side::Child => self.add_to_child(path.as_str()),
+        }
+    }
+
     fn add_to_data(&mut self, text: &str, present: bool) -> Result<(), AllocError>
-        requires room { side_has self.old Side.Data text.now ≡ false → count_of self.old Side.Data < 65536 }
-        requires short { length text.now ≤ 4096 }
+        requires room { side_has self.old Side.Data text.now ≡ false → count_of self.old Side.Data < MOST_PATHS }
+        requires short { length text.now ≤ LONGEST_PATH }
         ensures ok { OnOk result (self.new ≡ registered self.old Side.Data present text.now) }
         ensures there { list_has self.old Side.Data present text.now ≡ true → IsOk result }
         ensures err { OnErr result (self.new ≡ self.old) }
@@ -120,8 +129,8 @@ impl<A: Allocator + Copy> Registry<A> {
     }
 
     fn add_to_child(&mut self, text: &str) -> Result<(), AllocError>
-        requires room { side_has self.old Side.Child text.now ≡ false → count_of self.old Side.Child < 65536 }
-        requires short { length text.now ≤ 4096 }
+        requires room { side_has self.old Side.Child text.now ≡ false → count_of self.old Side.Child < MOST_PATHS }
+        requires short { length text.now ≤ LONGEST_PATH }
         ensures ok { OnOk result (self.new ≡ registered self.old Side.Child false text.now) }
         ensures there { has self.old.child_watches text.now ≡ true → IsOk result }
         ensures err { OnErr result (self.new ≡ self.old) }
@@ -137,19 +146,9 @@ impl<A: Allocator + Copy> Registry<A> {
         ensures on_child { result.on_child ≡ fires self.old event Side.Child path.now }
         ensures lists { self.new ≡ fired self.old event path.now }
     {
-        match event {
-            Event::Created | Event::DataChanged => Fired {
-                on_data: self.fire_data(path),
-                on_child: false,
-            },
-            Event::ChildrenChanged => Fired {
-                on_data: false,
-                on_child: self.fire_child(path),
-            },
-            Event::Deleted => Fired {
-                on_data: self.fire_data(path),
-                on_child: self.fire_child(path),
-            },
+        Fired {
+            on_data: event.concerns(Side::Data) && self.fire_data(path),
+            on_child: event.concerns(Side::Child) && self.fire_child(path),
         }
     }
 

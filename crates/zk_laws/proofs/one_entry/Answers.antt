@@ -12,4 +12,4 @@ pub returns-clause-goes_on : goal.returns-clause-goes_on
 returns-clause-goes_on c h is start entry earlier asked may s = entry_here h is start entry earlier asked may s
 
 pub returns-clause-coherent : goal.returns-clause-coherent
-returns-clause-coherent c h is start entries items view line s sim = sim_coherent h is start (WasSent entries) items view line s sim
+returns-clause-coherent c h is start entries items view wire s sim = sim_coherent h is start (WasSent entries) items view wire s sim

@@ -1,5 +1,5 @@
 use Rattle.std.specs.Prelude.{is_some, ◌∷◌}
-use Rattle.zk_history.specs.History.{path_of}
+use Rattle.zk_nodes.specs.Path.{path_of}
 use Rattle.zk_laws.proofs.Reading_trees.{absent, absent_parent, known, full, listing}
 use Rattle.zk_laws.proofs.read_answers.Goals as goal
 

@@ -1,5 +1,5 @@
 use Rattle.zk_turns.proofs.listed_order.Goals as goal
-use Rattle.zk_turns.specs.Kept.{in_known, in_missing, in_parents}
+use Rattle.zk_turns.specs.Past.{in_known, in_missing, in_parents}
 use Rattle.zk_turns.proofs.Placed.{members, in_order, each_once}
 use Rattle.zk_turns.proofs.Registered.{tracks_known, tracks_missing, tracks_parents}
 

@@ -1,7 +1,7 @@
 use Rattle.zk_turns.proofs.reports.Goals as goal
 use Rattle.zk_turns.proofs.Marks.{report_is, ended_is}
 use Rattle.std.proofs.Common.{refl}
-use Rattle.zk_turns.specs.Kept.{Took, Notifies}
+use Rattle.zk_turns.specs.Past.{Took, Notifies}
 use Rattle.zk_turns.proofs.Meant.{read_again}
 use Rattle.zk_turns.proofs.Reporting.{reports_are}
 

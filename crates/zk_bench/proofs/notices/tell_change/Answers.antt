@@ -1,6 +1,7 @@
 use Rattle.std.proofs.Common.{sym, refl, ap, subst, ◌∙◌, ◌≡◌, inl, inr, List}
 use Rattle.std.specs.Option.{option_map}
-use Rattle.zk_history.specs.History.{path_of, Creates, Deletes}
+use Rattle.zk_nodes.specs.Path.{path_of}
+use Rattle.zk_nodes.specs.History.{Creates, Deletes}
 use Rattle.zk_history.specs.Made.{change_of}
 use Rattle.zk_records.specs.declared.event.Event.TheVariants.{ChildrenChanged, DataChanged}
 use Rattle.zk_laws.specs.Server.{Notice, leaves_set}

@@ -1,6 +1,7 @@
 use Rattle.std.proofs.Common.{refl, sym, ap, ◌∙◌}
-use Rattle.zk_history.specs.History.{path_of, tree_at}
-use Rattle.zk_history.specs.Kept.{history_of, natural}
+use Rattle.zk_nodes.specs.Path.{path_of}
+use Rattle.zk_nodes.specs.History.{tree_at}
+use Rattle.zk_history.specs.HistoryView.{history_of, natural}
 use Rattle.zk_history.specs.Shown.{names_told}
 use Rattle.zk_bench.proofs.Answered.{lists, names_none}
 use Rattle.zk_bench.proofs.reads.children_at.Goals as goal

@@ -3,17 +3,18 @@ use Rattle.std.specs.FinSet as set
 use Rattle.zk_jute.specs.Lenient.{or_empty}
 use Rattle.zk_jute.specs.Layout.{Value}
 use Rattle.zk_jute.specs.Spelling.{spelling}
-use Rattle.zk_history.specs.History.{path_of, tree_at}
-use Rattle.zk_history.specs.Kept.{history_of, natural}
-use Rattle.zk_history.specs.NamesKept.{names_of}
-use Rattle.zk_history.specs.PathFault.{IsPath}
+use Rattle.zk_nodes.specs.Path.{path_of}
+use Rattle.zk_nodes.specs.History.{tree_at}
+use Rattle.zk_history.specs.HistoryView.{history_of, natural}
+use Rattle.zk_nodes.specs.Names.{names_of}
+use Rattle.zk_nodes.specs.PathFault.{IsPath}
 use Rattle.zk_history.specs.Shown.{IsStat}
-use Rattle.zk_history.specs.StatLayout.{stat}
-use Rattle.zk_history.proofs.PathLemmas.{IsPath-absolute}
+use Rattle.zk_nodes.specs.StatLayout.{stat}
+use Rattle.zk_nodes.proofs.PathLemmas.{IsPath-absolute}
 use Rattle.zk_records.specs.Layouts.{reply_header}
 use Rattle.zk_conversation.specs.Results.{Found}
-use Rattle.zk_bench.specs.Serving.{watches_of, Sends}
-use Rattle.zk_bench.proofs.Answered.{numbers_of, absence_left, exists_left, none_told, stat_read, stat_payload}
+use Rattle.zk_bench.specs.Serving.{watches_of}
+use Rattle.zk_bench.proofs.Answered.{sends_for, numbers_of, absence_left, exists_left, none_told, stat_read, stat_payload}
 use Rattle.zk_bench.proofs.reads.exists.Goals as goal
 
 pub returns-in_default-clause-refuses : goal.returns-in_default-clause-refuses
@@ -51,11 +52,7 @@ returns-clause-answers g c = λ text zxid is path at.
     let value : Value stat = numbers_of told in
     let xid : to_z w32 (of_z w32 c.args.xid) ≡ c.args.xid = search rules in
     let ranged : to_z w64 (of_z w64 c.args.tree.now.zxid) ≡ c.args.tree.now.zxid = search rules in
-    let old = c.args.connection.now.output.items in
-    let new = c.send_result.new.out.items in
-    let sends : Sends (c.args.xid, (pos zxid, pos 0)) stat value old new =
-    subst (λ x. Sends (x, (pos zxid, pos 0)) stat value old new) xid
-    (subst (λ z. Sends (to_z w32 (of_z w32 c.args.xid), (z, pos 0)) stat value old new) (ranged ∙ at) c.in_ok-send_result.ensures.sends) in
+    let sends = sends_for stat _ c.args.xid _ zxid _ value _ _ xid (ranged ∙ at) refl c.in_ok-send_result.ensures.sends in
     record {
       result = Found told;
       read = tt;
@@ -63,7 +60,7 @@ returns-clause-answers g c = λ text zxid is path at.
       reads = stat_read tree (path_of text) told counted;
       payload = spelling reply_header (c.args.xid, (pos zxid, pos 0)) ++ spelling stat value;
       small = sends.small;
-      spelled = stat_payload c.args.xid zxid text c.args.request.now.watch told value old new sends refl;
+      spelled = stat_payload c.args.xid zxid text c.args.request.now.watch told value _ _ sends refl;
       output = sends.output;
       left = ap (λ nodes. watches_of nodes (names_of c.args.connection.now.watches.child))
           (c.in_ok-add_where.ensures ∙ ap (λ t. cond c.args.request.now.watch (set.insert (names_of c.args.connection.now.watches.«data») t) (names_of c.args.connection.now.watches.«data»)) same)

@@ -4,19 +4,20 @@ use Rattle.std.specs.FinSet as set
 use Rattle.zk_jute.specs.Lenient.{or_empty}
 use Rattle.zk_jute.specs.Layout.{Value}
 use Rattle.zk_jute.specs.Spelling.{spelling}
-use Rattle.zk_history.specs.History.{path_of, tree_at}
-use Rattle.zk_history.specs.Kept.{history_of, natural}
-use Rattle.zk_history.specs.NamesKept.{names_of}
-use Rattle.zk_history.specs.PathFault.{IsPath}
+use Rattle.zk_nodes.specs.Path.{path_of}
+use Rattle.zk_nodes.specs.History.{tree_at}
+use Rattle.zk_history.specs.HistoryView.{history_of, natural}
+use Rattle.zk_nodes.specs.Names.{names_of}
+use Rattle.zk_nodes.specs.PathFault.{IsPath}
 use Rattle.zk_history.specs.Shown.{IsStat}
-use Rattle.zk_history.specs.StatLayout.{stat}
-use Rattle.zk_history.proofs.PathLemmas.{IsPath-absolute}
+use Rattle.zk_nodes.specs.StatLayout.{stat}
+use Rattle.zk_nodes.proofs.PathLemmas.{IsPath-absolute}
 use Rattle.zk_records.specs.Layouts.{reply_header, get_children2_response}
 use Rattle.zk_conversation.specs.Results.{Listing, texts_of}
 use Rattle.zk_bench.specs.Refusals.{IsCode}
-use Rattle.zk_bench.specs.Serving.{watches_of, Sends}
+use Rattle.zk_bench.specs.Serving.{watches_of}
 use Rattle.zk_bench.specs.Answering.{ListsChildren}
-use Rattle.zk_bench.proofs.Answered.{errs_so, numbers_of, children_left, no_children_left, none_to_list_told, both_told, children_read, stat_read, names_payload, no_copy}
+use Rattle.zk_bench.proofs.Answered.{errs_so, sends_for, numbers_of, children_left, no_children_left, none_to_list_told, both_told, children_read, stat_read, names_payload, no_copy}
 use Rattle.zk_bench.proofs.reads.get_children_2.Goals as goal
 
 pub returns-in_err-stat-clause-refuses : goal.returns-in_err-stat-clause-refuses
@@ -57,12 +58,7 @@ returns-clause-answers g c = λ text zxid is path at.
     let value : Value stat = numbers_of told in
     let xid : to_z w32 (of_z w32 c.args.xid) ≡ c.args.xid = search rules in
     let ranged : to_z w64 (of_z w64 c.args.tree.now.zxid) ≡ c.args.tree.now.zxid = search rules in
-    let old = c.args.connection.now.output.items in
-    let new = c.send_result.new.out.items in
-    let sends : Sends (c.args.xid, (pos zxid, pos 0)) get_children2_response (texts, value) old new =
-    subst (λ x. Sends (x, (pos zxid, pos 0)) get_children2_response (texts, value) old new) xid
-    (subst (λ z. Sends (to_z w32 (of_z w32 c.args.xid), (z, pos 0)) get_children2_response (texts, value) old new) (ranged ∙ at)
-    (subst (λ ts. Sends (to_z w32 (of_z w32 c.args.xid), (to_z w64 (of_z w64 c.args.tree.now.zxid), pos 0)) get_children2_response (ts, value) old new) (no_copy c.in_ok-children.children.elements) c.in_ok-send_result.ensures.sends)) in
+    let sends = sends_for get_children2_response _ c.args.xid _ zxid _ (texts, value) _ _ xid (ranged ∙ at) (ap {B = Value get_children2_response} (λ (ts : Option (List (Option (List ℕ)))). (ts, value)) (no_copy c.in_ok-children.children.elements)) c.in_ok-send_result.ensures.sends in
     record {
       result = Listing (texts_of texts) told;
       read = tt;
@@ -70,7 +66,7 @@ returns-clause-answers g c = λ text zxid is path at.
       reads = (children_read tree (path_of text) (texts_of texts) told counted listed, stat_read tree (path_of text) told counted);
       payload = spelling reply_header (c.args.xid, (pos zxid, pos 0)) ++ spelling get_children2_response (texts, value);
       small = sends.small;
-      spelled = names_payload c.args.xid zxid text c.args.request.now.watch texts told value old new sends refl;
+      spelled = names_payload c.args.xid zxid text c.args.request.now.watch texts told value _ _ sends refl;
       output = sends.output;
       left = ap (λ parents. watches_of (names_of c.args.connection.now.watches.«data») parents)
           (c.in_ok-stat.ensures.left ∙ ap (λ t. cond c.args.request.now.watch (set.insert (names_of c.args.connection.now.watches.child) (or_empty t)) (names_of c.args.connection.now.watches.child)) path)

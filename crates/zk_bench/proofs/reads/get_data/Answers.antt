@@ -4,19 +4,20 @@ use Rattle.std.specs.FinSet as set
 use Rattle.zk_jute.specs.Lenient.{or_empty}
 use Rattle.zk_jute.specs.Layout.{Value}
 use Rattle.zk_jute.specs.Spelling.{spelling}
-use Rattle.zk_history.specs.History.{path_of, tree_at, view, Contents, Absence}
-use Rattle.zk_history.specs.Kept.{history_of, natural}
-use Rattle.zk_history.specs.NamesKept.{names_of}
-use Rattle.zk_history.specs.PathFault.{IsPath}
+use Rattle.zk_nodes.specs.Path.{path_of}
+use Rattle.zk_nodes.specs.History.{tree_at, view, Contents, Absence}
+use Rattle.zk_history.specs.HistoryView.{history_of, natural}
+use Rattle.zk_nodes.specs.Names.{names_of}
+use Rattle.zk_nodes.specs.PathFault.{IsPath}
 use Rattle.zk_history.specs.Shown.{data_told, IsStat}
-use Rattle.zk_history.specs.StatLayout.{stat}
-use Rattle.zk_history.specs.declared.side.Side.TheVariants as sides
-use Rattle.zk_history.proofs.PathLemmas.{IsPath-absolute}
+use Rattle.zk_nodes.specs.StatLayout.{stat}
+use Rattle.zk_nodes.specs.declared.side.Side.TheVariants as sides
+use Rattle.zk_nodes.proofs.PathLemmas.{IsPath-absolute}
 use Rattle.zk_records.specs.Layouts.{reply_header, get_data_response}
 use Rattle.zk_conversation.specs.Results.{Read}
 use Rattle.zk_bench.specs.Refusals.{IsCode}
-use Rattle.zk_bench.specs.Serving.{watches_of, Sends}
-use Rattle.zk_bench.proofs.Answered.{errs_so, numbers_of, left_by, none_left, data_read, data_none, both_told, none_told, data_payload}
+use Rattle.zk_bench.specs.Serving.{watches_of}
+use Rattle.zk_bench.proofs.Answered.{errs_so, sends_for, numbers_of, left_by, none_left, data_read, data_none, both_told, none_told, data_payload}
 use Rattle.zk_bench.proofs.reads.get_data.Goals as goal
 
 pub returns-in_err-stat-clause-refuses : goal.returns-in_err-stat-clause-refuses
@@ -58,12 +59,7 @@ returns-clause-answers g c = λ text zxid is path at.
     let value : Value stat = numbers_of told in
     let xid : to_z w32 (of_z w32 c.args.xid) ≡ c.args.xid = search rules in
     let ranged : to_z w64 (of_z w64 c.args.tree.now.zxid) ≡ c.args.tree.now.zxid = search rules in
-    let old = c.args.connection.now.output.items in
-    let new = c.send_result.new.out.items in
-    let sends : Sends (c.args.xid, (pos zxid, pos 0)) get_data_response (bytes, value) old new =
-    subst (λ x. Sends (x, (pos zxid, pos 0)) get_data_response (bytes, value) old new) xid
-    (subst (λ z. Sends (to_z w32 (of_z w32 c.args.xid), (z, pos 0)) get_data_response (bytes, value) old new) (ranged ∙ at)
-    (subst (λ b. Sends (to_z w32 (of_z w32 c.args.xid), (to_z w64 (of_z w64 c.args.tree.now.zxid), pos 0)) get_data_response (b, value) old new) c.new-bytes.ensures c.in_ok-send_result.ensures.sends)) in
+    let sends = sends_for get_data_response _ c.args.xid _ zxid _ (bytes, value) _ _ xid (ranged ∙ at) (ap {B = Value get_data_response} (λ (b : Option (List ℕ)). (b, value)) c.new-bytes.ensures) c.in_ok-send_result.ensures.sends in
     record {
       result = Read bytes told;
       read = tt;
@@ -71,7 +67,7 @@ returns-clause-answers g c = λ text zxid is path at.
       reads = data_read tree (path_of text) bytes c.in-Some.«data».stat told seen counted;
       payload = spelling reply_header (c.args.xid, (pos zxid, pos 0)) ++ spelling get_data_response (bytes, value);
       small = sends.small;
-      spelled = data_payload c.args.xid zxid text c.args.request.now.watch bytes told value old new sends refl;
+      spelled = data_payload c.args.xid zxid text c.args.request.now.watch bytes told value _ _ sends refl;
       output = sends.output;
       left = ap (λ nodes. watches_of nodes (names_of c.args.connection.now.watches.child))
           (c.in_ok-stat.ensures.left ∙ ap (λ t. cond c.args.request.now.watch (set.insert (names_of c.args.connection.now.watches.«data») (or_empty t)) (names_of c.args.connection.now.watches.«data»)) path)

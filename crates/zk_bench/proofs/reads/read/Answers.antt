@@ -1,7 +1,7 @@
 use Rattle.std.proofs.Common.{rules, ◌≡◌, subst, to_z, of_z, w32}
 use Rattle.std.specs.Prelude.{OnOk}
-use Rattle.zk_history.specs.History.{tree_at}
-use Rattle.zk_history.specs.Kept.{history_of}
+use Rattle.zk_nodes.specs.History.{tree_at}
+use Rattle.zk_history.specs.HistoryView.{history_of}
 use Rattle.zk_conversation.specs.Calls as call
 use Rattle.zk_bench.specs.Answering.{AnswersRead, IsReadOf, IsRestoring}
 use Rattle.zk_bench.specs.Restoring.{IsPart, ArePaths, RestoresPart}

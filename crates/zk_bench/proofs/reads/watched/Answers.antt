@@ -1,10 +1,11 @@
 use Rattle.std.proofs.Common.{◌≡◌, refl, ap, subst, ◌∙◌, sym, Some, None, Option}
 use Rattle.zk_jute.specs.Lenient.{or_empty}
-use Rattle.zk_history.specs.History.{path_of, tree_at}
-use Rattle.zk_history.specs.Kept.{history_of, natural}
-use Rattle.zk_history.specs.PathFault.{IsPath}
+use Rattle.zk_nodes.specs.Path.{path_of}
+use Rattle.zk_nodes.specs.History.{tree_at}
+use Rattle.zk_history.specs.HistoryView.{history_of, natural}
+use Rattle.zk_nodes.specs.PathFault.{IsPath}
 use Rattle.zk_history.specs.Shown.{IsStat}
-use Rattle.zk_history.specs.declared.stat.Stat.{Stat}
+use Rattle.zk_nodes.specs.declared.stat.Stat.{Stat}
 use Rattle.zk_bench.proofs.reads.watched.Goals as goal
 
 pub returns-in_default-clause-misses : goal.returns-in_default-clause-misses

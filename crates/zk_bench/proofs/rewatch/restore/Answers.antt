@@ -1,6 +1,6 @@
 use Rattle.std.proofs.Common.{◌≡◌, ◌∙◌, subst, pos, rules, to_z, of_z, w32, w64}
-use Rattle.zk_history.specs.History.{tree_at}
-use Rattle.zk_history.specs.Kept.{history_of, natural}
+use Rattle.zk_nodes.specs.History.{tree_at}
+use Rattle.zk_history.specs.HistoryView.{history_of, natural}
 use Rattle.zk_laws.specs.Server.{part_tells, part_sets, both}
 use Rattle.zk_bench.specs.Serving.{watched, Tells, SendsHeader}
 use Rattle.zk_bench.proofs.Restored.{part_restored}

@@ -1,9 +1,9 @@
 use Rattle.std.proofs.Common.{rules, ◌≡◌, ◌<◌, length, refl, sym, subst, ◌∙◌, [], ◌∷◌, take, arith, to_z, of_z, w64}
 use Rattle.std.proofs.Math.Seq.{take-length}
 use Rattle.zk_jute.specs.Lenient.{or_empty}
-use Rattle.zk_history.specs.History.{tree_at}
-use Rattle.zk_history.specs.Kept.{history_of, natural}
-use Rattle.zk_history.specs.PathFault.{IsPath}
+use Rattle.zk_nodes.specs.History.{tree_at}
+use Rattle.zk_history.specs.HistoryView.{history_of, natural}
+use Rattle.zk_nodes.specs.PathFault.{IsPath}
 use Rattle.zk_bench.specs.Serving.{watched}
 use Rattle.zk_bench.specs.Restoring.{texts_in, Rewatches}
 use Rattle.zk_bench.proofs.Watched.{begun-more, rest-more}

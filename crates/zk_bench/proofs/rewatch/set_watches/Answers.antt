@@ -1,7 +1,7 @@
 use Rattle.std.proofs.Common.{◌≡◌, subst, rules, to_z, of_z, w32}
 use Rattle.std.specs.Prelude.{OnOk}
-use Rattle.zk_history.specs.History.{tree_at}
-use Rattle.zk_history.specs.Kept.{history_of}
+use Rattle.zk_nodes.specs.History.{tree_at}
+use Rattle.zk_history.specs.HistoryView.{history_of}
 use Rattle.zk_bench.specs.Restoring.{RestoresPart}
 use Rattle.zk_bench.proofs.rewatch.set_watches.Goals as goal
 

@@ -1,6 +1,6 @@
 use Rattle.std.proofs.Common.{arith, ap, ◌∙◌, ℕ, ◌+◌}
 use Rattle.std.specs.Prelude.{min}
-use Rattle.zk_history.specs.History.{path_of}
+use Rattle.zk_nodes.specs.Path.{path_of}
 use Rattle.zk_history.specs.Made.{change_of}
 use Rattle.zk_bench.proofs.Placed.{is_room, no_room}
 use Rattle.zk_bench.proofs.Written.{counted_more, counted_all, saturated, short}

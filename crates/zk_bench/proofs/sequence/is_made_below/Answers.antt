@@ -1,4 +1,4 @@
-use Rattle.zk_history.proofs.PathTexts.{is_below-text}
+use Rattle.zk_nodes.proofs.PathTexts.{is_below-text}
 use Rattle.zk_bench.proofs.sequence.is_made_below.Goals as goal
 
 pub returns-in-Some : goal.returns-in-Some

@@ -1,4 +1,4 @@
-use Rattle.zk_history.specs.Kept.{history_of}
+use Rattle.zk_history.specs.HistoryView.{history_of}
 use Rattle.zk_bench.proofs.Continuing.{few}
 use Rattle.zk_bench.proofs.Placed.{next_are, is_room}
 use Rattle.zk_bench.proofs.servers.next_changes.Goals as goal

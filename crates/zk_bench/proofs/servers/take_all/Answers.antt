@@ -1,5 +1,5 @@
 use Rattle.std.proofs.Common.{ap, ◌∙◌, map}
-use Rattle.zk_history.specs.Kept.{history_of}
+use Rattle.zk_history.specs.HistoryView.{history_of}
 use Rattle.zk_history.specs.Made.{change_of}
 use Rattle.zk_bench.proofs.Watched.{rest-more}
 use Rattle.zk_bench.proofs.Stepped.{takes_one}

@@ -3,7 +3,7 @@ use Rattle.std.proofs.lemmas.Int.{to_z-of_z}
 use Rattle.zk_bench.proofs.Placed.{held_tree, zxid_is, has_last, zxid_fits}
 use Rattle.zk_bench.proofs.servers.zxid_after.Goals as goal
 use Rattle.std.specs.Int.{w64}
-use Rattle.zk_history.specs.Kept.{history_of}
+use Rattle.zk_history.specs.HistoryView.{history_of}
 
 pub returns-in-Some-clause-zxid : goal.returns-in-Some-clause-zxid
 returns-in-Some-clause-zxid g c = λ low.

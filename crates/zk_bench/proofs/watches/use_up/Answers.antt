@@ -1,7 +1,7 @@
 use Rattle.std.proofs.Common.{ap, sym, ◌∙◌, ◌&&◌}
 use Rattle.std.specs.FinSet as set
-use Rattle.zk_history.specs.NamesKept.{names_of}
-use Rattle.zk_history.proofs.NamesLemmas.{names_of-remove, contains-names_of}
+use Rattle.zk_nodes.specs.Names.{names_of}
+use Rattle.zk_nodes.proofs.NamesLemmas.{names_of-remove, contains-names_of}
 use Rattle.zk_bench.specs.Watching.{used_up}
 use Rattle.zk_bench.proofs.watches.use_up.Goals as goal
 

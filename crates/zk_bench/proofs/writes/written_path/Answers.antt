@@ -7,12 +7,10 @@ pub returns-in-Some-clause-told : goal.returns-in-Some-clause-told
 returns-in-Some-clause-told g c =
     let asked : to_z w32 (of_z w32 c.args.version) ≡ c.args.version = search rules in
     let held : to_z w32 (of_z w32 c.in_ok-path.stat.version) ≡ c.in_ok-path.stat.version = search rules in
-    let is = set-at (tree_of c.args.tree.now.history.now c.args.tree.now.zxid) c.args.text.now c.in_ok-path.stat c.args.version c.in_ok-path.ensures.found in
-    cc (is, asked, held, c.in-Some.ensures.is)
+    set-at (tree_of c.args.tree.now.history.now c.args.tree.now.zxid) c.args.text.now c.in_ok-path.stat c.args.version _ _ _ c.in_ok-path.ensures.found asked held c.in-Some.ensures.is
 
 pub returns-in-None-clause-accepted : goal.returns-in-None-clause-accepted
 returns-in-None-clause-accepted g c =
     let asked : to_z w32 (of_z w32 c.args.version) ≡ c.args.version = search rules in
     let held : to_z w32 (of_z w32 c.in_ok-path.stat.version) ≡ c.in_ok-path.stat.version = search rules in
-    let is = set-at (tree_of c.args.tree.now.history.now c.args.tree.now.zxid) c.args.text.now c.in_ok-path.stat c.args.version c.in_ok-path.ensures.found in
-    cc (is, asked, held, c.in-None.ensures.is)
+    set-at (tree_of c.args.tree.now.history.now c.args.tree.now.zxid) c.args.text.now c.in_ok-path.stat c.args.version _ _ _ c.in_ok-path.ensures.found asked held c.in-None.ensures.is

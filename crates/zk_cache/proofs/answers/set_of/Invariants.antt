@@ -1,5 +1,5 @@
 use Rattle.std.proofs.Common.{◌≡◌, take}
-use Rattle.zk_history.specs.NamesKept.{names_of}
+use Rattle.zk_nodes.specs.Names.{names_of}
 use Rattle.zk_cache.specs.Contents.{set_of}
 use Rattle.zk_cache.proofs.answers.set_of.Given as goal
 

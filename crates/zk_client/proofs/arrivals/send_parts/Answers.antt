@@ -2,14 +2,14 @@ use Rattle.std.proofs.Common.{◌≡◌, ℕ, ◌+◌, ◌++◌, ◌∷◌, [], 
 use mir.Val.{to_z, of_z}
 use Rattle.std.proofs.lemmas.Int.{ints}
 use Rattle.std.proofs.lemmas.List.{length-map}
-use Rattle.zk_records.specs.declared.lent_watches.SetWatchesRef.{SetWatchesRef}
+use Rattle.zk_records.specs.declared.set_watches.SetWatchesRef.{SetWatchesRef}
 use Rattle.zk_conversation.specs.Pending.{Talk, Pending, part_waits, talk_watching}
 use Rattle.zk_conversation.specs.Views.{payload_of_part}
 use Rattle.zk_frames.specs.Frame.{frame}
 use Rattle.zk_watches.specs.Lent.{lists_of}
 use Rattle.zk_watches.specs.Lists.{Lists}
 use Rattle.zk_watches.specs.Parts.{parts}
-use Rattle.zk_turns.specs.Kept.{pending_for, parts_asked}
+use Rattle.zk_turns.specs.Past.{pending_for, parts_asked}
 use Rattle.zk_turns.specs.Turns.{Output, Send}
 use Rattle.zk_turns.specs.Rule.{part_frame}
 use Rattle.zk_client.specs.Views.{said}

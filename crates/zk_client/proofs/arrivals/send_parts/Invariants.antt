@@ -1,7 +1,7 @@
 use Rattle.std.proofs.Common.{◌≡◌, ◌++◌, map, take}
 use Rattle.zk_conversation.specs.declared.phase.Phase.TheVariants.{Talking}
 use Rattle.zk_watches.specs.Parts.{parts}
-use Rattle.zk_turns.specs.Kept.{pending_for, parts_asked}
+use Rattle.zk_turns.specs.Past.{pending_for, parts_asked}
 use Rattle.zk_turns.specs.Rule.{part_frame}
 use Rattle.zk_client.specs.Views.{said}
 use Rattle.zk_client.proofs.arrivals.send_parts.Given as goal

@@ -1,6 +1,6 @@
-use Rattle.zk_history.specs.declared.side.Side.TheVariants.{Data, Child}
+use Rattle.zk_nodes.specs.declared.side.Side.TheVariants.{Data, Child}
 use Rattle.zk_records.specs.Events.{concerns}
-use Rattle.zk_client.proofs.Kept.{spoilt-nodes, spoilt-children}
+use Rattle.zk_client.proofs.CacheLemmas.{spoilt-nodes, spoilt-children}
 use Rattle.zk_client.proofs.arrivals.spoil.Goals as goal
 
 pub returns-clause-nodes : goal.returns-clause-nodes

@@ -1,4 +1,5 @@
-use Rattle.std.proofs.Common.{◌<◌, length, List, [], ◌++◌, ap, sym, subst, ◌∙◌, map, arith}
+use Rattle.std.proofs.Common.{◌≡◌, ◌<◌, true, false, length, List, [], ◌++◌, ap, sym, ◌∙◌, map, arith}
+use Rattle.zk_session.specs.States.{is_open}
 use Rattle.std.proofs.lemmas.Result.{on_ok_weaker}
 use Rattle.std.proofs.lemmas.List.{append-nil}
 use Rattle.std.proofs.lemmas.Bool.Decides.{nat_tests}
@@ -14,19 +15,19 @@ use Rattle.zk_client.proofs.frames.hear.Goals as goal
 pub returns-then-not-is_open-clause-next : goal.returns-then-not-is_open-clause-next
 returns-then-not-is_open-clause-next g c =
     let core = c.args.core.now in
-    let down : IsOpen core.session.state → ⊥ = λ up. c.is_open.ensures.no c.if-not-is_open.true (subst IsOpen (sym c.state.ensures) up) in
+    let down : IsOpen core.session.state → ⊥ = λ up. let clash : true ≡ false = sym up ∙ ap is_open (sym c.state.ensures) ∙ sym c.is_open.ensures ∙ c.if-not-is_open.true in cc in
     sym (unheard_view c.args.piece.items (view_with c.args.reader.now.bytes core) down)
 
 pub returns-then-not-is_open-clause-says : goal.returns-then-not-is_open-clause-says
 returns-then-not-is_open-clause-says g c =
     let core = c.args.core.now in
-    let down : IsOpen core.session.state → ⊥ = λ up. c.is_open.ensures.no c.if-not-is_open.true (subst IsOpen (sym c.state.ensures) up) in
+    let down : IsOpen core.session.state → ⊥ = λ up. let clash : true ≡ false = sym up ∙ ap is_open (sym c.state.ensures) ∙ sym c.is_open.ensures ∙ c.if-not-is_open.true in cc in
     sym (append-nil (said c.args.outputs.now.items)) ∙ ap (λ (l : List Output). said c.args.outputs.now.items ++ l) (sym (unheard_says c.args.piece.items (view_with c.args.reader.now.bytes core) down))
 
 pub returns-clause-next : goal.returns-clause-next
 returns-clause-next g c =
     let core = c.args.core.now in
-    let up : IsOpen core.session.state = subst IsOpen c.state.ensures (c.is_open.ensures.yes c.if-not-is_open.false) in
+    let up : IsOpen core.session.state = ap is_open (sym c.state.ensures) ∙ sym c.is_open.ensures ∙ c.if-not-is_open.false in
     let some : 0 < length c.args.piece.items = grind (arith, nat_tests) in
     on_ok_weaker c.take_frames.result (λ told. told
     ∙ ap (λ (h : Held). after_signals (view_with [] (record core { session = c.heard.new.self })) (map Comes h.bytes)) c.in-Ok.ensures.ok
@@ -35,7 +36,7 @@ returns-clause-next g c =
 pub returns-clause-says : goal.returns-clause-says
 returns-clause-says g c =
     let core = c.args.core.now in
-    let up : IsOpen core.session.state = subst IsOpen c.state.ensures (c.is_open.ensures.yes c.if-not-is_open.false) in
+    let up : IsOpen core.session.state = ap is_open (sym c.state.ensures) ∙ sym c.is_open.ensures ∙ c.if-not-is_open.false in
     let some : 0 < length c.args.piece.items = grind (arith, nat_tests) in
     on_ok_weaker c.take_frames.result (λ told. told
     ∙ ap (λ (h : Held). said c.args.outputs.now.items ++ says_signals (view_with [] (record core { session = c.heard.new.self })) (map Comes h.bytes)) c.in-Ok.ensures.ok

@@ -1,4 +1,5 @@
-use Rattle.std.proofs.Common.{refl, List, [], ◌++◌, ap, sym, subst, ◌∙◌, map, append_assoc}
+use Rattle.std.proofs.Common.{◌≡◌, true, false, refl, List, [], ◌++◌, ap, sym, ◌∙◌, map, append_assoc}
+use Rattle.zk_session.specs.States.{is_open}
 use Rattle.std.proofs.lemmas.Result.{on_ok_weaker}
 use Rattle.std.proofs.lemmas.List.{append-nil}
 use Rattle.zk_frames.specs.Held.{Held}
@@ -17,7 +18,7 @@ loop-reader-preserved g c =
     let view = view_with [] c.loop-reader.core in
     let payload = c.in-Ok-Some.payload.now in
     let rest = c.next_frame.follows.lender-at-none.bytes in
-    let up : IsOpen c.loop-reader.core.session.state = subst IsOpen c.state.ensures (c.loop-reader-test.ensures.yes refl) in
+    let up : IsOpen c.loop-reader.core.session.state = ap is_open (sym c.state.ensures) ∙ sym c.loop-reader-test.ensures in
     let is = c.in_ok-take-in-Ok-Some.ensures.next [] in
     let keeps = stays view payload in
     record {
@@ -39,7 +40,7 @@ pub returns-in-Ok-None-clause-next : goal.returns-in-Ok-None-clause-next
 returns-in-Ok-None-clause-next g c =
     let nothing = rw (c.in-Ok-None.is, c.in-Ok-None.field-0-is) at c.next_frame.follows.holds-at-none in
     let view = view_with [] c.loop-reader.core in
-    let up : IsOpen c.loop-reader.core.session.state = subst IsOpen c.state.ensures (c.loop-reader-test.ensures.yes refl) in
+    let up : IsOpen c.loop-reader.core.session.state = ap is_open (sym c.state.ensures) ∙ sym c.loop-reader-test.ensures in
     ap (λ (h : Held). view_with h.bytes c.loop-reader.core) nothing.same
     ∙ sym (rest-view view up c.loop-reader.invariant.goes_on c.loop-reader.invariant.heard refl c.loop-reader.reader.bytes nothing.unfinished) ∙ c.loop-reader.invariant.next
 
@@ -47,7 +48,7 @@ pub returns-in-Ok-None-clause-says : goal.returns-in-Ok-None-clause-says
 returns-in-Ok-None-clause-says g c =
     let nothing = rw (c.in-Ok-None.is, c.in-Ok-None.field-0-is) at c.next_frame.follows.holds-at-none in
     let view = view_with [] c.loop-reader.core in
-    let up : IsOpen c.loop-reader.core.session.state = subst IsOpen c.state.ensures (c.loop-reader-test.ensures.yes refl) in
+    let up : IsOpen c.loop-reader.core.session.state = ap is_open (sym c.state.ensures) ∙ sym c.loop-reader-test.ensures in
     sym (append-nil (said c.loop-reader.outputs.items))
     ∙ ap (λ (l : List Output). said c.loop-reader.outputs.items ++ l) (sym (rest-says view up c.loop-reader.invariant.goes_on c.loop-reader.invariant.heard refl c.loop-reader.reader.bytes nothing.unfinished)) ∙ c.loop-reader.invariant.says
 
@@ -56,7 +57,7 @@ returns-in-Err-clause-next g c =
     let fails = rw c.in-Err.is at c.next_frame.follows.holds-at-none in
     let bad = stands-there c.loop-reader.reader c.in-Err.fault c.next_frame.follows.lender-at-none c.loop-reader.invariant.clean fails in
     let view = view_with [] c.loop-reader.core in
-    let up : IsOpen c.loop-reader.core.session.state = subst IsOpen c.state.ensures (c.loop-reader-test.ensures.yes refl) in
+    let up : IsOpen c.loop-reader.core.session.state = ap is_open (sym c.state.ensures) ∙ sym c.loop-reader-test.ensures in
     on_ok_weaker c.give_up.result (λ told. ap (λ (h : Held). view_with h.bytes c.give_up.new.self) c.reset.ensures ∙ told []
     ∙ sym (bad-view view up c.loop-reader.invariant.goes_on c.loop-reader.invariant.heard refl c.loop-reader.reader.bytes c.in-Err.fault bad) ∙ c.loop-reader.invariant.next) c.give_up.ensures.next
 
@@ -65,19 +66,19 @@ returns-in-Err-clause-says g c =
     let fails = rw c.in-Err.is at c.next_frame.follows.holds-at-none in
     let bad = stands-there c.loop-reader.reader c.in-Err.fault c.next_frame.follows.lender-at-none c.loop-reader.invariant.clean fails in
     let view = view_with [] c.loop-reader.core in
-    let up : IsOpen c.loop-reader.core.session.state = subst IsOpen c.state.ensures (c.loop-reader-test.ensures.yes refl) in
+    let up : IsOpen c.loop-reader.core.session.state = ap is_open (sym c.state.ensures) ∙ sym c.loop-reader-test.ensures in
     on_ok_weaker c.give_up.result (λ told. told []
     ∙ ap (λ (l : List Output). said c.loop-reader.outputs.items ++ l) (sym (bad-says view up c.loop-reader.invariant.goes_on c.loop-reader.invariant.heard refl c.loop-reader.reader.bytes c.in-Err.fault bad)) ∙ c.loop-reader.invariant.says) c.give_up.ensures.says
 
 pub returns-clause-next : goal.returns-clause-next
 returns-clause-next g c =
     let view = view_with [] c.loop-reader.core in
-    let down : IsOpen c.loop-reader.core.session.state → ⊥ = λ up. c.loop-reader-test.ensures.no refl (subst IsOpen (sym c.state.ensures) up) in
+    let down : IsOpen c.loop-reader.core.session.state → ⊥ = λ up. let clash : true ≡ false = sym up ∙ ap is_open (sym c.state.ensures) ∙ sym c.loop-reader-test.ensures in cc in
     ap (λ (h : Held). view_with h.bytes c.loop-reader.core) c.reset-2.ensures ∙ sym (unheard_view c.loop-reader.reader.bytes view down) ∙ c.loop-reader.invariant.next
 
 pub returns-clause-says : goal.returns-clause-says
 returns-clause-says g c =
     let view = view_with [] c.loop-reader.core in
-    let down : IsOpen c.loop-reader.core.session.state → ⊥ = λ up. c.loop-reader-test.ensures.no refl (subst IsOpen (sym c.state.ensures) up) in
+    let down : IsOpen c.loop-reader.core.session.state → ⊥ = λ up. let clash : true ≡ false = sym up ∙ ap is_open (sym c.state.ensures) ∙ sym c.loop-reader-test.ensures in cc in
     sym (append-nil (said c.loop-reader.outputs.items))
     ∙ ap (λ (l : List Output). said c.loop-reader.outputs.items ++ l) (sym (unheard_says c.loop-reader.reader.bytes view down)) ∙ c.loop-reader.invariant.says

@@ -1,7 +1,8 @@
-use Rattle.std.proofs.Common.{[], ◌∷◌, ap, subst, ◌∙◌}
+use Rattle.std.proofs.Common.{[], ◌∷◌, ap, sym, ◌∙◌}
+use Rattle.zk_session.specs.States.{is_open}
 use Rattle.std.proofs.lemmas.Result.{on_ok_weaker}
 use Rattle.zk_frames.specs.Held.{Held}
-use Rattle.zk_turns.specs.Kept.{Lost}
+use Rattle.zk_turns.specs.Past.{Lost}
 use Rattle.zk_turns.specs.Taken.{if_open}
 use Rattle.zk_turns.specs.Rule.{IsOpen}
 use Rattle.zk_client.specs.Views.{said}
@@ -13,7 +14,7 @@ pub returns-clause-next : goal.returns-clause-next
 returns-clause-next g c =
     let core = c.args.core.now in
     let view = view_with c.args.reader.now.bytes core in
-    let up : IsOpen core.session.state = subst IsOpen c.state.ensures (c.is_open.ensures.yes c.if-not-is_open.false) in
+    let up : IsOpen core.session.state = ap is_open (sym c.state.ensures) ∙ sym c.is_open.ensures ∙ c.if-not-is_open.false in
     on_ok_weaker c.lose.result (λ next. turns-view view _ core.halted (if_open core.session.state (Lost ∷ [])) (Lost ∷ []) c.requires.goes_on (open-causes core.session.state (Lost ∷ []) up)
     (ap (λ (h : Held). view_with h.bytes c.lose.new.self) c.reset.ensures ∙ next c.args.reader.now.bytes)) c.lose.ensures.next
 
@@ -21,6 +22,6 @@ pub returns-clause-says : goal.returns-clause-says
 returns-clause-says g c =
     let core = c.args.core.now in
     let view = view_with c.args.reader.now.bytes core in
-    let up : IsOpen core.session.state = subst IsOpen c.state.ensures (c.is_open.ensures.yes c.if-not-is_open.false) in
+    let up : IsOpen core.session.state = ap is_open (sym c.state.ensures) ∙ sym c.is_open.ensures ∙ c.if-not-is_open.false in
     on_ok_weaker c.lose.result (λ says. turns-says view (said c.args.outputs.now.items) _ core.halted (if_open core.session.state (Lost ∷ [])) (Lost ∷ []) c.requires.goes_on (open-causes core.session.state (Lost ∷ []) up)
     (one-says view (said c.args.outputs.now.items) _ Lost (says c.args.reader.now.bytes))) c.lose.ensures.says

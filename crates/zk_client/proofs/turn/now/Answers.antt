@@ -3,7 +3,7 @@ use Rattle.std.proofs.lemmas.Result.{on_ok_weaker}
 use Rattle.zk_frames.specs.Held.{Held}
 use Rattle.zk_session.specs.declared.states.Due.TheVariants.{Ping, Silent as Is_silent}
 use Rattle.zk_turns.specs.Turns.{Silent}
-use Rattle.zk_turns.specs.Kept.{Ticked, Pinged, Dropped}
+use Rattle.zk_turns.specs.Past.{Ticked, Pinged, Dropped}
 use Rattle.zk_turns.specs.Taken.{if_open, due}
 use Rattle.zk_turns.specs.View.{View}
 use Rattle.zk_turns.specs.Rule.{next, says}

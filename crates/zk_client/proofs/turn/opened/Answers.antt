@@ -1,7 +1,7 @@
 use Rattle.std.proofs.Common.{[], ◌∷◌, ◌++◌, ap, sym, ◌∙◌}
 use Rattle.std.proofs.lemmas.Result.{on_ok_weaker}
 use Rattle.zk_frames.specs.Held.{Held}
-use Rattle.zk_turns.specs.Kept.{Lost, Began}
+use Rattle.zk_turns.specs.Past.{Lost, Began}
 use Rattle.zk_turns.specs.Taken.{opens}
 use Rattle.zk_turns.specs.View.{View}
 use Rattle.zk_turns.specs.Rule.{next, says}

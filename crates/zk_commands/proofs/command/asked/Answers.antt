@@ -8,7 +8,7 @@ use Rattle.zk_commands.specs.declared.kind.Kind.{Kind}
 use Rattle.zk_commands.specs.Kinds.{kind_word}
 use Rattle.zk_commands.specs.CommandLine.{AreAddresses, AsksForNone, IsFound, IsWatch}
 use Rattle.zk_watch.specs.Watching.{aims_of}
-use Rattle.zk_history.specs.declared.side.Side.{Side}
+use Rattle.zk_nodes.specs.declared.side.Side.{Side}
 use Rattle.zk_commands.proofs.AddressLemmas.{tells, tells_more}
 use Rattle.zk_commands.proofs.command.asked.Goals as goal
 

@@ -1,5 +1,5 @@
 use Rattle.std.proofs.Common.{sym, ◌∙◌}
-use Rattle.zk_history.specs.History.{path_of}
+use Rattle.zk_nodes.specs.Path.{path_of}
 use Rattle.zk_conclusions.proofs.Shown.{not_below, below_by}
 use Rattle.zk_conclusions.proofs.firsts.name_below.Goals as goal
 

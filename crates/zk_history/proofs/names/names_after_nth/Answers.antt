@@ -2,11 +2,11 @@ use Rattle.std.proofs.Common.{◌≡◌, List, Some, None, map, option_map, leng
 use Rattle.std.proofs.lemmas.Option.{slice_get-map, slice_get_read, slice_get_past}
 use Rattle.std.specs.Prelude.{slice_get}
 use Rattle.zk_history.specs.declared.change.Change.{Change}
-use Rattle.zk_history.specs.History.{path_of}
+use Rattle.zk_nodes.specs.Path.{path_of}
 use Rattle.zk_history.specs.Made.{change_of, transaction_of}
-use Rattle.zk_history.specs.NamesKept.{names_of}
+use Rattle.zk_nodes.specs.Names.{names_of}
 use Rattle.zk_history.specs.Versions.{names_by, nth_change}
-use Rattle.zk_history.proofs.KeptLemmas.{OnOk-map}
+use Rattle.zk_history.proofs.ViewLemmas.{OnOk-map}
 use Rattle.zk_history.proofs.names.names_after_nth.Goals as goal
 
 pub returns-in-Some-get : goal.returns-in-Some-get

@@ -4,10 +4,10 @@ use Rattle.std.proofs.lemmas.Bool.Decides.{nat_tests}
 use Rattle.std.proofs.lemmas.List.{drop_more}
 use Rattle.zk_history.specs.declared.version.Version.{Version}
 use Rattle.zk_history.specs.declared.version.Origin.TheVariants.{Root}
-use Rattle.zk_history.specs.History.{path_of}
-use Rattle.zk_history.specs.Kept.{Kept}
+use Rattle.zk_nodes.specs.Path.{path_of}
+use Rattle.zk_history.specs.HistoryView.{HistoryView}
 use Rattle.zk_history.specs.Made.{transaction_of}
-use Rattle.zk_history.specs.NamesKept.{names_of}
+use Rattle.zk_nodes.specs.Names.{names_of}
 use Rattle.zk_history.specs.Versions.{change_at, names_by, names_told}
 use Rattle.zk_history.proofs.ReplayLemmas.{walk_more}
 use Rattle.zk_history.proofs.names.names_after_versions.Goals as goal
@@ -15,7 +15,7 @@ use Rattle.zk_history.proofs.names.names_after_versions.Goals.{then-version-z+in
 
 pub loop-version-preserved : goal.loop-version-preserved
 loop-version-preserved g c =
-    let kept : Kept = record { nodes = map transaction_of c.args.nodes.now; transactions = map transaction_of c.args.transactions.now } in
+    let kept : HistoryView = record { nodes = map transaction_of c.args.nodes.now; transactions = map transaction_of c.args.transactions.now } in
     let p = path_of c.args.at.now in
     let vs = c.args.versions.now in
     let i = c.loop-version.version-index in

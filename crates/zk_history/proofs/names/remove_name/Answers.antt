@@ -1,4 +1,4 @@
-use Rattle.zk_history.proofs.NamesLemmas.{names_of-remove}
+use Rattle.zk_nodes.proofs.NamesLemmas.{names_of-remove}
 use Rattle.zk_history.proofs.names.remove_name.Goals as goal
 
 pub returns : goal.returns

@@ -1,6 +1,7 @@
 use Rattle.std.proofs.Common.{◌≡◌, ap, sym, ◌∙◌, Option, option_map, ℕ, ℤ, to_z, of_z, w64, arith}
 use Rattle.std.proofs.lemmas.Int.{ints}
-use Rattle.zk_history.specs.History.{path_of, Creates, Sets, Deletes}
+use Rattle.zk_nodes.specs.Path.{path_of}
+use Rattle.zk_nodes.specs.History.{Creates, Sets, Deletes}
 use Rattle.zk_history.specs.Made.{change_of}
 use Rattle.zk_history.specs.Replay.{count_after}
 use Rattle.zk_history.specs.declared.version.Entry.{Entry}

@@ -2,7 +2,7 @@ use Rattle.std.proofs.Common.{◌≡◌, ◌+◌, ◌-◌, length, ap, sym, ◌�
 use Rattle.std.proofs.lemmas.Int.{ints}
 use Rattle.std.proofs.lemmas.List.{length-map}
 use Rattle.std.proofs.lemmas.Bool.Decides.{nat_tests}
-use Rattle.zk_history.specs.History as model
+use Rattle.zk_nodes.specs.History as model
 use Rattle.zk_history.specs.Made.{change_of, transaction_of}
 use Rattle.zk_history.specs.declared.version.Origin.TheVariants.{Later}
 use Rattle.zk_history.specs.Versions.{last_transaction}

@@ -1,7 +1,7 @@
 use Rattle.std.proofs.Common.{◌≡◌, ◌+◌, ◌-◌, length, arith}
 use Rattle.std.proofs.lemmas.Bool.Decides.{nat_tests}
 use Rattle.zk_history.specs.Made.{change_of, transaction_of}
-use Rattle.zk_history.proofs.KeptLemmas.{mapped_set, mapped_set_same, OnOk-map, OnErr-map}
+use Rattle.zk_history.proofs.ViewLemmas.{mapped_set, mapped_set_same, OnOk-map, OnErr-map}
 use Rattle.zk_history.proofs.transactions.push_change.Goals as goal
 
 pub returns-clause-ok : goal.returns-clause-ok

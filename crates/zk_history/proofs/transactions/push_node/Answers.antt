@@ -3,9 +3,9 @@ use Rattle.std.proofs.lemmas.Bool.{cond-true}
 use Rattle.std.proofs.lemmas.List.{map-append}
 use Rattle.std.proofs.lemmas.Int.{to_z-of_z}
 use Rattle.std.specs.Vec.{vec_len, vec_capacity}
-use Rattle.zk_history.specs.History as model
+use Rattle.zk_nodes.specs.History as model
 use Rattle.zk_history.specs.Made.{change_of, transaction_of}
-use Rattle.zk_history.specs.Kept.{made_transaction}
+use Rattle.zk_history.specs.HistoryView.{made_transaction}
 use Rattle.zk_history.proofs.VersionsLemmas.{on_ok_is}
 use Rattle.zk_history.proofs.transactions.push_node.Goals as goal
 

@@ -1,10 +1,9 @@
 use Rattle.std.proofs.Common.{◌≡◌, cond, false, sym, ap, subst, ◌∙◌, Some}
-use Rattle.zk_history.specs.History.{path_of}
-use Rattle.zk_history.specs.Path.{parent_of}
-use Rattle.zk_history.specs.PathFault.{IsPath}
+use Rattle.zk_nodes.specs.Path.{path_of, parent_of}
+use Rattle.zk_nodes.specs.PathFault.{IsPath}
 use Rattle.zk_history.specs.Made.{change_of}
 use Rattle.zk_history.specs.Versions.{versions_of, with_version, is_near}
-use Rattle.zk_history.proofs.KeptLemmas.{OnOk-map}
+use Rattle.zk_history.proofs.ViewLemmas.{OnOk-map}
 use Rattle.zk_history.proofs.VersionsLemmas.{near_text, none_near}
 use Rattle.zk_history.proofs.versions.note_near.Goals as goal
 

@@ -1,6 +1,6 @@
 use Rattle.std.proofs.Common.{◌≡◌, ◌∙◌, List, [], ap, false, map}
 use Rattle.std.specs.Prelude.{string_bytes}
-use Rattle.zk_history.specs.History.{Text}
+use Rattle.zk_nodes.specs.Path.{Text}
 use Rattle.zk_turns.specs.View.{view_at}
 use Rattle.zk_client.specs.Clients.{view_of}
 use Rattle.zk_script.specs.Scripts.{end_at}

@@ -1,9 +1,9 @@
 use Rattle.std.proofs.Common.{rules, ap, sym, ◌∙◌, ◌≡◌, Some}
 use Rattle.std.specs.FinSet as set
 use Rattle.zk_conversation.specs.Views.{call_view}
-use Rattle.zk_history.specs.NamesKept.{names_of}
-use Rattle.zk_history.proofs.NamesLemmas.{names_of-insert}
-use Rattle.zk_rehearse.specs.Stages.{named_path, with_path}
+use Rattle.zk_nodes.specs.Names.{names_of}
+use Rattle.zk_nodes.proofs.NamesLemmas.{names_of-insert}
+use Rattle.zk_rehearse.specs.Scenes.{named_path, with_path}
 use Rattle.zk_rehearse.proofs.called.add_path.Goals as goal
 
 pub returns-in_ok-insert-clause-added : goal.returns-in_ok-insert-clause-added

@@ -2,14 +2,14 @@ use Rattle.std.proofs.Common.{◌++◌, ◌∷◌, [], ℕ, List, map, sym, refl
 use Rattle.std.proofs.lemmas.List.{append-nil}
 use Rattle.std.specs.Prelude.{string_bytes}
 use Rattle.zk_client.specs.Clients.{view_of}
-use Rattle.zk_history.specs.History.{Text}
-use Rattle.zk_history.specs.Kept.{Kept}
+use Rattle.zk_nodes.specs.Path.{Text}
+use Rattle.zk_history.specs.HistoryView.{HistoryView}
 use Rattle.zk_turns.specs.View.{View}
 use Rattle.zk_rehearse.specs.Good.{TellsPath, TellsPaths}
 use Rattle.zk_rehearse.proofs.good.push_paths.Goals as goal
 
 -- what is told of one path more
-one_more : (client : View) (history : Kept) (path : Text) (paths all : List Text) (so_far one : List ℕ)
+one_more : (client : View) (history : HistoryView) (path : Text) (paths all : List Text) (so_far one : List ℕ)
     → ((rest : List ℕ) → TellsPaths client history (path ∷ paths) rest → TellsPaths client history all (so_far ++ rest))
     → TellsPath client history path one → (rest : List ℕ) → TellsPaths client history paths rest → TellsPaths client history all ((so_far ++ one) ++ rest)
 one_more client history path paths all so_far one before tells rest behind =

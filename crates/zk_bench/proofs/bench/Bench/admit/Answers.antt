@@ -1,57 +1,43 @@
-use Rattle.std.proofs.Common.{rules, ◌≡◌, ◌≤◌, refl, sym, ap, ◌∙◌, subst, pos, false, to_z, of_z, w32, w64}
+use Rattle.std.proofs.Common.{rules, ◌≡◌, ◌≤◌, refl, sym, ap, ◌∙◌, subst, pos, to_z, of_z, w32, w64}
 use Rattle.std.specs.Prelude.{slice_index, int_lt}
-use Rattle.zk_history.specs.Kept.{history_of}
+use Rattle.zk_history.specs.HistoryView.{history_of}
 use Rattle.zk_laws.specs.Server.{zxid_held}
 use Rattle.zk_laws.specs.Messages.{Connect}
 use Rattle.zk_bench.specs.Linked.{linked_of}
 use Rattle.zk_bench.specs.Served.{Served}
 use Rattle.zk_bench.specs.declared.phase.Phase.TheVariants.{Opening, Accepted, Ended}
-use Rattle.zk_bench.specs.Stepping.{IsReady, ProcessesOne, shown_of}
+use Rattle.zk_bench.specs.Stepping.{ProcessesOne, shown_of}
 use Rattle.zk_bench.proofs.Fields.{bench_of}
-use Rattle.zk_bench.proofs.Stepped.{ready_admitted, admits_so, expires_so, not_ahead}
+use Rattle.zk_bench.proofs.Stepped.{ready_answered, admits_so, expires_so, not_ahead}
 use Rattle.zk_bench.proofs.bench.Bench.admit.Goals as goal
 
 pub returns-in_err-send_expired-clause-ready : goal.returns-in_err-send_expired-clause-ready
-returns-in_err-send_expired-clause-ready g c =
-    let i = c.self.inside in
-    let b : Served = bench_of i.history i.taken i.server i.connection i.expired i.time in
-    subst (λ (old : Served). IsReady old → IsReady (record b { connection = linked_of (record c.self.inside.connection { output = c.send_expired.new.out }) })) c.self.view_is
-    (λ ready. ready_admitted b (linked_of (record c.self.inside.connection { output = c.send_expired.new.out })) ready ready.unwatched)
+returns-in_err-send_expired-clause-ready g c = ready_answered c.self.inside c.args.self.now c.send_expired.new.out c.self.view_is
 
 pub returns-in_err-send_accepted-clause-ready : goal.returns-in_err-send_accepted-clause-ready
-returns-in_err-send_accepted-clause-ready g c =
-    let i = c.self.inside in
-    let b : Served = bench_of i.history i.taken i.server i.connection i.expired i.time in
-    subst (λ (old : Served). IsReady old → IsReady (record b { connection = linked_of (record c.self.inside.connection { output = c.send_accepted.new.out }) })) c.self.view_is
-    (λ ready. ready_admitted b (linked_of (record c.self.inside.connection { output = c.send_accepted.new.out })) ready ready.unwatched)
+returns-in_err-send_accepted-clause-ready g c = ready_answered c.self.inside c.args.self.now c.send_accepted.new.out c.self.view_is
 
 pub returns-then-self-clause-admits : goal.returns-then-self-clause-admits
 returns-then-self-clause-admits g c = λ seen xid ready opening last up.
-    let i = c.self.inside in
-    let b : Served = bench_of i.history i.taken i.server i.connection i.expired i.time in
+    let b = bench_of c.self.inside in
     let old = c.args.self.now in
     let new = linked_of (record c.self.inside.connection { phase = Ended; output = c.send_expired.new.out }) in
     let held : to_z w64 (of_z w64 c.zxid.result) ≡ c.zxid.result = search rules in
     let asked : to_z w64 (of_z w64 c.args.request.now.last_zxid_seen) ≡ c.args.request.now.last_zxid_seen = search rules in
-    let behind : int_lt (pos (zxid_held (history_of old.history) (slice_index old.taken old.server))) (pos seen) ≡ false =
-    ap (λ z. int_lt z (pos seen)) (sym (held ∙ c.zxid.ensures ready)) ∙ ap (int_lt (to_z w64 (of_z w64 c.zxid.result))) (sym (asked ∙ last)) ∙ c.if-zxid-request.false in
-    let low = not_ahead (zxid_held (history_of old.history) (slice_index old.taken old.server)) seen behind in
+    let low = not_ahead (zxid_held (history_of old.history) (slice_index old.taken old.server)) seen _ _ (held ∙ c.zxid.ensures ready) (asked ∙ last) c.if-zxid-request.false in
     subst (λ (s : Served). ProcessesOne (Connect seen) xid (shown_of s) (shown_of (record b { connection = new }))) c.self.view_is
     (expires_so b new seen xid (subst (λ (s : Served). s.connection.phase ≡ Opening) (sym c.self.view_is) opening)
     (subst (λ (s : Served). seen ≤ zxid_held (history_of s.history) (slice_index s.taken s.server)) (sym c.self.view_is) low) c.in_ok-send_expired.ensures.sends refl)
 
 pub returns-clause-admits : goal.returns-clause-admits
 returns-clause-admits g c = λ seen xid ready opening last up.
-    let i = c.self.inside in
-    let b : Served = bench_of i.history i.taken i.server i.connection i.expired i.time in
+    let b = bench_of c.self.inside in
     let old = c.args.self.now in
     let new = linked_of (record c.self.inside.connection { phase = Accepted; output = c.send_accepted.new.out }) in
     let ranged : to_z w32 (of_z w32 c.args.request.now.time_out) ≡ c.args.request.now.time_out = search rules in
     let held : to_z w64 (of_z w64 c.zxid.result) ≡ c.zxid.result = search rules in
     let asked : to_z w64 (of_z w64 c.args.request.now.last_zxid_seen) ≡ c.args.request.now.last_zxid_seen = search rules in
-    let behind : int_lt (pos (zxid_held (history_of old.history) (slice_index old.taken old.server))) (pos seen) ≡ false =
-    ap (λ z. int_lt z (pos seen)) (sym (held ∙ c.zxid.ensures ready)) ∙ ap (int_lt (to_z w64 (of_z w64 c.zxid.result))) (sym (asked ∙ last)) ∙ c.if-zxid-request.false in
-    let low = not_ahead (zxid_held (history_of old.history) (slice_index old.taken old.server)) seen behind in
+    let low = not_ahead (zxid_held (history_of old.history) (slice_index old.taken old.server)) seen _ _ (held ∙ c.zxid.ensures ready) (asked ∙ last) c.if-zxid-request.false in
     subst (λ (s : Served). ProcessesOne (Connect seen) xid (shown_of s) (shown_of (record b { connection = new }))) c.self.view_is
     (admits_so b new seen xid (subst (λ (s : Served). s.connection.phase ≡ Opening) (sym c.self.view_is) opening)
     (subst (λ (s : Served). seen ≤ zxid_held (history_of s.history) (slice_index s.taken s.server)) (sym c.self.view_is) low) (c.in_ok-send_accepted.ensures.sends (ap (int_lt (pos 0)) ranged ∙ up)) refl)

@@ -1,7 +1,7 @@
 use Rattle.std.proofs.Common.{sym, subst}
 use Rattle.std.specs.Prelude.{OnOk, slice_set}
 use Rattle.zk_serving.proofs.Later.{taken_at}
-use Rattle.zk_history.specs.Kept.{history_of}
+use Rattle.zk_history.specs.HistoryView.{history_of}
 use Rattle.zk_bench.specs.Linked.{linked_of}
 use Rattle.zk_bench.specs.Served.{Served}
 use Rattle.zk_bench.specs.Stepping.{HasClient, TakesSome, shown_of}
@@ -12,8 +12,7 @@ use Rattle.zk_bench.proofs.bench.Bench.catch_up.Goals as goal
 
 pub returns-clause-takes : goal.returns-clause-takes
 returns-clause-takes g c = λ has.
-    let i = c.self.inside in
-    let b : Served = bench_of i.history i.taken i.server i.connection i.expired i.time in
+    let b = bench_of c.self.inside in
     let old = c.self.inside.connection in
     let new = c.take_all.new.connection in
     let mine : HasClient b = subst HasClient (sym c.self.view_is) has in

@@ -12,8 +12,7 @@ use Rattle.zk_bench.proofs.bench.Bench.close.Goals as goal
 pub returns-clause-answers : goal.returns-clause-answers
 returns-clause-answers g c = λ has.
     let old = c.args.self.now in
-    let i = c.self.inside in
-    let b : Served = bench_of i.history i.taken i.server i.connection i.expired i.time in
+    let b = bench_of c.self.inside in
     let done = c.in_ok-send_err.ensures in
     let xid : to_z w32 (of_z w32 c.args.xid) ≡ c.args.xid = search rules in
     subst (λ (n : Served). ProcessesOne (Ask Close) c.args.xid (shown_of old) (shown_of (record n { connection = record n.connection { phase = Ended } }))) (sym c.self.view_is)

@@ -3,9 +3,9 @@ use Rattle.std.specs.FinSet as set
 use mathlib.Core.Path.{fun_ext}
 use Rattle.std.specs.Cmp.Lexicographic.{slice_cmp}
 use Rattle.std.specs.Ordering.{nat_cmp}
-use Rattle.zk_history.specs.History.{NodePath, text_of}
-use Rattle.zk_history.specs.declared.side.Side.{Side}
-use Rattle.zk_history.specs.declared.side.Side.TheVariants as sides
+use Rattle.zk_nodes.specs.Path.{NodePath, text_of}
+use Rattle.zk_nodes.specs.declared.side.Side.{Side}
+use Rattle.zk_nodes.specs.declared.side.Side.TheVariants as sides
 use Rattle.zk_laws.specs.Server.{no_watches}
 use Rattle.zk_bench.specs.declared.phase.Phase.TheVariants.{Opening}
 use Rattle.zk_bench.specs.Linked.{linked_of}
@@ -28,8 +28,7 @@ nothing_watched = fun_ext (λ side. fun_ext (λ path. nothing side path))
 
 pub returns-clause-ready : goal.returns-clause-ready
 returns-clause-ready g c =
-    let i = c.self.inside in
-    let b : Served = bench_of i.history i.taken i.server i.connection i.expired i.time in
+    let b = bench_of c.self.inside in
     let there : c.args.n - 1 < length b.taken = omega arith in
     subst (λ (old : Served). IsReady old → IsReady (record b { server = c.args.n - 1; connection = linked_of c.new.result })) c.self.view_is
     (λ ready. record { taken = ready.taken; there = there; unwatched = λ e. ap shown_watches c.new.ensures ∙ nothing_watched })

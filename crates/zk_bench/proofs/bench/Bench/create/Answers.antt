@@ -1,9 +1,11 @@
-use Rattle.std.proofs.Common.{rules, ◌≡◌, ap, ◌∙◌, subst, ℤ, to_z, of_z, w32}
+use Rattle.std.proofs.Common.{rules, ◌≡◌, ◌≤◌, ℕ, pos, ap, ◌∙◌, subst, ℤ, to_z, of_z, w32}
 use Rattle.std.specs.Prelude.{OnOk, IfErr}
 use Rattle.zk_jute.specs.Lenient.{or_empty}
-use Rattle.zk_history.specs.History.{Text}
+use Rattle.zk_nodes.specs.Path.{Text}
 use Rattle.zk_conversation.specs.Calls.{Create}
 use Rattle.zk_laws.specs.Messages.{Request, Ask}
+use Rattle.zk_records.specs.declared.request.Request.TheVariants as requests
+use Rattle.zk_bench.specs.Asking.{Asks}
 use Rattle.zk_bench.specs.Stepping.{ProcessesOne, Declines, shown_of}
 use Rattle.zk_bench.proofs.Stepped.{ok_so, err_so}
 use Rattle.zk_bench.proofs.Called.{creates_asked, mode_is}
@@ -16,36 +18,37 @@ returns-in-Err-clause-declines g c = λ asked has asks.
     let new = c.mode_caught_up.new.self in
     stops_by asked c.args.xid old new c.in-Err.stop (λ over. ends_then asked c.args.xid old new (c.in-Err.ensures.ends has))
 
+-- what holds of the create that is made holds of the one that was asked for
+as_asked : (g : _) (c : goal.After-drop-2 g) (P : Request → ℤ → Type 0) (asked : Request) → Asks (requests.Create c.args.request) asked
+    → ((number : ℕ) → number ≤ 3 → to_z w32 (of_z w32 c.args.request.flags) ≡ pos number → P (Ask (Create c.text_of.result.now c.args.request.bytes number)) (to_z w32 (of_z w32 c.args.xid))) → P asked c.args.xid
+as_asked g c P asked asks made =
+    let r = c.args.request in
+    let xid : to_z w32 (of_z w32 c.args.xid) ≡ c.args.xid = search rules in
+    let flagged : to_z w32 (of_z w32 r.flags) ≡ r.flags = search rules in
+    creates_asked (λ (one : Request). P one c.args.xid) r asked asks
+    (λ text number is at flags low.
+    let same : c.text_of.result.now ≡ text = c.text_of.ensures ∙ ap or_empty at in
+    subst (λ (t : Text). P (Ask (Create t r.bytes number)) c.args.xid) same
+    (subst (λ (x : ℤ). P (Ask (Create c.text_of.result.now r.bytes number)) x) xid (made number low (flagged ∙ flags))))
+
 pub returns-clause-answers : goal.returns-clause-answers
 returns-clause-answers g c = λ asked has asks.
     let old = c.args.self.now in
     let mid = c.mode_caught_up.new.self in
     let new = c.make-outcome.new.self in
-    let r = c.args.request in
     let more = c.mode_caught_up.ensures.has has in
-    let xid : to_z w32 (of_z w32 c.args.xid) ≡ c.args.xid = search rules in
-    creates_asked (λ (one : Request). OnOk c.make-outcome.result (ProcessesOne one c.args.xid (shown_of old) (shown_of new))) r asked asks
-    (λ text number is at flags low.
-    let flagged : to_z w32 (of_z w32 r.flags) ≡ r.flags = search rules in
-    let same : c.text_of.result.now ≡ text = c.text_of.ensures ∙ ap or_empty at in
-    subst (λ (t : Text). OnOk c.make-outcome.result (ProcessesOne (Ask (Create t r.bytes number)) c.args.xid (shown_of old) (shown_of new))) same
-    (subst (λ (x : ℤ). OnOk c.make-outcome.result (ProcessesOne (Ask (Create c.text_of.result.now r.bytes number)) x (shown_of old) (shown_of new))) xid
-    (ok_so c.make-outcome.result _ _ (c.make-outcome.ensures.answers number more (mode_is (to_z w32 (of_z w32 r.flags)) number _ _ low (flagged ∙ flags) c.in-Ok.ensures.mode))
-    (λ done. processes_then (Ask (Create c.text_of.result.now r.bytes number)) (to_z w32 (of_z w32 c.args.xid)) old mid new has more (c.in-Ok.ensures.takes has) done))))
+    as_asked g c (λ one xid. OnOk c.make-outcome.result (ProcessesOne one xid (shown_of old) (shown_of new))) asked asks
+    (λ number low flags. ok_so c.make-outcome.result _ _ (c.make-outcome.ensures.answers number more (mode_is (to_z w32 (of_z w32 c.args.request.flags)) number _ _ low flags c.in-Ok.ensures.mode))
+    (λ done. processes_then (Ask (Create c.text_of.result.now c.args.request.bytes number)) (to_z w32 (of_z w32 c.args.xid)) old mid new has more (c.in-Ok.ensures.takes has) done))
 
 pub returns-clause-declines : goal.returns-clause-declines
 returns-clause-declines g c = λ asked has asks.
     let old = c.args.self.now in
     let mid = c.mode_caught_up.new.self in
     let new = c.make-outcome.new.self in
-    let r = c.args.request in
+    as_asked g c (λ one xid. IfErr c.make-outcome.result (Declines one xid old new)) asked asks
+    (λ number low flags.
     let more = c.mode_caught_up.ensures.has has in
-    let xid : to_z w32 (of_z w32 c.args.xid) ≡ c.args.xid = search rules in
-    creates_asked (λ (one : Request). IfErr c.make-outcome.result (Declines one c.args.xid old new)) r asked asks
-    (λ text number is at flags low.
-    let one = Create c.text_of.result.now r.bytes number in
-    let same : c.text_of.result.now ≡ text = c.text_of.ensures ∙ ap or_empty at in
-    subst (λ (t : Text). IfErr c.make-outcome.result (Declines (Ask (Create t r.bytes number)) c.args.xid old new)) same
-    (subst (λ (x : ℤ). IfErr c.make-outcome.result (Declines (Ask one) x old new)) xid
-    (err_so c.make-outcome.result (Declines (Ask one) (to_z w32 (of_z w32 c.args.xid)) mid new) (Declines (Ask one) (to_z w32 (of_z w32 c.args.xid)) old new) (c.make-outcome.ensures.declines number more)
-    (λ refusal d. declines_then one (to_z w32 (of_z w32 c.args.xid)) old mid new refusal has more (c.in-Ok.ensures.takes has) d))))
+    let one = Create c.text_of.result.now c.args.request.bytes number in
+    err_so c.make-outcome.result (Declines (Ask one) (to_z w32 (of_z w32 c.args.xid)) mid new) (Declines (Ask one) (to_z w32 (of_z w32 c.args.xid)) old new) (c.make-outcome.ensures.declines number more)
+    (λ refusal d. declines_then one (to_z w32 (of_z w32 c.args.xid)) old mid new refusal has more (c.in-Ok.ensures.takes has) d))

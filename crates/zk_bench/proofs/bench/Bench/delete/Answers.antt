@@ -1,7 +1,8 @@
 use Rattle.std.proofs.Common.{rules, ◌≡◌, sym, ap, ◌∙◌, subst, ℤ, pos, to_z, of_z, w32}
 use Rattle.std.specs.Prelude.{Err, IfErr}
 use Rattle.zk_jute.specs.Lenient.{or_empty}
-use Rattle.zk_history.specs.History.{Text, Deletes, path_of}
+use Rattle.zk_nodes.specs.Path.{Text, path_of}
+use Rattle.zk_nodes.specs.History.{Deletes}
 use Rattle.zk_conversation.specs.Calls.{Delete}
 use Rattle.zk_laws.specs.Messages.{Request, Ask}
 use Rattle.zk_bench.specs.Serving.{SendsHeader}

@@ -1,8 +1,9 @@
 use Rattle.std.proofs.Common.{rules, ◌≡◌, sym, ap, subst, ℤ, pos, Bool, Some, to_z, of_z, w32}
 use Rattle.std.specs.Prelude.{Err}
 use Rattle.zk_records.specs.Layouts.{create_response}
-use Rattle.zk_history.specs.History.{Text, Creates, path_of}
-use Rattle.zk_history.specs.History as model
+use Rattle.zk_nodes.specs.Path.{Text, path_of}
+use Rattle.zk_nodes.specs.History.{Creates}
+use Rattle.zk_nodes.specs.History as model
 use Rattle.zk_conversation.specs.Calls.{Create}
 use Rattle.zk_laws.specs.Server.{IsMadeOf}
 use Rattle.zk_laws.specs.Messages.{Ask}

@@ -1,7 +1,7 @@
 use Rattle.std.proofs.Common.{rules, ◌≡◌, ℤ, ap, ◌∙◌, subst, to_z, of_z, w64}
 use Rattle.std.specs.Prelude.{slice_index}
-use Rattle.zk_history.specs.Kept.{history_of, natural}
-use Rattle.zk_history.specs.History.{tree_at}
+use Rattle.zk_history.specs.HistoryView.{history_of, natural}
+use Rattle.zk_nodes.specs.History.{tree_at}
 use Rattle.zk_laws.specs.Server.{tree_held}
 use Rattle.zk_bench.specs.Served.{Served}
 use Rattle.zk_bench.specs.Stepping.{HasAll}
@@ -11,8 +11,7 @@ use Rattle.zk_bench.proofs.bench.Bench.newest.Goals as goal
 
 pub returns-clause-held : goal.returns-clause-held
 returns-clause-held g c =
-    let i = c.self.inside in
-    let b : Served = bench_of i.history i.taken i.server i.connection i.expired i.time in
+    let b = bench_of c.self.inside in
     let h = history_of b.history in
     let ranged : to_z w64 (of_z w64 c.last_zxid.result) ≡ c.last_zxid.result = search rules in
     subst (λ (s : Served). HasAll s → tree_at (history_of s.history) (natural (to_z w64 (of_z w64 c.last_zxid.result))) ≡ tree_held (history_of s.history) (slice_index s.taken s.server)) c.self.view_is

@@ -1,7 +1,7 @@
-use Rattle.std.proofs.Common.{rules, ◌≡◌, refl, sym, subst, ◌∙◌, to_z, of_z, w32, w64, ℤ}
+use Rattle.std.proofs.Common.{rules, ◌≡◌, refl, sym, subst, ◌∙◌, to_z, of_z, w32, w64, ℤ, pos}
 use Rattle.std.specs.Prelude.{OnOk, IfErr, slice_index}
-use Rattle.zk_history.specs.History.{Tree}
-use Rattle.zk_history.specs.Kept.{history_of}
+use Rattle.zk_nodes.specs.History.{Tree}
+use Rattle.zk_history.specs.HistoryView.{history_of}
 use Rattle.zk_laws.specs.Server.{zxid_held, tree_held}
 use Rattle.zk_laws.specs.Messages.{Request, Ask, Restore}
 use Rattle.zk_serving.proofs.Later.{taken_at}
@@ -16,18 +16,22 @@ use Rattle.zk_bench.proofs.Called.{looks}
 use Rattle.zk_bench.proofs.Processed.{restores_so, declines_read, declines_part}
 use Rattle.zk_bench.proofs.bench.Bench.read.Goals as goal
 
+-- the server reads at its place in the history
+placed : (g : _) (c : goal.After-read g) → HasClient (bench_of c.self.inside) → to_z w64 (of_z w64 c.zxid_after.result) ≡ pos (zxid_held (history_of c.self.inside.history) (slice_index c.self.inside.taken c.self.inside.server))
+placed g c mine =
+    let ranged : to_z w64 (of_z w64 c.zxid_after.result) ≡ c.zxid_after.result = search rules in
+    ranged ∙ c.zxid_after.ensures.zxid (taken_at (history_of c.self.inside.history) c.self.inside.taken c.self.inside.server mine.ready.taken)
+
 pub returns-clause-answers : goal.returns-clause-answers
 returns-clause-answers g c = λ asked has look asks.
-    let i = c.self.inside in
-    let b : Served = bench_of i.history i.taken i.server i.connection i.expired i.time in
+    let b = bench_of c.self.inside in
     let h = history_of b.history in
     let held = zxid_held h (slice_index b.taken b.server) in
     let old = c.self.inside.connection in
     let new = c.read.new.connection in
     let mine : HasClient b = subst HasClient (sym c.self.view_is) has in
     let xid : to_z w32 (of_z w32 c.args.xid) ≡ c.args.xid = search rules in
-    let ranged : to_z w64 (of_z w64 c.zxid_after.result) ≡ c.zxid_after.result = search rules in
-    let at = ranged ∙ c.zxid_after.ensures.zxid (taken_at h b.taken b.server mine.ready.taken) in
+    let at = placed g c mine in
     looks (λ (one : Request). OnOk c.read.result (ProcessesOne one c.args.xid (shown_of c.args.self.now) (shown_of (record b { connection = linked_of new })))) c.args.request.now asked look asks
     (λ call is reads.
     subst (λ (s : Served). OnOk c.read.result (ProcessesOne (Ask call) c.args.xid (shown_of s) (shown_of (record b { connection = linked_of new })))) c.self.view_is
@@ -44,15 +48,12 @@ returns-clause-answers g c = λ asked has look asks.
 
 pub returns-clause-declines : goal.returns-clause-declines
 returns-clause-declines g c = λ asked has look asks.
-    let i = c.self.inside in
-    let b : Served = bench_of i.history i.taken i.server i.connection i.expired i.time in
-    let h = history_of b.history in
-    let held = zxid_held h (slice_index b.taken b.server) in
+    let b = bench_of c.self.inside in
+    let held = zxid_held (history_of b.history) (slice_index b.taken b.server) in
     let old = c.self.inside.connection in
     let new = c.read.new.connection in
     let mine : HasClient b = subst HasClient (sym c.self.view_is) has in
-    let ranged : to_z w64 (of_z w64 c.zxid_after.result) ≡ c.zxid_after.result = search rules in
-    let at = ranged ∙ c.zxid_after.ensures.zxid (taken_at h b.taken b.server mine.ready.taken) in
+    let at = placed g c mine in
     looks (λ (one : Request). IfErr c.read.result (Declines one c.args.xid c.args.self.now (record b { connection = linked_of new }))) c.args.request.now asked look asks
     (λ call is reads.
     subst (λ (s : Served). IfErr c.read.result (Declines (Ask call) c.args.xid s (record b { connection = linked_of new }))) c.self.view_is

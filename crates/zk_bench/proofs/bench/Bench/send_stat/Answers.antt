@@ -1,10 +1,11 @@
 use Rattle.std.proofs.Common.{rules, ◌≡◌, ℤ, ap, ◌∙◌, subst, Option, Some, pos, to_z, of_z, w32, w64}
 use Rattle.std.specs.Prelude.{slice_index}
-use Rattle.zk_history.specs.Kept.{Kept, history_of, natural}
-use Rattle.zk_history.specs.History.{Tree, tree_at, path_of}
+use Rattle.zk_history.specs.HistoryView.{HistoryView, history_of, natural}
+use Rattle.zk_nodes.specs.Path.{path_of}
+use Rattle.zk_nodes.specs.History.{Tree, tree_at}
 use Rattle.zk_history.specs.Shown.{IsStat}
-use Rattle.zk_history.specs.StatLayout.{stat}
-use Rattle.zk_history.specs.declared.stat.Stat.{Stat}
+use Rattle.zk_nodes.specs.StatLayout.{stat}
+use Rattle.zk_nodes.specs.declared.stat.Stat.{Stat}
 use Rattle.zk_jute.specs.Layout.{Value}
 use Rattle.zk_laws.specs.Server.{tree_held}
 use Rattle.zk_bench.specs.Served.{Served}
@@ -17,8 +18,7 @@ use Rattle.zk_bench.proofs.bench.Bench.send_stat.Goals as goal
 pub returns-clause-sends : goal.returns-clause-sends
 returns-clause-sends g c = λ ready all is.
     let old = c.args.self.now in
-    let i = c.self.inside in
-    let b : Served = bench_of i.history i.taken i.server i.connection i.expired i.time in
+    let b = bench_of c.self.inside in
     let path = path_of c.args.text.now in
     let told = c.in-Some.stat in
     let value : Value stat = numbers_of told in
@@ -26,7 +26,7 @@ returns-clause-sends g c = λ ready all is.
     let xid : to_z w32 (of_z w32 c.args.xid) ≡ c.args.xid = search rules in
     let ranged : to_z w64 (of_z w64 c.zxid-zxid.result) ≡ c.zxid-zxid.result = search rules in
     let held : tree_at (history_of c.newest.result.history.now) (natural c.newest.result.zxid) ≡ tree_held (history_of old.history) (slice_index old.taken old.server) =
-    ap (λ (k : Kept). tree_at (history_of k) (natural c.newest.result.zxid)) c.newest.ensures.history ∙ c.newest.ensures.held all in
+    ap (λ (k : HistoryView). tree_at (history_of k) (natural c.newest.result.zxid)) c.newest.ensures.history ∙ c.newest.ensures.held all in
     let counted : IsStat (tree_held (history_of old.history) (slice_index old.taken old.server)) path (Some told) =
     subst (λ (t : Tree). IsStat t path (Some told)) held (subst (λ (o : Option Stat). IsStat (tree_at (history_of c.newest.result.history.now) (natural c.newest.result.zxid)) path o) c.in-Some.is (c.in_ok-stat.ensures is)) in
     let sends : Sends (c.args.xid, (pos (zxid_of old), pos 0)) stat value b.connection.output output =

@@ -1,5 +1,6 @@
 use Rattle.std.proofs.Common.{rules, ◌≡◌, sym, subst, ℤ, ℕ, List, Option, to_z, of_z, w32}
-use Rattle.zk_history.specs.History.{Text, Sets, path_of}
+use Rattle.zk_nodes.specs.Path.{Text, path_of}
+use Rattle.zk_nodes.specs.History.{Sets}
 use Rattle.zk_conversation.specs.Calls.{SetData}
 use Rattle.zk_laws.specs.Messages.{Ask}
 use Rattle.zk_bench.specs.Stepping.{Declines, HasWritten, SendsStat, LeavesUnsent}

@@ -1,7 +1,7 @@
 use Rattle.std.proofs.Common.{◌≡◌, refl, sym, ap, subst, ◌∙◌, Result, Ok, Err, OnOk, IsOk}
 use Rattle.zk_serving.specs.GoingOn.{GoesOn}
 use Rattle.zk_bench.specs.declared.stop.Stop.TheVariants as stops
-use Rattle.zk_history.specs.Kept.{history_of}
+use Rattle.zk_history.specs.HistoryView.{history_of}
 use Rattle.zk_bench.specs.Served.{Served, ended}
 use Rattle.zk_bench.specs.Stepping.{IsReady, TakesSome, shown_of}
 use Rattle.zk_bench.proofs.Stepped.{this_error, settled, settled_so, ready_ended, ready_disconnected, shows_ended, same_history}

@@ -1,7 +1,7 @@
 use Rattle.std.proofs.Common.{◌≡◌, ◌≢◌, ap, sym, subst, ◌∙◌, ◌+◌, ◌<◌, length, refl, true, false, map, IsOk}
 use Rattle.zk_laws.specs.ServerSteps.{changes_next}
 use Rattle.std.specs.Prelude.{slice_index, slice_set}
-use Rattle.zk_history.specs.Kept.{history_of}
+use Rattle.zk_history.specs.HistoryView.{history_of}
 use Rattle.zk_history.specs.Made.{change_of}
 use Rattle.zk_bench.specs.declared.phase.Phase.{Phase}
 use Rattle.zk_bench.specs.declared.phase.Phase.TheVariants.{Accepted}
@@ -9,48 +9,36 @@ use Rattle.zk_bench.specs.Linked.{linked_of}
 use Rattle.zk_bench.specs.Served.{Served, advanced, is_open}
 use Rattle.zk_bench.specs.Stepping.{IsReady, TakesSome, shown_of}
 use Rattle.zk_bench.proofs.Fields.{bench_of}
-use Rattle.zk_bench.proofs.Stepped.{ready_taken, still_unwatched, told_or_silent, shows_taken, advanced_is}
+use Rattle.zk_bench.proofs.Stepped.{ready_taken, ready_told, told_or_silent, shows_taken, advanced_is}
 use Rattle.zk_bench.proofs.bench.Bench.take_next.Goals as goal
 
 pub returns-in_err-tell_accepted-clause-ready : goal.returns-in_err-tell_accepted-clause-ready
 returns-in_err-tell_accepted-clause-ready g c =
-    let i = c.self.inside in
-    let b : Served = bench_of i.history i.taken i.server i.connection i.expired i.time in
-    subst (λ (old : Served). IsReady old → IsReady (record b { taken = slice_set b.taken c.args.server (slice_index b.taken c.args.server + 1); connection = linked_of c.tell_accepted.new.connection })) c.self.view_is
-    (λ ready. ready_taken b c.args.server (linked_of c.tell_accepted.new.connection) ready c.in-Some.ensures.room
-    (still_unwatched c.self.inside.connection c.tell_accepted.new.connection c.tell_accepted.ensures.idle c.tell_accepted.ensures.rest ready.unwatched))
+    ready_told c.self.inside c.args.self.now c.args.server c.tell_accepted.new.connection c.self.view_is c.in-Some.ensures.room c.tell_accepted.ensures.idle c.tell_accepted.ensures.rest
 
 pub returns-in_ok-tell_accepted-clause-ready : goal.returns-in_ok-tell_accepted-clause-ready
 returns-in_ok-tell_accepted-clause-ready g c =
-    let i = c.self.inside in
-    let b : Served = bench_of i.history i.taken i.server i.connection i.expired i.time in
-    subst (λ (old : Served). IsReady old → IsReady (record b { taken = slice_set b.taken c.args.server (slice_index b.taken c.args.server + 1); connection = linked_of c.tell_accepted.new.connection })) c.self.view_is
-    (λ ready. ready_taken b c.args.server (linked_of c.tell_accepted.new.connection) ready c.in-Some.ensures.room
-    (still_unwatched c.self.inside.connection c.tell_accepted.new.connection c.tell_accepted.ensures.idle c.tell_accepted.ensures.rest ready.unwatched))
+    ready_told c.self.inside c.args.self.now c.args.server c.tell_accepted.new.connection c.self.view_is c.in-Some.ensures.room c.tell_accepted.ensures.idle c.tell_accepted.ensures.rest
 
 pub returns-else-self-server-clause-ready : goal.returns-else-self-server-clause-ready
 returns-else-self-server-clause-ready g c =
-    let i = c.self.inside in
-    let b : Served = bench_of i.history i.taken i.server i.connection i.expired i.time in
+    let b = bench_of c.self.inside in
     subst (λ (old : Served). IsReady old → IsReady (record b { taken = slice_set b.taken c.args.server (slice_index b.taken c.args.server + 1); connection = linked_of c.self.inside.connection })) c.self.view_is
     (λ ready. ready_taken b c.args.server b.connection ready c.in-Some.ensures.room ready.unwatched)
 
 pub returns-in_ok-tell_accepted-clause-taken : goal.returns-in_ok-tell_accepted-clause-taken
 returns-in_ok-tell_accepted-clause-taken g c =
-    let i = c.self.inside in
-    let b : Served = bench_of i.history i.taken i.server i.connection i.expired i.time in
+    let b = bench_of c.self.inside in
     advanced_is b c.args.server c.in-Some.ensures.room ∙ ap (λ (old : Served). advanced old c.args.server) c.self.view_is
 
 pub returns-else-self-server-clause-taken : goal.returns-else-self-server-clause-taken
 returns-else-self-server-clause-taken g c =
-    let i = c.self.inside in
-    let b : Served = bench_of i.history i.taken i.server i.connection i.expired i.time in
+    let b = bench_of c.self.inside in
     advanced_is b c.args.server c.in-Some.ensures.room ∙ ap (λ (old : Served). advanced old c.args.server) c.self.view_is
 
 pub returns-in_ok-tell_accepted-clause-advances : goal.returns-in_ok-tell_accepted-clause-advances
 returns-in_ok-tell_accepted-clause-advances g c =
-    let i = c.self.inside in
-    let b : Served = bench_of i.history i.taken i.server i.connection i.expired i.time in
+    let b = bench_of c.self.inside in
     let after = c.in_ok-tell_accepted.ensures in
     let mid = c.self.inside.connection in
     let new = c.tell_accepted.new.connection in

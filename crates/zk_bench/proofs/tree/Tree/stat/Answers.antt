@@ -1,6 +1,7 @@
 use Rattle.std.proofs.Common.{rules, ◌≡◌, sym, subst, ◌∙◌, to_z, of_z, w64, ℤ}
-use Rattle.zk_history.specs.History.{path_of, tree_at}
-use Rattle.zk_history.specs.Kept.{history_of, natural}
+use Rattle.zk_nodes.specs.Path.{path_of}
+use Rattle.zk_nodes.specs.History.{tree_at}
+use Rattle.zk_history.specs.HistoryView.{history_of, natural}
 use Rattle.zk_history.specs.Shown.{IsStat}
 use Rattle.zk_bench.proofs.Answered.{stat_found}
 use Rattle.zk_bench.proofs.tree.Tree.stat.Goals as goal

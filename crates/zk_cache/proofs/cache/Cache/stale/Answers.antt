@@ -1,5 +1,5 @@
 use Rattle.std.proofs.Common.{ap, sym, ◌∙◌}
-use Rattle.zk_history.specs.declared.side.Side.TheVariants.{Data, Child}
+use Rattle.zk_nodes.specs.declared.side.Side.TheVariants.{Data, Child}
 use Rattle.zk_cache.specs.Look.{as_map}
 use Rattle.zk_cache.specs.Cache.{with_stale}
 use Rattle.zk_cache.specs.Contents.{answer_of, names_in, seen_by}

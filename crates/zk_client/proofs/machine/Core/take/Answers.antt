@@ -4,7 +4,7 @@ use Rattle.zk_jute.specs.Spelling.{IsBytes}
 use Rattle.zk_conversation.specs.Pending.{Talk}
 use Rattle.zk_conversation.specs.Views.{arrival_view}
 use Rattle.zk_turns.specs.Turns.{Talked}
-use Rattle.zk_turns.specs.Kept.{Happening, Dropped}
+use Rattle.zk_turns.specs.Past.{Happening, Dropped}
 use Rattle.zk_turns.specs.Taken.{taken_of}
 use Rattle.zk_turns.specs.View.{View}
 use Rattle.zk_turns.specs.Rule.{next, says}

@@ -1,11 +1,17 @@
-use Rattle.std.proofs.Common.{◌≡◌, sym, ◌∙◌, subst, w64, arith, Result, OnOk, Ok, Err}
+use Rattle.std.proofs.Common.{◌≡◌, Option, ap, sym, ◌∙◌, subst, w64, arith, Result, OnOk, Ok, Err}
 use Rattle.std.proofs.lemmas.Result.{on_ok_weaker}
 use mir.Val.{to_z, of_z}
 use Rattle.std.proofs.lemmas.Int.{ints}
 use Rattle.zk_conversation.specs.Views.{question_view, result_view}
 use Rattle.zk_session.specs.Table as session
+use Rattle.zk_watches.specs.Lists.{Lists}
+use Rattle.zk_cache.specs.Cache.{data_kept, names_kept}
+use Rattle.zk_cache.specs.Kept.{Answer, Names}
+use Rattle.zk_turns.specs.Past.{Left}
+use Rattle.zk_turns.specs.Rule.{keep_node, keep_children}
+use Rattle.zk_client.specs.Left.{side_left}
 use Rattle.zk_client.specs.Sound.{HasRoom}
-use Rattle.zk_client.proofs.Answered.{answered-view, closed-view}
+use Rattle.zk_client.proofs.Answered.{answered-view, closed-view, left-lists}
 use Rattle.zk_client.proofs.Rooms.{room-for, reply-room, tied-talking}
 use Rattle.zk_client.proofs.machine.Core.take_reply.Goals as goal
 
@@ -18,11 +24,6 @@ of-five : {T E A B C D F Q : Type 0} → (r : Result T E) → (A → B → C →
 of-five (Ok x) g a b c d f = g a b c d f
 of-five (Err e) g a b c d f = tt
 
-pub keep-requires : goal.keep-requires
-keep-requires g c = record {
-  room = room-for c.requires.left.0 c.args.ticket (question_view c.args.question.now) c.args.self.now.registry c.args.self.now.conversation.pending (subst (HasRoom c.args.self.now.registry) c.requires.left.1 c.requires.room);
-}
-
 pub returns-then-closes-clause-next : goal.returns-then-closes-clause-next
 returns-then-closes-clause-next g c =
     let core = c.args.self.now in
@@ -30,20 +31,54 @@ returns-then-closes-clause-next g c =
     let close = c.close.ensures in
     of-five c.close.result (λ session none xid lists answers. λ held pending left. closed-view held core.halted core.session core.conversation core.registry core.cache pending c.args.ticket (question_view c.args.question.now) c.args.zxid (result_view c.args.found.now)
     c.close.new.self.halted c.saw.new.self c.close.new.self.session c.close.new.self.conversation c.close.new.self.registry c.close.new.self.cache
-    c.close.ensures.halted (sym c.closes.ensures ∙ c.if-closes.true) c.requires.comes (rw zxid at c.saw.ensures) session none xid lists answers) close.session close.pending close.xid close.lists close.answers
+    c.close.ensures.halted (sym c.closes.ensures ∙ c.if-closes.true) c.requires.arrived.comes (rw zxid at c.saw.ensures) session none xid lists answers) close.session close.pending close.xid close.lists close.answers
 
-pub returns-clause-sound : goal.returns-clause-sound
-returns-clause-sound g c =
+pub keep-requires : goal.keep-requires
+keep-requires g c =
+    let arrived = c.requires.arrived in
+    let side = rw c.in-Some.is at c.requires.side in
+    record {
+      room = room-for arrived.left.0 c.args.ticket (question_view c.args.question.now) c.args.self.now.registry c.args.self.now.conversation.pending (subst (HasRoom c.args.self.now.registry) arrived.left.1 arrived.room) (side_left c.in-Some.left) side;
+    }
+
+pub returns-in-None-clause-sound : goal.returns-in-None-clause-sound
+returns-in-None-clause-sound g c =
     let core = c.args.self.now in
-    on_ok_weaker c.keep.result (λ lists. record {
-      tied = rw c.saw.ensures (tied-talking (session.next (session.Sees _) core.session) core.conversation c.requires.phase c.requires.comes c.requires.short);
-      room = rw lists (reply-room c.requires.left.0 c.args.ticket (question_view c.args.question.now) (result_view c.args.found.now) core.registry core.conversation.pending (subst (HasRoom core.registry) c.requires.left.1 c.requires.room));
-    }) c.keep.ensures.lists
+    let arrived = c.requires.arrived in
+    let lists = left-lists _ _ (question_view c.args.question.now) (result_view c.args.found.now) core.registry (rw c.in-None.is at c.requires.data) (rw c.in-None.is at c.requires.child) in
+    record {
+      tied = rw c.saw.ensures (tied-talking (session.next (session.Sees _) core.session) core.conversation arrived.phase arrived.comes arrived.short);
+      room = subst (λ (l : Lists). HasRoom l core.conversation.pending) (sym lists) (reply-room arrived.left.0 c.args.ticket (question_view c.args.question.now) (result_view c.args.found.now) core.registry core.conversation.pending (subst (HasRoom core.registry) arrived.left.1 arrived.room));
+    }
 
-pub returns-clause-next : goal.returns-clause-next
-returns-clause-next g c =
+pub returns-in-None-clause-next : goal.returns-in-None-clause-next
+returns-in-None-clause-next g c =
     let core = c.args.self.now in
     let zxid : to_z w64 (of_z w64 c.args.zxid) ≡ c.args.zxid = omega (arith, ints) in
+    let known = rw c.in-None.is at c.requires.data in
+    let children = rw c.in-None.is at c.requires.child in
+    λ held pending left. answered-view held core.halted core.session core.conversation core.registry core.cache pending left.0 c.args.ticket (question_view c.args.question.now) c.args.zxid (result_view c.args.found.now)
+    c.saw.new.self core.registry core.cache (sym c.closes.ensures ∙ c.if-closes.false) left.1 (rw zxid at c.saw.ensures) (left-lists _ _ (question_view c.args.question.now) (result_view c.args.found.now) core.registry known children)
+    (λ text. ap (λ (l : Option (Left Answer)). keep_node l text (data_kept core.cache text)) known) (λ text. ap (λ (l : Option (Left Names)). keep_children l text (names_kept core.cache text)) children)
+
+pub returns-in-Some-clause-sound : goal.returns-in-Some-clause-sound
+returns-in-Some-clause-sound g c =
+    let core = c.args.self.now in
+    let arrived = c.requires.arrived in
+    let left = left-lists _ _ (question_view c.args.question.now) (result_view c.args.found.now) core.registry (rw c.in-Some.is at c.requires.data) (rw c.in-Some.is at c.requires.child) in
+    on_ok_weaker c.keep.result (λ lists. record {
+      tied = rw c.saw.ensures (tied-talking (session.next (session.Sees _) core.session) core.conversation arrived.phase arrived.comes arrived.short);
+      room = subst (λ (l : Lists). HasRoom l core.conversation.pending) (sym (lists ∙ left)) (reply-room arrived.left.0 c.args.ticket (question_view c.args.question.now) (result_view c.args.found.now) core.registry core.conversation.pending (subst (HasRoom core.registry) arrived.left.1 arrived.room));
+    }) c.keep.ensures.lists
+
+pub returns-in-Some-clause-next : goal.returns-in-Some-clause-next
+returns-in-Some-clause-next g c =
+    let core = c.args.self.now in
+    let zxid : to_z w64 (of_z w64 c.args.zxid) ≡ c.args.zxid = omega (arith, ints) in
+    let known = rw c.in-Some.is at c.requires.data in
+    let children = rw c.in-Some.is at c.requires.child in
+    let left_lists = left-lists _ _ (question_view c.args.question.now) (result_view c.args.found.now) core.registry known children in
     let keep = c.keep.ensures in
-    of-three c.keep.result (λ lists nodes children. λ held pending left. answered-view held core.halted core.session core.conversation core.registry core.cache pending left.0 c.args.ticket (question_view c.args.question.now) c.args.zxid (result_view c.args.found.now)
-    c.saw.new.self c.keep.new.registry c.keep.new.cache (sym c.closes.ensures ∙ c.if-closes.false) left.1 (rw zxid at c.saw.ensures) lists nodes children) keep.lists keep.nodes keep.children
+    of-three c.keep.result (λ lists nodes names. λ held pending left. answered-view held core.halted core.session core.conversation core.registry core.cache pending left.0 c.args.ticket (question_view c.args.question.now) c.args.zxid (result_view c.args.found.now)
+    c.saw.new.self c.keep.new.registry c.keep.new.cache (sym c.closes.ensures ∙ c.if-closes.false) left.1 (rw zxid at c.saw.ensures) (lists ∙ left_lists)
+    (λ text. nodes text ∙ ap (λ (l : Option (Left Answer)). keep_node l text (data_kept core.cache text)) known) (λ text. names text ∙ ap (λ (l : Option (Left Names)). keep_children l text (names_kept core.cache text)) children)) keep.lists keep.nodes keep.children

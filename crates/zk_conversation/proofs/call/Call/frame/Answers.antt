@@ -3,8 +3,9 @@ use mir.Val.{to_z, of_z}
 use Rattle.std.proofs.lemmas.Int.{ints}
 use Rattle.zk_conversation.specs.Calls.{call_payload}
 use Rattle.zk_conversation.proofs.call.Call.frame.Goals as goal
+use Rattle.zk_limits.specs.declared.limits.TheConstants.{LONGEST_OUTGOING}
 
-small : (n : ℕ) → n ≤ 1048575 → n < 2 ^ 30
+small : (n : ℕ) → n ≤ LONGEST_OUTGOING → n < 2 ^ 30
 small n le = omega arith
 
 pub request_frame-requires : goal.request_frame-requires

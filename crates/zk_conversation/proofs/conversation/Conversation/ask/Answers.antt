@@ -1,9 +1,8 @@
-use Rattle.std.proofs.Common.{arith}
-use Rattle.std.proofs.lemmas.Int.{ints}
+use Rattle.std.proofs.Common.{◌≤◌, pos, subst, sym, rules}
+use Rattle.zk_limits.specs.declared.limits.TheConstants.{LONGEST_OUTGOING}
 use Rattle.zk_conversation.proofs.conversation.Conversation.ask.Goals as goal
 
-pub returns-in_ok-awaits-in-Ok-clause-xid : goal.returns-in_ok-awaits-in-Ok-clause-xid
-returns-in_ok-awaits-in-Ok-clause-xid g c = let below = c.self.invariant.below in rw (← c.self.view_is) (omega (arith, ints))
-
-pub returns-in_ok-awaits-in-Ok-clause-ok : goal.returns-in_ok-awaits-in-Ok-clause-ok
-returns-in_ok-awaits-in-Ok-clause-ok g c = rw (← c.into_question.ensures) c.in_ok-awaits-in-Ok.ensures.ok
+pub returns-clause-fits : goal.returns-clause-fits
+returns-clause-fits g c =
+    let length = c.payload_length.ensures (pos c.args.self.now.xid) in
+    (subst (λ n. n ≤ LONGEST_OUTGOING) (sym length) c.if-payload_length-gt-LONGEST_OUTGOING.false, search rules)

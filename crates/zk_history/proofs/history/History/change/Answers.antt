@@ -1,11 +1,11 @@
 use Rattle.std.proofs.Common.{◌≡◌, List, map, refl, sym, ap, ◌∙◌, subst, arith, length}
 use Rattle.std.proofs.lemmas.Bool.Decides.{nat_tests}
 use Rattle.std.proofs.lemmas.Result.{err_from_is_err_and}
-use Rattle.zk_history.specs.History as model
+use Rattle.zk_nodes.specs.History as model
 use Rattle.zk_history.specs.declared.change.Transaction.{Transaction}
 use Rattle.zk_history.specs.Made.{change_of, transaction_of}
-use Rattle.zk_history.specs.Kept.{Kept, IsSound, newest_tree, IsAccepted}
-use Rattle.zk_history.proofs.KeptLemmas.{refused_by, accepted_by, IsSound-change, was_some}
+use Rattle.zk_history.specs.HistoryView.{HistoryView, IsSound, newest_tree, IsAccepted}
+use Rattle.zk_history.proofs.ViewLemmas.{refused_by, accepted_by, IsSound-change, was_some}
 use Rattle.zk_history.specs.Versions.{versions_of, versions_after, versions_before, last_transaction, next_origin, IsIndexed}
 use Rattle.zk_history.proofs.IndexLemmas.{can_be_noted, IsIndexed-change, IsIndexed-same, noted_forgotten}
 use Rattle.zk_history.proofs.history.History.change.Goals as goal
@@ -22,14 +22,14 @@ returns-clause-accepted g c = accepted_by c.args.self.now (change_of c.args.chan
 
 pub note-requires : goal.note-requires
 note-requires g c =
-    let kept : Kept = record { nodes = map transaction_of c.self.inside.nodes.items; transactions = map transaction_of c.self.inside.transactions.items } in
+    let kept : HistoryView = record { nodes = map transaction_of c.self.inside.nodes.items; transactions = map transaction_of c.self.inside.transactions.items } in
     let accepted = accepted_by c.args.self.now (change_of c.args.change) c.takes.result (subst IsSound c.self.view_is c.self.invariant.0) c.takes.ensures c.if-not-takes.false in
-    let here = subst (λ (k : Kept). IsAccepted (change_of c.args.change) (newest_tree k)) (sym c.self.view_is) accepted in
+    let here = subst (λ (k : HistoryView). IsAccepted (change_of c.args.change) (newest_tree k)) (sym c.self.view_is) accepted in
     record { fits = can_be_noted kept (versions_of c.self.inside.versions) (change_of c.args.change) c.self.invariant.0 c.self.invariant.1 here }
 
 pub invariant_of-self : goal.invariant_of-self
 invariant_of-self g c =
-    let kept : Kept = record { nodes = map transaction_of c.self.inside.nodes.items; transactions = map transaction_of c.self.inside.transactions.items } in
+    let kept : HistoryView = record { nodes = map transaction_of c.self.inside.nodes.items; transactions = map transaction_of c.self.inside.transactions.items } in
     (c.self.invariant.0, IsIndexed-same kept (versions_of c.self.inside.versions) (versions_of c.note.new.versions) (λ text is. c.in_err-note.ensures.err text) c.self.invariant.1)
 
 pub returns-in_err-note-clause-refused : goal.returns-in_err-note-clause-refused
@@ -42,7 +42,7 @@ returns-in_err-note-clause-refused g c =
 
 pub invariant_of-self-in-Err : goal.invariant_of-self-in-Err
 invariant_of-self-in-Err g c =
-    let kept : Kept = record { nodes = map transaction_of c.self.inside.nodes.items; transactions = map transaction_of c.self.inside.transactions.items } in
+    let kept : HistoryView = record { nodes = map transaction_of c.self.inside.nodes.items; transactions = map transaction_of c.self.inside.transactions.items } in
     let s = c.next_spot-spot.result in
     let P : List model.Transaction → Type 0 = λ ts.
     IsSound (record { nodes = map transaction_of c.self.inside.nodes.items; transactions = ts })
@@ -62,9 +62,9 @@ returns-in-Err-clause-refused g c =
 
 pub invariant_of-self-in_default : goal.invariant_of-self-in_default
 invariant_of-self-in_default g c =
-    let kept : Kept = record { nodes = map transaction_of c.self.inside.nodes.items; transactions = map transaction_of c.self.inside.transactions.items } in
+    let kept : HistoryView = record { nodes = map transaction_of c.self.inside.nodes.items; transactions = map transaction_of c.self.inside.transactions.items } in
     let accepted = accepted_by c.args.self.now (change_of c.args.change) c.takes.result (subst IsSound c.self.view_is c.self.invariant.0) c.takes.ensures c.if-not-takes.false in
-    let here = subst (λ (k : Kept). IsAccepted (change_of c.args.change) (newest_tree k)) (sym c.self.view_is) accepted in
+    let here = subst (λ (k : HistoryView). IsAccepted (change_of c.args.change) (newest_tree k)) (sym c.self.view_is) accepted in
     let l : length c.self.inside.transactions.items ≡ 0 → ⊥ = λ e. grind (arith, nat_tests, e) in
     let some = was_some transaction_of c.self.inside.transactions.items (map transaction_of c.self.inside.nodes.items) kept refl l in
     let change = change_of c.args.change in

@@ -1,6 +1,6 @@
-use Rattle.zk_history.specs.History.{path_of}
+use Rattle.zk_nodes.specs.Path.{path_of}
 use Rattle.zk_history.specs.Replay.{children_at}
-use Rattle.zk_history.proofs.KeptLemmas.{names_first, names_later-children}
+use Rattle.zk_history.proofs.ViewLemmas.{names_first, names_later-children}
 use Rattle.zk_history.proofs.history.History.children.Goals as goal
 
 pub returns : goal.returns

@@ -1,9 +1,10 @@
 use Rattle.std.proofs.Common.{◌≤◌, ℕ, sym, subst, ◌∙◌}
-use Rattle.zk_history.specs.History.{path_of, tree_at}
-use Rattle.zk_history.specs.Kept.{history_of}
+use Rattle.zk_nodes.specs.Path.{path_of}
+use Rattle.zk_nodes.specs.History.{tree_at}
+use Rattle.zk_history.specs.HistoryView.{history_of}
 use Rattle.zk_history.specs.Replay.{children_at}
 use Rattle.zk_history.proofs.IndexLemmas.{count_is, count_small}
-use Rattle.zk_history.proofs.KeptLemmas.{names_first, names_later-children, same_count}
+use Rattle.zk_history.proofs.ViewLemmas.{names_first, names_later-children, same_count}
 use Rattle.zk_history.proofs.history.History.counted.Goals as goal
 
 pub returns-clause-counted : goal.returns-clause-counted

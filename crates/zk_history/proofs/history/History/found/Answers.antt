@@ -1,7 +1,8 @@
 use Rattle.std.proofs.Common.{◌≤◌, ℕ, List, Option, Some, sym, subst, ◌∙◌, rules}
 use Rattle.std.specs.Option.{option_copied}
-use Rattle.zk_history.specs.History.{path_of, size_of, tree_at}
-use Rattle.zk_history.specs.Kept.{history_of}
+use Rattle.zk_nodes.specs.Path.{path_of}
+use Rattle.zk_nodes.specs.History.{size_of, tree_at}
+use Rattle.zk_history.specs.HistoryView.{history_of}
 use Rattle.zk_history.specs.Versions.{Tells, node_with}
 use Rattle.zk_history.specs.declared.version.Entry.{Entry}
 use Rattle.zk_history.proofs.IndexLemmas.{found_told, node_small}

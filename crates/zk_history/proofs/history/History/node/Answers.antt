@@ -3,11 +3,12 @@ use Rattle.std.proofs.lemmas.List.{length-map}
 use Rattle.std.proofs.lemmas.Bool.Decides.{nat_tests}
 use Rattle.std.proofs.lemmas.Result.{err_from_is_err_and}
 use Rattle.std.specs.Option.{option_map}
-use Rattle.zk_history.specs.History as model
-use Rattle.zk_history.specs.History.{path_of, Creates}
+use Rattle.zk_nodes.specs.History as model
+use Rattle.zk_nodes.specs.Path.{path_of}
+use Rattle.zk_nodes.specs.History.{Creates}
 use Rattle.zk_history.specs.Made.{change_of, transaction_of}
-use Rattle.zk_history.specs.Kept.{Kept, IsSound, newest_tree, IsAccepted}
-use Rattle.zk_history.proofs.KeptLemmas.{refused_by, accepted_by, IsSound-node, was_empty}
+use Rattle.zk_history.specs.HistoryView.{HistoryView, IsSound, newest_tree, IsAccepted}
+use Rattle.zk_history.proofs.ViewLemmas.{refused_by, accepted_by, IsSound-node, was_empty}
 use Rattle.zk_history.specs.declared.version.Origin.TheVariants.{First}
 use Rattle.zk_history.specs.Versions.{versions_of, versions_after, versions_before, IsIndexed}
 use Rattle.zk_history.proofs.IndexLemmas.{can_be_noted, IsIndexed-node, IsIndexed-same, noted_forgotten}
@@ -26,14 +27,14 @@ returns-clause-accepted g c =
 
 pub note-requires : goal.note-requires
 note-requires g c =
-    let kept : Kept = record { nodes = map transaction_of c.self.inside.nodes.items; transactions = map transaction_of c.self.inside.transactions.items } in
+    let kept : HistoryView = record { nodes = map transaction_of c.self.inside.nodes.items; transactions = map transaction_of c.self.inside.transactions.items } in
     let accepted = accepted_by c.args.self.now (Creates (path_of c.args.path) (option_map (λ v. v.items) c.args.bytes) (pos 0)) c.takes_create.result (subst IsSound c.self.view_is c.self.invariant.0) (c.takes_create.ensures (pos 0)) c.if-not-takes_create.false in
-    let here = subst (λ (k : Kept). IsAccepted (Creates (path_of c.args.path) (option_map (λ v. v.items) c.args.bytes) (pos 0)) (newest_tree k)) (sym c.self.view_is) accepted in
+    let here = subst (λ (k : HistoryView). IsAccepted (Creates (path_of c.args.path) (option_map (λ v. v.items) c.args.bytes) (pos 0)) (newest_tree k)) (sym c.self.view_is) accepted in
     record { fits = can_be_noted kept (versions_of c.self.inside.versions) (Creates (path_of c.args.path) (option_map (λ v. v.items) c.args.bytes) (pos 0)) c.self.invariant.0 c.self.invariant.1 here }
 
 pub invariant_of-self : goal.invariant_of-self
 invariant_of-self g c =
-    let kept : Kept = record { nodes = map transaction_of c.self.inside.nodes.items; transactions = map transaction_of c.self.inside.transactions.items } in
+    let kept : HistoryView = record { nodes = map transaction_of c.self.inside.nodes.items; transactions = map transaction_of c.self.inside.transactions.items } in
     (c.self.invariant.0, IsIndexed-same kept (versions_of c.self.inside.versions) (versions_of c.note.new.versions) (λ text is. c.in_err-note.ensures.err text) c.self.invariant.1)
 
 pub returns-in_err-note-clause-refused : goal.returns-in_err-note-clause-refused
@@ -46,7 +47,7 @@ returns-in_err-note-clause-refused g c =
 
 pub invariant_of-self-in-Err : goal.invariant_of-self-in-Err
 invariant_of-self-in-Err g c =
-    let kept : Kept = record { nodes = map transaction_of c.self.inside.nodes.items; transactions = map transaction_of c.self.inside.transactions.items } in
+    let kept : HistoryView = record { nodes = map transaction_of c.self.inside.nodes.items; transactions = map transaction_of c.self.inside.transactions.items } in
     let P : List model.Transaction → Type 0 = λ ns.
     IsSound (record { nodes = ns; transactions = map transaction_of c.self.inside.transactions.items })
     × IsIndexed (record { nodes = ns; transactions = map transaction_of c.self.inside.transactions.items }) (versions_of c.forget.new.versions) in
@@ -65,10 +66,10 @@ returns-in-Err-clause-refused g c =
 
 pub invariant_of-self-in_default : goal.invariant_of-self-in_default
 invariant_of-self-in_default g c =
-    let kept : Kept = record { nodes = map transaction_of c.self.inside.nodes.items; transactions = map transaction_of c.self.inside.transactions.items } in
+    let kept : HistoryView = record { nodes = map transaction_of c.self.inside.nodes.items; transactions = map transaction_of c.self.inside.transactions.items } in
     let l : length c.self.inside.transactions.items ≡ 0 = grind (arith, nat_tests) in
     let accepted = accepted_by c.args.self.now (Creates (path_of c.args.path) (option_map (λ v. v.items) c.args.bytes) (pos 0)) c.takes_create.result (subst IsSound c.self.view_is c.self.invariant.0) (c.takes_create.ensures (pos 0)) c.if-not-takes_create.false in
-    let here = subst (λ (k : Kept). IsAccepted (Creates (path_of c.args.path) (option_map (λ v. v.items) c.args.bytes) (pos 0)) (newest_tree k)) (sym c.self.view_is) accepted in
+    let here = subst (λ (k : HistoryView). IsAccepted (Creates (path_of c.args.path) (option_map (λ v. v.items) c.args.bytes) (pos 0)) (newest_tree k)) (sym c.self.view_is) accepted in
     let none = was_empty transaction_of c.self.inside.transactions.items (map transaction_of c.self.inside.nodes.items) kept refl l in
     let content = option_map (λ v. v.items) c.args.bytes in
     let old = versions_of c.self.inside.versions in

@@ -1,8 +1,8 @@
 use Rattle.std.proofs.Common.{rules}
-use Rattle.zk_history.specs.History.{path_of}
-use Rattle.zk_history.specs.Kept.{natural}
+use Rattle.zk_nodes.specs.Path.{path_of}
+use Rattle.zk_history.specs.HistoryView.{natural}
 use Rattle.zk_history.specs.Replay.{children_at}
-use Rattle.zk_history.proofs.KeptLemmas.{names_first, names_later-children}
+use Rattle.zk_history.proofs.ViewLemmas.{names_first, names_later-children}
 use Rattle.zk_history.proofs.history.History.stat_at.Goals as goal
 
 pub returns-in-Some-clause-told : goal.returns-in-Some-clause-told

@@ -5,7 +5,7 @@ use Rattle.std.specs.Prelude.{unsigned_abs}
 use Rattle.zk_turns.specs.Ranges.{IsResumable}
 use Rattle.zk_turns.specs.Turns.{new_start}
 use Rattle.zk_story.specs.Stories as story
-use Rattle.zk_rehearse.specs.Stages.{scene_of}
+use Rattle.zk_rehearse.specs.Scenes.{scene_of}
 use Rattle.zk_rehearse.proofs.RigLemmas.{begins, made_so}
 use Rattle.zk_rehearse.proofs.rehearsal.Rehearsal.begin.Goals as goal
 

@@ -1,7 +1,7 @@
 use Rattle.std.specs.Option.{option_map}
 use Rattle.std.proofs.Common.{refl}
 use Rattle.zk_story.specs.Stories as story
-use Rattle.zk_rehearse.specs.Stages.{scene_of}
+use Rattle.zk_rehearse.specs.Scenes.{scene_of}
 use Rattle.zk_rehearse.proofs.DueLemmas.{told, history_due, never_halts}
 use Rattle.zk_rehearse.proofs.rehearsal.Rehearsal.tell.Goals as goal
 

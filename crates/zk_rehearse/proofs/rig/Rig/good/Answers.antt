@@ -3,8 +3,8 @@ use Rattle.std.specs.Prelude.{string_bytes}
 use Rattle.std.specs.Cmp.Lexicographic.{slice_cmp}
 use Rattle.std.specs.Ordering.{nat_cmp}
 use Rattle.zk_client.specs.Clients.{view_of}
-use Rattle.zk_history.specs.History.{IsHistory}
-use Rattle.zk_history.specs.Kept.{history_of}
+use Rattle.zk_nodes.specs.History.{IsHistory}
+use Rattle.zk_history.specs.HistoryView.{history_of}
 use Rattle.zk_rehearse.specs.Good.{TellsPaths}
 use Rattle.zk_script.proofs.NamesLemmas.{sorted_map}
 use Rattle.zk_replay.proofs.SetLemmas.{same_members}

@@ -1,9 +1,10 @@
 use Rattle.std.proofs.Common.{◌≡◌, ◌++◌, ◌∙◌, List, ℕ, ap, subst, to_z, of_z, w64}
 use Rattle.std.proofs.lemmas.Int.{to_z-of_z}
 use Rattle.std.specs.Prelude.{ℤ, OnOk, string_bytes}
-use Rattle.zk_history.specs.History.{View, view, tree_at, path_of}
-use Rattle.zk_history.specs.Kept.{history_of, natural}
-use Rattle.zk_history.specs.declared.side.Side.TheVariants.{Child}
+use Rattle.zk_nodes.specs.Path.{path_of}
+use Rattle.zk_nodes.specs.History.{View, view, tree_at}
+use Rattle.zk_history.specs.HistoryView.{history_of, natural}
+use Rattle.zk_nodes.specs.declared.side.Side.TheVariants.{Child}
 use Rattle.zk_story.specs.Answers.{TellsNames}
 use Rattle.zk_story.proofs.story.Story.tell_names.Goals as goal
 

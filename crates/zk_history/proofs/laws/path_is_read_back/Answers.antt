@@ -1,5 +1,0 @@
-use Rattle.zk_history.proofs.PathTexts.{path_of-text_of}
-use Rattle.zk_history.proofs.laws.path_is_read_back.Goals as goal
-
-pub returns : goal.returns
-returns c = path_of-text_of

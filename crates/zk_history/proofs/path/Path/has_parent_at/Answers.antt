@@ -1,5 +1,0 @@
-use Rattle.zk_history.proofs.PathTexts.{is_below-text}
-use Rattle.zk_history.proofs.path.Path.has_parent_at.Goals as goal
-
-pub returns-in-Some : goal.returns-in-Some
-returns-in-Some g c = is_below-text c.args.self.now c.args.text.now _ c.requires c.in-Some.ensures.path c.in-Some.ensures.names _ c.eq.ensures

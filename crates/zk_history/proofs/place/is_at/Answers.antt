@@ -1,0 +1,5 @@
+use Rattle.zk_nodes.proofs.PathTexts.{path_eq-text}
+use Rattle.zk_history.proofs.place.is_at.Goals as goal
+
+pub returns : goal.returns
+returns g c = path_eq-text c.args.path.now c.args.text.now _ c.requires c.as_str.ensures.path c.as_str.ensures.text _ c.eq.ensures

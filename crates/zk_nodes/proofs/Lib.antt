@@ -1,0 +1,4 @@
+pub mod PathLemmas
+pub mod PathTexts
+pub mod Children
+pub mod NamesLemmas

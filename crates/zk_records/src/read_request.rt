@@ -1,0 +1,59 @@
+//! The requests that read of a node.
+
+ghost use Rattle.std.specs.Prelude.{◌≡◌, true, Some};
+ghost use Rattle.zk_records.specs.Layouts.{read_request};
+
+use std::alloc::Allocator;
+use zk_jute::{Cursor, PutError, Readable, Record, TakeError, Text};
+
+/// What is asked of a node, its data, or the names below it: ExistsRequest, GetDataRequest, GetChildrenRequest and
+/// GetChildren2Request, which have the same fields.
+#[derive(Drop)]
+#[derive_where(Debug)]
+pub struct ReadRequest<A: Allocator> {
+    pub path: Text<A>,
+    /// Whether the server is to leave a watch.
+    pub watch: bool,
+}
+
+impl<A: Allocator + Copy> Record<A> for ReadRequest<A> {
+    ghost layout = { read_request };
+
+    ghost view = { λ r. (r.path, r.watch) };
+
+    fn write(&self, out: &mut Vec<u8, A>) -> Result<(), PutError> {
+        self.path.write(out)?;
+        self.watch.write(out)?;
+        Ok(())
+    }
+}
+
+impl<'a, A: Allocator + Copy> Readable<'a, A> for ReadRequest<A> {
+    ghost takes_memory = { true };
+
+    fn read(alloc: A, at: &mut Cursor<'a>) -> Result<ReadRequest<A>, TakeError> {
+        Ok(ReadRequest {
+            path: Text::read(alloc, at)?,
+            watch: bool::read(alloc, at)?,
+        })
+    }
+}
+
+/// What is asked of a node, its data, or the names below it, and whether to watch it.
+#[derive(Clone, Copy, Debug, PartialEq, Eq)]
+pub struct ReadRequestRef<'a> {
+    pub path: &'a str,
+    pub watch: bool,
+}
+
+impl<'a, A: Allocator + Copy> Record<A> for ReadRequestRef<'a> {
+    ghost layout = { read_request };
+
+    ghost view = { λ r. (Some r.path.now, r.watch) };
+
+    fn write(&self, out: &mut Vec<u8, A>) -> Result<(), PutError> {
+        self.path.write(out)?;
+        self.watch.write(out)?;
+        Ok(())
+    }
+}

@@ -1,0 +1,43 @@
+//! What every reply and every notice begins with.
+
+ghost use Rattle.std.specs.Prelude.{◌≡◌, false};
+ghost use Rattle.zk_records.specs.Layouts.{reply_header};
+
+use std::alloc::Allocator;
+use zk_jute::{Cursor, PutError, Readable, Record, TakeError};
+
+/// What every reply and every notice begins with: ReplyHeader, 16 bytes.
+#[derive(Clone, Copy, Debug, PartialEq, Eq)]
+pub struct ReplyHeader {
+    /// That of the request; -1 of a notice, -2 of the answer to a ping.
+    pub xid: i32,
+    /// The last transaction that the server had made when it answered; -1 of a notice.
+    pub zxid: i64,
+    /// 0, or the number of a [`Code`](crate::Code).
+    pub err: i32,
+}
+
+impl<A: Allocator + Copy> Record<A> for ReplyHeader {
+    ghost layout = { reply_header };
+
+    ghost view = { λ r. (r.xid, (r.zxid, r.err)) };
+
+    fn write(&self, out: &mut Vec<u8, A>) -> Result<(), PutError> {
+        self.xid.write(out)?;
+        self.zxid.write(out)?;
+        self.err.write(out)?;
+        Ok(())
+    }
+}
+
+impl<'a, A: Allocator + Copy> Readable<'a, A> for ReplyHeader {
+    ghost takes_memory = { false };
+
+    fn read(alloc: A, at: &mut Cursor<'a>) -> Result<ReplyHeader, TakeError> {
+        Ok(ReplyHeader {
+            xid: i32::read(alloc, at)?,
+            zxid: i64::read(alloc, at)?,
+            err: i32::read(alloc, at)?,
+        })
+    }
+}

@@ -1,0 +1,78 @@
+//! What a server tells by itself.
+
+ghost use Rattle.std.specs.Prelude.{◌≡◌, false, true};
+ghost use Rattle.zk_records.specs.Layouts.{watcher_event};
+
+use std::alloc::Allocator;
+use zk_jute::{Cursor, PutError, Readable, Record, TakeError, Text, TextRef};
+
+/// What a server tells by itself of a node that is watched.
+#[derive(Clone, Copy, Debug, PartialEq, Eq)]
+pub struct WatcherEventRef<'a> {
+    /// The wire's `type`: the number of an [`Event`](crate::Event), or another.
+    pub kind: i32,
+    /// The state of the connection as the server sees it, which nothing depends on.
+    pub state: i32,
+    pub path: TextRef<'a>,
+}
+
+impl<'a, A: Allocator + Copy> Record<A> for WatcherEventRef<'a> {
+    ghost layout = { watcher_event };
+
+    ghost view = { λ r. (r.kind, (r.state, ⟦<TextRef<'a> as Record<A>>⟧.view r.path)) };
+
+    fn write(&self, out: &mut Vec<u8, A>) -> Result<(), PutError> {
+        self.kind.write(out)?;
+        self.state.write(out)?;
+        self.path.write(out)?;
+        Ok(())
+    }
+}
+
+impl<'a, A: Allocator + Copy> Readable<'a, A> for WatcherEventRef<'a> {
+    ghost takes_memory = { false };
+
+    fn read(alloc: A, at: &mut Cursor<'a>) -> Result<WatcherEventRef<'a>, TakeError> {
+        Ok(WatcherEventRef {
+            kind: i32::read(alloc, at)?,
+            state: i32::read(alloc, at)?,
+            path: TextRef::read(alloc, at)?,
+        })
+    }
+}
+
+/// What a server tells by itself of a node that is watched.
+#[derive(Drop)]
+#[derive_where(Debug)]
+pub struct WatcherEvent<A: Allocator> {
+    /// The wire's `type`: the number of an [`Event`](crate::Event), or another.
+    pub kind: i32,
+    /// The state of the connection as the server sees it, which nothing depends on.
+    pub state: i32,
+    pub path: Text<A>,
+}
+
+impl<A: Allocator + Copy> Record<A> for WatcherEvent<A> {
+    ghost layout = { watcher_event };
+
+    ghost view = { λ r. (r.kind, (r.state, r.path)) };
+
+    fn write(&self, out: &mut Vec<u8, A>) -> Result<(), PutError> {
+        self.kind.write(out)?;
+        self.state.write(out)?;
+        self.path.write(out)?;
+        Ok(())
+    }
+}
+
+impl<'a, A: Allocator + Copy> Readable<'a, A> for WatcherEvent<A> {
+    ghost takes_memory = { true };
+
+    fn read(alloc: A, at: &mut Cursor<'a>) -> Result<WatcherEvent<A>, TakeError> {
+        Ok(WatcherEvent {
+            kind: i32::read(alloc, at)?,
+            state: i32::read(alloc, at)?,
+            path: Text::read(alloc, at)?,
+        })
+    }
+}
