@@ -6,8 +6,8 @@ use std::alloc::{Allocator, Global};
 use std::process::Abort;
 use zk_jute::{Cursor, Nothing, Readable, TakeError};
 use zk_records::{
-    CreateRef, CreateResponse, GetChildren2Ref, GetChildren2Response,
-    GetChildrenResponse, GetDataRef, GetDataResponse, Stat, take_reply,
+    CreateRef, CreateResponse, GetChildren2Ref, GetChildren2Response, GetChildrenResponse,
+    GetDataRef, GetDataResponse, Stat, take_reply,
 };
 
 // The payloads of replies, each with its header first.

@@ -4,8 +4,8 @@
 #![tactic(auto)]
 
 mod fields;
-mod session;
 pub mod laws;
+mod session;
 mod states;
 
 pub use fields::{ConnectFields, Response, Saved};
