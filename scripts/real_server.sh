@@ -123,6 +123,18 @@ sees() {
     done
 }
 
+# Begins a watch of the data of /NAME, which are `one`, with further words of the command, and checks what it prints at first.
+begin_data() {
+    local name=$1
+    shift
+    begin "$name" "$program" watch "$@" --data "/$name"
+    sees "$name" <<EOF
+state Connecting
+state Connected
+/$name data full 6f6e65 @$name @$name @ @ 0 0 3 good last @
+EOF
+}
+
 # Checks that NAME has printed nothing further.
 is_quiet() {
     ! has_line "$1" || fail "$1 prints more: '$(sed -n "$((seen[$1] + 1))p" "$folder/$1.out")'"
@@ -413,12 +425,7 @@ EOF
 run_expired() {
     local at=127.0.0.1:$1
     outside "$1" create /expires one
-    begin expires "$program" watch "$at" --data /expires --timeout 4000
-    sees expires <<'EOF'
-state Connecting
-state Connected
-/expires data full 6f6e65 @expires @expires @ @ 0 0 3 good last @
-EOF
+    begin_data expires "$at" --timeout 4000
     kill -STOP "${begun[expires]}"
     sleep 10
     outside "$1" set /expires two
@@ -645,12 +652,7 @@ run_stopped() {
         fi
     done
     outside "${at[2]#*:}" create /stopped one
-    begin stopped "$program" watch "${at[@]}" --data /stopped --timeout 30000
-    sees stopped <<'EOF'
-state Connecting
-state Connected
-/stopped data full 6f6e65 @stopped @stopped @ @ 0 0 3 good last @
-EOF
+    begin_data stopped "${at[@]}" --timeout 30000
     kill -STOP "${servers[stopped-${numbers[0]}]}"
     since=$SECONDS
     (within 40 has_line stopped && echo $((SECONDS - since)) >"$folder/stopped.left") &

@@ -1,7 +1,7 @@
 //! The client.
 
 use crate::fault::Fault;
-use crate::ffi::{Handle, KeptData};
+use crate::ffi::{Call, Handle, KeptData};
 use crate::kept::{Children, DataAnswer, Kept, Mark};
 use crate::moment::Moment;
 use crate::node::{Mode, Watch};
@@ -152,82 +152,45 @@ impl Client {
     }
 }
 
+/// Calls about a node, each by the function of its name that the handle has.
+macro_rules! calls {
+    ($($(#[$doc:meta])* $name:ident($($word:ident: $kind:ty),*);)*) => {$(
+        $(#[$doc])*
+        pub fn $name(
+            &mut self,
+            now: Moment,
+            ticket: u64,
+            path: &str,
+            $($word: $kind),*
+        ) -> Result<Outputs<'_>, Fault> {
+            self.handle.$name(Call { now, ticket, path }, $($word),*)?;
+            Ok(Outputs::of(self))
+        }
+    )*};
+}
+
 /// Steps: calls. The ticket is the caller's own number, and comes back with the answer, which is an output of this step or of a later
 /// one. Each also fails with [`Fault::NoMemory`], and [`Fault::NotPath`] where it has a path.
 impl Client {
-    /// Asks whether there is a node, and what is known of it.
-    pub fn exists(
-        &mut self,
-        now: Moment,
-        ticket: u64,
-        path: &str,
-        watch: Watch,
-    ) -> Result<Outputs<'_>, Fault> {
-        self.handle.exists(now, ticket, path, watch)?;
-        Ok(Outputs::of(self))
-    }
+    calls! {
+        /// Asks whether there is a node, and what is known of it.
+        exists(watch: Watch);
 
-    /// Asks for the data of a node. Where there is no node it leaves no watch: [`exists`](Client::exists) does.
-    pub fn get_data(
-        &mut self,
-        now: Moment,
-        ticket: u64,
-        path: &str,
-        watch: Watch,
-    ) -> Result<Outputs<'_>, Fault> {
-        self.handle.get_data(now, ticket, path, watch)?;
-        Ok(Outputs::of(self))
-    }
+        /// Asks for the data of a node. Where there is no node it leaves no watch: [`exists`](Client::exists) does.
+        get_data(watch: Watch);
 
-    /// Asks for the names of the children of a node. Where there is no node it leaves no watch.
-    pub fn get_children(
-        &mut self,
-        now: Moment,
-        ticket: u64,
-        path: &str,
-        watch: Watch,
-    ) -> Result<Outputs<'_>, Fault> {
-        self.handle.get_children(now, ticket, path, watch)?;
-        Ok(Outputs::of(self))
-    }
+        /// Asks for the names of the children of a node. Where there is no node it leaves no watch.
+        get_children(watch: Watch);
 
-    /// Asks to set the data of a node: none are null data. The version is the one that the node has to have, or
-    /// [`ANY_VERSION`](crate::ANY_VERSION).
-    pub fn set_data(
-        &mut self,
-        now: Moment,
-        ticket: u64,
-        path: &str,
-        data: Option<&[u8]>,
-        version: i32,
-    ) -> Result<Outputs<'_>, Fault> {
-        self.handle.set_data(now, ticket, path, data, version)?;
-        Ok(Outputs::of(self))
-    }
+        /// Asks to set the data of a node: none are null data. The version is the one that the node has to have, or
+        /// [`ANY_VERSION`](crate::ANY_VERSION).
+        set_data(data: Option<&[u8]>, version: i32);
 
-    /// Asks to make a node, with these data: none are null data.
-    pub fn create(
-        &mut self,
-        now: Moment,
-        ticket: u64,
-        path: &str,
-        data: Option<&[u8]>,
-        mode: Mode,
-    ) -> Result<Outputs<'_>, Fault> {
-        self.handle.create(now, ticket, path, data, mode)?;
-        Ok(Outputs::of(self))
-    }
+        /// Asks to make a node, with these data: none are null data.
+        create(data: Option<&[u8]>, mode: Mode);
 
-    /// Asks to delete a node. The version is as of [`set_data`](Client::set_data).
-    pub fn delete(
-        &mut self,
-        now: Moment,
-        ticket: u64,
-        path: &str,
-        version: i32,
-    ) -> Result<Outputs<'_>, Fault> {
-        self.handle.delete(now, ticket, path, version)?;
-        Ok(Outputs::of(self))
+        /// Asks to delete a node. The version is as of [`set_data`](Client::set_data).
+        delete(version: i32);
     }
 
     /// Asks to end the session.

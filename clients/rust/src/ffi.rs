@@ -91,6 +91,21 @@ extern "C" {
     fn dw_forget(handle: *mut Raw) -> i32;
 }
 
+/// A function of the library that reads a node.
+type Read = unsafe extern "C" fn(*mut Raw, u64, u64, *const u8, usize, bool) -> i32;
+
+/// A function of the library that takes data for a node, and a version or a mode.
+type Write<N> =
+    unsafe extern "C" fn(*mut Raw, u64, u64, *const u8, usize, *const u8, usize, bool, N) -> i32;
+
+/// What each call about a node has: its moment, the ticket for its answer, and the path.
+#[derive(Clone, Copy)]
+pub(crate) struct Call<'a> {
+    pub(crate) now: Moment,
+    pub(crate) ticket: u64,
+    pub(crate) path: &'a str,
+}
+
 /// An open client. It keeps what the header asks of a caller and nothing checks:
 ///
 /// - the raw handle begins as zeros, is written by the library alone, and is moved but never copied;
@@ -168,106 +183,77 @@ impl Handle {
         done(unsafe { dw_bytes(raw, now, bytes.as_ptr(), bytes.len()) })
     }
 
-    pub(crate) fn exists(
-        &mut self,
-        now: Moment,
-        ticket: u64,
-        path: &str,
-        watch: Watch,
-    ) -> Result<(), Fault> {
-        let (raw, now, is_left) = (self.raw.get_mut(), now.as_millis(), watch.is_left());
+    /// Reads by this function of the library.
+    fn read(&mut self, read: Read, call: Call<'_>, watch: Watch) -> Result<(), Fault> {
+        let (raw, now, is_left) = (self.raw.get_mut(), call.now.as_millis(), watch.is_left());
+        let (path, path_length) = (call.path.as_ptr(), call.path.len());
         // SAFETY: as `Handle` says.
-        done(unsafe { dw_exists(raw, now, ticket, path.as_ptr(), path.len(), is_left) })
+        done(unsafe { read(raw, now, call.ticket, path, path_length, is_left) })
     }
 
-    pub(crate) fn get_data(
-        &mut self,
-        now: Moment,
-        ticket: u64,
-        path: &str,
-        watch: Watch,
-    ) -> Result<(), Fault> {
-        let (raw, now, is_left) = (self.raw.get_mut(), now.as_millis(), watch.is_left());
-        // SAFETY: as `Handle` says.
-        done(unsafe { dw_get_data(raw, now, ticket, path.as_ptr(), path.len(), is_left) })
+    pub(crate) fn exists(&mut self, call: Call<'_>, watch: Watch) -> Result<(), Fault> {
+        self.read(dw_exists, call, watch)
     }
 
-    pub(crate) fn get_children(
+    pub(crate) fn get_data(&mut self, call: Call<'_>, watch: Watch) -> Result<(), Fault> {
+        self.read(dw_get_data, call, watch)
+    }
+
+    pub(crate) fn get_children(&mut self, call: Call<'_>, watch: Watch) -> Result<(), Fault> {
+        self.read(dw_get_children, call, watch)
+    }
+
+    /// Writes by this function of the library, which has one number more.
+    fn write<N>(
         &mut self,
-        now: Moment,
-        ticket: u64,
-        path: &str,
-        watch: Watch,
+        write: Write<N>,
+        call: Call<'_>,
+        data: Option<&[u8]>,
+        number: N,
     ) -> Result<(), Fault> {
-        let (raw, now, is_left) = (self.raw.get_mut(), now.as_millis(), watch.is_left());
+        let (raw, now, (bytes, is_null)) =
+            (self.raw.get_mut(), call.now.as_millis(), bytes_of(data));
+        let (path, path_length) = (call.path.as_ptr(), call.path.len());
+        let (bytes, length) = (bytes.as_ptr(), bytes.len());
         // SAFETY: as `Handle` says.
-        done(unsafe { dw_get_children(raw, now, ticket, path.as_ptr(), path.len(), is_left) })
+        done(unsafe {
+            write(
+                raw,
+                now,
+                call.ticket,
+                path,
+                path_length,
+                bytes,
+                length,
+                is_null,
+                number,
+            )
+        })
     }
 
     pub(crate) fn set_data(
         &mut self,
-        now: Moment,
-        ticket: u64,
-        path: &str,
+        call: Call<'_>,
         data: Option<&[u8]>,
         version: i32,
     ) -> Result<(), Fault> {
-        let (raw, now, (bytes, is_null)) = (self.raw.get_mut(), now.as_millis(), bytes_of(data));
-        let (path, path_length) = (path.as_ptr(), path.len());
-        let (bytes, length) = (bytes.as_ptr(), bytes.len());
-        // SAFETY: as `Handle` says.
-        done(unsafe {
-            dw_set_data(
-                raw,
-                now,
-                ticket,
-                path,
-                path_length,
-                bytes,
-                length,
-                is_null,
-                version,
-            )
-        })
+        self.write(dw_set_data, call, data, version)
     }
 
     pub(crate) fn create(
         &mut self,
-        now: Moment,
-        ticket: u64,
-        path: &str,
+        call: Call<'_>,
         data: Option<&[u8]>,
         mode: Mode,
     ) -> Result<(), Fault> {
-        let (raw, now, (bytes, is_null)) = (self.raw.get_mut(), now.as_millis(), bytes_of(data));
-        let (path, path_length) = (path.as_ptr(), path.len());
-        let (bytes, length) = (bytes.as_ptr(), bytes.len());
-        // SAFETY: as `Handle` says.
-        done(unsafe {
-            dw_create(
-                raw,
-                now,
-                ticket,
-                path,
-                path_length,
-                bytes,
-                length,
-                is_null,
-                mode.number(),
-            )
-        })
+        self.write(dw_create, call, data, mode.number())
     }
 
-    pub(crate) fn delete(
-        &mut self,
-        now: Moment,
-        ticket: u64,
-        path: &str,
-        version: i32,
-    ) -> Result<(), Fault> {
-        let (raw, now) = (self.raw.get_mut(), now.as_millis());
+    pub(crate) fn delete(&mut self, call: Call<'_>, version: i32) -> Result<(), Fault> {
+        let (raw, now) = (self.raw.get_mut(), call.now.as_millis());
+        let (path, path_length) = (call.path.as_ptr(), call.path.len());
         // SAFETY: as `Handle` says.
-        done(unsafe { dw_delete(raw, now, ticket, path.as_ptr(), path.len(), version) })
+        done(unsafe { dw_delete(raw, now, call.ticket, path, path_length, version) })
     }
 
     pub(crate) fn close_session(&mut self, now: Moment, ticket: u64) -> Result<(), Fault> {

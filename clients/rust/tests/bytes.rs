@@ -48,6 +48,17 @@ fn frames(mut outputs: Outputs<'_>) -> Vec<Vec<u8>> {
     frames
 }
 
+/// The reply to the call of this ticket, which is said next.
+fn reply_to<'a>(ticket: u64, outputs: &'a mut Outputs<'_>) -> Reply<'a> {
+    match outputs.next() {
+        Some(Output::Answer {
+            ticket: answered,
+            outcome: Ok(reply),
+        }) if answered == ticket => reply,
+        other => panic!("no reply: {other:?}"),
+    }
+}
+
 fn connected() -> Client {
     let mut client = Client::open(TIMEOUT).unwrap();
     let _ = client.opened(START).unwrap();
@@ -127,13 +138,7 @@ fn a_reply_is_read() {
     let _ = client.get_data(START, 7, "/a", Watch::Yes).unwrap();
     let reply = Record::reply(1, 5, 0).buffer(b"one").stat(5, 2, 3, 0);
     let mut outputs = client.bytes(START, &reply.framed()).unwrap();
-    let Some(Output::Answer {
-        ticket: 7,
-        outcome: Ok(reply),
-    }) = outputs.next()
-    else {
-        panic!("no reply");
-    };
+    let reply = reply_to(7, &mut outputs);
     assert_eq!(reply.zxid, 5);
     let Ok(Brought::Data {
         data: Some(data),
@@ -175,14 +180,7 @@ fn each_field_of_a_stat_has_its_place() {
     let ints = longs.int(15).int(16).int(17).long(18).int(19).int(20);
     let bytes = ints.long(21).framed();
     let mut outputs = client.bytes(START, &bytes).unwrap();
-    let Some(Output::Answer {
-        outcome: Ok(Reply {
-            result: Ok(Brought::Stat(stat)),
-            ..
-        }),
-        ..
-    }) = outputs.next()
-    else {
+    let Ok(Brought::Stat(stat)) = reply_to(2, &mut outputs).result else {
         panic!("no stat");
     };
     let zxids = (stat.czxid, stat.mzxid, stat.ephemeral_owner, stat.pzxid);
@@ -197,12 +195,7 @@ fn null_data_are_no_empty_data() {
     let _ = client.get_data(START, 1, "/a", Watch::Yes).unwrap();
     let reply = Record::reply(1, 5, 0).int(-1).stat(5, 0, 0, 0);
     let mut outputs = client.bytes(START, &reply.framed()).unwrap();
-    let Some(Output::Answer {
-        outcome: Ok(reply), ..
-    }) = outputs.next()
-    else {
-        panic!("no reply");
-    };
+    let reply = reply_to(1, &mut outputs);
     assert!(matches!(reply.result, Ok(Brought::Data { data: None, .. })));
     let Some(Kept {
         answer: DataAnswer::Full { data, .. },
@@ -296,12 +289,7 @@ fn names_of_each_length_are_kept_in_byte_order() {
         .texts(&["z", &long, "b"])
         .stat(5, 0, 0, 3);
     let mut outputs = client.bytes(START, &reply.framed()).unwrap();
-    let Some(Output::Answer {
-        outcome: Ok(reply), ..
-    }) = outputs.next()
-    else {
-        panic!("no reply");
-    };
+    let reply = reply_to(1, &mut outputs);
     let Ok(Brought::Names { names, .. }) = reply.result else {
         panic!("no names");
     };

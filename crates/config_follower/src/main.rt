@@ -26,22 +26,14 @@ fn run(rt: &HostRuntime, node: &Path, addresses: &[&str]) -> Result<()> {
     followed
 }
 
-/// Does what the words ask for. The first word is the program's name.
-fn run_words(rt: &HostRuntime, words: &[&str]) -> Result<u8> {
-    let [_, node, addresses @ ..] = words else {
-        println!(rt; "usage: config_follower PATH IP:PORT..")?;
-        return Ok(2);
-    };
-    let node = Path::new(rt.alloc(), node)?;
-    run(rt, &node, addresses)?;
-    Ok(0)
-}
-
 fn main(rt: HostRuntime) -> Result<ExitCode> {
     let words: Vec<String> = std::env::args(&rt)?.collect(rt.alloc())?;
-    let mut texts = Vec::new(rt.alloc());
-    for word in words.iter() {
-        texts.push(word.as_str())?;
-    }
-    Ok(ExitCode::from(run_words(&rt, texts.as_slice())?))
+    let texts: Vec<&str> = words.iter().map(|word| word.as_str()).collect(rt.alloc())?;
+    let [_, node, addresses @ ..] = texts.as_slice() else {
+        println!(rt; "usage: config_follower PATH IP:PORT..")?;
+        return Ok(ExitCode::from(2));
+    };
+    let node = Path::new(rt.alloc(), node)?;
+    run(&rt, &node, addresses)?;
+    Ok(ExitCode::SUCCESS)
 }

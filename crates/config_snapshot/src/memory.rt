@@ -95,7 +95,7 @@ fn happen(event: Event, world: &RefCell<World>) -> Result<()> {
 
 /// Follows the nodes through what happens.
 fn play<W: Write>(
-    follower: &mut Follower<'_, Shared<'_>, Shared<'_>>,
+    follower: &mut Follower<'_, Shared<'_, World>, Shared<'_, World>>,
     world: &RefCell<World>,
     out: &mut W,
 ) -> Result<()> {

@@ -1,32 +1,50 @@
-//! What a link dials, reads, writes and waits by, over a world in memory.
+//! What a link dials, reads, writes and waits by, over a server in memory.
 
 use crate::moments::Moments;
-use crate::world::World;
 use std::cell::RefCell;
 use std::io::{self, ErrorKind, Read, Write};
 use zk_link::{Clock, Dial, Stream};
 
+/// A server in memory as a link meets it, with the connection to it. What it refuses is an error, as of an operating system.
+pub trait Server: Drop {
+    /// What a connection holds as long as it is there.
+    type Held: Drop;
+
+    /// A connection is asked for, which may take so many milliseconds.
+    fn dial(&mut self, within_ms: u64, moments: &Moments) -> io::Result<Self::Held>;
+
+    /// Whether the connection can be told how long a read may wait.
+    fn is_patient(&self) -> bool;
+
+    /// The bytes that come, at most so many: none of them where nothing comes for now, and `None` where nothing comes any more.
+    fn read(&mut self, most: usize, moments: &Moments) -> io::Result<Option<Vec<u8>>>;
+
+    /// The first of these bytes go. How many of them.
+    fn write(&mut self, bytes: &[u8], moments: &Moments) -> io::Result<usize>;
+
+    /// Somebody waits for so many milliseconds, or until something happens.
+    fn wait(&mut self, ms: u64, moments: &Moments) -> io::Result<()>;
+}
+
 /// A connection. A read that nothing comes for waits for so many milliseconds.
 #[derive(Drop)]
-pub struct Partner<'a> {
-    world: &'a RefCell<World>,
+pub struct Partner<'a, S: Server> {
+    server: &'a RefCell<S>,
     moments: &'a Moments,
+    _held: S::Held,
     ms: u64,
 }
 
-impl<'a> Read for Partner<'a> {
+impl<'a, S: Server> Read for Partner<'a, S> {
     fn read(&mut self, buf: &mut [u8]) -> io::Result<usize> {
-        let Ok(mut world) = self.world.try_borrow_mut() else {
+        let Ok(mut server) = self.server.try_borrow_mut() else {
             return Err(ErrorKind::Other.into());
         };
-        if world.is_closed() {
+        let Some(bytes) = server.read(buf.len(), self.moments)? else {
             return Ok(0);
-        }
-        let Ok(bytes) = world.read(buf.len()) else {
-            return Err(ErrorKind::OutOfMemory.into());
         };
         if bytes.is_empty() {
-            self.moments.pass(self.ms);
+            server.wait(self.ms, self.moments)?;
             return Err(ErrorKind::WouldBlock.into());
         }
         let mut bytes = bytes.as_slice();
@@ -34,18 +52,12 @@ impl<'a> Read for Partner<'a> {
     }
 }
 
-impl<'a> Write for Partner<'a> {
+impl<'a, S: Server> Write for Partner<'a, S> {
     fn write(&mut self, buf: &[u8]) -> io::Result<usize> {
-        let Ok(mut world) = self.world.try_borrow_mut() else {
+        let Ok(mut server) = self.server.try_borrow_mut() else {
             return Err(ErrorKind::Other.into());
         };
-        if world.is_closed() {
-            return Err(ErrorKind::BrokenPipe.into());
-        }
-        match world.write(buf) {
-            Ok(()) => Ok(buf.len()),
-            Err(_) => Err(ErrorKind::OutOfMemory.into()),
-        }
+        Ok(server.write(buf, self.moments)?.min(buf.len()))
     }
 
     fn flush(&mut self) -> io::Result<()> {
@@ -53,8 +65,15 @@ impl<'a> Write for Partner<'a> {
     }
 }
 
-impl<'a> Stream for Partner<'a> {
+impl<'a, S: Server> Stream for Partner<'a, S> {
     fn wait_at_most(&mut self, ms: u64) -> io::Result<()> {
+        let is_patient = self
+            .server
+            .try_borrow()
+            .is_ok_and(|server| server.is_patient());
+        if !is_patient {
+            return Err(ErrorKind::Other.into());
+        }
         self.ms = ms;
         Ok(())
     }
@@ -62,42 +81,42 @@ impl<'a> Stream for Partner<'a> {
 
 /// What dials a server in memory, whatever the address, and the clock. A link has one of each.
 #[derive(Drop)]
-pub struct Shared<'a> {
-    world: &'a RefCell<World>,
+pub struct Shared<'a, S: Server> {
+    server: &'a RefCell<S>,
     moments: &'a Moments,
 }
 
-impl<'a> Shared<'a> {
-    /// Over a world and the moments that go by in it.
-    pub fn new(world: &'a RefCell<World>, moments: &'a Moments) -> Shared<'a> {
-        Shared { world, moments }
+impl<'a, S: Server> Shared<'a, S> {
+    /// Over a server and the moments that go by there.
+    pub fn new(server: &'a RefCell<S>, moments: &'a Moments) -> Shared<'a, S> {
+        Shared { server, moments }
     }
 }
 
-impl<'a> Dial for Shared<'a> {
-    type Stream = Partner<'a>;
+impl<'a, S: Server> Dial for Shared<'a, S> {
+    type Stream = Partner<'a, S>;
 
-    fn dial(&mut self, _address: &str, _within_ms: u64) -> io::Result<Partner<'a>> {
-        let Ok(mut world) = self.world.try_borrow_mut() else {
+    fn dial(&mut self, _address: &str, within_ms: u64) -> io::Result<Partner<'a, S>> {
+        let Ok(mut server) = self.server.try_borrow_mut() else {
             return Err(ErrorKind::Other.into());
         };
-        if !world.dial() {
-            return Err(ErrorKind::ConnectionRefused.into());
-        }
         Ok(Partner {
-            world: self.world,
+            server: self.server,
             moments: self.moments,
+            _held: server.dial(within_ms, self.moments)?,
             ms: 0,
         })
     }
 }
 
-impl<'a> Clock for Shared<'a> {
+impl<'a, S: Server> Clock for Shared<'a, S> {
     fn now(&mut self) -> u64 {
         self.moments.now()
     }
 
     fn pause(&mut self, ms: u64) {
-        self.moments.pass(ms);
+        if let Ok(mut server) = self.server.try_borrow_mut() {
+            let _ = server.wait(ms, self.moments);
+        }
     }
 }

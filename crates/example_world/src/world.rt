@@ -1,7 +1,10 @@
 //! A server in memory, and the connection to it.
 
+use crate::moments::Moments;
+use crate::partner::Server;
 use anyhow::Result;
 use std::alloc::{AllocError, Global};
+use std::io::{self, ErrorKind};
 use zk_bench::{Bench, Change, History};
 
 /// The most requests that are processed behind one write.
@@ -72,10 +75,21 @@ impl World {
         self.is_expired = true;
     }
 
-    /// Whether a connection is made.
-    pub fn dial(&mut self) -> bool {
+    /// The server processes what has come.
+    fn process(&mut self) -> Result<(), AllocError> {
+        for _ in 0..REQUESTS {
+            self.bench.process()?;
+        }
+        Ok(())
+    }
+}
+
+impl Server for World {
+    type Held = ();
+
+    fn dial(&mut self, _within_ms: u64, _moments: &Moments) -> io::Result<()> {
         if self.is_apart {
-            return false;
+            return Err(ErrorKind::ConnectionRefused.into());
         }
         if self.is_expired {
             self.bench.expire();
@@ -86,40 +100,34 @@ impl World {
         self.is_expired = false;
         self.is_closed = false;
         self.bench.connect(1);
-        true
-    }
-
-    /// Whether the connection is cut.
-    pub fn is_closed(&self) -> bool {
-        self.is_closed
-    }
-
-    /// The bytes that come, at most so many.
-    pub fn read(&mut self, most: usize) -> Result<Vec<u8>, AllocError> {
-        self.bench.output(most.min(self.piece))
-    }
-
-    /// These bytes go.
-    pub fn write(&mut self, bytes: &[u8]) -> Result<(), AllocError> {
-        self.bench.receive(bytes)?;
-        if self.is_busy {
-            self.process_busily()
-        } else {
-            self.process()
-        }
-    }
-
-    /// The server processes what has come.
-    fn process(&mut self) -> Result<(), AllocError> {
-        for _ in 0..REQUESTS {
-            self.bench.process()?;
-        }
         Ok(())
     }
 
-    /// The same, and takes a transaction.
-    fn process_busily(&mut self) -> Result<(), AllocError> {
+    fn is_patient(&self) -> bool {
+        true
+    }
+
+    fn read(&mut self, most: usize, _moments: &Moments) -> io::Result<Option<Vec<u8>>> {
+        if self.is_closed {
+            return Ok(None);
+        }
+        Ok(Some(self.bench.output(most.min(self.piece))?))
+    }
+
+    fn write(&mut self, bytes: &[u8], _moments: &Moments) -> io::Result<usize> {
+        if self.is_closed {
+            return Err(ErrorKind::BrokenPipe.into());
+        }
+        self.bench.receive(bytes)?;
         self.process()?;
-        self.bench.take(1)
+        if self.is_busy {
+            self.bench.take(1)?;
+        }
+        Ok(bytes.len())
+    }
+
+    fn wait(&mut self, ms: u64, moments: &Moments) -> io::Result<()> {
+        moments.pass(ms);
+        Ok(())
     }
 }

@@ -46,7 +46,7 @@ static PLAN: [(u64, Event); 5] = [
 ];
 
 /// A session in memory.
-type Session<'a> = Contender<'a, Shared<'a>, Shared<'a>>;
+type Session<'a> = Contender<'a, Shared<'a, World>, Shared<'a, World>>;
 
 /// What there is at first.
 fn history(alloc: Global) -> Result<History<Global>> {

@@ -2,7 +2,6 @@
 //! file `stdout`.
 #![tactic(auto)]
 
-mod partner;
 mod played;
 mod reads;
 mod swept;

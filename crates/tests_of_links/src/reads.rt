@@ -1,8 +1,8 @@
 //! A client and its connection without a link, read once while bytes are left to be written.
 
-use crate::partner::{Partner, Shared};
 use crate::world::{Flaw, Plan, STEADY, World};
 use anyhow::Result;
+use example_world::{Moments, Partner, Shared};
 use std::alloc::{Allocator, Global};
 use std::cell::RefCell;
 use std::io::Write;
@@ -13,7 +13,7 @@ use zk_link::{Brought, Dial, Joint};
 const WAIT: u64 = 100;
 
 /// A client and a connection of a world in memory.
-type Read<'a> = Joint<Global, Partner<'a>>;
+type Read<'a> = Joint<Global, Partner<'a, World>>;
 
 /// What a partner does.
 struct Row {
@@ -66,25 +66,25 @@ fn begin(alloc: Global, joint: &mut Read<'_>) -> Result<()> {
 }
 
 /// Reads once, and prints what that brings, at which moment, and whether bytes are left to be written.
-fn read_once<W: Write>(world: &RefCell<World>, joint: &mut Read<'_>, out: &mut W) -> Result<()> {
+fn read_once<W: Write>(moments: &Moments, joint: &mut Read<'_>, out: &mut W) -> Result<()> {
     let words = match joint.read(WAIT) {
         Ok(brought) => words_for(&brought),
         Err(_) => "out of memory",
     };
     let left = if joint.is_pressed() { "some" } else { "none" };
-    let now = world.try_borrow()?.now();
+    let now = moments.now();
     Ok(writeln!(out, "{now} ms: {words}, {left} left")?)
 }
 
 /// Reads once behind the beginning of a connection.
 fn read_row<W: Write>(alloc: Global, row: &Row, out: &mut W) -> Result<()> {
     writeln!(out, "== read: {}", row.name)?;
-    let world = RefCell::new(World::new(alloc, row.plan)?);
-    let partner = Shared::new(alloc, &world).dial("a", WAIT)?;
+    let (world, moments) = (RefCell::new(World::new(alloc, row.plan)?), Moments::new());
+    let partner = Shared::new(&world, &moments).dial("a", WAIT)?;
     let mut joint = Joint::new(alloc, Client::new(alloc, 9_000));
     joint.hold(partner);
     let printed = match begin(alloc, &mut joint) {
-        Ok(()) => read_once(&world, &mut joint, out),
+        Ok(()) => read_once(&moments, &mut joint, out),
         fault => fault,
     };
     drop(joint);
@@ -94,9 +94,8 @@ fn read_row<W: Write>(alloc: Global, row: &Row, out: &mut W) -> Result<()> {
 /// Reads once where there is no connection.
 fn read_nobody<W: Write>(alloc: Global, out: &mut W) -> Result<()> {
     writeln!(out, "== read: no connection")?;
-    let world = RefCell::new(World::new(alloc, STEADY)?);
     let mut joint = Joint::new(alloc, Client::new(alloc, 9_000));
-    let printed = read_once(&world, &mut joint, out);
+    let printed = read_once(&Moments::new(), &mut joint, out);
     drop(joint);
     printed
 }

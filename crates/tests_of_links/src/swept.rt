@@ -1,9 +1,9 @@
 //! Links that are played many times, with one thing different each time, and printed in a line.
 
-use crate::partner::Shared;
 use crate::played::{Played, is_connected};
 use crate::world::{Plan, STEADY, World};
 use anyhow::Result;
+use example_world::{Moments, Shared};
 use refusing::Refusing;
 use std::alloc::{Allocator, Global};
 use std::cell::RefCell;
@@ -92,8 +92,8 @@ fn play<A: Allocator + Copy>(
     plan: Plan,
     addresses: &'static [&'static str],
 ) -> Result<Result<bool, Stop>> {
-    let world = RefCell::new(World::new(heap, plan)?);
-    let (dial, clock) = (Shared::new(heap, &world), Shared::new(heap, &world));
+    let (world, moments) = (RefCell::new(World::new(heap, plan)?), Moments::new());
+    let (dial, clock) = (Shared::new(&world, &moments), Shared::new(&world, &moments));
     let mut link = Link::new(alloc, Client::new(alloc, 9_000), dial, clock, addresses);
     let served = is_served(alloc, &mut link);
     drop(link);

@@ -1,7 +1,9 @@
-//! A server in memory, and the moments that go by.
+//! A server in memory whose connections go wrong as a plan says.
 
 use anyhow::Result;
-use std::alloc::{AllocError, Global};
+use example_world::{Moments, Server};
+use std::alloc::Global;
+use std::io::{self, ErrorKind};
 use std::rc::Rc;
 use zk_bench::{Bench, History};
 use zk_client::Path;
@@ -48,13 +50,13 @@ pub const STEADY: Plan = Plan {
     flaw: Flaw::Nothing,
 };
 
-/// A server that answers each request as it comes, the connection to it, and the moment.
+/// A server that answers each request as it comes, and the connection to it.
 #[derive(Drop)]
 pub struct World {
+    alloc: Global,
     plan: Plan,
     bench: Bench<Global>,
     held: Option<Rc<u32, Global>>,
-    now: u64,
     dials: u32,
     left: usize,
 }
@@ -70,28 +72,18 @@ impl World {
     /// A world in which nothing has happened.
     pub fn new(alloc: Global, plan: Plan) -> Result<World> {
         Ok(World {
+            alloc,
             plan,
             bench: Bench::new(alloc, history(alloc)?),
             held: None,
-            now: 0,
             dials: 0,
             left: 0,
         })
     }
 
-    /// The moment.
-    pub fn now(&self) -> u64 {
-        self.now
-    }
-
     /// How many connections were asked for.
     pub fn dials(&self) -> u32 {
         self.dials
-    }
-
-    /// Moments go by.
-    pub fn wait(&mut self, ms: u64) {
-        self.now = self.now.saturating_add(ms);
     }
 
     /// Whether a connection is held by somebody else.
@@ -102,21 +94,9 @@ impl World {
         }
     }
 
-    /// A connection is asked for, within so many milliseconds. What is held as long as it is there, and none where it is refused.
-    pub fn dial(&mut self, alloc: Global, within_ms: u64) -> Option<Rc<u32, Global>> {
-        self.dials = self.dials.saturating_add(1);
-        let quiet = self.plan.refusals.saturating_add(self.plan.silences);
-        self.left = if self.dials == quiet.saturating_add(1) {
-            self.plan.passes
-        } else {
-            usize::MAX
-        };
-        if self.dials <= self.plan.refusals {
-            self.wait(if self.plan.is_late { within_ms } else { 0 });
-            return None;
-        }
-        self.bench.connect(1);
-        self.held = Some(Rc::new(alloc, self.dials).ok()?);
+    /// What is held as long as a connection is there, and none where memory ran out.
+    fn hold(&mut self) -> Option<Rc<u32, Global>> {
+        self.held = Some(Rc::new(self.alloc, self.dials).ok()?);
         self.held.as_ref()?.clone().ok()
     }
 
@@ -126,24 +106,12 @@ impl World {
     }
 
     /// Whether the connection has this flaw.
-    pub fn has(&self, flaw: Flaw) -> bool {
+    fn has(&self, flaw: Flaw) -> bool {
         self.dials == 1 && self.plan.flaw == flaw
     }
 
-    /// Whether no byte passes any more.
-    pub fn is_closed(&self) -> bool {
-        self.left == 0
-    }
-
-    /// The bytes that come, at most so many.
-    pub fn read(&mut self, most: usize) -> Result<Vec<u8>, AllocError> {
-        let bytes = self.bench.output(most.min(self.plan.piece).min(self.left))?;
-        self.left = self.left.saturating_sub(bytes.len());
-        Ok(bytes)
-    }
-
     /// The first of these bytes go, as many as pass.
-    pub fn write(&mut self, bytes: &[u8]) -> Result<usize, AllocError> {
+    fn pass(&mut self, bytes: &[u8]) -> io::Result<usize> {
         let count = bytes.len().min(self.left).min(self.plan.takes);
         self.left -= count;
         if self.is_silent() {
@@ -154,5 +122,61 @@ impl World {
             self.bench.process()?;
         }
         Ok(count)
+    }
+}
+
+impl Server for World {
+    type Held = Rc<u32, Global>;
+
+    fn dial(&mut self, within_ms: u64, moments: &Moments) -> io::Result<Rc<u32, Global>> {
+        self.dials = self.dials.saturating_add(1);
+        let quiet = self.plan.refusals.saturating_add(self.plan.silences);
+        self.left = if self.dials == quiet.saturating_add(1) {
+            self.plan.passes
+        } else {
+            usize::MAX
+        };
+        if self.dials <= self.plan.refusals {
+            moments.pass(if self.plan.is_late { within_ms } else { 0 });
+            return Err(ErrorKind::ConnectionRefused.into());
+        }
+        self.bench.connect(1);
+        self.hold().ok_or(ErrorKind::ConnectionRefused.into())
+    }
+
+    fn is_patient(&self) -> bool {
+        !self.has(Flaw::Restless)
+    }
+
+    fn read(&mut self, most: usize, moments: &Moments) -> io::Result<Option<Vec<u8>>> {
+        if self.left == 0 {
+            return Ok(None);
+        }
+        if self.has(Flaw::Interrupted) {
+            moments.pass(1);
+            return Err(ErrorKind::Interrupted.into());
+        }
+        let bytes = self.bench.output(most.min(self.plan.piece).min(self.left))?;
+        self.left = self.left.saturating_sub(bytes.len());
+        Ok(Some(bytes))
+    }
+
+    fn write(&mut self, bytes: &[u8], moments: &Moments) -> io::Result<usize> {
+        if self.left == 0 {
+            return Err(ErrorKind::BrokenPipe.into());
+        }
+        if self.has(Flaw::Shut) {
+            return Ok(0);
+        }
+        if self.has(Flaw::Full) {
+            moments.pass(1);
+            return Err(ErrorKind::WouldBlock.into());
+        }
+        self.pass(bytes)
+    }
+
+    fn wait(&mut self, ms: u64, moments: &Moments) -> io::Result<()> {
+        moments.pass(ms);
+        Ok(())
     }
 }

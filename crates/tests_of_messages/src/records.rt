@@ -1,9 +1,9 @@
 //! Records with no header, and the numbers of codes, events and operations.
 
-use crate::checks::{again, bytes, holds};
+use crate::checks::{Pass, again, bytes, holds};
 use std::alloc::Global;
 use std::process::Abort;
-use zk_jute::Cursor;
+use zk_jute::{Cursor, Readable, take};
 use zk_records::{
     Code, ConnectRequest, ConnectResponse, ConnectResponseRef, Event, Operation, Side,
     WatcherEvent, WatcherEventRef,
@@ -45,12 +45,24 @@ static EVENTS: [(i32, Event, bool, bool); 4] = [
     (4, Event::ChildrenChanged, false, true),
 ];
 
+// A record with no header.
+struct Alone<R>(R);
+
+impl<'a, R: Readable<'a, Global> + Drop> Pass<'a> for Alone<R> {
+    fn pass(alloc: Global, payload: &'a [u8], out: &mut Vec<u8>) -> bool {
+        match take::<_, R>(alloc, &mut Cursor::new(payload)) {
+            Ok(record) => record.put(out).is_ok(),
+            Err(_) => false,
+        }
+    }
+}
+
 #[test]
 fn records_without_a_header(rt: HostRuntime) {
-    again::<ConnectRequest<_>>(&rt, bytes(&rt, CONNECT), "connect");
+    again::<Alone<ConnectRequest<_>>>(&rt, bytes(&rt, CONNECT), "connect");
     let notice = bytes(&rt, NOTICE);
-    again::<WatcherEvent<_>>(&rt, notice, "a notice");
-    again::<WatcherEventRef>(&rt, notice, "a lent notice");
+    again::<Alone<WatcherEvent<_>>>(&rt, notice, "a notice");
+    again::<Alone<WatcherEventRef>>(&rt, notice, "a lent notice");
 }
 
 // The password of the longer answer, whose other fields are as they should be.

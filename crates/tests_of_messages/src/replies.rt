@@ -1,13 +1,13 @@
 //! Replies: the protocol's own, read and written again, owned and lent, and a count that takes no memory.
 
-use crate::checks::{bytes, holds};
+use crate::checks::{Pass, again, bytes, holds};
 use refusing::Refusing;
 use std::alloc::{Allocator, Global};
 use std::process::Abort;
 use zk_jute::{Cursor, Nothing, Readable, TakeError};
 use zk_records::{
     CreateRef, CreateResponse, GetChildren2Ref, GetChildren2Response, GetChildrenResponse,
-    GetDataRef, GetDataResponse, Stat, take_reply,
+    GetDataRef, GetDataResponse, Reply, Stat, take_reply,
 };
 
 // The payloads of replies, each with its header first.
@@ -29,48 +29,34 @@ const ABSENT: &str = "000000010000000000000005ffffff9b";
 // The reply to getChildren whose count is the greatest, with nothing behind it.
 const COUNT: &str = "000000010000000000000005000000007fffffff";
 
-// Reads a reply and writes it, and tells whether both went well.
-fn pass<'a, R: Readable<'a, Global> + Drop>(
-    alloc: Global,
-    payload: &'a [u8],
-    out: &mut Vec<u8>,
-) -> bool {
-    match take_reply::<_, R>(alloc, &mut Cursor::new(payload)) {
-        Ok(reply) => reply.put(out).is_ok(),
-        Err(_) => false,
+impl<'a, R: Readable<'a, Global> + Drop> Pass<'a> for Reply<R> {
+    fn pass(alloc: Global, payload: &'a [u8], out: &mut Vec<u8>) -> bool {
+        match take_reply::<_, R>(alloc, &mut Cursor::new(payload)) {
+            Ok(reply) => reply.put(out).is_ok(),
+            Err(_) => false,
+        }
     }
-}
-
-// Ends the test where a reply is not written as it was read.
-fn again<'a, R: Readable<'a, Global> + Drop>(
-    rt: &(impl Abort + AllocGlobal),
-    payload: &'a [u8],
-    row: &str,
-) {
-    let mut out = Vec::new(rt.alloc());
-    let is_written = pass::<R>(rt.alloc(), payload, &mut out);
-    holds(rt, is_written && out.as_slice() == payload, row);
 }
 
 #[test]
 fn data_replies_are_written_as_they_were_read(rt: HostRuntime) {
     let data = bytes(&rt, DATA);
-    again::<GetDataResponse<_>>(&rt, data, "data");
-    again::<GetDataRef>(&rt, data, "lent data");
-    again::<Stat>(&rt, bytes(&rt, DATA_SET), "a Stat");
-    again::<Nothing>(&rt, bytes(&rt, ABSENT), "absent");
+    again::<Reply<GetDataResponse<_>>>(&rt, data, "data");
+    again::<Reply<GetDataRef>>(&rt, data, "lent data");
+    again::<Reply<Stat>>(&rt, bytes(&rt, DATA_SET), "a Stat");
+    again::<Reply<Nothing>>(&rt, bytes(&rt, ABSENT), "absent");
 }
 
 #[test]
 fn name_replies_are_written_as_they_were_read(rt: HostRuntime) {
     let names = bytes(&rt, NAMES);
-    again::<GetChildrenResponse<_>>(&rt, names, "names");
+    again::<Reply<GetChildrenResponse<_>>>(&rt, names, "names");
     let names_2 = bytes(&rt, NAMES_2);
-    again::<GetChildren2Response<_>>(&rt, names_2, "names with a Stat");
-    again::<GetChildren2Ref<_>>(&rt, names_2, "lent names with a Stat");
+    again::<Reply<GetChildren2Response<_>>>(&rt, names_2, "names with a Stat");
+    again::<Reply<GetChildren2Ref<_>>>(&rt, names_2, "lent names with a Stat");
     let created = bytes(&rt, CREATED);
-    again::<CreateResponse<_>>(&rt, created, "a path");
-    again::<CreateRef>(&rt, created, "a lent path");
+    again::<Reply<CreateResponse<_>>>(&rt, created, "a path");
+    again::<Reply<CreateRef>>(&rt, created, "a lent path");
 }
 
 // Which fault a reply is refused with.

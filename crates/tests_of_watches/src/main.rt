@@ -1,7 +1,6 @@
 //! Runs watches against servers in memory, and prints what they print. What is to be printed stands in the file `stdout`.
 #![tactic(auto)]
 
-mod partner;
 mod played;
 mod streams;
 mod world;
@@ -10,82 +9,40 @@ use anyhow::Result;
 use played::{Row, play, play_cut, play_failing, play_refusing};
 use std::io;
 use world::Event;
+use zk_client::Side;
 
-/// The rows: what is watched, what happens, and for how long.
-static ROWS: [Row; 6] = [
-    Row {
-        name: "a change",
-        is_child: false,
-        path: "/config",
-        events: [
-            (1_000, Event::Takes),
-            (9_000, Event::Nothing),
-            (9_000, Event::Nothing),
-            (9_000, Event::Nothing),
-        ],
-        for_ms: 2_000,
-    },
-    Row {
-        name: "a node that comes later",
-        is_child: false,
-        path: "/late",
-        events: [
-            (1_000, Event::Takes),
-            (1_000, Event::Takes),
-            (1_000, Event::Takes),
-            (9_000, Event::Nothing),
-        ],
-        for_ms: 2_000,
-    },
-    Row {
-        name: "names",
-        is_child: true,
-        path: "/a",
-        events: [
-            (1_000, Event::Takes),
-            (1_000, Event::Takes),
-            (9_000, Event::Nothing),
-            (9_000, Event::Nothing),
-        ],
-        for_ms: 2_000,
-    },
-    Row {
-        name: "names below a node that comes later",
-        is_child: true,
-        path: "/late",
-        events: [
-            (1_000, Event::Takes),
-            (1_000, Event::Takes),
-            (1_000, Event::Takes),
-            (9_000, Event::Nothing),
-        ],
-        for_ms: 2_000,
-    },
-    Row {
-        name: "a cut, and a change meanwhile",
-        is_child: false,
-        path: "/config",
-        events: [
-            (1_000, Event::Cuts),
-            (1_000, Event::Takes),
-            (9_000, Event::Nothing),
-            (9_000, Event::Nothing),
-        ],
-        for_ms: 2_000,
-    },
-    Row {
-        name: "an expiry, and a change meanwhile",
-        is_child: false,
-        path: "/config",
-        events: [
-            (1_000, Event::Expires),
-            (1_000, Event::Cuts),
-            (1_000, Event::Takes),
-            (9_000, Event::Nothing),
-        ],
-        for_ms: 2_000,
-    },
-];
+/// The next transaction changes what is watched.
+static CHANGE: [Event; 1] = [Event::Takes];
+
+/// The last of two transactions does.
+static CHANGES: [Event; 2] = [Event::Takes, Event::Takes];
+
+/// The last of three does.
+static ALL: [Event; 3] = [Event::Takes, Event::Takes, Event::Takes];
+
+/// The connection is cut, and what is watched changes meanwhile.
+static CUT: [Event; 2] = [Event::Cuts, Event::Takes];
+
+/// The same with the end of the session.
+static EXPIRY: [Event; 3] = [Event::Expires, Event::Cuts, Event::Takes];
+
+/// The rows.
+fn rows() -> [Row; 6] {
+    let later = "names below a node that comes later";
+    [
+        Row::new("a change", Side::Data, "/config", &CHANGE),
+        Row::new("a node that comes later", Side::Data, "/late", &ALL),
+        Row::new("names", Side::Child, "/a", &CHANGES),
+        Row::new(later, Side::Child, "/late", &ALL),
+        Row::new("a cut, and a change meanwhile", Side::Data, "/config", &CUT),
+        Row::new(
+            "an expiry, and a change meanwhile",
+            Side::Data,
+            "/config",
+            &EXPIRY,
+        ),
+    ]
+}
 
 /// The greatest message of the rows has fewer bytes.
 const MOST: usize = 120;
@@ -93,10 +50,11 @@ const MOST: usize = 120;
 fn main(rt: HostRuntime) -> Result<()> {
     let global = rt.alloc();
     let mut out = io::writer(&rt);
-    for row in &ROWS {
+    let rows = rows();
+    for row in &rows {
         play(global, row, &mut out)?;
     }
-    for row in &ROWS {
+    for row in &rows {
         play_cut(global, row, MOST, &mut out)?;
         play_failing(global, row, &mut out)?;
         play_refusing(global, row, &mut out)?;

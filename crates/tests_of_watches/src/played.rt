@@ -1,9 +1,9 @@
 //! A watch, played.
 
-use crate::partner::Shared;
 use crate::streams::Fails;
-use crate::world::{Events, World};
+use crate::world::{Event, World};
 use anyhow::Result;
+use example_world::{Moments, Shared};
 use refusing::Refusing;
 use std::alloc::{AllocError, Allocator, Global};
 use std::cell::RefCell;
@@ -17,13 +17,32 @@ static ADDRESSES: [&str; 1] = ["a"];
 /// The timeout that is asked for, in milliseconds.
 const TIMEOUT: i32 = 9_000;
 
-/// A row of the test: what is watched, what happens, and for how long.
+/// How long is watched, in milliseconds.
+const FOR_MS: u64 = 2_000;
+
+/// A row of the test: what is watched, and what happens.
 pub struct Row {
-    pub name: &'static str,
-    pub is_child: bool,
-    pub path: &'static str,
-    pub events: Events,
-    pub for_ms: u64,
+    name: &'static str,
+    side: Side,
+    path: &'static str,
+    events: &'static [Event],
+}
+
+impl Row {
+    /// A row with this name: this side of this path is watched.
+    pub fn new(
+        name: &'static str,
+        side: Side,
+        path: &'static str,
+        events: &'static [Event],
+    ) -> Row {
+        Row {
+            name,
+            side,
+            path,
+            events,
+        }
+    }
 }
 
 /// What a row watches.
@@ -31,14 +50,12 @@ fn subjects<A: Allocator + Copy>(alloc: A, row: &Row) -> Result<Vec<Subject<A>, 
     let Ok(path) = Path::new(alloc, row.path) else {
         return Err(AllocError);
     };
-    let side = if row.is_child {
-        Side::Child
-    } else {
-        Side::Data
-    };
     let mut subjects = Vec::new(alloc);
     subjects
-        .push(Subject { side, path })
+        .push(Subject {
+            side: row.side,
+            path,
+        })
         .map_err(AllocError::from)?;
     Ok(subjects)
 }
@@ -51,7 +68,10 @@ fn watched<A: Allocator + Copy, W: Write>(
     piece: usize,
     out: &mut W,
 ) -> Result<End> {
-    let world = RefCell::new(World::new(global, row.events, piece)?);
+    let (world, moments) = (
+        RefCell::new(World::new(global, row.events, piece)?),
+        Moments::new(),
+    );
     let Ok(subjects) = subjects(alloc, row) else {
         return Ok(End::Memory);
     };
@@ -59,9 +79,9 @@ fn watched<A: Allocator + Copy, W: Write>(
         addresses: &ADDRESSES,
         subjects,
         timeout_ms: TIMEOUT,
-        for_ms: Some(row.for_ms),
+        for_ms: Some(FOR_MS),
     };
-    let (dial, clock) = (Shared::new(&world), Shared::new(&world));
+    let (dial, clock) = (Shared::new(&world, &moments), Shared::new(&world, &moments));
     Ok(watch(alloc, dial, clock, plan, out))
 }
 

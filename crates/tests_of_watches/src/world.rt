@@ -1,7 +1,9 @@
-//! A server in memory, the moments that go by, and what happens at them.
+//! A server in memory, and what happens there at one moment.
 
 use anyhow::Result;
-use std::alloc::{AllocError, Global};
+use example_world::{Moments, Server};
+use std::alloc::Global;
+use std::io::{self, ErrorKind};
 use zk_bench::{Bench, Change, History};
 use zk_client::Path;
 
@@ -11,8 +13,6 @@ const REQUESTS: usize = 16;
 /// What happens by itself.
 #[derive(Clone, Copy)]
 pub enum Event {
-    /// Nothing.
-    Nothing,
     /// The server takes the next transaction.
     Takes,
     /// The connection is cut.
@@ -21,21 +21,20 @@ pub enum Event {
     Expires,
 }
 
-/// What happens, and at which moments, in their order.
-pub type Events = [(u64, Event); 4];
+/// The moment at which all that happens does, in milliseconds.
+const HAPPENS_MS: u64 = 1_000;
 
-/// A server that answers each request as it comes, the connection to it, and the moment.
+/// A server that answers each request as it comes, and the connection to it.
 #[derive(Drop)]
 pub struct World {
     alloc: Global,
     bench: Bench<Global>,
-    events: Events,
-    done: usize,
+    events: &'static [Event],
+    has_happened: bool,
     taken: u32,
     is_cut: bool,
     is_expired: bool,
     is_answered: bool,
-    now: u64,
     piece: usize,
 }
 
@@ -79,57 +78,35 @@ fn history(alloc: Global) -> Result<History<Global>> {
 
 impl World {
     /// A world in which nothing has happened. A read brings so many bytes at most.
-    pub fn new(alloc: Global, events: Events, piece: usize) -> Result<World> {
+    pub fn new(alloc: Global, events: &'static [Event], piece: usize) -> Result<World> {
         Ok(World {
             alloc,
             bench: Bench::new(alloc, history(alloc)?),
             events,
-            done: 0,
+            has_happened: false,
             taken: 0,
             is_cut: false,
             is_expired: false,
             is_answered: false,
-            now: 0,
             piece,
         })
     }
 
-    /// The moment.
-    pub fn now(&self) -> u64 {
-        self.now
-    }
-
-    /// Moments go by, as many as these, or until the next at which something happens.
-    pub fn wait(&mut self, ms: u64) -> Result<()> {
-        let until = self.now.saturating_add(ms);
-        self.now = match self.events.get(self.done) {
-            Some((moment, _)) if *moment < until => self.now.max(*moment),
-            _ => until,
-        };
-        for _ in 0..self.events.len() {
-            let Some(event) = self.next_event() else {
-                return Ok(());
-            };
-            self.happen(event)?;
+    /// Lets all events happen where their moment has come, and they have not happened yet.
+    fn happen_by(&mut self, now: u64) -> Result<()> {
+        if self.has_happened || now < HAPPENS_MS {
+            return Ok(());
+        }
+        self.has_happened = true;
+        for event in self.events {
+            self.happen(*event)?;
         }
         Ok(())
-    }
-
-    /// What happens next, where its moment has come.
-    fn next_event(&mut self) -> Option<Event> {
-        let (moment, event) = self.events.get(self.done)?;
-        let (moment, event) = (*moment, *event);
-        if self.now < moment {
-            return None;
-        }
-        self.done += 1;
-        Some(event)
     }
 
     /// Lets an event happen.
     fn happen(&mut self, event: Event) -> Result<()> {
         match event {
-            Event::Nothing => {}
             Event::Takes => {
                 self.taken = self.taken.saturating_add(1);
                 self.bench.take(1)?;
@@ -152,8 +129,8 @@ impl World {
         Ok(())
     }
 
-    /// A connection is asked for.
-    pub fn dial(&mut self) -> Result<()> {
+    /// A connection is made.
+    fn connect(&mut self) -> Result<()> {
         self.is_cut = false;
         if self.is_expired {
             self.bench.expire();
@@ -166,23 +143,49 @@ impl World {
         self.bench.connect(1);
         Ok(())
     }
+}
 
-    /// Whether the connection is cut.
-    pub fn is_closed(&self) -> bool {
-        self.is_cut
+/// Want of memory, as an operating system says it.
+fn or_memory(done: Result<()>) -> io::Result<()> {
+    done.map_err(|_| ErrorKind::OutOfMemory.into())
+}
+
+impl Server for World {
+    type Held = ();
+
+    fn dial(&mut self, _within_ms: u64, _moments: &Moments) -> io::Result<()> {
+        or_memory(self.connect())
     }
 
-    /// The bytes that come, at most so many.
-    pub fn read(&mut self, most: usize) -> Result<Vec<u8>, AllocError> {
-        self.bench.output(most.min(self.piece))
+    fn is_patient(&self) -> bool {
+        true
     }
 
-    /// These bytes go.
-    pub fn write(&mut self, bytes: &[u8]) -> Result<(), AllocError> {
+    fn read(&mut self, most: usize, _moments: &Moments) -> io::Result<Option<Vec<u8>>> {
+        if self.is_cut {
+            return Ok(None);
+        }
+        Ok(Some(self.bench.output(most.min(self.piece))?))
+    }
+
+    fn write(&mut self, bytes: &[u8], _moments: &Moments) -> io::Result<usize> {
+        if self.is_cut {
+            return Err(ErrorKind::BrokenPipe.into());
+        }
         self.bench.receive(bytes)?;
         for _ in 0..REQUESTS {
             self.bench.process()?;
         }
-        Ok(())
+        Ok(bytes.len())
+    }
+
+    fn wait(&mut self, ms: u64, moments: &Moments) -> io::Result<()> {
+        let now = moments.now();
+        let mut until = now.saturating_add(ms);
+        if !self.has_happened {
+            until = until.min(now.max(HAPPENS_MS));
+        }
+        moments.pass(until.saturating_sub(now));
+        or_memory(self.happen_by(until))
     }
 }

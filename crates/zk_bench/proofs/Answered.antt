@@ -11,7 +11,8 @@ use Rattle.std.specs.FinSet as set
 use Rattle.zk_jute.specs.Layout.{Layout, Value}
 use Rattle.zk_jute.specs.Spelling.{spelling}
 use Rattle.zk_nodes.specs.Path.{Text, NodePath, path_eq, text_of, path_of, IsPathText, Name}
-use Rattle.zk_nodes.specs.History.{Node, Tree, View, Contents, Absence, Children, view, contents_of, children_of}
+use Rattle.zk_nodes.specs.History.{History, Node, Tree, View, Contents, Absence, Children, view, contents_of, children_of, tree_at}
+use Rattle.zk_history.specs.HistoryView.{natural}
 use Rattle.zk_nodes.specs.Names.{Names, names_of as names_in}
 use Rattle.zk_history.specs.Shown.{IsStat, stat_of as stat_told}
 use Rattle.zk_nodes.specs.declared.side.Side.{Side}
@@ -24,15 +25,16 @@ use Rattle.zk_turns.specs.Past.{names_of as listed}
 use Rattle.zk_nodes.specs.StatLayout.{stat}
 use Rattle.zk_nodes.proofs.NamesLemmas.{tested, contains-names_of}
 use Rattle.zk_records.specs.Layouts.{reply_header, get_data_response, get_children2_response}
-use Rattle.zk_conversation.specs.Questions.{Question, Exists, GetData, GetChildren}
+use Rattle.zk_conversation.specs.Questions.{Question, Exists, GetData, GetChildren, question_of}
 use Rattle.zk_conversation.specs.Results.{Result, Read, Found, Listing, NoNode, stat_of, texts_of}
-use Rattle.zk_laws.specs.Server.{Watches, both, sets, Fits, FitsNames}
+use Rattle.zk_laws.specs.Server.{Watches, both, sets, Reads, Fits, FitsNames}
 use Rattle.zk_laws.specs.Messages.{Replies}
 use Rattle.zk_laws.specs.Served.{IsPayload}
 use Rattle.zk_laws.proofs.Basics.{path_eq-true, text_eq_from, text_path}
-use Rattle.zk_bench.specs.Serving.{is_named, watches_of, Sends}
-use Rattle.zk_bench.specs.Answering.{name_set, ListsChildren, IsReadOf}
+use Rattle.zk_bench.specs.Serving.{is_named, watched, watches_of, Sends}
+use Rattle.zk_bench.specs.Answering.{name_set, FindsNone, ListsChildren, IsReadOf}
 use Rattle.zk_conversation.specs.Calls.{Call}
+use Rattle.zk_bench.specs.declared.connection.Connection.{Connection}
 use Rattle.zk_conversation.specs.Calls as call
 use Rattle.zk_nodes.specs.PathFault.{IsPath}
 use Rattle.zk_records.specs.declared.read_request.ReadRequest.{ReadRequest}
@@ -303,31 +305,23 @@ pub errs_so : {T E : Type 0} (r : Outcome T E) (Q P : E → Type 0) → IsErrAnd
 errs_so (Ok x) Q P h f = tt
 errs_so (Err e) Q P h f = f e h
 
+-- what a read finds where no node is there, beside how it is refused
+pub finds_none : {A Refused : Type 0} (h : History) (zxid : ℕ) (held : ℤ) (path : NodePath) (asked : Call) (old new : Connection A) → Refused → held ≡ pos zxid → IsStat (tree_at h (natural held)) path None
+    → (IsStat (tree_at h zxid) path None → Reads (tree_at h zxid) (question_of asked) NoNode) → new.output.items ≡ old.output.items → watched new.watches ≡ both (watched old.watches) (sets (question_of asked) NoNode)
+    → new ≡ record old { watches = new.watches; output = new.output } → Refused × FindsNone (tree_at h zxid) asked old new
+finds_none h zxid held path asked old new refused at none reads output left rest =
+    (refused, record { reads = reads (subst (λ z. IsStat (tree_at h (natural z)) path None) at none); output = output; left = left; rest = rest })
+
 -- Which read a request is
 
 pub read_exists : {A : Type 0} (P : Call → Type 0) (r : ReadRequest A) (asked : Call) → IsReadOf (requests.Exists r) asked → ((text : Text) → IsPath text → r.path ≡ Some text → P (call.Exists text r.watch)) → P asked
 read_exists P r (call.Exists text watch) is f = subst (λ (w : Bool). P (call.Exists text w)) is.2 (f text is.0 is.1)
-read_exists P r (call.GetData text watch) is f = absurd is
-read_exists P r (call.GetChildren text watch) is f = absurd is
-read_exists P r (call.SetData text content version) is f = absurd is
-read_exists P r (call.Create text content mode) is f = absurd is
-read_exists P r (call.Delete text version) is f = absurd is
-read_exists P r call.Close is f = absurd is
+read_exists P r one is f = absurd is
 
 pub read_data : {A : Type 0} (P : Call → Type 0) (r : ReadRequest A) (asked : Call) → IsReadOf (requests.GetData r) asked → ((text : Text) → IsPath text → r.path ≡ Some text → P (call.GetData text r.watch)) → P asked
-read_data P r (call.Exists text watch) is f = absurd is
 read_data P r (call.GetData text watch) is f = subst (λ (w : Bool). P (call.GetData text w)) is.2 (f text is.0 is.1)
-read_data P r (call.GetChildren text watch) is f = absurd is
-read_data P r (call.SetData text content version) is f = absurd is
-read_data P r (call.Create text content mode) is f = absurd is
-read_data P r (call.Delete text version) is f = absurd is
-read_data P r call.Close is f = absurd is
+read_data P r one is f = absurd is
 
 pub read_children : {A : Type 0} (P : Call → Type 0) (r : ReadRequest A) (asked : Call) → IsReadOf (requests.GetChildren2 r) asked → ((text : Text) → IsPath text → r.path ≡ Some text → P (call.GetChildren text r.watch)) → P asked
-read_children P r (call.Exists text watch) is f = absurd is
-read_children P r (call.GetData text watch) is f = absurd is
 read_children P r (call.GetChildren text watch) is f = subst (λ (w : Bool). P (call.GetChildren text w)) is.2 (f text is.0 is.1)
-read_children P r (call.SetData text content version) is f = absurd is
-read_children P r (call.Create text content mode) is f = absurd is
-read_children P r (call.Delete text version) is f = absurd is
-read_children P r call.Close is f = absurd is
+read_children P r one is f = absurd is

@@ -67,49 +67,16 @@ asks_so {A} asked xid found payload t request is = subst (λ (a : Asked). Wants 
 -- a read is the read of a request
 read_asked : {A : Type 0} (request : Request A) (asked : Call) → IsRead asked → IsBodyOf (operation_of request) (body_of request) asked → IsReadOf request asked
 read_asked (requests.Exists r) (call.Exists text watch) look is = is
-read_asked (requests.GetData r) (call.Exists text watch) look is = absurd is
-read_asked (requests.GetChildren r) (call.Exists text watch) look is = absurd is
-read_asked (requests.GetChildren2 r) (call.Exists text watch) look is = absurd is
-read_asked (requests.SetData r) (call.Exists text watch) look is = absurd is
-read_asked (requests.Create r) (call.Exists text watch) look is = absurd is
-read_asked (requests.Delete r) (call.Exists text watch) look is = absurd is
-read_asked (requests.SetWatches r) (call.Exists text watch) look is = absurd is
-read_asked requests.Ping (call.Exists text watch) look is = absurd is
-read_asked requests.CloseSession (call.Exists text watch) look is = absurd is
-read_asked (requests.Exists r) (call.GetData text watch) look is = absurd is
 read_asked (requests.GetData r) (call.GetData text watch) look is = is
-read_asked (requests.GetChildren r) (call.GetData text watch) look is = absurd is
-read_asked (requests.GetChildren2 r) (call.GetData text watch) look is = absurd is
-read_asked (requests.SetData r) (call.GetData text watch) look is = absurd is
-read_asked (requests.Create r) (call.GetData text watch) look is = absurd is
-read_asked (requests.Delete r) (call.GetData text watch) look is = absurd is
-read_asked (requests.SetWatches r) (call.GetData text watch) look is = absurd is
-read_asked requests.Ping (call.GetData text watch) look is = absurd is
-read_asked requests.CloseSession (call.GetData text watch) look is = absurd is
-read_asked (requests.Exists r) (call.GetChildren text watch) look is = absurd is
-read_asked (requests.GetData r) (call.GetChildren text watch) look is = absurd is
-read_asked (requests.GetChildren r) (call.GetChildren text watch) look is = absurd is
 read_asked (requests.GetChildren2 r) (call.GetChildren text watch) look is = is
-read_asked (requests.SetData r) (call.GetChildren text watch) look is = absurd is
-read_asked (requests.Create r) (call.GetChildren text watch) look is = absurd is
-read_asked (requests.Delete r) (call.GetChildren text watch) look is = absurd is
-read_asked (requests.SetWatches r) (call.GetChildren text watch) look is = absurd is
-read_asked requests.Ping (call.GetChildren text watch) look is = absurd is
-read_asked requests.CloseSession (call.GetChildren text watch) look is = absurd is
 read_asked request (call.SetData text content version) look is = absurd look
 read_asked request (call.Create text content mode) look is = absurd look
 read_asked request (call.Delete text version) look is = absurd look
 read_asked request call.Close look is = absurd look
+read_asked request asked look is = absurd is
 
 -- a part of setWatches is that of a request
 part_asked : {A : Type 0} (request : Request A) (since : ℕ) (part : Lists) → IsPartOf (operation_of request) (body_of request) since part → IsRestoring request since part
-part_asked (requests.Exists r) since part is = absurd is
-part_asked (requests.GetData r) since part is = absurd is
-part_asked (requests.GetChildren r) since part is = absurd is
-part_asked (requests.GetChildren2 r) since part is = absurd is
-part_asked (requests.SetData r) since part is = absurd is
-part_asked (requests.Create r) since part is = absurd is
-part_asked (requests.Delete r) since part is = absurd is
 part_asked (requests.SetWatches r) since part is = (
   record {
     relative = is.0;
@@ -119,8 +86,7 @@ part_asked (requests.SetWatches r) since part is = (
   },
   is.4,
 )
-part_asked requests.Ping since part is = absurd is
-part_asked requests.CloseSession since part is = absurd is
+part_asked request since part is = absurd is
 
 -- what holds of reads and of parts of setWatches holds of a look
 pub looks : {A : Type 0} (P : wanted.Request → Type 0) (request : Request A) (asked : wanted.Request) → IsLook asked → Asks request asked → ((one : Call) → IsRead one → IsReadOf request one → P (wanted.Ask one))
@@ -133,40 +99,16 @@ looks P request wanted.Ping look asks reads parts = absurd look
 -- Writes, as the functions that answer them ask
 
 pub creates_asked : {A : Type 0} (P : wanted.Request → Type 0) (r : CreateRequest A) (asked : wanted.Request) → Asks (requests.Create r) asked → ((text : Text) (number : ℕ) → IsPath text → r.path ≡ Some text → r.flags ≡ pos number → number ≤ 3 → P (wanted.Ask (call.Create text r.bytes number))) → P asked
-creates_asked P r (wanted.Connect seen) asks f = absurd asks
-creates_asked P r (wanted.Restore is_last since part) asks f = absurd asks
-creates_asked P r wanted.Ping asks f = absurd asks
-creates_asked P r (wanted.Ask (call.Exists text watch)) asks f = absurd asks
-creates_asked P r (wanted.Ask (call.GetData text watch)) asks f = absurd asks
-creates_asked P r (wanted.Ask (call.GetChildren text watch)) asks f = absurd asks
-creates_asked P r (wanted.Ask (call.SetData text content version)) asks f = absurd asks
 creates_asked P r (wanted.Ask (call.Create text content mode)) asks f = subst (λ (o : Option (List ℕ)). P (wanted.Ask (call.Create text o mode))) asks.2 (f text mode asks.0 asks.1 asks.3 asks.4)
-creates_asked P r (wanted.Ask (call.Delete text version)) asks f = absurd asks
-creates_asked P r (wanted.Ask call.Close) asks f = absurd asks
+creates_asked P r asked asks f = absurd asks
 
 pub sets_asked : {A : Type 0} (P : wanted.Request → Type 0) (r : SetDataRequest A) (asked : wanted.Request) → Asks (requests.SetData r) asked → ((text : Text) → IsPath text → r.path ≡ Some text → P (wanted.Ask (call.SetData text r.bytes r.version))) → P asked
-sets_asked P r (wanted.Connect seen) asks f = absurd asks
-sets_asked P r (wanted.Restore is_last since part) asks f = absurd asks
-sets_asked P r wanted.Ping asks f = absurd asks
-sets_asked P r (wanted.Ask (call.Exists text watch)) asks f = absurd asks
-sets_asked P r (wanted.Ask (call.GetData text watch)) asks f = absurd asks
-sets_asked P r (wanted.Ask (call.GetChildren text watch)) asks f = absurd asks
 sets_asked P r (wanted.Ask (call.SetData text content version)) asks f = subst (λ (o : Option (List ℕ)). P (wanted.Ask (call.SetData text o version))) asks.2 (subst (λ (v : ℤ). P (wanted.Ask (call.SetData text r.bytes v))) asks.3 (f text asks.0 asks.1))
-sets_asked P r (wanted.Ask (call.Create text content mode)) asks f = absurd asks
-sets_asked P r (wanted.Ask (call.Delete text version)) asks f = absurd asks
-sets_asked P r (wanted.Ask call.Close) asks f = absurd asks
+sets_asked P r asked asks f = absurd asks
 
 pub deletes_asked : {A : Type 0} (P : wanted.Request → Type 0) (r : DeleteRequest A) (asked : wanted.Request) → Asks (requests.Delete r) asked → ((text : Text) → IsPath text → r.path ≡ Some text → P (wanted.Ask (call.Delete text r.version))) → P asked
-deletes_asked P r (wanted.Connect seen) asks f = absurd asks
-deletes_asked P r (wanted.Restore is_last since part) asks f = absurd asks
-deletes_asked P r wanted.Ping asks f = absurd asks
-deletes_asked P r (wanted.Ask (call.Exists text watch)) asks f = absurd asks
-deletes_asked P r (wanted.Ask (call.GetData text watch)) asks f = absurd asks
-deletes_asked P r (wanted.Ask (call.GetChildren text watch)) asks f = absurd asks
-deletes_asked P r (wanted.Ask (call.SetData text content version)) asks f = absurd asks
-deletes_asked P r (wanted.Ask (call.Create text content mode)) asks f = absurd asks
 deletes_asked P r (wanted.Ask (call.Delete text version)) asks f = subst (λ (v : ℤ). P (wanted.Ask (call.Delete text v))) asks.2 (f text asks.0 asks.1)
-deletes_asked P r (wanted.Ask call.Close) asks f = absurd asks
+deletes_asked P r asked asks f = absurd asks
 
 -- the mode of these flags is sequential where the call's is
 pub mode_is : (flags : ℤ) (number : ℕ) (ephemeral sequential : Bool) → number ≤ 3 → flags ≡ pos number → mode_of flags ≡ Some (ephemeral, sequential) → is_sequential number ≡ sequential
@@ -178,74 +120,21 @@ mode_is flags number ephemeral sequential low is told =
 -- What is no write, no ping and no end of a session is a look.
 pub look_if : {A : Type 0} (request : Request A) (asked : wanted.Request) → Asks request asked → ((r : CreateRequest A) → request ≡ requests.Create r → ⊥) → ((r : SetDataRequest A) → request ≡ requests.SetData r → ⊥)
     → ((r : DeleteRequest A) → request ≡ requests.Delete r → ⊥) → (request ≡ requests.Ping → ⊥) → (request ≡ requests.CloseSession → ⊥) → IsLook asked
-look_if request (wanted.Connect seen) asks a b d p q = absurd asks
 look_if request (wanted.Restore is_last since part) asks a b d p q = tt
-look_if (requests.Exists r) wanted.Ping asks a b d p q = absurd asks
-look_if (requests.GetData r) wanted.Ping asks a b d p q = absurd asks
-look_if (requests.GetChildren r) wanted.Ping asks a b d p q = absurd asks
-look_if (requests.GetChildren2 r) wanted.Ping asks a b d p q = absurd asks
-look_if (requests.SetData r) wanted.Ping asks a b d p q = absurd asks
-look_if (requests.Create r) wanted.Ping asks a b d p q = absurd asks
-look_if (requests.Delete r) wanted.Ping asks a b d p q = absurd asks
-look_if (requests.SetWatches r) wanted.Ping asks a b d p q = absurd asks
 look_if requests.Ping wanted.Ping asks a b d p q = absurd (p refl)
-look_if requests.CloseSession wanted.Ping asks a b d p q = absurd asks
 look_if request (wanted.Ask (call.Exists text watch)) asks a b d p q = tt
 look_if request (wanted.Ask (call.GetData text watch)) asks a b d p q = tt
 look_if request (wanted.Ask (call.GetChildren text watch)) asks a b d p q = tt
-look_if (requests.Exists r) (wanted.Ask (call.SetData text content version)) asks a b d p q = absurd asks
-look_if (requests.GetData r) (wanted.Ask (call.SetData text content version)) asks a b d p q = absurd asks
-look_if (requests.GetChildren r) (wanted.Ask (call.SetData text content version)) asks a b d p q = absurd asks
-look_if (requests.GetChildren2 r) (wanted.Ask (call.SetData text content version)) asks a b d p q = absurd asks
 look_if (requests.SetData r) (wanted.Ask (call.SetData text content version)) asks a b d p q = absurd (b r refl)
-look_if (requests.Create r) (wanted.Ask (call.SetData text content version)) asks a b d p q = absurd asks
-look_if (requests.Delete r) (wanted.Ask (call.SetData text content version)) asks a b d p q = absurd asks
-look_if (requests.SetWatches r) (wanted.Ask (call.SetData text content version)) asks a b d p q = absurd asks
-look_if requests.Ping (wanted.Ask (call.SetData text content version)) asks a b d p q = absurd asks
-look_if requests.CloseSession (wanted.Ask (call.SetData text content version)) asks a b d p q = absurd asks
-look_if (requests.Exists r) (wanted.Ask (call.Create text content mode)) asks a b d p q = absurd asks
-look_if (requests.GetData r) (wanted.Ask (call.Create text content mode)) asks a b d p q = absurd asks
-look_if (requests.GetChildren r) (wanted.Ask (call.Create text content mode)) asks a b d p q = absurd asks
-look_if (requests.GetChildren2 r) (wanted.Ask (call.Create text content mode)) asks a b d p q = absurd asks
-look_if (requests.SetData r) (wanted.Ask (call.Create text content mode)) asks a b d p q = absurd asks
 look_if (requests.Create r) (wanted.Ask (call.Create text content mode)) asks a b d p q = absurd (a r refl)
-look_if (requests.Delete r) (wanted.Ask (call.Create text content mode)) asks a b d p q = absurd asks
-look_if (requests.SetWatches r) (wanted.Ask (call.Create text content mode)) asks a b d p q = absurd asks
-look_if requests.Ping (wanted.Ask (call.Create text content mode)) asks a b d p q = absurd asks
-look_if requests.CloseSession (wanted.Ask (call.Create text content mode)) asks a b d p q = absurd asks
-look_if (requests.Exists r) (wanted.Ask (call.Delete text version)) asks a b d p q = absurd asks
-look_if (requests.GetData r) (wanted.Ask (call.Delete text version)) asks a b d p q = absurd asks
-look_if (requests.GetChildren r) (wanted.Ask (call.Delete text version)) asks a b d p q = absurd asks
-look_if (requests.GetChildren2 r) (wanted.Ask (call.Delete text version)) asks a b d p q = absurd asks
-look_if (requests.SetData r) (wanted.Ask (call.Delete text version)) asks a b d p q = absurd asks
-look_if (requests.Create r) (wanted.Ask (call.Delete text version)) asks a b d p q = absurd asks
 look_if (requests.Delete r) (wanted.Ask (call.Delete text version)) asks a b d p q = absurd (d r refl)
-look_if (requests.SetWatches r) (wanted.Ask (call.Delete text version)) asks a b d p q = absurd asks
-look_if requests.Ping (wanted.Ask (call.Delete text version)) asks a b d p q = absurd asks
-look_if requests.CloseSession (wanted.Ask (call.Delete text version)) asks a b d p q = absurd asks
-look_if (requests.Exists r) (wanted.Ask call.Close) asks a b d p q = absurd asks
-look_if (requests.GetData r) (wanted.Ask call.Close) asks a b d p q = absurd asks
-look_if (requests.GetChildren r) (wanted.Ask call.Close) asks a b d p q = absurd asks
-look_if (requests.GetChildren2 r) (wanted.Ask call.Close) asks a b d p q = absurd asks
-look_if (requests.SetData r) (wanted.Ask call.Close) asks a b d p q = absurd asks
-look_if (requests.Create r) (wanted.Ask call.Close) asks a b d p q = absurd asks
-look_if (requests.Delete r) (wanted.Ask call.Close) asks a b d p q = absurd asks
-look_if (requests.SetWatches r) (wanted.Ask call.Close) asks a b d p q = absurd asks
-look_if requests.Ping (wanted.Ask call.Close) asks a b d p q = absurd asks
 look_if requests.CloseSession (wanted.Ask call.Close) asks a b d p q = absurd (q refl)
+look_if request asked asks a b d p q = absurd asks
 
 -- A request for a ping asks for nothing else.
 pub pings_asked : (P : wanted.Request → Type 0) (asked : wanted.Request) → Wants operation.Ping tt asked → P wanted.Ping → P asked
-pings_asked P (wanted.Connect seen) asks p = absurd asks
-pings_asked P (wanted.Restore is_last since part) asks p = absurd asks
 pings_asked P wanted.Ping asks p = p
-pings_asked P (wanted.Ask (call.Exists text watch)) asks p = absurd asks
-pings_asked P (wanted.Ask (call.GetData text watch)) asks p = absurd asks
-pings_asked P (wanted.Ask (call.GetChildren text watch)) asks p = absurd asks
-pings_asked P (wanted.Ask (call.SetData text content version)) asks p = absurd asks
-pings_asked P (wanted.Ask (call.Create text content mode)) asks p = absurd asks
-pings_asked P (wanted.Ask (call.Delete text version)) asks p = absurd asks
-pings_asked P (wanted.Ask call.Close) asks p = absurd asks
+pings_asked P asked asks p = absurd asks
 
 -- The request that is read asks for what was asked, under its xid.
 found_so : {A : Type 0} (asked : wanted.Request) (xid found : ℤ) (payload : List ℕ) (request : Request A) → IsFor asked Serving → IsReadAs asked xid payload → IsFit asked payload

@@ -23,14 +23,15 @@ use Rattle.zk_conversation.specs.Questions.{Question, question_of}
 use Rattle.zk_conversation.specs.Results.{Result, NoNode, Refused, Done, Found, Read, Listing, Made, stat_of}
 use Rattle.zk_laws.specs.Server.{Watches, both, sets, zxid_held, tree_held, IsOther, IsMadeOf, is_sequential, Gives}
 use Rattle.zk_laws.specs.Messages.{Request, Connect, Ask, Restore, Ping, Replies}
+use Rattle.zk_laws.specs.Messages as message
 use Rattle.zk_laws.specs.Parsed.{IsRecord}
 use Rattle.zk_serving.specs.Wires.{IsFit, IsFor}
 use Rattle.zk_serving.proofs.Fronts.{front_field}
-use Rattle.zk_laws.specs.ServerSteps.{ServerEnd, Stage, Waiting, Serving, Ended as Silent, Answers, Restores, Pongs, MayDo, messages_by, end_after}
+use Rattle.zk_laws.specs.ServerSteps.{ServerEnd, Stage, Waiting, Serving, Ended as Silent, Admits, Refuses, Answers, Restores, Pongs, MayDo, messages_by, end_after}
 use Rattle.zk_laws.specs.Served.{ArePayloads, IsPayload, code_of}
 use Rattle.zk_serving.specs.GoingOn.{GoesOn}
 use Rattle.zk_serving.specs.Steps.{Step, Moves, ended_by, sent_by, processed_by, used_by}
-use Rattle.zk_serving.specs.Shown.{Shown, Open, Apart}
+use Rattle.zk_serving.specs.Shown.{Shown, Open, Apart, Over}
 use Rattle.zk_serving.proofs.Stepping.{moves_more, ended_more, sent_more, processed_more, answer_moves, idle_moves, idle_processes, last_ended, last_sent, last_processed}
 use Rattle.zk_serving.proofs.Later.{moves_later, ended_later, taken_at, taken_set, taken_later}
 use Rattle.zk_bench.specs.declared.connection.Connection.{Connection}
@@ -43,14 +44,14 @@ use Rattle.zk_bench.specs.declared.stop.Refusal.TheVariants as refusals
 use Rattle.zk_bench.specs.Refusals.{IsCode}
 use Rattle.zk_bench.specs.Served.{Served, Linked, is_open, ended, Continues}
 use Rattle.zk_bench.specs.Linked.{linked_of}
-use Rattle.zk_bench.specs.Serving.{watched, Sends, SendsHeader}
+use Rattle.zk_bench.specs.Serving.{watched, Sends, SendsHeader, SendsMessage}
 use Rattle.zk_bench.specs.Answering.{IsRead, FindsNone, RefusesRead}
 use Rattle.zk_bench.specs.Restoring.{RestoresPart}
-use Rattle.zk_bench.specs.Stepping.{Catches, CatchesUp, IsReady, TakesSome, ProcessesOne, Owes, OwesTo, IsRefusal, Declines, HasClient, HasAll, HasWritten, LeavesUnmade, LeavesUnsent, SendsStat, IsSending, zxid_of, stage_of, phase_of, shown_watches, end_of, shown_of}
+use Rattle.zk_bench.specs.Stepping.{Catches, CatchesUp, IsReady, TakesSome, ProcessesOne, Owes, OwesTo, IsRefusal, Declines, HasClient, HasAll, HasWritten, LeavesUnmade, LeavesUnsent, SendsStat, IsSending, zxid_of, stage_of, phase_of, end_of, shown_of}
 use Rattle.zk_bench.specs.Writing.{IsAnswer, appended}
 use Rattle.zk_bench.proofs.Answered.{or-false, stat_read}
 use Rattle.zk_bench.proofs.Written.{appended-transactions}
-use Rattle.zk_bench.proofs.Stepped.{continues_so, shows_same, shows_ended, same_history, set_there, length_set, is_going_on, gives_read, goes_on}
+use Rattle.zk_bench.proofs.Stepped.{continues_so, shows_same, shows_ended, same_history, set_there, length_set, is_going_on, not_open, end_linked, gives_read, goes_on}
 
 grown : (h later : History) (n : ℕ) → GoesOn h later → n ≤ length h.transactions → n ≤ length later.transactions
 grown h later n g low =
@@ -155,6 +156,28 @@ ends_after request xid old new took over =
       done = λ still. absurd (over still);
     }
 
+twice : (bs : List ℕ) → bs ≡ bs ++ []
+twice bs = sym (append-nil bs)
+
+-- The answers to a ConnectRequest
+
+pub admits_so : (b : Served) (new : Linked) (seen : ℕ) (xid : ℤ) → b.connection.phase ≡ phases.Opening → seen ≤ zxid_held (history_of b.history) (slice_index b.taken b.server)
+    → SendsMessage message.Accepted b.connection.output new.output → new ≡ record b.connection { phase = phases.Accepted; output = new.output }
+    → ProcessesOne (Connect seen) xid (shown_of b) (shown_of (record b { connection = new }))
+admits_so b new seen xid opening low s rest =
+    let at : new.phase ≡ phases.Accepted = ap (λ (c : Linked). c.phase) rest in
+    processes_after (Connect seen) xid (shown_of b) (shown_of b) (shown_of (record b { connection = new })) (record { step = Admits seen; payloads = s.payload ∷ [] }) (shows_same b (ap is_open opening)) (ap phase_of opening)
+    (ap stage_of opening, refl, low) (s.small, s.spelled xid, tt) refl refl (s.output ∙ ap (λ (bs : List ℕ). b.connection.output ++ bs) (twice (frame s.payload)))
+    (λ e. let f : Open ≡ Apart = sym (ap phase_of at) ∙ e in absurd cc) (λ still. ap (λ (c : Linked). end_linked (slice_index b.taken b.server) c) rest)
+
+pub expires_so : (b : Served) (new : Linked) (seen : ℕ) (xid : ℤ) → b.connection.phase ≡ phases.Opening → seen ≤ zxid_held (history_of b.history) (slice_index b.taken b.server)
+    → SendsMessage message.Expired b.connection.output new.output → new.phase ≡ phases.Ended
+    → ProcessesOne (Connect seen) xid (shown_of b) (shown_of (record b { connection = new }))
+expires_so b new seen xid opening low s over =
+    processes_after (Connect seen) xid (shown_of b) (shown_of b) (shown_of (record b { connection = new })) (record { step = Refuses seen; payloads = s.payload ∷ [] }) (shows_same b (ap is_open opening)) (ap phase_of opening)
+    (ap stage_of opening, refl, low) (s.small, s.spelled xid, tt) refl refl (s.output ∙ ap (λ (bs : List ℕ). b.connection.output ++ bs) (twice (frame s.payload)))
+    (λ e. let f : Over ≡ Apart = sym (ap phase_of over) ∙ e in absurd cc) (λ still. absurd (not_open new.phase over still))
+
 -- A call is answered by a header alone.
 payload_refused : (xid : ℤ) (question : Question) (zxid : ℕ) (result : Result) (code : ℤ) (old new : List ℕ) → IsRefusal result → code_of result ≡ code → (s : SendsHeader (xid, (pos zxid, code)) old new)
     → IsPayload xid (Replies question zxid result) (spelling reply_header (xid, (pos zxid, code)))
@@ -169,9 +192,6 @@ payload_refused xid question zxid (Found told) code old new is same s = absurd i
 payload_refused xid question zxid (Read bytes told) code old new is same s = absurd is
 payload_refused xid question zxid (Listing names told) code old new is same s = absurd is
 payload_refused xid question zxid (Made at) code old new is same s = absurd is
-
-twice : (bs : List ℕ) → bs ≡ bs ++ []
-twice bs = sym (append-nil bs)
 
 -- A code that is owed is sent.
 pub owed_sent : (call : Call) (code xid : ℤ) (old mid new : Shown) → Owes call code old mid → SendsHeader (xid, (pos (zxid_held mid.history mid.server.place), code)) mid.output new.output
@@ -316,9 +336,6 @@ shows_caught b old new place ready accepted rest g =
         requests = λ still. ap (λ k. k.requests.items) rest;
       };
     }
-  where
-    end_linked : ℕ → Linked → ServerEnd
-    end_linked at c = record { place = at; watches = shown_watches c; stage = stage_of c.phase }
 
 -- and one that ends the connection on its way
 pub shows_stopped : {A : Type 0} (b : Served) (old new : Connection A) (place : ℕ) → Catches (history_of b.history) (slice_index b.taken b.server) old place new
@@ -447,26 +464,18 @@ IsWrite (call.Delete text version) = ⊤
 IsWrite one = ⊥
 
 write_stays : (one : Call) → IsWrite one → closes (question_of one) ≡ false
-write_stays (call.Exists text watch) is = absurd is
-write_stays (call.GetData text watch) is = absurd is
-write_stays (call.GetChildren text watch) is = absurd is
-write_stays (call.SetData text content version) is = refl
-write_stays (call.Create text content mode) is = refl
-write_stays (call.Delete text version) is = refl
 write_stays call.Close is = absurd is
+write_stays one is = refl
 
 no_watch : (w : Watches) → w ≡ both w (λ side path. false)
 no_watch w = fun_ext (λ side. fun_ext (λ path. sym (or-false (w side path))))
 
 -- a write leaves no watch
 write_sets : (one : Call) (result : Result) (w : Watches) → IsWrite one → w ≡ both w (sets (question_of one) result)
-write_sets (call.Exists text watch) result w is = absurd is
-write_sets (call.GetData text watch) result w is = absurd is
-write_sets (call.GetChildren text watch) result w is = absurd is
 write_sets (call.SetData text content version) result w is = no_watch w
 write_sets (call.Create text content mode) result w is = no_watch w
 write_sets (call.Delete text version) result w is = no_watch w
-write_sets call.Close result w is = absurd is
+write_sets one result w is = absurd is
 
 -- what a code answers
 abbrev result_of : Code → Result
@@ -474,37 +483,18 @@ result_of codes.NoNode = NoNode
 result_of code = Refused (code_number code)
 
 refused_so : (code : Code) → IsRefusal (result_of code) × (code_of (result_of code) ≡ code_number code)
-refused_so codes.ConnectionLoss = (tt, refl)
-refused_so codes.Unimplemented = (tt, refl)
-refused_so codes.BadArguments = (tt, refl)
 refused_so codes.NoNode = (tt, refl)
-refused_so codes.NoAuth = (tt, refl)
-refused_so codes.BadVersion = (tt, refl)
-refused_so codes.NoChildrenForEphemerals = (tt, refl)
-refused_so codes.NodeExists = (tt, refl)
-refused_so codes.NotEmpty = (tt, refl)
-refused_so codes.SessionExpired = (tt, refl)
-refused_so codes.InvalidAcl = (tt, refl)
-refused_so codes.SessionMoved = (tt, refl)
-refused_so (codes.Other n) = (tt, refl)
+refused_so code = (tt, refl)
 
 other_by : (h : History) (place : ℕ) (one : Call) (code : ℤ) → IsOther code → Gives h place one (Refused code)
-other_by h at (call.Exists text watch) code o = o
-other_by h at (call.GetData text watch) code o = o
-other_by h at (call.GetChildren text watch) code o = o
-other_by h at (call.SetData text content version) code o = o
-other_by h at (call.Create text content mode) code o = o
-other_by h at (call.Delete text version) code o = o
 other_by h at call.Close code o = o
+other_by h at one code o = o
 
 none_by : (h : History) (place : ℕ) (one : Call) → IsWrite one → Gives h place one NoNode
-none_by h at (call.Exists text watch) is = absurd is
-none_by h at (call.GetData text watch) is = absurd is
-none_by h at (call.GetChildren text watch) is = absurd is
 none_by h at (call.SetData text content version) is = tt
 none_by h at (call.Create text content mode) is = tt
 none_by h at (call.Delete text version) is = tt
-none_by h at call.Close is = absurd is
+none_by h at one is = absurd is
 
 abbrev behind_zero : ℤ → ℕ
 behind_zero (pos n) = n

@@ -15,23 +15,22 @@ use Rattle.zk_nodes.specs.declared.side.Side.{Side}
 use Rattle.zk_nodes.specs.declared.side.Side.TheVariants.{Data, Child}
 use Rattle.zk_serving.specs.GoingOn.{GoesOn}
 use Rattle.zk_laws.specs.Server.{Watches, Notice, AreSent, fires, leaves_set, fires_all, leaves_set_all, no_watches, without, same_side, zxid_held, tree_held, Reads, Gives, both, sets}
-use Rattle.zk_laws.specs.Messages.{Connect, Request, Ask}
+use Rattle.zk_laws.specs.Messages.{Request, Ask}
 use Rattle.zk_conversation.specs.Calls.{Call}
 use Rattle.zk_conversation.specs.Calls as call
 use Rattle.zk_conversation.specs.Questions.{question_of}
 use Rattle.zk_conversation.specs.Pending.{closes}
-use Rattle.zk_conversation.specs.Results.{Result, NoNode, Done, Refused, Found, Read, Listing, Made}
+use Rattle.zk_conversation.specs.Results.{Result, Refused}
 use Rattle.zk_bench.specs.Answering.{IsRead, IsTold, AnswersRead}
-use Rattle.zk_laws.specs.Messages as message
-use Rattle.zk_laws.specs.ServerSteps.{ServerEnd, Stage, Waiting, Serving, Ended as Silent, Advances, Admits, Refuses, Answers, MayDo, end_after, changes_next}
+use Rattle.zk_laws.specs.ServerSteps.{ServerEnd, Stage, Waiting, Serving, Ended as Silent, Advances, Answers, MayDo, end_after, changes_next}
 use Rattle.zk_serving.specs.Steps.{Step, Moves, ended_by, sent_by}
 use Rattle.zk_serving.proofs.Stepping.{last_moves, last_ended, last_sent}
 use Rattle.zk_bench.specs.declared.connection.Connection.{Connection}
 use Rattle.zk_bench.specs.declared.phase.Phase.{Phase}
 use Rattle.zk_bench.specs.declared.phase.Phase.TheVariants.{Apart, Opening, Accepted, Ended}
-use Rattle.zk_bench.specs.Serving.{watched, Tells, SendsMessage}
+use Rattle.zk_bench.specs.Serving.{watched, Tells}
 use Rattle.zk_serving.specs.Shown as shows
-use Rattle.zk_serving.specs.Shown.{Shown}
+use Rattle.zk_serving.specs.Shown.{Shown, GoesBy}
 use Rattle.zk_serving.proofs.Later.{taken_set}
 use Rattle.zk_bench.specs.Served.{Served, Linked, is_open, advanced, advanced_by, ended, disconnected, Continues}
 use Rattle.zk_bench.specs.declared.stop.Stop.{Stop}
@@ -56,6 +55,14 @@ so_far h before old after new g = record { steps = g.steps; moves = g.moves; sen
 pub untold : {A : Type 0} (h : History) (before : ℕ) (old : Connection A) (at : ℕ) (mid : Connection A) (new : Connection A) → CatchesUp h before old at mid → at < length h.transactions
     → new.output.items ≡ mid.output.items → Catches h before old (at + 1) new
 untold h before old at mid new g room same = record { steps = g.steps; moves = g.moves; sent = same ∙ g.sent; low = omega (arith, room) }
+
+-- the server's end, as what is linked shows it
+abbrev pub end_linked : ℕ → Linked → ServerEnd
+end_linked place c = record { place = place; watches = shown_watches c; stage = stage_of c.phase }
+
+-- one frame and no more, as frames are joined
+twice : (bs : List ℕ) → bs ≡ (bs ++ []) ++ []
+twice bs = sym (append-nil (bs ++ []) ∙ append-nil bs)
 
 serves : (phase : Phase) → phase ≡ Accepted → stage_of phase ≢ Silent
 serves phase e over = let at : Serving ≡ Silent = sym (ap stage_of e) ∙ over in absurd cc
@@ -190,9 +197,6 @@ shows_taken b old new is ready up rest g =
         requests = λ still. ap (λ k. k.requests.items) rest ∙ ap (λ (c : Linked). c.requests) (sym is);
       };
     }
-  where
-    end_linked : ℕ → Linked → ServerEnd
-    end_linked place c = record { place = place; watches = shown_watches c; stage = stage_of c.phase }
 
 -- each server still holds a beginning
 pub ready_taken : (b : Served) (server : ℕ) (connection : Linked) → IsReady b → slice_index b.taken server < length b.history.transactions
@@ -218,21 +222,22 @@ ready_told i before server new same room idle rest was_ready =
     let ready : IsReady (bench_of i) = subst IsReady (sym same) was_ready in
     ready_taken (bench_of i) server (linked_of new) ready room (still_unwatched i.connection new idle rest ready.unwatched)
 
--- an end, where nothing was sent, is no step
-pub shows_ended : (old new : Served) → GoesOn (history_of old.history) (history_of new.history) → new.connection.phase ≡ Ended → new.connection.output ≡ old.connection.output → TakesSome (shown_of old) (shown_of new)
-shows_ended old new goes over same = record {
-  steps = [];
-  takes = record {
-    goes = record {
-      history = goes;
-      moves = tt;
-      sent = same ∙ sym (append-nil old.connection.output);
-      there = λ e. let f : shows.Over ≡ shows.Apart = sym (ap phase_of over) ∙ e in absurd cc;
-      ended = λ e. let f : shows.Over ≡ shows.Open = sym (ap phase_of over) ∙ e in absurd cc;
-    };
-    requests = λ e. let f : shows.Over ≡ shows.Open = sym (ap phase_of over) ∙ e in absurd cc;
-  };
+pub not_open : (phase : Phase) → phase ≡ Ended → phase_of phase ≢ shows.Open
+not_open phase over e = let f : shows.Over ≡ shows.Open = sym (ap phase_of over) ∙ e in absurd cc
+
+-- an end, where nothing was sent, goes by no step
+ends_by : (xid : ℤ) (asked : List Request) (old new : Served) → GoesOn (history_of old.history) (history_of new.history) → new.connection.phase ≡ Ended → new.connection.output ≡ old.connection.output → GoesBy xid asked [] (shown_of old) (shown_of new)
+ends_by xid asked old new goes over same = record {
+  history = goes;
+  moves = tt;
+  sent = same ∙ sym (append-nil old.connection.output);
+  there = λ e. let f : shows.Over ≡ shows.Apart = sym (ap phase_of over) ∙ e in absurd cc;
+  ended = λ e. absurd (not_open new.connection.phase over e);
 }
+
+pub shows_ended : (old new : Served) → GoesOn (history_of old.history) (history_of new.history) → new.connection.phase ≡ Ended → new.connection.output ≡ old.connection.output → TakesSome (shown_of old) (shown_of new)
+shows_ended old new goes over same =
+    record { steps = []; takes = record { goes = ends_by (pos 0) [] old new goes over same; requests = λ e. absurd (not_open new.connection.phase over e) } }
 
 -- nothing happens
 pub shows_same : (b : Served) → is_open b.connection.phase ≡ true → TakesSome (shown_of b) (shown_of b)
@@ -306,52 +311,6 @@ pub this_error : {T E : Type 0} (r : Outcome T E) (e : E) (P : Type 0) → OnErr
 this_error (Ok x) e P h is = absurd cc
 this_error (Err f) e P h is = h
 
--- The answers to a ConnectRequest
-
-pub admits_so : (b : Served) (new : Linked) (seen : ℕ) (xid : ℤ) → b.connection.phase ≡ Opening → seen ≤ zxid_held (history_of b.history) (slice_index b.taken b.server)
-    → SendsMessage message.Accepted b.connection.output new.output → new ≡ record b.connection { phase = Accepted; output = new.output }
-    → ProcessesOne (Connect seen) xid (shown_of b) (shown_of (record b { connection = new }))
-admits_so b new seen xid opening low s rest =
-    let h : History = history_of b.history in
-    let at : new.phase ≡ Accepted = ap (λ (c : Linked). c.phase) rest in
-    record {
-      steps = record { step = Admits seen; payloads = s.payload ∷ [] } ∷ [];
-      goes = record {
-        history = same_history h;
-        moves = ((ap stage_of opening, refl, low), (s.small, s.spelled xid, tt), tt);
-        sent = s.output ∙ ap (λ (bs : List ℕ). b.connection.output ++ bs) (twice (frame s.payload));
-        there = λ e. let f : shows.Open ≡ shows.Apart = sym (ap phase_of at) ∙ e in absurd cc;
-        ended = λ still. ap (λ (c : Linked). end_linked (slice_index b.taken b.server) c) rest;
-      };
-      done = λ still. refl;
-    }
-  where
-    end_linked : ℕ → Linked → ServerEnd
-    end_linked place c = record { place = place; watches = shown_watches c; stage = stage_of c.phase }
-
-    twice : (bs : List ℕ) → bs ≡ (bs ++ []) ++ []
-    twice bs = sym (append-nil (bs ++ []) ∙ append-nil bs)
-
-pub expires_so : (b : Served) (new : Linked) (seen : ℕ) (xid : ℤ) → b.connection.phase ≡ Opening → seen ≤ zxid_held (history_of b.history) (slice_index b.taken b.server)
-    → SendsMessage message.Expired b.connection.output new.output → new.phase ≡ Ended
-    → ProcessesOne (Connect seen) xid (shown_of b) (shown_of (record b { connection = new }))
-expires_so b new seen xid opening low s over =
-    let h : History = history_of b.history in
-    record {
-      steps = record { step = Refuses seen; payloads = s.payload ∷ [] } ∷ [];
-      goes = record {
-        history = same_history h;
-        moves = ((ap stage_of opening, refl, low), (s.small, s.spelled xid, tt), tt);
-        sent = s.output ∙ ap (λ (bs : List ℕ). b.connection.output ++ bs) (twice (frame s.payload));
-        there = λ e. let f : shows.Over ≡ shows.Apart = sym (ap phase_of over) ∙ e in absurd cc;
-        ended = λ e. let f : shows.Over ≡ shows.Open = sym (ap phase_of over) ∙ e in absurd cc;
-      };
-      done = λ e. let f : shows.Over ≡ shows.Open = sym (ap phase_of over) ∙ e in absurd cc;
-    }
-  where
-    twice : (bs : List ℕ) → bs ≡ (bs ++ []) ++ []
-    twice bs = sym (append-nil (bs ++ []) ∙ append-nil bs)
-
 -- A client that has seen no more than the server has.
 seen_by : (held seen : ℕ) → int_lt (pos held) (pos seen) ≡ false → seen ≤ held
 seen_by held seen e = grind (arith, nat_tests)
@@ -413,20 +372,9 @@ first_processed old new request xid payload rest is gone p = record {
 -- a connection that ends with nothing sent
 pub ends_first : (old new : Served) (request : Request) (xid : ℤ) (payload : List ℕ) → GoesOn (history_of old.history) (history_of new.history) → new.connection.phase ≡ Ended → new.connection.output ≡ old.connection.output
     → ProcessesFirst request xid payload (shown_of old) (shown_of new)
-ends_first old new request xid payload goes over same = record {
-  steps = [];
-  processes = record {
-    goes = record {
-      history = goes;
-      moves = tt;
-      sent = same ∙ sym (append-nil old.connection.output);
-      there = λ e. let f : shows.Over ≡ shows.Apart = sym (ap phase_of over) ∙ e in absurd cc;
-      ended = λ e. let f : shows.Over ≡ shows.Open = sym (ap phase_of over) ∙ e in absurd cc;
-    };
-    done = λ e. let f : shows.Over ≡ shows.Open = sym (ap phase_of over) ∙ e in absurd cc;
-    requests = λ e. let f : shows.Over ≡ shows.Open = sym (ap phase_of over) ∙ e in absurd cc;
-  };
-}
+ends_first old new request xid payload goes over same =
+    let closed = not_open new.connection.phase over in
+    record { steps = []; processes = record { goes = ends_by xid (request ∷ []) old new goes over same; done = λ e. absurd (closed e); requests = λ e. absurd (closed e) } }
 
 pub continues_so : (old new : HistoryView) → Continues old new → GoesOn (history_of old) (history_of new)
 continues_so old new c = record { first = ap (λ (ts : List Transaction). after ts root_tree) c.nodes; more = c.more; transactions = c.transactions }
@@ -434,40 +382,16 @@ continues_so old new c = record { first = ap (λ (ts : List Transaction). after 
 -- A read that is answered
 
 pub goes_on : (asked : Call) → IsRead asked → closes (question_of asked) ≡ false
-goes_on (call.Exists text watch) is = refl
-goes_on (call.GetData text watch) is = refl
-goes_on (call.GetChildren text watch) is = refl
-goes_on (call.SetData text content version) is = absurd is
-goes_on (call.Create text content mode) is = absurd is
-goes_on (call.Delete text version) is = absurd is
 goes_on call.Close is = absurd is
+goes_on asked is = refl
 
 pub gives_read : (h : History) (place : ℕ) (asked : Call) (result : Result) → IsRead asked → IsTold result → Reads (tree_held h place) (question_of asked) result → Gives h place asked result
-gives_read h place (call.Exists text watch) NoNode is told reads = reads
-gives_read h place (call.Exists text watch) Done is told reads = reads
-gives_read h place (call.Exists text watch) (Refused code) is told reads = absurd told
-gives_read h place (call.Exists text watch) (Found stat) is told reads = reads
-gives_read h place (call.Exists text watch) (Read bytes stat) is told reads = reads
-gives_read h place (call.Exists text watch) (Listing names stat) is told reads = reads
-gives_read h place (call.Exists text watch) (Made at) is told reads = reads
-gives_read h place (call.GetData text watch) NoNode is told reads = reads
-gives_read h place (call.GetData text watch) Done is told reads = reads
-gives_read h place (call.GetData text watch) (Refused code) is told reads = absurd told
-gives_read h place (call.GetData text watch) (Found stat) is told reads = reads
-gives_read h place (call.GetData text watch) (Read bytes stat) is told reads = reads
-gives_read h place (call.GetData text watch) (Listing names stat) is told reads = reads
-gives_read h place (call.GetData text watch) (Made at) is told reads = reads
-gives_read h place (call.GetChildren text watch) NoNode is told reads = reads
-gives_read h place (call.GetChildren text watch) Done is told reads = reads
-gives_read h place (call.GetChildren text watch) (Refused code) is told reads = absurd told
-gives_read h place (call.GetChildren text watch) (Found stat) is told reads = reads
-gives_read h place (call.GetChildren text watch) (Read bytes stat) is told reads = reads
-gives_read h place (call.GetChildren text watch) (Listing names stat) is told reads = reads
-gives_read h place (call.GetChildren text watch) (Made at) is told reads = reads
+gives_read h place asked (Refused code) is told reads = absurd told
 gives_read h place (call.SetData text content version) result is told reads = absurd is
 gives_read h place (call.Create text content mode) result is told reads = absurd is
 gives_read h place (call.Delete text version) result is told reads = absurd is
 gives_read h place call.Close result is told reads = absurd is
+gives_read h place asked result is told reads = reads
 
 -- so a server that serves answers
 pub reads_so : {A : Type 0} (b : Served) (old new : Connection A) (asked : Call) (xid : ℤ) → b.connection ≡ linked_of old → old.phase ≡ Accepted
@@ -495,11 +419,5 @@ reads_so b old new asked xid is accepted a =
       done = λ still. refl;
     }
   where
-    end_linked : ℕ → Linked → ServerEnd
-    end_linked place c = record { place = place; watches = shown_watches c; stage = stage_of c.phase }
-
     end_with : ℕ → Watches → Stage → ServerEnd
     end_with place watches stage = record { place = place; watches = watches; stage = stage }
-
-    twice : (bs : List ℕ) → bs ≡ (bs ++ []) ++ []
-    twice bs = sym (append-nil (bs ++ []) ∙ append-nil bs)

@@ -62,23 +62,6 @@ fn tell_change<A: Allocator + Copy>(
     Ok(())
 }
 
-// Sends the notices of changes, in their order.
-fn tell_each<A: Allocator + Copy>(
-    alloc: A,
-    changes: &[Change<A>],
-    connection: &mut Connection<A>,
-) -> Result<(), Stop>
-    ensures rest { connection.new ≡ record connection.old { watches = connection.new.watches; output = connection.new.output } }
-    ensures left { OnOk result (watched connection.new.watches ≡ leaves_set_all (map change_of changes.now) (watched connection.old.watches)) }
-    ensures tells { OnOk result (Tells (fires_all (map change_of changes.now) (watched connection.old.watches)) connection.old.output.items connection.new.output.items) }
-    ensures begun { first (bytes_of connection.old.output.items) connection.new.output.items ≡ connection.old.output.items }
-{
-    for change in changes {
-        tell_change(alloc, change, connection)?;
-    }
-    Ok(())
-}
-
 /// Sends the notices of a transaction's changes, in their order: all of them, or with an error none.
 pub(crate) fn tell_changes<A: Allocator + Copy>(
     alloc: A,
@@ -91,11 +74,13 @@ pub(crate) fn tell_changes<A: Allocator + Copy>(
     ensures err { OnErr result (connection.new.output.items ≡ connection.old.output.items) }
 {
     let start = connection.output.len();
-    let outcome = tell_each(alloc, changes, connection);
-    if outcome.is_err() {
-        connection.output.truncate(start);
+    for change in changes {
+        if let Err(stop) = tell_change(alloc, change, connection) {
+            connection.output.truncate(start);
+            return Err(stop);
+        }
     }
-    outcome
+    Ok(())
 }
 
 /// The same for a connection whose client may not have been accepted: then nothing is sent.

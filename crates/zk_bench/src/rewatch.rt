@@ -141,28 +141,6 @@ fn rewatch_lists<A: Allocator + Copy>(
     Ok(())
 }
 
-// Goes through the three lists, and replies.
-fn restore<A: Allocator + Copy>(
-    tree: &Tree<'_, A>,
-    xid: i32,
-    request: &SetWatches<A>,
-    connection: &mut Connection<A>,
-) -> Result<(), Stop>
-    ensures rest { connection.new ≡ record connection.old { watches = connection.new.watches; output = connection.new.output } }
-    ensures begun { first (bytes_of connection.old.output.items) connection.new.output.items ≡ connection.old.output.items }
-    ensures restores { (since zxid : ℕ) (part : Lists) → IsPart request.now since part → ArePaths part → tree.now.zxid ≡ pos zxid
-        → OnOk result (RestoresPart (tree_at (history_of tree.now.history.now) zxid) zxid xid since part connection.old connection.new) }
-{
-    rewatch_lists(tree, request, connection)?;
-    let header = ReplyHeader {
-        xid,
-        zxid: tree.zxid,
-        err: 0,
-    };
-    send_header(tree.alloc, header, &mut connection.output)?;
-    Ok(())
-}
-
 /// Answers setWatches: sets the watches, or sends what was missed, path by path: the data, the exist and the child list.
 /// Where the reply can't be sent, nothing is.
 pub(crate) fn set_watches<A: Allocator + Copy>(
@@ -176,10 +154,19 @@ pub(crate) fn set_watches<A: Allocator + Copy>(
         → OnOk result (RestoresPart (tree_at (history_of tree.now.history.now) zxid) zxid xid since part connection.old connection.new) }
     ensures err { OnErr result (connection.new.output.items ≡ connection.old.output.items) }
 {
+    let header = ReplyHeader {
+        xid,
+        zxid: tree.zxid,
+        err: 0,
+    };
     let start = connection.output.len();
-    let outcome = restore(tree, xid, request, connection);
-    if outcome.is_err() {
+    if let Err(stop) = rewatch_lists(tree, request, connection) {
+        connection.output.truncate(start);
+        return Err(stop);
+    }
+    let sent = send_header(tree.alloc, header, &mut connection.output);
+    if sent.is_err() {
         connection.output.truncate(start);
     }
-    outcome
+    sent
 }

@@ -108,8 +108,10 @@ module _ {A X Y S : Type 0} (f : X → Y) where
       by (Some held) = by_mark held.answer held.mark
 
 -- what a look-up by text gave is what the finite map has
-pub seen : {A X Y S : Type 0} (f : X → Y) (m : IndexMap (String A) (Kept X) S) (path : List ℕ) (r : Option (Kept X)) → r ≡ get_by_text m path → option_map (seen_by f) r ≡ finite.get (as_map (seen_by f) m) path
-seen f m path r e = ap (option_map (seen_by f)) e ∙ sym (get-as_map (seen_by f) m path)
+pub seen : {A R X Y S : Type 0} (f : X → Y) (now : R → X) (m : IndexMap (String A) (Kept X) S) (path : List ℕ) (r : Option (R × Mark))
+    → option_map (λ kept. record { answer = now kept.0; mark = kept.1 }) r ≡ get_by_text m path → option_map (λ kept. record { answer = f (now kept.0); mark = kept.1 }) r ≡ finite.get (as_map (seen_by f) m) path
+seen f now m path None e = ap (option_map (seen_by f)) e ∙ sym (get-as_map (seen_by f) m path)
+seen f now m path (Some kept) e = ap (option_map (seen_by f)) e ∙ sym (get-as_map (seen_by f) m path)
 
 -- what is in the map is in the finite map
 pub is_kept : {A X Y S : Type 0} (f : X → Y) (m : IndexMap (String A) (Kept X) S) (path : List ℕ) → is_some (get_by_text m path) ≡ is_some (finite.get (as_map (seen_by f) m) path)

@@ -4,7 +4,7 @@ ghost use Rattle.zk_cache.specs.Cache.{no_answers, data_kept, names_kept, with_d
 ghost use Rattle.zk_cache.specs.Contents.{answer_of, names_in, set_of};
 
 use crate::answers::{DataAnswer, keep, set_of};
-use crate::held::{Held, Mark, keep_good, mark_stale, put};
+use crate::held::{Held, Mark, keep_good, mark_stale, peek, put};
 use indexmap::IndexMap;
 use std::alloc::{AllocError, Allocator};
 use std::marker::Model;
@@ -105,15 +105,13 @@ impl<A: Allocator + Copy> Cache<A> {
     pub fn peek_data(&self, path: &str) -> Option<(&DataAnswer<A>, Mark)>
         ensures { option_map (λ kept. record { answer = answer_of kept.0.now; mark = kept.1 }) result ≡ data_kept self.now path.now }
     {
-        let kept = self.data_answers.get(path)?;
-        Some((&kept.answer, kept.mark))
+        peek(&self.data_answers, path)
     }
 
     /// What is kept about the children of a path.
     pub fn peek_children(&self, path: &str) -> Option<(&Names<A>, Mark)>
         ensures { option_map (λ kept. record { answer = names_in kept.0.now; mark = kept.1 }) result ≡ names_kept self.now path.now }
     {
-        let kept = self.child_answers.get(path)?;
-        Some((&kept.answer, kept.mark))
+        peek(&self.child_answers, path)
     }
 }

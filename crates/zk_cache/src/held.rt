@@ -1,5 +1,5 @@
 //! Maps from paths to answers with a mark.
-ghost use Rattle.std.specs.Prelude.{◌≡◌, ℕ, List, Some, OnOk, OnErr, IsOk, true, is_some, bytes_eq, if◌then◌else◌};
+ghost use Rattle.std.specs.Prelude.{◌≡◌, ℕ, List, Some, OnOk, OnErr, IsOk, true, is_some, option_map, bytes_eq, if◌then◌else◌};
 ghost use Rattle.indexmap.specs.IndexMap.{get_by_text, IsUnchanged};
 ghost use Rattle.zk_cache.specs.Kept.{as_good, good, stale, without_stale, is_good};
 
@@ -66,6 +66,17 @@ pub(crate) fn put<T: Drop, A: Allocator + Copy>(
         return Ok(());
     }
     insert(alloc, map, path, answer)
+}
+
+/// The answer of the path with its mark, if there is one.
+pub(crate) fn peek<'a, T, A: Allocator + Copy>(
+    map: &'a Held<T, A>,
+    path: &str,
+) -> Option<(&'a T, Mark)>
+    ensures { option_map (λ kept. record { answer = kept.0.now; mark = kept.1 }) result ≡ get_by_text map.now path.now }
+{
+    let kept = map.get(path)?;
+    Some((&kept.answer, kept.mark))
 }
 
 /// Marks the answer stale, if there is one.

@@ -13,7 +13,7 @@ use Rattle.zk_watches.specs.Lists.{Lists, no_lists}
 use Rattle.zk_cache.specs.Cache.{Answers, data_kept, names_kept, no_answers}
 use Rattle.zk_turns.specs.Past.{Left, Took, Replies, leaves_data, leaves_child}
 use Rattle.zk_turns.specs.View.{View}
-use Rattle.zk_turns.specs.Rule.{next, next_reply, seen, after_reply, with_node, with_children, kept_after, keep_node, keep_children}
+use Rattle.zk_turns.specs.Rule.{next, next_reply, after_reply, with_node, with_children, kept_after, keep_node, keep_children}
 use Rattle.zk_cache.specs.Kept.{Answer, Names}
 use Rattle.zk_turns.proofs.Happened.{view_ext}
 use Rattle.zk_client.specs.Seen.{shown, while_pending, cache_of}
@@ -38,15 +38,9 @@ not-closing (SetData path) e = refl
 not-closing (Create path) e = refl
 not-closing (Delete path) e = refl
 
--- the view after a reply to another question
+-- the view after a reply to another question: that after a write, but for what the reply leaves
 abbrev other_reply : View → Question → ℤ → Result → View
-other_reply view question zxid result = record view {
-  saved = seen zxid view;
-  pending = drop 1 view.pending;
-  held = [];
-  lists = after_reply question result view.lists;
-  cache = kept_after question result view.cache;
-}
+other_reply view question zxid result = record (next_reply view (SetData []) zxid result) { lists = after_reply question result view.lists; cache = kept_after question result view.cache }
 
 reply-next : (view : View) (question : Question) (zxid : ℤ) (result : Result) → closes question ≡ false → next_reply view question zxid result ≡ other_reply view question zxid result
 reply-next view Close zxid result e = absurd cc
@@ -62,7 +56,7 @@ pub left-lists : (known : Option (Left Answer)) (children : Option (Left Names))
     → with_children children (with_node known lists) ≡ after_reply question result lists
 left-lists known children question result lists d e = λ i. with_children (e i) (with_node (d i) lists)
 
-pub answered-view : (held : List ℕ) (halted : Bool) (kept : SessionView) (talk : Talk) (lists : Lists) (answers : Answers) (pending : List Pending) (xid : ℤ) (ticket : ℕ) (question : Question) (zxid : ℤ) (result : Result)
+answered-view : (held : List ℕ) (halted : Bool) (kept : SessionView) (talk : Talk) (lists : Lists) (answers : Answers) (pending : List Pending) (xid : ℤ) (ticket : ℕ) (question : Question) (zxid : ℤ) (result : Result)
     (new : SessionView) (after : Lists) (then_kept : Answers) → closes question ≡ false → pending ≡ record { xid = xid; waiting = Call_waits ticket question } ∷ talk.pending
     → new ≡ session.next (session.Sees zxid) kept → after ≡ after_reply question result lists
     → ((text : Text) → data_kept then_kept text ≡ keep_node (leaves_data question result) text (data_kept answers text))
@@ -74,6 +68,17 @@ answered-view held halted kept talk lists answers pending xid ticket question zx
     (ap (λ (k : SessionView). record { halted = halted; state = k.state }) e) (ap (λ (k : SessionView). k.saved) e) (ap (λ (k : SessionView). k.moments) e)
     (ap (λ (p : List Pending). drop 1 p) (sym left)) refl refl f (cache-ext (cache_of then_kept) (kept_after question result (cache_of answers)) nodes children)
     ∙ sym (reply-next before question zxid result other)
+
+-- the same, by what the reply leaves on either side
+pub left-view : (held : List ℕ) (halted : Bool) (kept : SessionView) (talk : Talk) (lists : Lists) (answers : Answers) (pending : List Pending) (xid : ℤ) (ticket : ℕ) (question : Question) (zxid : ℤ) (result : Result)
+    (new : SessionView) (after : Lists) (then_kept : Answers) (known : Option (Left Answer)) (children : Option (Left Names)) → closes question ≡ false → pending ≡ record { xid = xid; waiting = Call_waits ticket question } ∷ talk.pending
+    → new ≡ session.next (session.Sees zxid) kept → known ≡ leaves_data question result → children ≡ leaves_child question result → after ≡ with_children children (with_node known lists)
+    → ((text : Text) → data_kept then_kept text ≡ keep_node known text (data_kept answers text)) → ((text : Text) → names_kept then_kept text ≡ keep_children children text (names_kept answers text))
+    → shown [] halted new talk after then_kept ≡ next (while_pending pending (shown held halted kept talk lists answers)) (Took (Replies ticket question zxid result))
+left-view held halted kept talk lists answers pending xid ticket question zxid result new after then_kept known children other left e on_data on_child f nodes names =
+    answered-view held halted kept talk lists answers pending xid ticket question zxid result new after then_kept other left e (f ∙ left-lists known children question result lists on_data on_child)
+    (λ text. nodes text ∙ ap (λ (l : Option (Left Answer)). keep_node l text (data_kept answers text)) on_data)
+    (λ text. names text ∙ ap (λ (l : Option (Left Names)). keep_children l text (names_kept answers text)) on_child)
 
 closed-state : (state : State) (saved : Saved) (moments : Moments) (zxid : ℤ) → state ≡ Connected
     → session.next session.Closes (session.next (session.Sees zxid) (record { state = state; saved = saved; moments = moments }))

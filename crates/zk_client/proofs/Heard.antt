@@ -23,10 +23,8 @@ use Rattle.zk_turns.specs.Past.{Happening, Dropped, Came, Message, Accepted, Exp
 use Rattle.zk_turns.specs.Taken.{Cutting, Unfinished, Bad, Payload, cut, of_cutting, happenings}
 use Rattle.zk_turns.specs.View.{View}
 use Rattle.zk_turns.specs.Rule.{if_any, IsOpen, Hears, heard, fed, next, says, arrival, after_all, says_all, after_signals, says_signals, next_message, next_reply}
-use Rattle.std.proofs.lemmas.List.{map-append}
-use Rattle.zk_turns.proofs.Stepped.{after_append, says_append}
 use Rattle.zk_turns.proofs.Stream.{of_reading}
-use Rattle.zk_turns.proofs.Pieces.{unfinished_view, unfinished_says, frame_view, frame_says, bad_first_view, bad_first_says, byte_happens}
+use Rattle.zk_turns.proofs.Pieces.{unfinished_view, unfinished_says, frame_view, frame_says, bad_first_view, bad_first_says, parted_view, parted_says, byte_happens}
 use Rattle.zk_limits.specs.declared.limits.TheConstants.{LONGEST_INCOMING}
 
 -- something was heard at this moment
@@ -162,12 +160,12 @@ emptied view = record view { held = [] }
 
 pub again-view : (view : View) (piece : List ℕ) → Hears view → IsHeard view → IsUnfinished view.held → after_signals (emptied view) (map Comes (view.held ++ piece)) ≡ after_signals view (map Comes piece)
 again-view view piece h fresh less =
-    ap (after_signals (emptied view)) (map-append Comes view.held piece) ∙ after_append (map Comes view.held) (map Comes piece) (emptied view)
+    parted_view (emptied view) (view.held ++ piece) view.held piece refl
     ∙ ap (λ (v : View). after_signals v (map Comes piece)) (rest-view (emptied view) h.up h.goes_on fresh refl view.held less)
 
 pub again-says : (view : View) (piece : List ℕ) → Hears view → IsHeard view → IsUnfinished view.held → says_signals (emptied view) (map Comes (view.held ++ piece)) ≡ says_signals view (map Comes piece)
 again-says view piece h fresh less =
-    ap (says_signals (emptied view)) (map-append Comes view.held piece) ∙ says_append (map Comes view.held) (map Comes piece) (emptied view)
+    parted_says (emptied view) (view.held ++ piece) view.held piece refl
     ∙ ap (λ (l : List Output). l ++ says_signals (after_signals (emptied view) (map Comes view.held)) (map Comes piece)) (rest-says (emptied view) h.up h.goes_on fresh refl view.held less)
     ∙ ap (λ (v : View). says_signals v (map Comes piece)) (rest-view (emptied view) h.up h.goes_on fresh refl view.held less)
 
@@ -191,16 +189,20 @@ module _ (bytes piece : List ℕ) (halted : Bool) (kept new : SessionView) (talk
   unfolding after_it
   is-after = hears-session kept new up e
 
+  -- what is told of a view and of the bytes that come to it, where the bytes that are held may come again and where the first is heard now
+  whole : {B : Type 0} (F : View → List ℕ → B) → F (shown [] halted after_it talk lists answers) (bytes ++ piece) ≡ F (shown bytes halted after_it talk lists answers) piece
+      → F (shown bytes halted kept talk lists answers) piece ≡ F (shown bytes halted after_it talk lists answers) piece
+      → F (shown [] halted new talk lists answers) (bytes ++ piece) ≡ F (shown bytes halted kept talk lists answers) piece
+  whole F again first = ap (λ (k : SessionView). F (shown [] halted k talk lists answers) (bytes ++ piece)) is-after ∙ again ∙ sym first
+
   pub whole-view : after_signals (shown [] halted new talk lists answers) (map Comes (bytes ++ piece)) ≡ after_signals (shown bytes halted kept talk lists answers) (map Comes piece)
   unfolding after_it
   whole-view =
-      ap (λ (k : SessionView). after_signals (shown [] halted k talk lists answers) (map Comes (bytes ++ piece))) is-after
-      ∙ again-view (heard (shown bytes halted kept talk lists answers)) piece (record { up = up; goes_on = goes_on }) refl less
-      ∙ sym (heard-view (shown bytes halted kept talk lists answers) piece (record { up = up; goes_on = goes_on }) some)
+      whole (λ view coming. after_signals view (map Comes coming)) (again-view (heard (shown bytes halted kept talk lists answers)) piece (record { up = up; goes_on = goes_on }) refl less)
+      (heard-view (shown bytes halted kept talk lists answers) piece (record { up = up; goes_on = goes_on }) some)
 
   pub whole-says : says_signals (shown [] halted new talk lists answers) (map Comes (bytes ++ piece)) ≡ says_signals (shown bytes halted kept talk lists answers) (map Comes piece)
   unfolding after_it
   whole-says =
-      ap (λ (k : SessionView). says_signals (shown [] halted k talk lists answers) (map Comes (bytes ++ piece))) is-after
-      ∙ again-says (heard (shown bytes halted kept talk lists answers)) piece (record { up = up; goes_on = goes_on }) refl less
-      ∙ sym (heard-says (shown bytes halted kept talk lists answers) piece (record { up = up; goes_on = goes_on }) some)
+      whole (λ view coming. says_signals view (map Comes coming)) (again-says (heard (shown bytes halted kept talk lists answers)) piece (record { up = up; goes_on = goes_on }) refl less)
+      (heard-says (shown bytes halted kept talk lists answers) piece (record { up = up; goes_on = goes_on }) some)

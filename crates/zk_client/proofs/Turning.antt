@@ -87,6 +87,28 @@ pub ticked-view : (held : List ℕ) (halted : Bool) (kept new : SessionView) (ta
     → shown held halted new talk lists answers ≡ next (shown held halted kept talk lists answers) (Ticked moment)
 ticked-view held halted kept new talk lists answers moment e = ap (λ (k : SessionView). shown held halted k talk lists answers) e
 
+-- a moment is told, of which this comes
+module _ (held : List ℕ) (halted : Bool) (kept ticked : SessionView) (talk : Talk) (lists : Lists) (answers : Answers) (moment : ℕ) (result what : Due)
+    (goes_on : halted ≡ false) (tells : ticked ≡ session.next (session.Ticks moment) kept) (told : result ≡ session.due ticked) (is : result ≡ what) where
+  abbrev before : View
+  before = shown held halted kept talk lists answers
+
+  abbrev causes : List Happening
+  causes = Ticked moment ∷ if_open kept.state (due before (max moment kept.moments.now))
+
+  causes-are : causes ≡ Ticked moment ∷ happens what
+  causes-are = due-is held halted kept ticked talk lists answers moment result what tells told is
+
+  pub tick-view : (after : View) → after ≡ after_all (shown held halted ticked talk lists answers) (happens what) → after ≡ after_all before (if halted then [] else causes)
+  tick-view after e =
+      turns-view before after halted causes (Ticked moment ∷ happens what) goes_on causes-are
+      (e ∙ ap (λ (v : View). after_all v (happens what)) (ticked-view held halted kept ticked talk lists answers moment tells))
+
+  pub tick-says : (outs after : List Output) → after ≡ outs ++ says_all (shown held halted ticked talk lists answers) (happens what) → after ≡ outs ++ (says_all before (if halted then [] else causes) ++ [])
+  tick-says outs after e =
+      turns-says before outs after halted causes (Ticked moment ∷ happens what) goes_on causes-are
+      (e ∙ ap (λ (v : View). outs ++ says_all v (happens what)) (ticked-view held halted kept ticked talk lists answers moment tells))
+
 -- ---- where a connection is open
 
 pub either-open : (state result : State) → (result ≡ Connecting) ⊎ (result ≡ Connected) → result ≡ state → IsOpen state

@@ -25,14 +25,19 @@ begins-view start kept talk lists answers held e f g h i =
     (ap (λ (k : SessionView). let s : Standing = record { halted = false; state = k.state } in s) e) (ap (λ (k : SessionView). k.saved) e) (ap (λ (k : SessionView). k.moments) e)
     (ap (λ (t : Talk). t.pending) f) (ap (λ (r : Held). r.bytes) i) (ap (λ (t : Talk). t.xid) f) g (nothing-kept answers h)
 
-pub begins-sound : (start : Start) (kept : SessionView) (talk : Talk) (lists : Lists) → length start.password ≤ LONGEST_PASSWORD → kept ≡ beginning start → talk ≡ new_talk → lists ≡ no_lists → IsSound kept talk lists
+begins-sound : (start : Start) (kept : SessionView) (talk : Talk) (lists : Lists) → length start.password ≤ LONGEST_PASSWORD → kept ≡ beginning start → talk ≡ new_talk → lists ≡ no_lists → IsSound kept talk lists
 begins-sound start kept talk lists short e f g = rw (e, f, g) (record {
   tied = record { phase = refl; quiet = λ n. refl; short = short };
   room = record { on_data = omega arith; on_child = omega arith };
 })
 
-pub begins-reading : (held : Held) → held ≡ reading [] → IsReading held
+begins-reading : (held : Held) → held ≡ reading [] → IsReading held
 begins-reading held e = rw e (record { clean = refl; less = nothing-held })
+
+-- both
+pub begins : (start : Start) (kept : SessionView) (talk : Talk) (lists : Lists) (held : Held) → length start.password ≤ LONGEST_PASSWORD → kept ≡ beginning start → talk ≡ new_talk → lists ≡ no_lists → held ≡ reading []
+    → IsSound kept talk lists × IsReading held
+begins start kept talk lists held short e f g h = (begins-sound start kept talk lists short e f g, begins-reading held h)
 
 saved-ext : (a b : Saved) → origin_of a ≡ origin_of b → a.last ≡ b.last → a ≡ b
 saved-ext a b e f = λ i. record { asked = (e i).asked; session = (e i).session; last = f i }

@@ -57,17 +57,21 @@ address_rule = record (new_rule (codes "ADDRESS")) { required = true; action = S
 abbrev pub live_app : App
 live_app = with_rule (new_app (codes "live")) address_rule
 
--- an option with a path, which may be used several times
+-- an option with a value
+abbrev pub option_rule : Text → Rule
+option_rule name = record (new_rule name) { long = Some name; value_names = 1 }
+
+-- with a path, and it may be used several times
 abbrev pub path_rule : Text → Rule
-path_rule name = record (new_rule name) { long = Some name; value_names = 1; action = Some action.Append }
+path_rule name = record (option_rule name) { action = Some action.Append }
 
 -- milliseconds, 30,000 of them where no number is given
 abbrev pub timeout_rule : Rule
-timeout_rule = record (new_rule (codes "timeout")) { long = Some (codes "timeout"); value_names = 1; defaults = codes "30000" ∷ [] }
+timeout_rule = record (option_rule (codes "timeout")) { defaults = codes "30000" ∷ [] }
 
 -- seconds
 abbrev pub duration_rule : Rule
-duration_rule = record (new_rule (codes "for")) { long = Some (codes "for"); value_names = 1 }
+duration_rule = option_rule (codes "for")
 
 abbrev pub watch_app : App
 watch_app =

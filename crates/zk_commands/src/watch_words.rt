@@ -6,7 +6,7 @@ ghost use Rattle.std.specs.List.{list_all};
 ghost use Rattle.clap.specs.Words.{Text, app_of, first_of, found_of, rows_of, rule_of};
 ghost use Rattle.zk_nodes.specs.declared.side.Side.{Side as Sides};
 ghost use Rattle.zk_watch.specs.Watching.{aims_of};
-ghost use Rattle.zk_commands.specs.CommandLine.{AreAims, IsDuration, IsTimeout, TellsIf, address_rule, aims_at, count_at, duration_rule, duration_read, given, is_path, path_rule, timeout_at, timeout_rule, watch_app};
+ghost use Rattle.zk_commands.specs.CommandLine.{AreAims, IsDuration, IsTimeout, TellsIf, address_rule, aims_at, count_at, duration_rule, duration_read, given, is_path, option_rule, path_rule, timeout_at, timeout_rule, watch_app};
 
 use crate::help;
 use crate::line_fault::{LineFault, no_command, no_duration, no_path, no_timeout};
@@ -33,16 +33,23 @@ pub(crate) fn addresses_arg<'a>(alloc: Global) -> Arg<'a>
         .help("A server's address in numbers, as 127.0.0.1:2181. Several are tried in turn")
 }
 
+/// An option that takes a value, and what help says of it.
+fn option_arg<'a>(alloc: Global, name: &'a str, value: &'a str, about: &'a str) -> Arg<'a>
+    ensures rule { rule_of result ≡ option_rule name.now }
+    ensures local { result.global ≡ false }
+{
+    Arg::new(alloc, name)
+        .long(name)
+        .value_name(value)
+        .help(about)
+}
+
 /// An option that takes a path, and may be used several times.
 fn paths_arg<'a>(alloc: Global, name: &'a str, about: &'a str) -> Arg<'a>
     ensures rule { rule_of result ≡ path_rule name.now }
     ensures local { result.global ≡ false }
 {
-    Arg::new(alloc, name)
-        .long(name)
-        .value_name("PATH")
-        .action(ArgAction::Append)
-        .help(about)
+    option_arg(alloc, name, "PATH", about).action(ArgAction::Append)
 }
 
 /// The option of the session's timeout.
@@ -50,11 +57,8 @@ fn timeout_arg<'a>(alloc: Global) -> Arg<'a>
     ensures rule { rule_of result ≡ timeout_rule }
     ensures local { result.global ≡ false }
 {
-    Arg::new(alloc, "timeout")
-        .long("timeout")
-        .value_name("MS")
-        .default_value("30000")
-        .help("The session timeout to ask for, in milliseconds, 1 to 2147483647")
+    let about = "The session timeout to ask for, in milliseconds, 1 to 2147483647";
+    option_arg(alloc, "timeout", "MS", about).default_value("30000")
 }
 
 /// The option of how long to watch.
@@ -62,10 +66,8 @@ fn duration_arg<'a>(alloc: Global) -> Arg<'a>
     ensures rule { rule_of result ≡ duration_rule }
     ensures local { result.global ≡ false }
 {
-    Arg::new(alloc, "for")
-        .long("for")
-        .value_name("SECONDS")
-        .help("How long to watch, in seconds, 1 to 4294967; else until standard output is closed")
+    let about = "How long to watch, in seconds, 1 to 4294967; else until standard output is closed";
+    option_arg(alloc, "for", "SECONDS", about)
 }
 
 /// The form of `watch`.

@@ -33,7 +33,7 @@ pub while-talking : (phase : Phase) (pending : List Pending) (payload : List ℕ
 unfolding arriving
 while-talking phase pending payload e = rw e refl
 
-pub talks : (phase : Phase) (pending : List Pending) (payload : List ℕ) (header : ReplyHeader) (rest : List ℕ) → phase ≡ Talking
+talks : (phase : Phase) (pending : List Pending) (payload : List ℕ) (header : ReplyHeader) (rest : List ℕ) → phase ≡ Talking
     → reading reply_header (length payload) payload ≡ Ok ((header.xid, (header.zxid, header.err)), rest) → arriving phase pending payload ≡ header_arriving pending header (length payload) rest
 talks phase pending payload header rest e read = while-talking phase pending payload e ∙ ap (later_arriving pending (length payload)) read
 
@@ -45,13 +45,13 @@ other x y h = go (int_eq x y) refl where
   go false e = e
   go true e = absurd (h ((Decides-int_eq x y).0 e))
 
-pub is-notice : (pending : List Pending) (header : ReplyHeader) (end : ℕ) (bytes : List ℕ) → header.xid ≡ negsuc 0 → header_arriving pending header end bytes ≡ notice_arriving (reading watcher_event end bytes)
+is-notice : (pending : List Pending) (header : ReplyHeader) (end : ℕ) (bytes : List ℕ) → header.xid ≡ negsuc 0 → header_arriving pending header end bytes ≡ notice_arriving (reading watcher_event end bytes)
 is-notice pending header end bytes e = rw e refl
 
-pub is-pong : (pending : List Pending) (header : ReplyHeader) (end : ℕ) (bytes : List ℕ) → header.xid ≡ negsuc 1 → header_arriving pending header end bytes ≡ Ok Pong
+is-pong : (pending : List Pending) (header : ReplyHeader) (end : ℕ) (bytes : List ℕ) → header.xid ≡ negsuc 1 → header_arriving pending header end bytes ≡ Ok Pong
 is-pong pending header end bytes e = rw e refl
 
-pub is-skipped : (pending : List Pending) (header : ReplyHeader) (end : ℕ) (bytes : List ℕ) → header.xid ≡ negsuc 3 → header_arriving pending header end bytes ≡ Ok Skipped
+is-skipped : (pending : List Pending) (header : ReplyHeader) (end : ℕ) (bytes : List ℕ) → header.xid ≡ negsuc 3 → header_arriving pending header end bytes ≡ Ok Skipped
 is-skipped pending header end bytes e = rw e refl
 
 -- an xid that is not reserved
@@ -60,7 +60,7 @@ pub record IsFree (xid : ℤ) : Type 0 where
   pub pong : xid ≡ negsuc 1 → ⊥
   pub skipped : xid ≡ negsuc 3 → ⊥
 
-pub is-reply : (pending : List Pending) (header : ReplyHeader) (end : ℕ) (bytes : List ℕ) → IsFree header.xid → header_arriving pending header end bytes ≡ oldest_arriving pending header end bytes
+is-reply : (pending : List Pending) (header : ReplyHeader) (end : ℕ) (bytes : List ℕ) → IsFree header.xid → header_arriving pending header end bytes ≡ oldest_arriving pending header end bytes
 is-reply pending header end bytes free = rw (other header.xid (negsuc 0) free.notice, other header.xid (negsuc 1) free.pong, other header.xid (negsuc 3) free.skipped) refl
 
 -- what is answered
@@ -84,29 +84,39 @@ stays arrived talk e same =
     ∙ ap (λ (pending : List Pending). record { phase = Talking; pending = pending; xid = talk.xid }) (sym same)
 
 -- a notice leaves the conversation as it was
-pub notice-answers : {A : Type 0} (talk : Talk) (payload : List ℕ) (result : Result (Arrival A) TalkFault) (read : Result (Value watcher_event × List ℕ) TakeError)
-    → talk.phase ≡ Talking → arriving talk.phase talk.pending payload ≡ notice_arriving read → Arrives result (notice_arriving read) → Answers talk payload result talk
-notice-answers talk payload (Ok arrival) read e is arrives = (is ∙ arrives, stays (arrival_view arrival) talk e (keeps-notice read (arrival_view arrival) talk.pending arrives))
-notice-answers talk payload (Err fault) read e is arrives = (λ h. is ∙ arrives h, refl)
+pub notice-answers : {A : Type 0} (talk : Talk) (payload : List ℕ) (header : ReplyHeader) (rest : List ℕ) (result : Result (Arrival A) TalkFault) → talk.phase ≡ Talking
+    → reading reply_header (length payload) payload ≡ Ok ((header.xid, (header.zxid, header.err)), rest) → header.xid ≡ negsuc 0 → Arrives result (notice_arriving (reading watcher_event (length payload) rest)) → Answers talk payload result talk
+notice-answers {A} talk payload header rest result e read xid arrives = by result arrives where
+  is : arriving talk.phase talk.pending payload ≡ notice_arriving (reading watcher_event (length payload) rest)
+  is = talks talk.phase talk.pending payload header rest e read ∙ is-notice talk.pending header (length payload) rest xid
+
+  by : (result : Result (Arrival A) TalkFault) → Arrives result (notice_arriving (reading watcher_event (length payload) rest)) → Answers talk payload result talk
+  by (Ok arrival) arrives = (is ∙ arrives, stays (arrival_view arrival) talk e (keeps-notice (reading watcher_event (length payload) rest) (arrival_view arrival) talk.pending arrives))
+  by (Err fault) arrives = (λ h. is ∙ arrives h, refl)
 
 -- what is read of the header alone does so too
-pub pong-answers : (talk : Talk) (payload : List ℕ) → talk.phase ≡ Talking → arriving talk.phase talk.pending payload ≡ Ok Pong
+pub pong-answers : (talk : Talk) (payload : List ℕ) (header : ReplyHeader) (rest : List ℕ) → talk.phase ≡ Talking → reading reply_header (length payload) payload ≡ Ok ((header.xid, (header.zxid, header.err)), rest) → header.xid ≡ negsuc 1
     → (arriving talk.phase talk.pending payload ≡ Ok Pong) × (talk ≡ talk_after Pong talk)
-pong-answers talk payload e is = (is, stays Pong talk e refl)
+pong-answers talk payload header rest e read xid = (talks talk.phase talk.pending payload header rest e read ∙ is-pong talk.pending header (length payload) rest xid, stays Pong talk e refl)
 
-pub skip-answers : (talk : Talk) (payload : List ℕ) → talk.phase ≡ Talking → arriving talk.phase talk.pending payload ≡ Ok Skipped
+pub skip-answers : (talk : Talk) (payload : List ℕ) (header : ReplyHeader) (rest : List ℕ) → talk.phase ≡ Talking → reading reply_header (length payload) payload ≡ Ok ((header.xid, (header.zxid, header.err)), rest) → header.xid ≡ negsuc 3
     → (arriving talk.phase talk.pending payload ≡ Ok Skipped) × (talk ≡ talk_after Skipped talk)
-skip-answers talk payload e is = (is, stays Skipped talk e refl)
+skip-answers talk payload header rest e read xid = (talks talk.phase talk.pending payload header rest e read ∙ is-skipped talk.pending header (length payload) rest xid, stays Skipped talk e refl)
 
-pub reply-answers : {A : Type 0} (talk after : Talk) (payload : List ℕ) (header : ReplyHeader) (end : ℕ) (bytes : List ℕ) (result : Result (Arrival A) TalkFault)
-    → talk.phase ≡ Talking → arriving talk.phase talk.pending payload ≡ oldest_arriving talk.pending header end bytes → RepliesTo talk header end bytes result after → Answers talk payload result after
-reply-answers talk after payload header end bytes (Ok arrival) e is replies = (
-  is ∙ replies.0,
-  replies.1
-      ∙ ap (λ (phase : Phase). record { phase = phase; pending = drop 1 talk.pending; xid = talk.xid }) e
-      ∙ ap (λ (pending : List Pending). record { phase = Talking; pending = pending; xid = talk.xid }) (sym replies.2),
-)
-reply-answers talk after payload header end bytes (Err fault) e is replies = (λ h. is ∙ replies.0 h, replies.1)
+pub reply-answers : {A : Type 0} (talk after : Talk) (payload : List ℕ) (header : ReplyHeader) (rest : List ℕ) (result : Result (Arrival A) TalkFault)
+    → talk.phase ≡ Talking → reading reply_header (length payload) payload ≡ Ok ((header.xid, (header.zxid, header.err)), rest) → IsFree header.xid → RepliesTo talk header (length payload) rest result after → Answers talk payload result after
+reply-answers {A} talk after payload header rest result e read free replies = by result replies where
+  is : arriving talk.phase talk.pending payload ≡ oldest_arriving talk.pending header (length payload) rest
+  is = talks talk.phase talk.pending payload header rest e read ∙ is-reply talk.pending header (length payload) rest free
+
+  by : (result : Result (Arrival A) TalkFault) → RepliesTo talk header (length payload) rest result after → Answers talk payload result after
+  by (Ok arrival) replies = (
+    is ∙ replies.0,
+    replies.1
+        ∙ ap (λ (phase : Phase). record { phase = phase; pending = drop 1 talk.pending; xid = talk.xid }) e
+        ∙ ap (λ (pending : List Pending). record { phase = Talking; pending = pending; xid = talk.xid }) (sym replies.2),
+  )
+  by (Err fault) replies = (λ h. is ∙ replies.0 h, replies.1)
 
 -- the first payload
 pub first-answers : {A : Type 0} (talk : Talk) (payload : List ℕ) (arrival : Arrival A) (response : Result (Response × List ℕ) TakeError) → arriving talk.phase talk.pending payload ≡ first_arriving response

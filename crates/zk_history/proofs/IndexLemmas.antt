@@ -48,87 +48,83 @@ walk-change step z a [] c s =
     ∙ elim (leb a.zxid z) as (λ b. cond b (step a.zxid a.time c (walk_all step a.zxid a.time a.changes s)) s ≡ cond b (step a.zxid a.time c (cond b (walk_all step a.zxid a.time a.changes s) s)) (cond b (walk_all step a.zxid a.time a.changes s) s)) [ true ↦ refl | false ↦ refl ]
 walk-change step z a (b ∷ ts) c s = walk-change step z b ts c (cond (leb a.zxid z) (walk_all step a.zxid a.time a.changes s) s)
 
--- a node, and the number of children, are such walks
+-- what goes over changes, and over transactions, by a step is such a walk
+all-walk : {S : Type 0} (step : ℕ → ℤ → Change → S → S) (z : ℕ) (t : ℤ) (all : List Change → S → S) → ((s : S) → all [] s ≡ s) → ((c : Change) (cs : List Change) (s : S) → all (c ∷ cs) s ≡ all cs (step z t c s))
+    → (cs : List Change) (s : S) → all cs s ≡ walk_all step z t cs s
+all-walk step z t all none one [] s = none s
+all-walk step z t all none one (c ∷ cs) s = one c cs s ∙ all-walk step z t all none one cs (step z t c s)
+
+at-walk : {S : Type 0} (step : ℕ → ℤ → Change → S → S) (z : ℕ) (all : ℕ → ℤ → List Change → S → S) (at : List Transaction → S → S)
+    → ((x : ℕ) (t : ℤ) (cs : List Change) (s : S) → all x t cs s ≡ walk_all step x t cs s) → ((s : S) → at [] s ≡ s)
+    → ((a : Transaction) (ts : List Transaction) (s : S) → at (a ∷ ts) s ≡ at ts (cond (leb a.zxid z) (all a.zxid a.time a.changes s) s)) → (ts : List Transaction) (s : S) → at ts s ≡ walk step z ts s
+at-walk step z all at alls none one [] s = none s
+at-walk step z all at alls none one (a ∷ ts) s =
+    one a ts s ∙ at-walk step z all at alls none one ts (cond (leb a.zxid z) (all a.zxid a.time a.changes s) s) ∙ ap (λ h. walk step z ts (cond (leb a.zxid z) h s)) (alls a.zxid a.time a.changes s)
+
+-- a node, the number of children, and their names are such walks
 abbrev step_node : NodePath → ℕ → ℤ → Change → Option Node → Option Node
-step_node p z t c held = node_after z t p c held
+step_node p z t c x = node_after z t p c x
 
 abbrev step_count : NodePath → ℕ → ℤ → Change → ℕ → ℕ
-step_count p z t c n = count_after p c n
-
-node_all-walk : (p : NodePath) (z : ℕ) (t : ℤ) (cs : List Change) (held : Option Node) → node_after_all z t p cs held ≡ walk_all (step_node p) z t cs held
-node_all-walk p z t [] held = refl
-node_all-walk p z t (c ∷ cs) held = node_all-walk p z t cs (node_after z t p c held)
-
-node-walk : (p : NodePath) (z : ℕ) (ts : List Transaction) (held : Option Node) → node_at z p ts held ≡ walk (step_node p) z ts held
-node-walk p z [] held = refl
-node-walk p z (one ∷ more) held = ap (λ h. node_at z p more (cond (leb one.zxid z) h held)) (node_all-walk p one.zxid one.time one.changes held) ∙ node-walk p z more (cond (leb one.zxid z) (walk_all (step_node p) one.zxid one.time one.changes held) held)
-
-count_all-walk : (p : NodePath) (z : ℕ) (t : ℤ) (cs : List Change) (n : ℕ) → count_after_all p cs n ≡ walk_all (step_count p) z t cs n
-count_all-walk p z t [] n = refl
-count_all-walk p z t (c ∷ cs) n = count_all-walk p z t cs (count_after p c n)
-
-count-walk : (p : NodePath) (z : ℕ) (ts : List Transaction) (n : ℕ) → count_at z p ts n ≡ walk (step_count p) z ts n
-count-walk p z [] n = refl
-count-walk p z (one ∷ more) n = ap (λ h. count_at z p more (cond (leb one.zxid z) h n)) (count_all-walk p one.zxid one.time one.changes n) ∙ count-walk p z more (cond (leb one.zxid z) (walk_all (step_count p) one.zxid one.time one.changes n) n)
+step_count p z t c x = count_after p c x
 
 abbrev step_names : NodePath → ℕ → ℤ → Change → Names → Names
-step_names p z t c names = children_after p c names
+step_names p z t c x = children_after p c x
 
-names_all-walk : (p : NodePath) (z : ℕ) (t : ℤ) (cs : List Change) (names : Names) → children_after_all p cs names ≡ walk_all (step_names p) z t cs names
-names_all-walk p z t [] names = refl
-names_all-walk p z t (c ∷ cs) names = names_all-walk p z t cs (children_after p c names)
+node-walk : (p : NodePath) (z : ℕ) (ts : List Transaction) (x : Option Node) → node_at z p ts x ≡ walk (step_node p) z ts x
+node-walk p z = at-walk (step_node p) z (λ z t. node_after_all z t p) (node_at z p) (λ z t. all-walk (step_node p) z t (node_after_all z t p) (λ x. refl) (λ c cs x. refl)) (λ x. refl) (λ a ts x. refl)
 
-names-walk : (p : NodePath) (z : ℕ) (ts : List Transaction) (names : Names) → children_at z p ts names ≡ walk (step_names p) z ts names
-names-walk p z [] names = refl
-names-walk p z (one ∷ more) names = ap (λ h. children_at z p more (cond (leb one.zxid z) h names)) (names_all-walk p one.zxid one.time one.changes names) ∙ names-walk p z more (cond (leb one.zxid z) (walk_all (step_names p) one.zxid one.time one.changes names) names)
+count-walk : (p : NodePath) (z : ℕ) (ts : List Transaction) (x : ℕ) → count_at z p ts x ≡ walk (step_count p) z ts x
+count-walk p z = at-walk (step_count p) z (λ z t. count_after_all p) (count_at z p) (λ z t. all-walk (step_count p) z t (count_after_all p) (λ x. refl) (λ c cs x. refl)) (λ x. refl) (λ a ts x. refl)
+
+names-walk : (p : NodePath) (z : ℕ) (ts : List Transaction) (x : Names) → children_at z p ts x ≡ walk (step_names p) z ts x
+names-walk p z = at-walk (step_names p) z (λ z t. children_after_all p) (children_at z p) (λ z t. all-walk (step_names p) z t (children_after_all p) (λ x. refl) (λ c cs x. refl)) (λ x. refl) (λ a ts x. refl)
 
 same_either : {S : Type 0} (b : Bool) (s : S) → cond b s s ≡ s
 same_either true s = refl
 same_either false s = refl
 
 -- one change more in the last transaction
+change-walk : {S : Type 0} (step : ℕ → ℤ → Change → S → S) (z : ℕ) (at : List Transaction → S → S) → ((ts : List Transaction) (s : S) → at ts s ≡ walk step z ts s) → (ts : List Transaction) (c : Change) (s : S) → (ts ≡ [] → ⊥)
+    → at (last_with ts c) s ≡ cond (leb (last_transaction ts).zxid z) (step (last_transaction ts).zxid (last_transaction ts).time c (at ts s)) (at ts s)
+change-walk step z at is [] c s some = absurd (some refl)
+change-walk step z at is (a ∷ ts) c s some =
+    is (last_with (a ∷ ts) c) s ∙ walk-change step z a ts c s
+    ∙ ap (λ h. cond (leb (last_transaction (a ∷ ts)).zxid z) (step (last_transaction (a ∷ ts)).zxid (last_transaction (a ∷ ts)).time c h) h) (sym (is (a ∷ ts) s))
+
 pub node-change : (z : ℕ) (p : NodePath) (ts : List Transaction) (c : Change) (held : Option Node) → (ts ≡ [] → ⊥)
     → node_at z p (last_with ts c) held ≡ cond (leb (last_transaction ts).zxid z) (node_after (last_transaction ts).zxid (last_transaction ts).time p c (node_at z p ts held)) (node_at z p ts held)
-node-change z p [] c held some = absurd (some refl)
-node-change z p (a ∷ ts) c held some =
-    node-walk p z (last_with (a ∷ ts) c) held ∙ walk-change (step_node p) z a ts c held
-    ∙ ap (λ h. cond (leb (last_transaction (a ∷ ts)).zxid z) (node_after (last_transaction (a ∷ ts)).zxid (last_transaction (a ∷ ts)).time p c h) h) (sym (node-walk p z (a ∷ ts) held))
+node-change z p ts c held some = change-walk (step_node p) z (node_at z p) (node-walk p z) ts c held some
 
 pub count-change : (z : ℕ) (p : NodePath) (ts : List Transaction) (c : Change) (n : ℕ) → (ts ≡ [] → ⊥)
     → count_at z p (last_with ts c) n ≡ cond (leb (last_transaction ts).zxid z) (count_after p c (count_at z p ts n)) (count_at z p ts n)
-count-change z p [] c n some = absurd (some refl)
-count-change z p (a ∷ ts) c n some =
-    count-walk p z (last_with (a ∷ ts) c) n ∙ walk-change (step_count p) z a ts c n
-    ∙ ap (λ h. cond (leb (last_transaction (a ∷ ts)).zxid z) (count_after p c h) h) (sym (count-walk p z (a ∷ ts) n))
+count-change z p ts c n some = change-walk (step_count p) z (count_at z p) (count-walk p z) ts c n some
 
 pub names-change : (z : ℕ) (p : NodePath) (ts : List Transaction) (c : Change) (names : Names) → (ts ≡ [] → ⊥)
     → children_at z p (last_with ts c) names ≡ cond (leb (last_transaction ts).zxid z) (children_after p c (children_at z p ts names)) (children_at z p ts names)
-names-change z p [] c names some = absurd (some refl)
-names-change z p (a ∷ ts) c names some =
-    names-walk p z (last_with (a ∷ ts) c) names ∙ walk-change (step_names p) z a ts c names
-    ∙ ap (λ h. cond (leb (last_transaction (a ∷ ts)).zxid z) (children_after p c h) h) (sym (names-walk p z (a ∷ ts) names))
+names-change z p ts c names some = change-walk (step_names p) z (children_at z p) (names-walk p z) ts c names some
 
--- one transaction more, with no change
+-- one transaction more
+push-walk : {S : Type 0} (step : ℕ → ℤ → Change → S → S) (z : ℕ) (at : List Transaction → S → S) → ((ts : List Transaction) (s : S) → at ts s ≡ walk step z ts s) → (ts : List Transaction) (one : Transaction) (s : S)
+    → at (ts ++ one ∷ []) s ≡ cond (leb one.zxid z) (walk_all step one.zxid one.time one.changes (at ts s)) (at ts s)
+push-walk step z at is ts one s = is (ts ++ one ∷ []) s ∙ walk-push step z ts one s ∙ ap (λ h. cond (leb one.zxid z) (walk_all step one.zxid one.time one.changes h) h) (sym (is ts s))
+
+-- with no change
 pub node-empty : (z : ℕ) (p : NodePath) (ts : List Transaction) (zxid : ℕ) (t : ℤ) (held : Option Node) → node_at z p (ts ++ made_transaction zxid t [] ∷ []) held ≡ node_at z p ts held
-node-empty z p ts zxid t held =
-    node-walk p z (ts ++ made_transaction zxid t [] ∷ []) held ∙ walk-push (step_node p) z ts (made_transaction zxid t []) held ∙ same_either (leb zxid z) (walk (step_node p) z ts held) ∙ sym (node-walk p z ts held)
+node-empty z p ts zxid t held = push-walk (step_node p) z (node_at z p) (node-walk p z) ts (made_transaction zxid t []) held ∙ same_either (leb zxid z) (node_at z p ts held)
 
 pub count-empty : (z : ℕ) (p : NodePath) (ts : List Transaction) (zxid : ℕ) (t : ℤ) (n : ℕ) → count_at z p (ts ++ made_transaction zxid t [] ∷ []) n ≡ count_at z p ts n
-count-empty z p ts zxid t n =
-    count-walk p z (ts ++ made_transaction zxid t [] ∷ []) n ∙ walk-push (step_count p) z ts (made_transaction zxid t []) n ∙ same_either (leb zxid z) (walk (step_count p) z ts n) ∙ sym (count-walk p z ts n)
+count-empty z p ts zxid t n = push-walk (step_count p) z (count_at z p) (count-walk p z) ts (made_transaction zxid t []) n ∙ same_either (leb zxid z) (count_at z p ts n)
 
 pub names-empty : (z : ℕ) (p : NodePath) (ts : List Transaction) (zxid : ℕ) (t : ℤ) (names : Names) → children_at z p (ts ++ made_transaction zxid t [] ∷ []) names ≡ children_at z p ts names
-names-empty z p ts zxid t names =
-    names-walk p z (ts ++ made_transaction zxid t [] ∷ []) names ∙ walk-push (step_names p) z ts (made_transaction zxid t []) names ∙ same_either (leb zxid z) (walk (step_names p) z ts names) ∙ sym (names-walk p z ts names)
+names-empty z p ts zxid t names = push-walk (step_names p) z (children_at z p) (names-walk p z) ts (made_transaction zxid t []) names ∙ same_either (leb zxid z) (children_at z p ts names)
 
 -- one node of the first tree more
 pub names-node : (p : NodePath) (ts : List Transaction) (t : ℤ) (c : Change) (names : Names) → children_at 0 p (ts ++ made_transaction 0 t (c ∷ []) ∷ []) names ≡ children_after p c (children_at 0 p ts names)
-names-node p ts t c names =
-    names-walk p 0 (ts ++ made_transaction 0 t (c ∷ []) ∷ []) names ∙ walk-push (step_names p) 0 ts (made_transaction 0 t (c ∷ [])) names ∙ ap (children_after p c) (sym (names-walk p 0 ts names))
+names-node p ts t c names = push-walk (step_names p) 0 (children_at 0 p) (names-walk p 0) ts (made_transaction 0 t (c ∷ [])) names
 
 pub count-node : (p : NodePath) (ts : List Transaction) (t : ℤ) (c : Change) (n : ℕ) → count_at 0 p (ts ++ made_transaction 0 t (c ∷ []) ∷ []) n ≡ count_after p c (count_at 0 p ts n)
-count-node p ts t c n =
-    count-walk p 0 (ts ++ made_transaction 0 t (c ∷ []) ∷ []) n ∙ walk-push (step_count p) 0 ts (made_transaction 0 t (c ∷ [])) n ∙ ap (count_after p c) (sym (count-walk p 0 ts n))
+count-node p ts t c n = push-walk (step_count p) 0 (count_at 0 p) (count-walk p 0) ts (made_transaction 0 t (c ∷ [])) n
 
 after-push : (ts : List Transaction) (one : Transaction) (tree : Tree) → after (ts ++ one ∷ []) tree ≡ apply_all one.zxid one.time one.changes (after ts tree)
 after-push [] one tree = refl

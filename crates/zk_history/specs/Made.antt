@@ -4,6 +4,7 @@ use Rattle.zk_nodes.specs.Path.{path_of}
 use Rattle.std.specs.Option.{option_map, option_copied}
 use Rattle.zk_nodes.specs.History as model
 use Rattle.zk_history.specs.HistoryView.{natural}
+use Rattle.zk_history.specs.Versions.{node_with}
 use Rattle.zk_history.specs.declared.change.Change.{Change}
 use Rattle.zk_history.specs.declared.change.Change.TheVariants.{Create, Set, Delete}
 use Rattle.zk_history.specs.declared.change.Transaction.{Transaction}
@@ -21,16 +22,7 @@ transaction_of one = record { zxid = one.zxid; time = one.time; changes = map ch
 
 -- a node as it was found
 abbrev pub node_of : Found → model.Node
-node_of f = record {
-  content = option_copied f.bytes;
-  czxid = f.czxid;
-  mzxid = f.mzxid;
-  pzxid = f.pzxid;
-  ctime = f.ctime;
-  mtime = f.mtime;
-  version = f.version;
-  owner = f.owner;
-}
+node_of f = node_with f.entry (option_copied f.bytes)
 
 -- a transaction, as it is told
 abbrev pub transaction_told : {A : Type 0} → ℤ → ℤ → List (Change A) → model.Transaction

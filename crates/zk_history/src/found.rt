@@ -4,20 +4,16 @@ ghost use Rattle.std.specs.Prelude.{◌<◌, ◌≤◌, ◌^◌};
 ghost use Rattle.std.specs.Option.{option_copied};
 ghost use Rattle.zk_nodes.specs.History.{size_of};
 
+use crate::version::Entry;
+
 // A node as it was found in a history, with its data lent.
 #[derive(Clone, Copy, Debug)]
 pub(crate) struct Found<'a> {
     pub(crate) bytes: Option<&'a [u8]>,
-    pub(crate) czxid: u64,
-    pub(crate) mzxid: u64,
-    pub(crate) pzxid: u64,
-    pub(crate) ctime: i64,
-    pub(crate) mtime: i64,
-    pub(crate) version: u32,
-    pub(crate) owner: i64,
-    ghost small_czxid: { czxid < 2 ^ 63 },
-    ghost small_mzxid: { mzxid < 2 ^ 63 },
-    ghost small_pzxid: { pzxid < 2 ^ 63 },
-    ghost small_version: { version ≤ 2147483647 },
+    pub(crate) entry: Entry,
+    ghost small_czxid: { entry.czxid < 2 ^ 63 },
+    ghost small_mzxid: { entry.mzxid < 2 ^ 63 },
+    ghost small_pzxid: { entry.pzxid < 2 ^ 63 },
+    ghost small_version: { entry.version ≤ 2147483647 },
     ghost small_bytes: { size_of (option_copied bytes) ≤ 2147483647 },
 }

@@ -199,13 +199,7 @@ impl<A: Allocator + Copy> History<A> {
         match entry_of(at, self.version(z, at)) {
             Some(entry) => Some(Found {
                 bytes: self.bytes(entry.origin),
-                czxid: entry.czxid,
-                mzxid: entry.mzxid,
-                pzxid: entry.pzxid,
-                ctime: entry.ctime,
-                mtime: entry.mtime,
-                version: entry.version,
-                owner: entry.owner,
+                entry,
             }),
             None => None,
         }
@@ -289,7 +283,7 @@ impl<A: Allocator + Copy> History<A> {
         match self.found(natural(z), path.as_str()) {
             Some(found) => Ok(Some(Names {
                 names: self.names(natural(z), path.as_str())?,
-                pzxid: found.pzxid as i64,
+                pzxid: found.entry.pzxid as i64,
             })),
             None => Ok(None),
         }
@@ -323,7 +317,7 @@ impl<A: Allocator + Copy> History<A> {
         ensures { result ≡ can_rise (newest_tree self.now (path_of at.now)) }
     {
         match self.found(NEWEST, at) {
-            Some(found) => found.version < LAST_VERSION,
+            Some(found) => found.entry.version < LAST_VERSION,
             None => false,
         }
     }

@@ -36,12 +36,12 @@ pub(crate) fn data_stat(found: &Found<'_>) -> DataStat
     ensures { result ≡ node_fields (node_of found.now) }
 {
     DataStat {
-        czxid: found.czxid as i64,
-        mzxid: found.mzxid as i64,
-        ctime: found.ctime,
-        mtime: found.mtime,
-        version: found.version as i32,
-        ephemeral_owner: found.owner,
+        czxid: found.entry.czxid as i64,
+        mzxid: found.entry.mzxid as i64,
+        ctime: found.entry.ctime,
+        mtime: found.entry.mtime,
+        version: found.entry.version as i32,
+        ephemeral_owner: found.entry.owner,
         data_length: data_length(found),
     }
 }
@@ -51,16 +51,16 @@ pub(crate) fn full_stat(found: &Found<'_>, children: u32) -> Stat
     ensures { result ≡ stat_of children (node_of found.now) }
 {
     Stat {
-        czxid: found.czxid as i64,
-        mzxid: found.mzxid as i64,
-        ctime: found.ctime,
-        mtime: found.mtime,
-        version: found.version as i32,
+        czxid: found.entry.czxid as i64,
+        mzxid: found.entry.mzxid as i64,
+        ctime: found.entry.ctime,
+        mtime: found.entry.mtime,
+        version: found.entry.version as i32,
         cversion: 0,
         aversion: 0,
-        ephemeral_owner: found.owner,
+        ephemeral_owner: found.entry.owner,
         data_length: data_length(found),
         num_children: children as i32,
-        pzxid: found.pzxid as i64,
+        pzxid: found.entry.pzxid as i64,
     }
 }

@@ -99,21 +99,10 @@ event_eq-refl ChildrenChanged = refl
 
 event_eq-true : (e f : Event) → event_eq e f ≡ true → e ≡ f
 event_eq-true Created Created h = refl
-event_eq-true Created Deleted h = absurd cc
-event_eq-true Created DataChanged h = absurd cc
-event_eq-true Created ChildrenChanged h = absurd cc
-event_eq-true Deleted Created h = absurd cc
 event_eq-true Deleted Deleted h = refl
-event_eq-true Deleted DataChanged h = absurd cc
-event_eq-true Deleted ChildrenChanged h = absurd cc
-event_eq-true DataChanged Created h = absurd cc
-event_eq-true DataChanged Deleted h = absurd cc
 event_eq-true DataChanged DataChanged h = refl
-event_eq-true DataChanged ChildrenChanged h = absurd cc
-event_eq-true ChildrenChanged Created h = absurd cc
-event_eq-true ChildrenChanged Deleted h = absurd cc
-event_eq-true ChildrenChanged DataChanged h = absurd cc
 event_eq-true ChildrenChanged ChildrenChanged h = refl
+event_eq-true _ _ h = absurd cc
 
 times-among : (n : Notice) (xs : List Notice) → Among n xs → 0 < times n xs
 times-among n [] h = absurd h

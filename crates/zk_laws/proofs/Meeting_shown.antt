@@ -21,6 +21,7 @@ use Rattle.zk_turns.specs.Taken.{cut, past_of}
 use Rattle.zk_turns.specs.Rule.{Stands}
 use Rattle.zk_turns.specs.Ranges.{IsResumable, IsTyped, AllAskOf}
 use Rattle.zk_turns.proofs.Requested.{new_resumable}
+use Rattle.zk_turns.proofs.Stepped.{given_stands}
 use Rattle.zk_laws.specs.Example.{two_changes, at_a, fields_at_five, a_changed}
 use Rattle.zk_laws.specs.ServerSteps.{Serving, Ended}
 use Rattle.zk_laws.proofs.Shown.{all_sent}
@@ -111,15 +112,8 @@ last_then = refl
 
 -- and a client stands there
 pub stands_then : Stands new_client (items_in until_cut) (view_at new_client (past_of new_client (items_in until_cut)))
-stands_then = record {
-  standing = refl;
-  saved = refl;
-  lists = refl;
-  cache = refl;
-  going = λ on. refl;
-  said = (refl, (refl, (refl, (refl, (refl, (refl, (refl, tt)))))));
-  asked = (tt, (tt, (tt, (tt, (refl, (tt, (tt, tt)))))));
-}
+stands_then =
+    given_stands new_client (items_in until_cut) (refl, (refl, (refl, (refl, (refl, (refl, (refl, tt))))))) (tt, (tt, (tt, (tt, (refl, (tt, (tt, tt)))))))
 
 -- it began in range, and was asked with values of their types
 pub resumable_then : IsResumable new_client

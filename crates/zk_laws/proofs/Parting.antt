@@ -5,7 +5,7 @@ use Rattle.std.specs.List.{flat_map}
 use Rattle.std.proofs.lemmas.List.{append-nil}
 use Rattle.zk_nodes.specs.Path.{Text}
 use Rattle.zk_turns.specs.Turns.{Start}
-use Rattle.zk_turns.specs.Past.{Past, kept_data, kept_names, standing, word_data, in_known, in_missing, in_parents, AgreesWith}
+use Rattle.zk_turns.specs.Past.{Past, kept_data, kept_names, still_said, word_data, in_known, in_missing, in_parents, AgreesWith}
 use Rattle.zk_watches.specs.Lists.{Lists, no_lists}
 use Rattle.zk_watches.specs.Parts.{Watch, OnData, OnExist, OnChild, watches_of, weight_of, put_first, into_first, rest_of_parts, parts_of_watches, parts}
 use Rattle.zk_cache.specs.Kept.{is_marked_good, Answer as Kept_answer, Absent as Kept_absent, Known as Kept_known, Full as Kept_full, Names as Kept_names}
@@ -147,10 +147,10 @@ names_is (Some kept) = by kept.mark
 module _ (start : Start) (past : Past) where
   -- The paths of a kind are those listed.
   pub kind_known : (path : Text) → is_kind Of_data path (seen start past) ≡ in_known path past
-  kind_known path = ap (is_of Of_data) (good_node start path past) ∙ (node_is (kept_data path past) (standing (word_data path) past) (data_marks path past) (data_agrees path past)).0
+  kind_known path = ap (is_of Of_data) (good_node start path past) ∙ (node_is (kept_data path past) (still_said (word_data path) past) (data_marks path past) (data_agrees path past)).0
 
   pub kind_missing : (path : Text) → is_kind Of_absence path (seen start past) ≡ in_missing path past
-  kind_missing path = ap (is_of Of_absence) (good_node start path past) ∙ (node_is (kept_data path past) (standing (word_data path) past) (data_marks path past) (data_agrees path past)).1
+  kind_missing path = ap (is_of Of_absence) (good_node start path past) ∙ (node_is (kept_data path past) (still_said (word_data path) past) (data_marks path past) (data_agrees path past)).1
 
   pub kind_parents : (path : Text) → is_kind Of_children path (seen start past) ≡ in_parents path past
   kind_parents path = ap (is_of Of_children) (good_names start path past) ∙ names_is (kept_names path past) ∙ child_marks path past

@@ -6,7 +6,7 @@ use Rattle.std.proofs.lemmas.Bool.Decides.{nat_tests}
 use Rattle.std.specs.Bool.{⊤}
 use Rattle.zk_nodes.specs.declared.side.Side.{Side}
 use Rattle.zk_nodes.specs.declared.side.Side.TheVariants.{Data, Child}
-use Rattle.zk_nodes.specs.Path.{NodePath, path_eq}
+use Rattle.zk_nodes.specs.Path.{Name, NodePath, path_eq}
 use Rattle.zk_nodes.specs.History.{Node, Tree, Change, Creates, Sets, Deletes, Transaction, AreLegal, apply, apply_all, after, AllLegal, AreRising, History, IsHistory, up_to, tree_at, newest, made, written, regrouped, view, contents_of}
 use Rattle.zk_laws.specs.Server.{tree_held, zxid_held}
 use Rattle.zk_laws.proofs.Firing.{below_other, child_view, some_if, set_children}
@@ -37,55 +37,54 @@ old_written : (z0 z : ℕ) (t : ℤ) (content : Option (List ℕ)) (o : Option N
 old_written z0 z t content None h = absurd h
 old_written z0 z t content (Some n) h = h
 
+-- the tree after a node was made or deleted, with what is there then: its parent has other children
+abbrev around : ℕ → Name → NodePath → Option Node → Tree → Tree
+around z name above there tree path = if path_eq path (name ∷ above) then there else (if path_eq path above then option_map (regrouped z) (tree path) else tree path)
+
+module _ (z0 z : ℕ) (path : NodePath) (name : Name) (above : NodePath) (there : Option Node) (tree : Tree) (lt : z0 < z) where
+  around_data : (IsOld Data z0 there → ⊥) → IsOld Data z0 (around z name above there tree path) → IsSame Data z0 path (around z name above there tree) tree
+  around_data new h = go (path_eq path (name ∷ above)) refl (path_eq path above) refl
+    where
+      go : (b : Bool) → path_eq path (name ∷ above) ≡ b → (d : Bool) → path_eq path above ≡ d → IsSame Data z0 path (around z name above there tree) tree
+      go true e d f = absurd (new (rw e at h))
+      go false e true f = let k = old_regrouped z0 z (tree path) (rw (e, f) at h) in (rw (e, f) k.0, k.1)
+      go false e false f = (rw (e, f) refl, rw (e, f) at h)
+
+  around_children : (IsOld Child z0 there → ⊥) → IsOld Child z0 (around z name above there tree path) → IsSame Child z0 path (around z name above there tree) tree
+  around_children new h = go (path_eq path (name ∷ above)) refl (path_eq path above) refl
+    where
+      go : (b : Bool) → path_eq path (name ∷ above) ≡ b → (d : Bool) → path_eq path above ≡ d → IsSame Child z0 path (around z name above there tree) tree
+      go true e d f = absurd (new (rw e at h))
+      go false e true f = absurd (new_regrouped z0 z (tree path) lt (rw (e, f) at h))
+      go false e false f = (
+        child_view path (around z name above there tree) tree (rw (e, f) refl)
+            (λ m. rw (below_other m name path above f) (some_if (path_eq (m ∷ path) above) (regrouped z) (tree (m ∷ path)))),
+        rw (e, f) at h,
+      )
+
 same_data : (z0 : ℕ) (path : NodePath) (c : Change) (z : ℕ) (t : ℤ) (tree : Tree) → z0 < z → IsOld Data z0 (apply z t c tree path) → IsSame Data z0 path (apply z t c tree) tree
 same_data z0 path (Creates [] content owner) z t tree lt h = (refl, h)
-same_data z0 path (Creates (name ∷ above) content owner) z t tree lt h = go (path_eq path (name ∷ above)) refl (path_eq path above) refl
-  where
-    go : (b : Bool) → path_eq path (name ∷ above) ≡ b → (d : Bool) → path_eq path above ≡ d → IsSame Data z0 path (apply z t (Creates (name ∷ above) content owner) tree) tree
-    go true e d f = let k : z ≤ z0 = rw e at h in absurd (omega arith)
-    go false e true f = let k = old_regrouped z0 z (tree path) (rw (e, f) at h) in (rw (e, f) k.0, k.1)
-    go false e false f = (rw (e, f) refl, rw (e, f) at h)
+same_data z0 path (Creates (name ∷ above) content owner) z t tree lt h =
+    around_data z0 z path name above (Some (made z t content owner)) tree lt (λ old. let k : z ≤ z0 = old in omega arith) h
 same_data z0 path (Sets at content) z t tree lt h = go (path_eq path at) refl
   where
     go : (b : Bool) → path_eq path at ≡ b → IsSame Data z0 path (apply z t (Sets at content) tree) tree
     go true e = absurd (new_written z0 z t content (tree path) lt (rw e at h))
     go false e = (rw e refl, rw e at h)
 same_data z0 path (Deletes []) z t tree lt h = (refl, h)
-same_data z0 path (Deletes (name ∷ above)) z t tree lt h = go (path_eq path (name ∷ above)) refl (path_eq path above) refl
-  where
-    go : (b : Bool) → path_eq path (name ∷ above) ≡ b → (d : Bool) → path_eq path above ≡ d → IsSame Data z0 path (apply z t (Deletes (name ∷ above)) tree) tree
-    go true e d f = absurd (rw e at h)
-    go false e true f = let k = old_regrouped z0 z (tree path) (rw (e, f) at h) in (rw (e, f) k.0, k.1)
-    go false e false f = (rw (e, f) refl, rw (e, f) at h)
+same_data z0 path (Deletes (name ∷ above)) z t tree lt h = around_data z0 z path name above None tree lt (λ old. old) h
 
 same_children : (z0 : ℕ) (path : NodePath) (c : Change) (z : ℕ) (t : ℤ) (tree : Tree) → z0 < z → IsOld Child z0 (apply z t c tree path) → IsSame Child z0 path (apply z t c tree) tree
 same_children z0 path (Creates [] content owner) z t tree lt h = (refl, h)
-same_children z0 path (Creates (name ∷ above) content owner) z t tree lt h = go (path_eq path (name ∷ above)) refl (path_eq path above) refl
-  where
-    go : (b : Bool) → path_eq path (name ∷ above) ≡ b → (d : Bool) → path_eq path above ≡ d → IsSame Child z0 path (apply z t (Creates (name ∷ above) content owner) tree) tree
-    go true e d f = let k : z ≤ z0 = rw e at h in absurd (omega arith)
-    go false e true f = absurd (new_regrouped z0 z (tree path) lt (rw (e, f) at h))
-    go false e false f = (
-      child_view path (apply z t (Creates (name ∷ above) content owner) tree) tree (rw (e, f) refl)
-          (λ m. rw (below_other m name path above f) (some_if (path_eq (m ∷ path) above) (regrouped z) (tree (m ∷ path)))),
-      rw (e, f) at h,
-    )
+same_children z0 path (Creates (name ∷ above) content owner) z t tree lt h =
+    around_children z0 z path name above (Some (made z t content owner)) tree lt (λ old. let k : z ≤ z0 = old in omega arith) h
 same_children z0 path (Sets at content) z t tree lt h = (set_children path at content z t tree, go (path_eq path at) refl)
   where
     go : (b : Bool) → path_eq path at ≡ b → IsOld Child z0 (tree path)
     go true e = old_written z0 z t content (tree path) (rw e at h)
     go false e = rw e at h
 same_children z0 path (Deletes []) z t tree lt h = (refl, h)
-same_children z0 path (Deletes (name ∷ above)) z t tree lt h = go (path_eq path (name ∷ above)) refl (path_eq path above) refl
-  where
-    go : (b : Bool) → path_eq path (name ∷ above) ≡ b → (d : Bool) → path_eq path above ≡ d → IsSame Child z0 path (apply z t (Deletes (name ∷ above)) tree) tree
-    go true e d f = absurd (rw e at h)
-    go false e true f = absurd (new_regrouped z0 z (tree path) lt (rw (e, f) at h))
-    go false e false f = (
-      child_view path (apply z t (Deletes (name ∷ above)) tree) tree (rw (e, f) refl)
-          (λ m. rw (below_other m name path above f) (some_if (path_eq (m ∷ path) above) (regrouped z) (tree (m ∷ path)))),
-      rw (e, f) at h,
-    )
+same_children z0 path (Deletes (name ∷ above)) z t tree lt h = around_children z0 z path name above None tree lt (λ old. old) h
 
 same : (side : Side) (z0 : ℕ) (path : NodePath) (c : Change) (z : ℕ) (t : ℤ) (tree : Tree) → z0 < z → IsOld side z0 (apply z t c tree path) → IsSame side z0 path (apply z t c tree) tree
 same Data z0 path c z t tree lt h = same_data z0 path c z t tree lt h

@@ -18,7 +18,7 @@ use Rattle.zk_laws.specs.Run.{Opens, Loses, Halts, Forgets_stale, Goes, opened}
 use Rattle.zk_laws.specs.Seen.{seen}
 use Rattle.zk_laws.specs.Served.{Sent, requests, unread, Wire, new_wire, is_going}
 use Rattle.zk_laws.proofs.Seeing.{last_is}
-use Rattle.zk_laws.specs.Flight.{IsDue, AnswersFirst, IsCalm, Reached, Letter, frames, messages, answers, AreLater, Owes, connection, InFlight, Matches}
+use Rattle.zk_laws.specs.Flight.{IsDue, AnswersFirst, IsCalm, Reached, Letter, frames, messages, answers, AreLater, Owes, connection, InFlight, Matches, WaitsFor}
 use Rattle.zk_laws.proofs.Reaching.{reach, reach_as}
 
 module _ (h : History) (start : Start) (Was : List ℕ → Type 0) where
@@ -65,36 +65,25 @@ module _ (h : History) (start : Start) (Was : List ℕ → Type 0) where
 
   -- ---- ends
 
+  -- what happens is a move of the run, and leaves no connection
+  over_by : (now : Past) (wire : Wire) → Reached h (from_zero start.last) (record { log = seen start now; link = Down }) → IsCalm h Was now → answered now ≤ length (questions now)
+      → is_going now ≡ false → Matches h start Was now wire
+  over_by now wire r calm counted off = record { link = Down; reached = r; calm = calm; counted = counted; going = λ e. absurd (let f = sym off ∙ e in cc) }
+
   pub lost : (past : Past) (wire : Wire) → Matches h start Was past wire → Matches h start Was (Loses_it ∷ past) wire
-  lost past wire s = record {
-    link = Down;
-    reached = reach h (from_zero start.last) (record { log = seen start past; link = s.link }) Loses s.reached tt;
-    calm = s.calm;
-    counted = s.counted;
-    going = λ e. absurd cc;
-  }
+  lost past wire s = over_by (Loses_it ∷ past) wire (reach h (from_zero start.last) (record { log = seen start past; link = s.link }) Loses s.reached tt) s.calm s.counted refl
 
   pub dropped : (fault : Fault) (past : Past) (wire : Wire) → IsDue Was fault past → Matches h start Was past wire → Matches h start Was (Dropped fault ∷ past) wire
-  dropped fault past wire why s = record {
-    link = Down;
-    reached = reach h (from_zero start.last) (record { log = seen start past; link = s.link }) Loses s.reached tt;
-    calm = ((why, s.calm.0), s.calm.1, s.calm.2);
-    counted = s.counted;
-    going = λ e. absurd cc;
-  }
+  dropped fault past wire why s =
+      over_by (Dropped fault ∷ past) wire (reach h (from_zero start.last) (record { log = seen start past; link = s.link }) Loses s.reached tt) ((why, s.calm.0), s.calm.1, s.calm.2) s.counted refl
 
   pub and_false : (b : Bool) → (b && false) ≡ false
   and_false true = refl
   and_false false = refl
 
   pub halted : (past : Past) (wire : Wire) → Matches h start Was past wire → Matches h start Was (Halts_now ∷ past) wire
-  halted past wire s = record {
-    link = Down;
-    reached = reach h (from_zero start.last) (record { log = seen start past; link = s.link }) Halts s.reached tt;
-    calm = s.calm;
-    counted = s.counted;
-    going = λ e. absurd (let f = and_false (is_open (state_of past)) in cc);
-  }
+  halted past wire s =
+      over_by (Halts_now ∷ past) wire (reach h (from_zero start.last) (record { log = seen start past; link = s.link }) Halts s.reached tt) s.calm s.counted (and_false (is_open (state_of past)))
 
   pub forgot : (past : Past) (wire : Wire) → Matches h start Was past wire → Matches h start Was (Forgot ∷ past) wire
   forgot past wire s = record {
@@ -142,15 +131,33 @@ module _ (h : History) (start : Start) (Was : List ℕ → Type 0) where
   asked_requests past wire s le =
       sym (map-append (λ s. s.request) (unread start past wire) (s ∷ [])) ∙ ap (λ l. map (λ s. s.request) l) (sym (unread_more wire.processed (requests start past) (s ∷ []) le))
 
+  -- what is in flight behind one request more, and what it asks waits
+  request_more : (past now : Past) (wire : Wire) (link : Link) (ls : List Letter) (s : Sent) (mine : List Asking) (g : InFlight h start Was past wire link ls)
+      → with_requests past wire ls (map (λ s. s.request) (unread start now wire)) ≡ Up (connection start now wire ls) → requests start past ++ s ∷ [] ≡ requests start now → held_of now ≡ held_of past
+      → WaitsFor s.xid s.request mine → awaited now ≡ awaited past ++ mine → AreLater (messages ls) → InFlight h start Was now wire (with_requests past wire ls (map (λ s. s.request) (unread start past wire) ++ s.request ∷ [])) ls
+  request_more past now wire link ls s mine g same asked held waits more later =
+      let n = length-append (requests start past) (s ∷ []) in
+      let le = g.enough in
+      let enough : wire.processed ≤ length (requests start past ++ s ∷ []) = omega arith in
+      let behind = ap (drop wire.processed) asked in
+      record {
+        up = ap (with_requests past wire ls) (asked_requests past wire s g.enough ∙ ap (map (λ s. s.request)) behind) ∙ same;
+        enough = subst (λ l. wire.processed ≤ length l) asked enough;
+        are = g.are;
+        bytes = ap (λ l. l ++ wire.coming) held ∙ g.bytes;
+        owed = g.owed ++ mine;
+        owes = subst (λ l. Owes l (g.owed ++ mine)) (sym (unread_more wire.processed (requests start past) (s ∷ []) g.enough) ∙ behind)
+            (owes_append (unread start past wire) (s ∷ []) g.owed mine g.owes (owes_one s mine waits));
+        pending = more ∙ ap (λ l. l ++ mine) g.pending ∙ append_assoc (answers ls) g.owed mine;
+        later = λ t. later;
+      }
+
   pub asked : (ticket : ℕ) (question : Call) (past : Past) (wire : Wire) → is_going past ≡ true → is_talking (state_of past) ≡ true → IsAskable question → Matches h start Was past wire → Matches h start Was (Asked ticket question ∷ past) wire
   asked ticket question past wire on talks may s =
       let g = s.going on in
       let sent : Sent = record { payload = call_payload (pos (xid_of past)) question; xid = pos (xid_of past); request = Ask question } in
       let waiting : Asking = For_call (xid_of past) ticket question in
       let r = reach h (from_zero start.last) (record { log = seen start past; link = Up (connection start past wire g.0) }) (Goes (Asks question)) (up_reached past wire s.link g.0 g.1 s.reached) (talks, may) in
-      let same = asked_requests past wire sent g.1.enough in
-      let n = length-append (requests start past) (sent ∷ []) in
-      let le = g.1.enough in
       record {
         link = with_requests past wire g.0 (map (λ s. s.request) (unread start past wire) ++ Ask question ∷ []);
         reached = r;
@@ -158,17 +165,8 @@ module _ (h : History) (start : Start) (Was : List ℕ → Type 0) where
         counted = counted_next (Asked ticket question) past (talks, s.counted) s.counted;
         going = λ e. (
           g.0,
-          record {
-            up = ap (with_requests past wire g.0) same;
-            enough = omega arith;
-            are = g.1.are;
-            bytes = g.1.bytes;
-            owed = g.1.owed ++ waiting ∷ [];
-            owes = subst (λ l. Owes l (g.1.owed ++ waiting ∷ [])) (sym (unread_more wire.processed (requests start past) (sent ∷ []) le))
-                (owes_append (unread start past wire) (sent ∷ []) g.1.owed (waiting ∷ []) g.1.owes (owes_one sent (waiting ∷ []) (ticket, xid_of past, refl, refl)));
-            pending = awaited_more (is_talking (state_of past)) (answered past) (questions past) waiting talks s.counted ∙ ap (λ l. l ++ waiting ∷ []) g.1.pending ∙ append_assoc (answers g.0) g.1.owed (waiting ∷ []);
-            later = g.1.later;
-          },
+          request_more past (Asked ticket question ∷ past) wire s.link g.0 sent (waiting ∷ []) g.1 refl refl refl (ticket, xid_of past, refl, refl)
+              (awaited_more (is_talking (state_of past)) (answered past) (questions past) waiting talks s.counted) (g.1.later talks),
         );
       }
 
@@ -177,28 +175,12 @@ module _ (h : History) (start : Start) (Was : List ℕ → Type 0) where
       let g = s.going on in
       let sent : Sent = record { payload = ping_payload; xid = negsuc 1; request = Ping } in
       let r = reach h (from_zero start.last) (record { log = seen start past; link = Up (connection start past wire g.0) }) (Goes Pings) (up_reached past wire s.link g.0 g.1 s.reached) talks in
-      let same = asked_requests past wire sent g.1.enough in
-      let n = length-append (requests start past) (sent ∷ []) in
-      let le = g.1.enough in
       record {
         link = with_requests past wire g.0 (map (λ s. s.request) (unread start past wire) ++ Ping ∷ []);
         reached = r;
         calm = s.calm;
         counted = s.counted;
-        going = λ e. (
-          g.0,
-          record {
-            up = ap (with_requests past wire g.0) same;
-            enough = omega arith;
-            are = g.1.are;
-            bytes = g.1.bytes;
-            owed = g.1.owed;
-            owes = subst (λ l. Owes l g.1.owed) (sym (unread_more wire.processed (requests start past) (sent ∷ []) le))
-                (subst (λ l. Owes (unread start past wire ++ sent ∷ []) l) (append-nil g.1.owed) (owes_append (unread start past wire) (sent ∷ []) g.1.owed [] g.1.owes (owes_one sent [] refl)));
-            pending = g.1.pending;
-            later = g.1.later;
-          },
-        );
+        going = λ e. (g.0, request_more past (Pinged ∷ past) wire s.link g.0 sent [] g.1 refl refl refl refl (sym (append-nil (awaited past))) (g.1.later talks));
       }
 
   -- ---- messages that are taken

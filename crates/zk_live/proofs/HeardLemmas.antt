@@ -1,7 +1,6 @@
 -- What a connection brings, one piece behind another.
-use Rattle.std.proofs.Common.{◌≡◌, inl, inr, ℕ, Bool, false, List, [], ◌∷◌, ◌++◌, refl, sym, subst, ap, ◌∙◌, append_assoc}
+use Rattle.std.proofs.Common.{◌≡◌, inl, inr, ℕ, Bool, false, List, [], ◌∷◌, ◌++◌, refl, subst, ap, ◌∙◌}
 use Rattle.std.specs.List.{filter, FoldsTo}
-use Rattle.std.proofs.lemmas.List.{append-nil}
 use Rattle.zk_turns.specs.Turns.{Input, Opened, Bytes, Cut, Cuts, Output, Send, Answer, Report, Enters, Drop}
 use Rattle.zk_turns.specs.View.{View}
 use Rattle.zk_turns.specs.Rule.{after_signals}
@@ -14,15 +13,8 @@ use Rattle.zk_link.specs.Trails.{is_given, Fails, Hears as LinkHears, IsLoud, Tr
 use Rattle.zk_script.specs.declared.stop.Stop.{Stop}
 use Rattle.zk_script.specs.declared.stop.Stop.TheVariants as stops
 use Rattle.zk_script.specs.Stops.{IfHalted, IsWant}
-use Rattle.zk_live.specs.Heard.{is_waiting, tape, AllBrought, Awaits, Brings, Connects, Halts, HaltsAmong, HaltsAwaiting, HaltsBrought, HaltsConnecting, Hears, IsBrought, MayEnd, Takes, Tape, TellsEach, TellsHeard}
+use Rattle.zk_live.specs.Heard.{is_waiting, tape, AllBrought, Awaits, Brings, Connects, Halts, HaltsAmong, HaltsAwaiting, HaltsBrought, HaltsConnecting, Hears, IsBrought, MayEnd, Takes, Tape, TellsEach}
 use Rattle.zk_live.specs.Wants.{want_of}
-
--- one more output
-pub one_more : (outputs : List Output) (output : Output) (text told : List ℕ) → TellsEach outputs text → TellsHeard output told
-    → TellsEach (outputs ++ output ∷ []) (text ++ told)
-one_more [] output text told none tells = (told, [], tells, refl, ap (λ x. x ++ told) none ∙ sym (append-nil told))
-one_more (first ∷ outputs) output text told all tells =
-    (all.0, all.1 ++ told, all.2, one_more outputs output all.1 told all.3 tells, ap (λ x. x ++ told) all.4 ∙ append_assoc all.0 all.1 told)
 
 -- one output, given or sent, and what is printed of it
 told_first : (output : Output) (given outputs : List Output) (text : List ℕ) → ((rest : List ℕ) → TellsEach given rest → TellsEach outputs rest)

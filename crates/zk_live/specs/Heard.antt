@@ -6,6 +6,7 @@ use Rattle.zk_turns.specs.View.{View}
 use Rattle.zk_session.specs.declared.states.State.{State}
 use Rattle.zk_session.specs.declared.states.State.TheVariants.{Connecting}
 use Rattle.zk_turns.specs.Rule.{Rule}
+use Rattle.zk_script.specs.Lines.{TellsInOrder}
 use Rattle.zk_replay.specs.Shown.{TellsOutput}
 use Rattle.zk_replay.specs.Played.{HaltsAt}
 
@@ -16,8 +17,7 @@ TellsHeard output text = TellsOutput output text
 
 -- What is printed of outputs, in order.
 abbrev pub TellsEach : List Output → List ℕ → Type 0
-TellsEach [] text = text ≡ []
-TellsEach (output ∷ outputs) text = (first rest : List ℕ) × TellsHeard output first × TellsEach outputs rest × (text ≡ first ++ rest)
+TellsEach outputs text = TellsInOrder TellsHeard outputs text
 
 -- a client, and what was printed
 pub record Tape : Type 0 where

@@ -56,22 +56,19 @@ restores h start entries is_last relative part xid sent zxid err behind a all te
     (notices_spelled xid zxid err sent (Watches_set is_last (zxid_held h (end_of h entries).place) ∷ []) (headed xid (zxid_of h entries) (pos 0) behind ∷ []) tells
     (can.small, (behind, headed_so xid (zxid_of h entries) (pos 0) behind can.fits), tt))
 
-response_so : (response : Response) (ignored : List ℕ) → ResponseFits response → EndsPayload response.read_only ignored → IsResponse (response_spelling response ++ ignored) response ignored
-response_so response ignored fits ends = record { fits = fits; whole = refl; ends = ends }
+-- a ConnectRequest is answered: the session is accepted, or it has expired
+module _ (h : History) (start : Start) (entries : List Entry) (seen : ℕ) (xid : ℤ) (response : Response) (ignored : List ℕ) (a : Awaits h start entries Waiting (Connect seen) xid)
+    (low : seen ≤ zxid_held h (end_of h entries).place) (fits : ResponseFits response) (ends : EndsPayload response.read_only ignored) (small : length (response_spelling response ++ ignored) < 2 ^ 31) where
+  response_so : IsResponse (response_spelling response ++ ignored) response ignored
+  response_so = record { fits = fits; whole = refl; ends = ends }
 
-pub admits : (h : History) (start : Start) (entries : List Entry) (seen : ℕ) (xid : ℤ) (response : Response) (ignored : List ℕ) → Awaits h start entries Waiting (Connect seen) xid
-    → seen ≤ zxid_held h (end_of h entries).place → ResponseFits response → EndsPayload response.read_only ignored → length (response_spelling response ++ ignored) < 2 ^ 31
-    → int_lt (pos 0) (response_timeout response) ≡ true → CanTake h start entries (Admits seen) ((response_spelling response ++ ignored) ∷ [])
-admits h start entries seen xid response ignored a low fits ends small above =
-    serves h start entries Waiting (Connect seen) xid (Admits seen) ((response_spelling response ++ ignored) ∷ []) a (λ others. (a.reaches.there, refl, low))
-    (small, (response, ignored, response_so response ignored fits ends, above), tt)
+  pub admits : int_lt (pos 0) (response_timeout response) ≡ true → CanTake h start entries (Admits seen) ((response_spelling response ++ ignored) ∷ [])
+  admits above =
+      serves h start entries Waiting (Connect seen) xid (Admits seen) ((response_spelling response ++ ignored) ∷ []) a (λ others. (a.reaches.there, refl, low)) (small, (response, ignored, response_so, above), tt)
 
-pub refuses : (h : History) (start : Start) (entries : List Entry) (seen : ℕ) (xid : ℤ) (response : Response) (ignored : List ℕ) → Awaits h start entries Waiting (Connect seen) xid
-    → seen ≤ zxid_held h (end_of h entries).place → ResponseFits response → EndsPayload response.read_only ignored → length (response_spelling response ++ ignored) < 2 ^ 31
-    → int_lt (pos 0) (response_timeout response) ≡ false → CanTake h start entries (Refuses seen) ((response_spelling response ++ ignored) ∷ [])
-refuses h start entries seen xid response ignored a low fits ends small above =
-    serves h start entries Waiting (Connect seen) xid (Refuses seen) ((response_spelling response ++ ignored) ∷ []) a (λ others. (a.reaches.there, refl, low))
-    (small, (response, ignored, response_so response ignored fits ends, above), tt)
+  pub refuses : int_lt (pos 0) (response_timeout response) ≡ false → CanTake h start entries (Refuses seen) ((response_spelling response ++ ignored) ∷ [])
+  refuses above =
+      serves h start entries Waiting (Connect seen) xid (Refuses seen) ((response_spelling response ++ ignored) ∷ []) a (λ others. (a.reaches.there, refl, low)) (small, (response, ignored, response_so, above), tt)
 
 -- ---- notices with any numbers, and any bytes behind
 

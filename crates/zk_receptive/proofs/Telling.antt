@@ -1,5 +1,5 @@
 -- What changes and parts of watches tell, and which watches stay.
-use Rattle.std.proofs.Common.{ℕ, ◌≡◌, ◌≤◌, Bool, true, false, ◌&&◌, ◌||◌, List, [], ◌∷◌, ◌++◌, map, flat_map, refl, ap, sym, ◌∙◌, subst, inl, inr, ◌⊎◌, arith, Option, Some, None, is_some, append_assoc}
+use Rattle.std.proofs.Common.{ℕ, ◌≡◌, ◌≤◌, ◌<◌, Bool, true, false, ◌&&◌, ◌||◌, List, [], ◌∷◌, ◌++◌, map, flat_map, refl, ap, sym, ◌∙◌, subst, inl, inr, ◌⊎◌, arith, Option, Some, None, is_some, append_assoc}
 use Rattle.std.specs.Prelude.{not, nat_lt, if◌then◌else◌}
 use Rattle.std.specs.List.{list_any}
 use Rattle.std.proofs.lemmas.Bool.{and_parts, and_from, ltb-true, ltb-false, lt-ltb}
@@ -118,6 +118,11 @@ map_among : (f : Text → List Notice) (paths : List Text) (n : Notice) → Amon
 map_among f [] n m = absurd m
 map_among f (one ∷ more) n m = elim (among_split n (f one) (flat_map f more) m) [ inl here ↦ (one, inl refl, here) | inr there ↦ (let r = map_among f more n there in (r.0, inr r.1, r.2)) ]
 
+-- what a known path tells: it is gone, or its stamp is later
+abbrev check_by : (Node → ℕ) → Event → ℕ → Option Node → Option Event
+check_by stamp changed relative None = Some Deleted
+check_by stamp changed relative (Some node) = if nat_lt relative (stamp node) then Some changed else None
+
 module _ (relative : ℕ) (tree : Tree) (part : Lists) where
   abbrev known_of : Text → List Notice
   known_of path = tells path (known_check relative (tree (path_of path)))
@@ -149,18 +154,23 @@ module _ (relative : ℕ) (tree : Tree) (part : Lists) where
   abbrev DueNotice : Notice → Type 0
   DueNotice n = IsDue relative tree part n.event n.path
 
-  of_known : (n : Notice) (path : Text) → Among path part.data_watches → Among n (known_of path) → DueNotice n
-  of_known n path at m = go (tree (path_of path)) refl m
+  of_check : (stamp : Node → ℕ) (changed : Event) (n : Notice) (path : Text) → (tree (path_of path) ≡ None → IsDue relative tree part Deleted path)
+      → ((node : Node) → tree (path_of path) ≡ Some node → relative < stamp node → IsDue relative tree part changed path)
+      → Among n (tells path (check_by stamp changed relative (tree (path_of path)))) → DueNotice n
+  of_check stamp changed n path gone later m = go (tree (path_of path)) refl m
     where
-      go : (o : Option Node) → tree (path_of path) ≡ o → Among n (tells path (known_check relative o)) → DueNotice n
-      go None e (inl same) = subst (λ (x : Notice). DueNotice x) (sym same) (inl at, e)
+      go : (o : Option Node) → tree (path_of path) ≡ o → Among n (tells path (check_by stamp changed relative o)) → DueNotice n
+      go None e (inl same) = subst (λ (x : Notice). DueNotice x) (sym same) (gone e)
       go None e (inr more) = absurd more
-      go (Some node) e m = on (nat_lt relative node.mzxid) refl m
+      go (Some node) e m = on (nat_lt relative (stamp node)) refl m
         where
-          on : (b : Bool) → nat_lt relative node.mzxid ≡ b → Among n (tells path (if b then Some DataChanged else None)) → DueNotice n
-          on true t (inl same) = subst (λ (x : Notice). DueNotice x) (sym same) (at, node, e, ltb-true relative node.mzxid t)
+          on : (b : Bool) → nat_lt relative (stamp node) ≡ b → Among n (tells path (if b then Some changed else None)) → DueNotice n
+          on true t (inl same) = subst (λ (x : Notice). DueNotice x) (sym same) (later node e (ltb-true relative (stamp node) t))
           on true t (inr more) = absurd more
           on false t m = absurd m
+
+  of_known : (n : Notice) (path : Text) → Among path part.data_watches → Among n (known_of path) → DueNotice n
+  of_known n path at m = of_check (λ node. node.mzxid) DataChanged n path (λ e. (inl at, e)) (λ node e low. (at, node, e, low)) m
 
   of_missing : (n : Notice) (path : Text) → Among path part.exist_watches → Among n (missing_of path) → DueNotice n
   of_missing n path at m = go (tree (path_of path)) refl m
@@ -171,17 +181,7 @@ module _ (relative : ℕ) (tree : Tree) (part : Lists) where
       go (Some node) e (inr more) = absurd more
 
   of_parent : (n : Notice) (path : Text) → Among path part.child_watches → Among n (parent_of path) → DueNotice n
-  of_parent n path at m = go (tree (path_of path)) refl m
-    where
-      go : (o : Option Node) → tree (path_of path) ≡ o → Among n (tells path (parent_check relative o)) → DueNotice n
-      go None e (inl same) = subst (λ (x : Notice). DueNotice x) (sym same) (inr at, e)
-      go None e (inr more) = absurd more
-      go (Some node) e m = on (nat_lt relative node.pzxid) refl m
-        where
-          on : (b : Bool) → nat_lt relative node.pzxid ≡ b → Among n (tells path (if b then Some ChildrenChanged else None)) → DueNotice n
-          on true t (inl same) = subst (λ (x : Notice). DueNotice x) (sym same) (at, node, e, ltb-true relative node.pzxid t)
-          on true t (inr more) = absurd more
-          on false t m = absurd m
+  of_parent n path at m = of_check (λ node. node.pzxid) ChildrenChanged n path (λ e. (inr at, e)) (λ node e low. (at, node, e, low)) m
 
   pub told_due : (n : Notice) → Among n (part_tells relative tree part) → IsDue relative tree part n.event n.path
   told_due n m = first (among_split n (flat_map known_of part.data_watches ++ flat_map missing_of part.exist_watches) (flat_map parent_of part.child_watches) m)
@@ -222,21 +222,13 @@ found (one ∷ more) path h = by (or_either (path_eq path (path_of one)) (list_a
     by (inl e) rest = (one, inl refl, sym (path_eq-true path (path_of one) e))
     by (inr e) rest = let r = rest e in (r.0, inr r.1, r.2)
 
-known_quiet : (relative : ℕ) (o : Option Node) → not (is_some (known_check relative o)) ≡ true → (node : Node) × (o ≡ Some node) × (node.mzxid ≤ relative)
-known_quiet relative None h = absurd cc
-known_quiet relative (Some node) h = go (nat_lt relative node.mzxid) refl h
+quiet_by : (stamp : Node → ℕ) (changed : Event) (relative : ℕ) (o : Option Node) → not (is_some (check_by stamp changed relative o)) ≡ true → (node : Node) × (o ≡ Some node) × (stamp node ≤ relative)
+quiet_by stamp changed relative None h = absurd cc
+quiet_by stamp changed relative (Some node) h = go (nat_lt relative (stamp node)) refl h
   where
-    go : (b : Bool) → nat_lt relative node.mzxid ≡ b → not (is_some (if b then Some DataChanged else None)) ≡ true → (found : Node) × (Some node ≡ Some found) × (found.mzxid ≤ relative)
+    go : (b : Bool) → nat_lt relative (stamp node) ≡ b → not (is_some (if b then Some changed else None)) ≡ true → (found : Node) × (Some node ≡ Some found) × (stamp found ≤ relative)
     go true e k = absurd cc
-    go false e k = (node, refl, ltb-false relative node.mzxid e)
-
-parent_quiet : (relative : ℕ) (o : Option Node) → not (is_some (parent_check relative o)) ≡ true → (node : Node) × (o ≡ Some node) × (node.pzxid ≤ relative)
-parent_quiet relative None h = absurd cc
-parent_quiet relative (Some node) h = go (nat_lt relative node.pzxid) refl h
-  where
-    go : (b : Bool) → nat_lt relative node.pzxid ≡ b → not (is_some (if b then Some ChildrenChanged else None)) ≡ true → (found : Node) × (Some node ≡ Some found) × (found.pzxid ≤ relative)
-    go true e k = absurd cc
-    go false e k = (node, refl, ltb-false relative node.pzxid e)
+    go false e k = (node, refl, ltb-false relative (stamp node) e)
 
 missing_quiet : (o : Option Node) → not (is_some (missing_check o)) ≡ true → o ≡ None
 missing_quiet None h = refl
@@ -267,7 +259,7 @@ only_again relative tree part Data path h = by (or_either (list_any (path_eq pat
     by (inl e) =
         let parts = and_parts (list_any (path_eq path) (map path_of part.data_watches)) (not (is_some (known_check relative (tree path)))) e in
         let r = found part.data_watches path parts.0 in
-        let k = known_quiet relative (tree path) parts.1 in
+        let k = quiet_by (λ node. node.mzxid) DataChanged relative (tree path) parts.1 in
         (r.0, r.2, inl (r.1, k.0, ap tree r.2 ∙ k.1, k.2))
     by (inr e) =
         let parts = and_parts (list_any (path_eq path) (map path_of part.exist_watches)) (not (is_some (missing_check (tree path)))) e in
@@ -276,5 +268,5 @@ only_again relative tree part Data path h = by (or_either (list_any (path_eq pat
 only_again relative tree part Child path h =
     let parts = and_parts (list_any (path_eq path) (map path_of part.child_watches)) (not (is_some (parent_check relative (tree path)))) h in
     let r = found part.child_watches path parts.0 in
-    let k = parent_quiet relative (tree path) parts.1 in
+    let k = quiet_by (λ node. node.pzxid) ChildrenChanged relative (tree path) parts.1 in
     (r.0, r.2, (r.1, k.0, ap tree r.2 ∙ k.1, k.2))

@@ -6,6 +6,7 @@ ghost use Rattle.zk_jute.specs.Reading.{Gives};
 ghost use Rattle.zk_records.specs.Response.{Response, response_spelling, ResponseFits, IsPayload, flag_at, response_at};
 ghost use Rattle.zk_records.specs.Views.{response_of, lent_response_of};
 
+use crate::whole::whole_or_none;
 use std::alloc::Allocator;
 use zk_jute::{Buffer, BytesRef, Cursor, PutError, Readable, Record, TakeError};
 
@@ -41,10 +42,7 @@ impl<A: Allocator + Copy> ConnectResponse<A> {
     {
         let start = out.len();
         let outcome = self.write(out);
-        if outcome.is_err() {
-            out.truncate(start);
-        }
-        outcome
+        whole_or_none(out, start, outcome)
     }
 
     /// Reads the response that a whole payload spells. Bytes may follow it where `read_only` is there.

@@ -38,6 +38,7 @@ mod set_data_request;
 mod set_watches;
 mod then;
 mod watcher_event;
+mod whole;
 
 pub use acl::{Acl, Id};
 pub use code::Code;

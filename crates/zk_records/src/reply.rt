@@ -7,6 +7,7 @@ ghost use Rattle.zk_jute.specs.Reading.{Gives};
 ghost use Rattle.zk_records.specs.Reply.{ReplyValue, has_result, reply_of, reply_spelling, ReplyFits, result_at, reply_at};
 
 use crate::reply_header::ReplyHeader;
+use crate::whole::whole_or_none;
 use std::alloc::Allocator;
 use zk_jute::{Cursor, PutError, Readable, Record, TakeError};
 
@@ -40,10 +41,7 @@ impl<R> Reply<R> {
     {
         let start = out.len();
         let outcome = self.write(out);
-        if outcome.is_err() {
-            out.truncate(start);
-        }
-        outcome
+        whole_or_none(out, start, outcome)
     }
 
     /// Writes the header and the result. An `Err` may leave a part of them.

@@ -13,6 +13,7 @@ use crate::read_request::ReadRequest;
 use crate::request_header::RequestHeader;
 use crate::set_data_request::SetDataRequest;
 use crate::set_watches::SetWatches;
+use crate::whole::whole_or_none;
 use std::alloc::Allocator;
 use zk_jute::{PutError, Record};
 
@@ -72,10 +73,7 @@ impl<A: Allocator + Copy> Request<A> {
     {
         let start = out.len();
         let outcome = self.write(xid, out);
-        if outcome.is_err() {
-            out.truncate(start);
-        }
-        outcome
+        whole_or_none(out, start, outcome)
     }
 
     /// Writes the header and the record. An `Err` may leave a part of them.

@@ -8,7 +8,7 @@ use Rattle.zk_nodes.specs.Path.{Text}
 use Rattle.zk_nodes.specs.History.{Transaction, after}
 use Rattle.zk_history.specs.HistoryView.{HistoryView, history_of, root_tree}
 use Rattle.zk_nodes.specs.declared.side.Side.TheVariants.{Data, Child}
-use Rattle.zk_turns.specs.Turns.{Input, Opened, Bytes, Cut, Now, Call, Start, Item, Forgets, new_start}
+use Rattle.zk_turns.specs.Turns.{Input, Opened, Bytes, Cut, Now, Call, Start, Forgets, new_start}
 use Rattle.zk_turns.specs.View.{View, view_at}
 use Rattle.zk_turns.specs.Rule.{Stands, forgotten}
 use Rattle.zk_turns.specs.Ranges.{IsResumable}
@@ -27,6 +27,7 @@ use Rattle.zk_bench.specs.Served.{Served, Linked, started, is_open, connected, d
 use Rattle.zk_bench.specs.Stepping.{IsReady, phase_of, stage_of, shown_of, shown_watches}
 use Rattle.zk_bench.proofs.Stepped.{ready_disconnected, same_history}
 use Rattle.zk_script.specs.Said.{DoesSome}
+use Rattle.zk_replay.proofs.CourseLemmas.{first, forgets}
 use Rattle.zk_replay.specs.CallLines.{Asked}
 use Rattle.zk_replay.specs.ClientLines.{ClientValue, CutLine, NowLine, CallLine, PeekLine, LastLine, ForgetLine, SavedLine}
 use Rattle.zk_rehearse.specs.BenchLines.{BenchValue, OpenLine, TakeLine, ProcessLine, DeliverLine, ExpireLine, GoodLine, RejoinLine, ClientValueLine}
@@ -57,11 +58,8 @@ above_zero (negsuc n) above = absurd (omega (arith, ints, above))
 
 -- A client that nothing has happened to
 
-first_stands : (start : Start) → Stands start [] (view_at start [])
-first_stands start = record { standing = refl; saved = refl; lists = refl; cache = refl; going = λ _. refl; said = tt; asked = tt }
-
 first_served : (start : Start) (shown : Shown) → IsResumable start → 0 < start.timeout → WasServed (view_at start []) shown
-first_served start shown resumable timed = first_session start (view_at start []) shown resumable timed (first_stands start)
+first_served start shown resumable timed = first_session start (view_at start []) shown resumable timed (first start)
 
 ready_first : (history : HistoryView) → IsReady (started history)
 ready_first history = record {
@@ -195,18 +193,7 @@ module _ (old new : Scene) (s : IsServed old) where
 
   -- stale answers are forgotten
   forget_served : new ≡ record old { view = new.view } → new.view ≡ record old.view { cache = forgotten old.view.cache } → IsServed new
-  forget_served rest left = view_served rest (forget_session old.view shown s.served new.view (λ start items stands. subst (Stands start (Forgets ∷ items)) (sym left) (forgets start items stands)))
-    where
-      forgets : (start : Start) (items : List Item) → Stands start items old.view → Stands start (Forgets ∷ items) (record old.view { cache = forgotten old.view.cache })
-      forgets start items stands = record {
-        standing = stands.standing;
-        saved = stands.saved;
-        lists = stands.lists;
-        cache = ap forgotten stands.cache;
-        going = λ goes. ap (λ (view : View). record view { cache = forgotten view.cache }) (stands.going goes);
-        said = stands.said;
-        asked = stands.asked;
-      }
+  forget_served rest left = view_served rest (forget_session old.view shown s.served new.view (λ start items stands. subst (Stands start (Forgets ∷ items)) (sym left) (forgets start items old.view stands)))
 
   -- a line for the client
   client_served : (value : ClientValue) (text : List ℕ) → DoesClientLine value old new text → IsServed new

@@ -1,13 +1,13 @@
 -- The lines behind the one that makes the client.
-use Rattle.std.specs.Prelude.{◌≤◌, ⊤, ℕ, ◌==◌, nat_le, if◌then◌else◌, List, [], ◌∷◌, codes, Option, Some, None, Result, Ok, Err, bytes_eq}
+use Rattle.std.specs.Prelude.{◌≤◌, ⊤, ℕ, ◌==◌, nat_le, if◌then◌else◌, List, [], ◌∷◌, codes, Option, Some, None, Result, Ok, Err}
 use Rattle.std.specs.List.{list_all}
-use Rattle.std.specs.Option.{option_map}
+use Rattle.std.specs.Option.{option_map, option_or}
 use Rattle.zk_nodes.specs.Path.{Text}
 use Rattle.zk_script.specs.declared.script_fault.ScriptFault.{ScriptFault}
 use Rattle.zk_script.specs.declared.script_fault.ScriptFault.TheVariants.{Words, Number}
 use Rattle.zk_script.specs.Numbers.{natural_of}
-use Rattle.zk_script.specs.Reads.{◌>>=◌, is_printed}
-use Rattle.zk_replay.specs.ClientLines.{ClientValue, client_keyword_of, client_line_at}
+use Rattle.zk_script.specs.Reads.{◌>>=◌, named, only, is_printed}
+use Rattle.zk_replay.specs.ClientLines.{ClientValue, alone, client_keyword_of, client_line_at}
 use Rattle.zk_replay.specs.Lines.{client_value_of}
 use Rattle.zk_replay.specs.Reads.{natural_at}
 use Rattle.zk_rehearse.specs.declared.bench_line.BenchKeyword.{BenchKeyword}
@@ -17,14 +17,12 @@ use Rattle.zk_rehearse.specs.declared.bench_line.BenchLine.TheVariants as line
 
 abbrev pub bench_keyword_of : Text → Option BenchKeyword
 bench_keyword_of word =
-    if bytes_eq word (codes "open") then Some keyword.Open
-    else (if bytes_eq word (codes "take") then Some keyword.Take
-    else (if bytes_eq word (codes "process") then Some keyword.Process
-    else (if bytes_eq word (codes "deliver") then Some keyword.Deliver
-    else (if bytes_eq word (codes "expire") then Some keyword.Expire
-    else (if bytes_eq word (codes "good") then Some keyword.Good
-    else (if bytes_eq word (codes "rejoin") then Some keyword.Rejoin
-    else option_map keyword.Client (client_keyword_of word)))))))
+    option_or
+    (named
+    ((codes "open", keyword.Open) ∷ (codes "take", keyword.Take) ∷ (codes "process", keyword.Process) ∷ (codes "deliver", keyword.Deliver)
+    ∷ (codes "expire", keyword.Expire) ∷ (codes "good", keyword.Good) ∷ (codes "rejoin", keyword.Rejoin) ∷ [])
+    word)
+    (option_map keyword.Client (client_keyword_of word))
 
 -- A connection to a server begins; a server takes a transaction; the connected one processes a request; so many bytes of it are
 -- delivered; sessions expire; the good answers are looked up; another client takes up the session; or what is not about servers.
@@ -68,16 +66,10 @@ unfoldable pub server_at : Text → Result ℕ ScriptFault
 server_at word = server_read (natural_of 9 word)
 
 abbrev pub open_at : List Text → Result BenchValue ScriptFault
-open_at (server ∷ []) = do
-  number ← server_at server
-  Ok (OpenLine number)
-open_at words = Err Words
+open_at words = only words >>= server_at >>= λ number. Ok (OpenLine number)
 
 abbrev pub take_at : List Text → Result BenchValue ScriptFault
-take_at (server ∷ []) = do
-  number ← server_at server
-  Ok (TakeLine number)
-take_at words = Err Words
+take_at words = only words >>= server_at >>= λ number. Ok (TakeLine number)
 
 -- so many bytes, or all
 abbrev pub deliver_at : List Text → Result BenchValue ScriptFault
@@ -86,11 +78,6 @@ deliver_at (most ∷ []) = do
   number ← natural_at most
   Ok (DeliverLine number)
 deliver_at words = Err Words
-
--- a line of its first word alone
-abbrev pub alone : BenchValue → List Text → Result BenchValue ScriptFault
-alone value [] = Ok value
-alone value words = Err Words
 
 -- what the words behind a keyword say
 abbrev pub bench_words_at : BenchKeyword → List Text → Result BenchValue ScriptFault

@@ -12,6 +12,7 @@ use Rattle.zk_cache.specs.declared.held.Kept.{Kept}
 use Rattle.zk_cache.specs.declared.held.Mark.{Mark}
 use Rattle.zk_cache.specs.declared.held.Mark.TheVariants.{Good, Stale}
 use Rattle.zk_turns.specs.View.{View}
+use Rattle.zk_script.specs.Lines.{TellsInOrder}
 use Rattle.zk_script.specs.Values.{name_text}
 
 -- both null, or the same bytes
@@ -84,9 +85,7 @@ abbrev pub TellsPath : View → History → Text → List ℕ → Type 0
 TellsPath client history path text = (names : List ℕ) × TellsNamesVerdict client history path names × (text ≡ data_verdict client history path ++ names)
 
 abbrev pub TellsPaths : View → History → List Text → List ℕ → Type 0
-TellsPaths client history [] text = text ≡ []
-TellsPaths client history (path ∷ paths) text =
-    (first rest : List ℕ) × TellsPath client history path first × TellsPaths client history paths rest × (text ≡ first ++ rest)
+TellsPaths client history paths text = TellsInOrder (TellsPath client history) paths text
 
 -- What is printed of an answer that agrees with what there is to see: nothing, unless it is good.
 abbrev pub agreeing : {A : Type 0} → Side → Option (Kept A) → Text → List ℕ

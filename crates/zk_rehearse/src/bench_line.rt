@@ -2,13 +2,14 @@
 
 ghost use Rattle.std.specs.Prelude.{◌≡◌, ◌≤◌, map, IfOk};
 ghost use Rattle.zk_script.specs.Reads.{Reads};
-ghost use Rattle.zk_rehearse.specs.BenchLines.{bench_keyword_of, server_at, open_at, take_at, deliver_at, alone, bench_words_at, bench_line_at, bench_value_of, CanServe};
+ghost use Rattle.zk_rehearse.specs.BenchLines.{bench_keyword_of, server_at, deliver_at, bench_words_at, bench_line_at, bench_value_of, CanServe};
+ghost use Rattle.zk_replay.specs.ClientLines.{alone};
 
 use std::alloc::Allocator;
 use zk_replay::client_line::{ClientKeyword, ClientLine, parse_client_line};
 use zk_replay::reads::parse_natural;
 use zk_script::numbers::natural_of;
-use zk_script::reads::{are_printed, is_named};
+use zk_script::reads::{are_printed, is_named, only};
 use zk_script::script_fault::ScriptFault;
 
 /// What a line does with the client or with the servers, by its first word.
@@ -92,28 +93,6 @@ fn parse_server(word: &[u8]) -> Result<usize, ScriptFault>
     Err(ScriptFault::Number)
 }
 
-fn parse_open<A: Allocator + Copy>(words: &[&[u8]]) -> Result<BenchLine<A>, ScriptFault>
-    ensures value { Reads bench_value_of result (open_at (map (λ w. w.now) words.now)) }
-    ensures can { IfOk result (λ line. CanServe (bench_value_of line)) }
-{
-    let [server] = words else {
-        return Err(ScriptFault::Words);
-    };
-    let server = parse_server(server)?;
-    Ok(BenchLine::Open(server))
-}
-
-fn parse_take<A: Allocator + Copy>(words: &[&[u8]]) -> Result<BenchLine<A>, ScriptFault>
-    ensures value { Reads bench_value_of result (take_at (map (λ w. w.now) words.now)) }
-    ensures can { IfOk result (λ line. CanServe (bench_value_of line)) }
-{
-    let [server] = words else {
-        return Err(ScriptFault::Words);
-    };
-    let server = parse_server(server)?;
-    Ok(BenchLine::Take(server))
-}
-
 fn parse_deliver<A: Allocator + Copy>(words: &[&[u8]]) -> Result<BenchLine<A>, ScriptFault>
     ensures value { Reads bench_value_of result (deliver_at (map (λ w. w.now) words.now)) }
     ensures can { IfOk result (λ line. CanServe (bench_value_of line)) }
@@ -156,8 +135,8 @@ pub fn parse_bench_line<A: Allocator + Copy>(
         return Err(ScriptFault::Words);
     }
     match keyword {
-        BenchKeyword::Open => parse_open(words),
-        BenchKeyword::Take => parse_take(words),
+        BenchKeyword::Open => Ok(BenchLine::Open(parse_server(only(words)?)?)),
+        BenchKeyword::Take => Ok(BenchLine::Take(parse_server(only(words)?)?)),
         BenchKeyword::Process => alone(BenchLine::Process, words),
         BenchKeyword::Deliver => parse_deliver(words),
         BenchKeyword::Expire => alone(BenchLine::Expire, words),

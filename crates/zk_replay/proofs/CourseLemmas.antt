@@ -21,7 +21,7 @@ use Rattle.zk_script.specs.declared.stop.Stop.TheVariants as stops
 use Rattle.zk_replay.specs.Courses.{Course, and_then, due_to, AddsTurn, AddsClient, AddsDrive, Adds, StandsBy, Follows}
 
 -- nothing has happened to a client that was just made
-first : (start : Start) → Stands start [] (view_at start [])
+pub first : (start : Start) → Stands start [] (view_at start [])
 first start = record {
   standing = refl;
   saved = refl;
@@ -33,7 +33,7 @@ first start = record {
 }
 
 -- what forget_stale leaves
-forgets : (start : Start) (items : List Item) (view : View) → Stands start items view
+pub forgets : (start : Start) (items : List Item) (view : View) → Stands start items view
     → Stands start (Forgets ∷ items) (record view { cache = forgotten view.cache })
 forgets start items view s = record {
   standing = s.standing;

@@ -1,4 +1,3 @@
 pub mod SetLemmas
-pub mod TellLemmas
 pub mod PlayLemmas
 pub mod CourseLemmas

@@ -1,10 +1,11 @@
 -- The lines of calls.
-use Rattle.std.specs.Prelude.{ℕ, Bool, if◌then◌else◌, List, [], ◌∷◌, codes, Result, Ok, Err, bytes_eq}
+use Rattle.std.specs.Prelude.{ℕ, List, [], ◌∷◌, codes, Option, Some, None, Result, Ok, Err}
+use Rattle.std.specs.Option.{ok_or}
 use Rattle.zk_nodes.specs.Path.{Text}
 use Rattle.zk_conversation.specs.Calls.{Call, Exists, GetData, GetChildren, SetData, Create, Delete, Close}
 use Rattle.zk_script.specs.declared.script_fault.ScriptFault.{ScriptFault}
 use Rattle.zk_script.specs.declared.script_fault.ScriptFault.TheVariants.{Words}
-use Rattle.zk_script.specs.Reads.{◌>>=◌, data_at, text_at, path_at}
+use Rattle.zk_script.specs.Reads.{◌>>=◌, named, data_at, text_at, path_at}
 use Rattle.zk_replay.specs.declared.call_line.CallKind.{CallKind}
 use Rattle.zk_replay.specs.declared.call_line.CallKind.TheVariants as kind
 use Rattle.zk_replay.specs.Reads.{natural_at, version_at, boolean_at, mode_at}
@@ -16,82 +17,56 @@ pub record Asked : Type 0 where
 
 abbrev pub kind_read : Text → Result CallKind ScriptFault
 kind_read word =
-    if bytes_eq word (codes "exists") then Ok kind.Exists
-    else (if bytes_eq word (codes "getdata") then Ok kind.GetData
-    else (if bytes_eq word (codes "getchildren") then Ok kind.GetChildren
-    else (if bytes_eq word (codes "setdata") then Ok kind.SetData
-    else (if bytes_eq word (codes "create") then Ok kind.Create
-    else (if bytes_eq word (codes "delete") then Ok kind.Delete
-    else (if bytes_eq word (codes "close") then Ok kind.Close
-    else Err Words))))))
+    ok_or
+    (named
+    ((codes "exists", kind.Exists) ∷ (codes "getdata", kind.GetData) ∷ (codes "getchildren", kind.GetChildren) ∷ (codes "setdata", kind.SetData)
+    ∷ (codes "create", kind.Create) ∷ (codes "delete", kind.Delete) ∷ (codes "close", kind.Close) ∷ [])
+    word)
+    Words
 
--- a read: its number, its path, and whether it is to leave a watch
-pub record Watched : Type 0 where
-  pub ticket : ℕ
-  pub path : Text
-  pub watch : Bool
+-- what is asked of a node, by the last word: whether a watch is to be left, or a version, or a mode
+abbrev pub asks_at : CallKind → Text → Result (Text → Option (List ℕ) → Call) ScriptFault
+asks_at kind.Exists word = boolean_at word >>= λ watch. Ok (λ path bytes. Exists path watch)
+asks_at kind.GetData word = boolean_at word >>= λ watch. Ok (λ path bytes. GetData path watch)
+asks_at kind.GetChildren word = boolean_at word >>= λ watch. Ok (λ path bytes. GetChildren path watch)
+asks_at kind.SetData word = version_at word >>= λ version. Ok (λ path bytes. SetData path bytes version)
+asks_at kind.Create word = mode_at word >>= λ mode. Ok (λ path bytes. Create path bytes mode)
+asks_at kind.Delete word = version_at word >>= λ version. Ok (λ path bytes. Delete path version)
+asks_at kind.Close word = Err Words
 
-abbrev pub watched_at : Text → List Text → Result Watched ScriptFault
-watched_at ticket (path ∷ watch ∷ []) = do
+-- the data that a call brings, if its kind brings some
+abbrev pub content_at : Option Text → Result (Option (List ℕ)) ScriptFault
+content_at None = Ok None
+content_at (Some word) = data_at word
+
+abbrev pub on_path_at : CallKind → (ticket path : Text) → Option Text → Text → Result Asked ScriptFault
+on_path_at kind ticket path bytes word = do
   text ← text_at path
-  flag ← boolean_at watch
+  asks ← asks_at kind word
   number ← natural_at ticket
+  content ← content_at bytes
   place ← path_at text
-  Ok (record { ticket = number; path = place; watch = flag })
-watched_at ticket words = Err Words
+  Ok (record { ticket = number; call = asks place content })
 
-abbrev pub exists_at : Text → List Text → Result Asked ScriptFault
-exists_at ticket words = watched_at ticket words >>= λ w. Ok (record { ticket = w.ticket; call = Exists w.path w.watch })
+-- a call that brings no data
+abbrev pub bare_at : CallKind → Text → List Text → Result Asked ScriptFault
+bare_at kind ticket (path ∷ word ∷ []) = on_path_at kind ticket path None word
+bare_at kind ticket words = Err Words
 
-abbrev pub get_data_at : Text → List Text → Result Asked ScriptFault
-get_data_at ticket words = watched_at ticket words >>= λ w. Ok (record { ticket = w.ticket; call = GetData w.path w.watch })
-
-abbrev pub get_children_at : Text → List Text → Result Asked ScriptFault
-get_children_at ticket words = watched_at ticket words >>= λ w. Ok (record { ticket = w.ticket; call = GetChildren w.path w.watch })
-
-abbrev pub set_data_at : Text → List Text → Result Asked ScriptFault
-set_data_at ticket (path ∷ bytes ∷ version ∷ []) = do
-  text ← text_at path
-  expected ← version_at version
-  number ← natural_at ticket
-  content ← data_at bytes
-  place ← path_at text
-  Ok (record { ticket = number; call = SetData place content expected })
-set_data_at ticket words = Err Words
-
-abbrev pub create_at : Text → List Text → Result Asked ScriptFault
-create_at ticket (path ∷ bytes ∷ mode ∷ []) = do
-  text ← text_at path
-  flags ← mode_at mode
-  number ← natural_at ticket
-  content ← data_at bytes
-  place ← path_at text
-  Ok (record { ticket = number; call = Create place content flags })
-create_at ticket words = Err Words
-
-abbrev pub delete_at : Text → List Text → Result Asked ScriptFault
-delete_at ticket (path ∷ version ∷ []) = do
-  text ← text_at path
-  expected ← version_at version
-  number ← natural_at ticket
-  place ← path_at text
-  Ok (record { ticket = number; call = Delete place expected })
-delete_at ticket words = Err Words
+-- and one that brings some
+abbrev pub filled_at : CallKind → Text → List Text → Result Asked ScriptFault
+filled_at kind ticket (path ∷ bytes ∷ word ∷ []) = on_path_at kind ticket path (Some bytes) word
+filled_at kind ticket words = Err Words
 
 abbrev pub close_at : Text → List Text → Result Asked ScriptFault
-close_at ticket [] = do
-  number ← natural_at ticket
-  Ok (record { ticket = number; call = Close })
+close_at ticket [] = natural_at ticket >>= λ number. Ok (record { ticket = number; call = Close })
 close_at ticket words = Err Words
 
 abbrev pub kind_at : CallKind → Text → List Text → Result Asked ScriptFault
-kind_at kind.Exists ticket words = exists_at ticket words
-kind_at kind.GetData ticket words = get_data_at ticket words
-kind_at kind.GetChildren ticket words = get_children_at ticket words
-kind_at kind.SetData ticket words = set_data_at ticket words
-kind_at kind.Create ticket words = create_at ticket words
-kind_at kind.Delete ticket words = delete_at ticket words
 kind_at kind.Close ticket words = close_at ticket words
+kind_at kind.SetData ticket words = filled_at kind.SetData ticket words
+kind_at kind.Create ticket words = filled_at kind.Create ticket words
+kind_at kind ticket words = bare_at kind ticket words
 
 abbrev pub numbered_at : Text → List Text → Result Asked ScriptFault
 numbered_at ticket [] = Err Words

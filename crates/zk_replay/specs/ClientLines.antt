@@ -1,12 +1,11 @@
 -- The lines that drive a client, whatever is at the other end of its connection.
-use Rattle.std.specs.Prelude.{ℕ, if◌then◌else◌, List, [], ◌∷◌, codes, Option, Some, None, Result, Ok, Err, bytes_eq}
+use Rattle.std.specs.Prelude.{ℕ, if◌then◌else◌, List, [], ◌∷◌, codes, Option, Result, Ok, Err}
 use Rattle.std.specs.List.{list_all}
 use Rattle.zk_nodes.specs.Path.{Text}
 use Rattle.zk_nodes.specs.declared.side.Side.{Side}
 use Rattle.zk_script.specs.declared.script_fault.ScriptFault.{ScriptFault}
 use Rattle.zk_script.specs.declared.script_fault.ScriptFault.TheVariants.{Words}
-use Rattle.zk_script.specs.Reads.{side_read}
-use Rattle.zk_script.specs.Reads.{◌>>=◌, text_at, path_at, is_printed}
+use Rattle.zk_script.specs.Reads.{◌>>=◌, named, only, text_at, path_at, side_read, is_printed}
 use Rattle.zk_replay.specs.declared.client_line.ClientKeyword.{ClientKeyword}
 use Rattle.zk_replay.specs.declared.client_line.ClientKeyword.TheVariants as keyword
 use Rattle.zk_replay.specs.CallLines.{Asked, call_at}
@@ -14,14 +13,10 @@ use Rattle.zk_replay.specs.Reads.{natural_at}
 
 abbrev pub client_keyword_of : Text → Option ClientKeyword
 client_keyword_of word =
-    if bytes_eq word (codes "cut") then Some keyword.Cut
-    else (if bytes_eq word (codes "now") then Some keyword.Now
-    else (if bytes_eq word (codes "call") then Some keyword.Call
-    else (if bytes_eq word (codes "peek") then Some keyword.Peek
-    else (if bytes_eq word (codes "last") then Some keyword.Last
-    else (if bytes_eq word (codes "forget") then Some keyword.Forget
-    else (if bytes_eq word (codes "saved") then Some keyword.Saved
-    else None))))))
+    named
+    ((codes "cut", keyword.Cut) ∷ (codes "now", keyword.Now) ∷ (codes "call", keyword.Call) ∷ (codes "peek", keyword.Peek)
+    ∷ (codes "last", keyword.Last) ∷ (codes "forget", keyword.Forget) ∷ (codes "saved", keyword.Saved) ∷ [])
+    word
 
 -- The connection ends, a moment comes, a call is asked; a look-up of a path, of the last seen zxid or of the session; or the stale
 -- answers are taken out.
@@ -35,10 +30,7 @@ pub data ClientValue : Type 0 where
   SavedLine : ClientValue
 
 abbrev pub now_at : List Text → Result ClientValue ScriptFault
-now_at (moment ∷ []) = do
-  number ← natural_at moment
-  Ok (NowLine number)
-now_at words = Err Words
+now_at words = only words >>= natural_at >>= λ number. Ok (NowLine number)
 
 abbrev pub peek_at : List Text → Result ClientValue ScriptFault
 peek_at (side ∷ path ∷ []) = do

@@ -2,18 +2,17 @@
 -- prints what the definitions give for the whole past. No client is named here but where it is said that one stands there.
 use Rattle.std.specs.Prelude.{◌≡◌, ⊤, is_some, ℕ, List, [], ◌∷◌, Option, Some, None}
 use Rattle.zk_nodes.specs.Path.{Text}
-use Rattle.zk_nodes.specs.declared.side.Side.TheVariants.{Data, Child}
-use Rattle.zk_turns.specs.Turns.{Input, Opened, Bytes, Cut, Now, Call, Output, Start, Item, Turned, Forgets, signals_of}
-use Rattle.zk_turns.specs.Past.{Past, kept_data, kept_names}
+use Rattle.zk_turns.specs.Turns.{Input, Opened, Bytes, Output, Start, Item, Turned, Forgets, signals_of}
+use Rattle.zk_turns.specs.Past.{Past}
 use Rattle.zk_turns.specs.View.{View, view_at}
 use Rattle.zk_turns.specs.Taken.{past_of}
 use Rattle.zk_turns.specs.Rule.{Stands, due_signals}
 use Rattle.zk_script.specs.Pieces.{words_of}
 use Rattle.zk_script.specs.Said.{TakesSaid}
-use Rattle.zk_replay.specs.ClientLines.{ClientValue, CutLine, NowLine, CallLine, PeekLine, LastLine, ForgetLine, SavedLine}
+use Rattle.zk_replay.specs.ClientLines.{ClientValue}
 use Rattle.zk_replay.specs.ReplayLines.{DriveValue, OpenedLine, BytesLine, ClientValueLine, ReplayValue, Begins, Drives, says_at}
-use Rattle.zk_replay.specs.Shown.{TellsAll, TellsKept, kept_line, last_line, saved_line}
-use Rattle.zk_replay.specs.Played.{start_of}
+use Rattle.zk_replay.specs.Shown.{TellsAll}
+use Rattle.zk_replay.specs.Played.{start_of, DoesBy}
 
 -- What a client began with, and what has happened to it since, the newest first.
 pub record Course : Type 0 where
@@ -37,15 +36,7 @@ pub record AddsTurn (input : Input) (old new : Course) (text : List ℕ) : Type 
 
 -- What a line adds to what has happened, and what it prints.
 abbrev pub AddsClient : ClientValue → Course → Course → List ℕ → Type 0
-AddsClient CutLine old new text = AddsTurn Cut old new text
-AddsClient (NowLine moment) old new text = AddsTurn (Now moment) old new text
-AddsClient (CallLine asked) old new text = AddsTurn (Call asked.ticket asked.call) old new text
-AddsClient (PeekLine Data path) old new text = (new ≡ old) × (text ≡ kept_line (kept_data path (past_in old)))
-AddsClient (PeekLine Child path) old new text = (new ≡ old) × TellsKept (kept_names path (past_in old)) text
-AddsClient LastLine old new text = (new ≡ old) × (text ≡ last_line (view_at old.start (past_in old)).saved.last)
-AddsClient SavedLine old new text =
-    (new ≡ old) × (text ≡ saved_line (view_at old.start (past_in old)).saved.session.session (view_at old.start (past_in old)).saved.session.password (view_at old.start (past_in old)).saved.last)
-AddsClient ForgetLine old new text = (new ≡ and_then old Forgets) × (text ≡ [])
+AddsClient value old new text = DoesBy AddsTurn (λ course. view_at course.start (past_in course)) (λ course. and_then course Forgets) value old new text
 
 abbrev pub AddsDrive : DriveValue → Course → Course → List ℕ → Type 0
 AddsDrive OpenedLine old new text = AddsTurn Opened old new text

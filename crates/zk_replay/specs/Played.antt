@@ -31,16 +31,21 @@ pub record TakesTurn (input : Input) (old new : View) (text : List ℕ) : Type 0
   pub rule : Rule old (record { input = input; outputs = outputs }) new
   pub told : TellsAll outputs text
 
--- What a line makes of a client, and what it prints: an input is a turn, and a look-up changes nothing.
+-- What a line does, and what it prints: an input is a turn, and a look-up prints what is seen, and changes nothing.
+abbrev pub DoesBy : {S : Type 0} → (Input → S → S → List ℕ → Type 0) → (seen : S → View) (forgets : S → S) → ClientValue → S → S → List ℕ → Type 0
+DoesBy Turns seen forgets CutLine old new text = Turns Cut old new text
+DoesBy Turns seen forgets (NowLine moment) old new text = Turns (Now moment) old new text
+DoesBy Turns seen forgets (CallLine asked) old new text = Turns (Call asked.ticket asked.call) old new text
+DoesBy Turns seen forgets (PeekLine Data path) old new text = (new ≡ old) × (text ≡ kept_line ((seen old).cache.nodes path))
+DoesBy Turns seen forgets (PeekLine Child path) old new text = (new ≡ old) × TellsKept ((seen old).cache.children path) text
+DoesBy Turns seen forgets LastLine old new text = (new ≡ old) × (text ≡ last_line (seen old).saved.last)
+DoesBy Turns seen forgets SavedLine old new text =
+    (new ≡ old) × (text ≡ saved_line (seen old).saved.session.session (seen old).saved.session.password (seen old).saved.last)
+DoesBy Turns seen forgets ForgetLine old new text = (new ≡ forgets old) × (text ≡ [])
+
+-- What it makes of a client.
 abbrev pub DoesClient : ClientValue → View → View → List ℕ → Type 0
-DoesClient CutLine old new text = TakesTurn Cut old new text
-DoesClient (NowLine moment) old new text = TakesTurn (Now moment) old new text
-DoesClient (CallLine asked) old new text = TakesTurn (Call asked.ticket asked.call) old new text
-DoesClient (PeekLine Data path) old new text = (new ≡ old) × (text ≡ kept_line (old.cache.nodes path))
-DoesClient (PeekLine Child path) old new text = (new ≡ old) × TellsKept (old.cache.children path) text
-DoesClient LastLine old new text = (new ≡ old) × (text ≡ last_line old.saved.last)
-DoesClient SavedLine old new text = (new ≡ old) × (text ≡ saved_line old.saved.session.session old.saved.session.password old.saved.last)
-DoesClient ForgetLine old new text = (new ≡ record old { cache = forgotten old.cache }) × (text ≡ [])
+DoesClient value old new text = DoesBy TakesTurn (λ view. view) (λ view. record view { cache = forgotten view.cache }) value old new text
 
 abbrev pub DoesDrive : DriveValue → View → View → List ℕ → Type 0
 DoesDrive OpenedLine old new text = TakesTurn Opened old new text

@@ -1,20 +1,15 @@
 -- What the words of lines that drive a client stand for.
 use Rattle.std.specs.Prelude.{ℕ, ℤ, pos, negsuc, ◌-◌, ◌==◌, Bool, true, false, nat_le, if◌then◌else◌, List, [], ◌∷◌, codes, length, Option, Some, None, Result, Ok, Err, bytes_eq, option_and_then}
-use Rattle.std.specs.Option.{option_map}
+use Rattle.std.specs.Option.{ok_or, option_map}
 use Rattle.zk_script.specs.declared.script_fault.ScriptFault.{ScriptFault}
 use Rattle.zk_script.specs.declared.script_fault.ScriptFault.TheVariants.{Words, Number, Hex}
 use Rattle.zk_script.specs.Numbers.{natural_of}
 use Rattle.zk_script.specs.Reads.{◌>>=◌, zxid_read, data_at}
 use Rattle.zk_limits.specs.declared.limits.TheConstants.{LONGEST_PASSWORD}
 
--- a number, or the fault of a word that is none
-abbrev pub or_number : {X : Type 0} → Option X → Result X ScriptFault
-or_number (Some n) = Ok n
-or_number None = Err Number
-
 -- from 0 to 2^64 - 1
 unfoldable pub natural_at : List ℕ → Result ℕ ScriptFault
-natural_at word = or_number (natural_of 18446744073709551615 word)
+natural_at word = ok_or (natural_of 18446744073709551615 word) Number
 
 -- from 1 to 2^31 - 1
 unfoldable pub timeout_at : List ℕ → Result ℤ ScriptFault
@@ -32,11 +27,11 @@ integer_of greatest least (b ∷ bytes) =
 
 -- from -2^31 to 2^31 - 1
 unfoldable pub version_at : List ℕ → Result ℤ ScriptFault
-version_at word = or_number (integer_of 2147483647 2147483648 word)
+version_at word = ok_or (integer_of 2147483647 2147483648 word) Number
 
 -- from -2^63 to 2^63 - 1
 unfoldable pub session_at : List ℕ → Result ℤ ScriptFault
-session_at word = or_number (integer_of 9223372036854775807 9223372036854775808 word)
+session_at word = ok_or (integer_of 9223372036854775807 9223372036854775808 word) Number
 
 -- 0 or 1
 abbrev pub boolean_at : List ℕ → Result Bool ScriptFault
@@ -51,12 +46,8 @@ unfoldable pub mode_at : List ℕ → Result ℕ ScriptFault
 mode_at word = mode_read (natural_of 9 word)
 
 -- bytes that are not null
-abbrev pub not_null : Option (List ℕ) → Result (List ℕ) ScriptFault
-not_null (Some bytes) = Ok bytes
-not_null None = Err Hex
-
 unfoldable pub bytes_at : List ℕ → Result (List ℕ) ScriptFault
-bytes_at word = data_at word >>= not_null
+bytes_at word = data_at word >>= λ bytes. ok_or bytes Hex
 
 -- A password of more bytes than a server can bring is none of the words allowed, which is told before a number that is none. A
 -- word that is no hex is told behind it.

@@ -1,11 +1,11 @@
 -- The lines of a replay.
-use Rattle.std.specs.Prelude.{◌≤◌, ◌<ℤ◌, ◌≤ℤ◌, ℕ, ℤ, pos, Bool, true, false, if◌then◌else◌, length, List, [], ◌∷◌, codes, Option, Some, None, Result, Ok, Err, bytes_eq}
+use Rattle.std.specs.Prelude.{◌≤◌, ◌<ℤ◌, ◌≤ℤ◌, ℕ, ℤ, pos, Bool, true, false, if◌then◌else◌, length, List, [], ◌∷◌, codes, Option, Some, None, Result, Ok, Err}
 use Rattle.std.specs.List.{list_all}
-use Rattle.std.specs.Option.{option_map}
+use Rattle.std.specs.Option.{ok_or, option_map, option_or}
 use Rattle.zk_nodes.specs.Path.{Text}
 use Rattle.zk_script.specs.declared.script_fault.ScriptFault.{ScriptFault}
 use Rattle.zk_script.specs.declared.script_fault.ScriptFault.TheVariants.{Unknown, Place, Words, Hex}
-use Rattle.zk_script.specs.Reads.{◌>>=◌, time_at, is_printed}
+use Rattle.zk_script.specs.Reads.{◌>>=◌, named, only, time_at, is_printed}
 use Rattle.zk_script.specs.Said.{says_by}
 use Rattle.zk_replay.specs.declared.begin_line.BeginKeyword.{BeginKeyword}
 use Rattle.zk_replay.specs.declared.begin_line.BeginKeyword.TheVariants as begin_keyword
@@ -20,23 +20,15 @@ use Rattle.zk_limits.specs.declared.limits.TheConstants.{LONGEST_PASSWORD}
 -- A line that makes the client
 
 abbrev pub begin_keyword_of : Text → Option BeginKeyword
-begin_keyword_of word =
-    if bytes_eq word (codes "timeout") then Some begin_keyword.Timeout else (if bytes_eq word (codes "resume") then Some begin_keyword.Resume else None)
+begin_keyword_of word = named ((codes "timeout", begin_keyword.Timeout) ∷ (codes "resume", begin_keyword.Resume) ∷ []) word
 
 -- A new client asks for a timeout, and one that takes up a session has its number, its password and the last seen zxid too.
 pub data BeginValue : Type 0 where
   TimeoutLine : ℤ → BeginValue
   ResumeLine : (timeout session : ℤ) (password : List ℕ) (last : ℤ) → BeginValue
 
-abbrev pub or_hex : Option (List ℕ) → Result (List ℕ) ScriptFault
-or_hex (Some bytes) = Ok bytes
-or_hex None = Err Hex
-
 abbrev pub new_at : List Text → Result BeginValue ScriptFault
-new_at (timeout ∷ []) = do
-  number ← timeout_at timeout
-  Ok (TimeoutLine number)
-new_at words = Err Words
+new_at words = only words >>= timeout_at >>= λ number. Ok (TimeoutLine number)
 
 unfoldable pub saved_at : (timeout session password last : Text) → Result BeginValue ScriptFault
 saved_at timeout session password last = do
@@ -44,7 +36,7 @@ saved_at timeout session password last = do
   number ← timeout_at timeout
   id ← session_at session
   zxid ← time_at last
-  bytes ← or_hex found
+  bytes ← ok_or found Hex
   Ok (ResumeLine number id bytes zxid)
 
 abbrev pub resume_at : List Text → Result BeginValue ScriptFault
@@ -67,9 +59,8 @@ CanBegin (ResumeLine timeout session password last) = (pos 0 <ℤ timeout) × (p
 
 abbrev pub drive_keyword_of : Text → Option DriveKeyword
 drive_keyword_of word =
-    if bytes_eq word (codes "opened") then Some drive_keyword.Opened
-    else (if bytes_eq word (codes "bytes") then Some drive_keyword.Bytes
-    else option_map drive_keyword.Client (client_keyword_of word))
+    option_or (named ((codes "opened", drive_keyword.Opened) ∷ (codes "bytes", drive_keyword.Bytes) ∷ []) word)
+    (option_map drive_keyword.Client (client_keyword_of word))
 
 -- A connection begins, bytes come, or what is not about the server's side.
 pub data DriveValue : Type 0 where
@@ -78,10 +69,7 @@ pub data DriveValue : Type 0 where
   ClientValueLine : ClientValue → DriveValue
 
 abbrev pub piece_at : List Text → Result DriveValue ScriptFault
-piece_at (bytes ∷ []) = do
-  came ← bytes_at bytes
-  Ok (BytesLine came)
-piece_at words = Err Words
+piece_at words = only words >>= bytes_at >>= λ came. Ok (BytesLine came)
 
 abbrev pub printed_piece_at : List Text → Result DriveValue ScriptFault
 printed_piece_at words = if list_all is_printed words then piece_at words else Err Words

@@ -19,7 +19,7 @@ use Rattle.zk_cache.specs.declared.held.Mark.TheVariants.{Good, Stale}
 use Rattle.zk_turns.specs.Turns.{Outcome, Replied, Fault, Output, Send, Answer as Answers, Report, Enters, Drop}
 use Rattle.zk_client.specs.FaultText.{fault_code, outcome_code}
 use Rattle.zk_script.specs.Values.{AreNames, spaced, stat_words, names_text}
-use Rattle.zk_script.specs.Lines.{line}
+use Rattle.zk_script.specs.Lines.{line, TellsInOrder}
 use Rattle.zk_script.specs.Words.{bytes_word, text_word}
 use Rattle.zk_replay.specs.FaultTexts.{fault_values}
 
@@ -116,8 +116,7 @@ TellsOutput output text = text ≡ plain_line output
 
 -- What is printed of outputs: a line each, in order.
 abbrev pub TellsAll : List Output → List ℕ → Type 0
-TellsAll [] text = text ≡ []
-TellsAll (output ∷ outputs) text = (first rest : List ℕ) × TellsOutput output first × TellsAll outputs rest × (text ≡ first ++ rest)
+TellsAll outputs text = TellsInOrder TellsOutput outputs text
 
 -- Look-ups
 

@@ -7,7 +7,7 @@ ghost use Rattle.zk_replay.specs.ReplayLines.{begin_keyword_of, new_at, saved_at
 
 use crate::reads::{parse_last, parse_password, parse_session, parse_timeout};
 use std::alloc::Allocator;
-use zk_script::reads::{are_printed, is_named};
+use zk_script::reads::{are_printed, is_named, only};
 use zk_script::script_fault::ScriptFault;
 
 /// How a line makes a client, by its first word.
@@ -50,10 +50,7 @@ fn parse_new<A: Allocator + Copy>(words: &[&[u8]]) -> Result<BeginLine<A>, Scrip
     ensures value { Reads begin_value_of result (new_at (map (λ w. w.now) words.now)) }
     ensures can { IfOk result (λ line. CanBegin (begin_value_of line)) }
 {
-    let [timeout] = words else {
-        return Err(ScriptFault::Words);
-    };
-    let timeout = parse_timeout(timeout)?;
+    let timeout = parse_timeout(only(words)?)?;
     Ok(BeginLine::Timeout(timeout))
 }
 

@@ -1,13 +1,15 @@
 //! The lines of calls.
 
 ghost use Rattle.std.specs.Prelude.{◌≡◌, map};
+ghost use Rattle.std.specs.Option.{option_map};
+ghost use Rattle.zk_conversation.specs.Views.{call_view};
 ghost use Rattle.zk_script.specs.Reads.{Reads};
-ghost use Rattle.zk_replay.specs.CallLines.{kind_read, watched_at, exists_at, get_data_at, get_children_at, set_data_at, create_at, delete_at, close_at, kind_at, numbered_at, call_at};
-ghost use Rattle.zk_replay.specs.Lines.{asked_of, watched_of};
+ghost use Rattle.zk_replay.specs.CallLines.{kind_read, asks_at, content_at, on_path_at, close_at, kind_at, numbered_at, call_at};
+ghost use Rattle.zk_replay.specs.Lines.{asked_of, asks_of};
 
 use crate::reads::{parse_boolean, parse_mode, parse_natural, parse_version};
 use std::alloc::Allocator;
-use zk_conversation::Call;
+use zk_conversation::{Call, CreateMode};
 use zk_nodes::Path;
 use zk_script::reads::{is_named, parse_data, parse_path, parse_text};
 use zk_script::script_fault::ScriptFault;
@@ -31,12 +33,15 @@ pub struct Asked<A: Allocator> {
     pub call: Call<A>,
 }
 
-/// A read: its number, its path, and whether it is to leave a watch.
-#[derive(Drop)]
-struct Watched<A: Allocator> {
-    ticket: u64,
-    path: Path<A>,
-    watch: bool,
+/// What is asked of a node: whether a watch is to be left, or a version, or a mode.
+#[derive(Clone, Copy)]
+enum Wish {
+    Exists(bool),
+    GetData(bool),
+    GetChildren(bool),
+    SetData(i32),
+    Create(CreateMode),
+    Delete(i32),
 }
 
 fn kind_named(word: &[u8]) -> Result<CallKind, ScriptFault>
@@ -61,132 +66,67 @@ fn kind_named(word: &[u8]) -> Result<CallKind, ScriptFault>
     }
 }
 
-fn parse_watched<A: Allocator + Copy>(
-    alloc: A,
-    ticket: &[u8],
-    words: &[&[u8]],
-) -> Result<Watched<A>, ScriptFault>
-    ensures { Reads watched_of result (watched_at ticket.now (map (λ w. w.now) words.now)) }
+fn parse_wish(kind: CallKind, word: &[u8]) -> Result<Wish, ScriptFault>
+    ensures { Reads asks_of result (asks_at kind word.now) }
 {
-    let [path, watch] = words else {
-        return Err(ScriptFault::Words);
-    };
+    match kind {
+        CallKind::Exists => Ok(Wish::Exists(parse_boolean(word)?)),
+        CallKind::GetData => Ok(Wish::GetData(parse_boolean(word)?)),
+        CallKind::GetChildren => Ok(Wish::GetChildren(parse_boolean(word)?)),
+        CallKind::SetData => Ok(Wish::SetData(parse_version(word)?)),
+        CallKind::Create => Ok(Wish::Create(parse_mode(word)?)),
+        CallKind::Delete => Ok(Wish::Delete(parse_version(word)?)),
+        CallKind::Close => Err(ScriptFault::Words),
+    }
+}
+
+/// The call that asks this of the node at a path. Bytes are brought by some alone.
+fn call_of<A: Allocator>(wish: Wish, path: Path<A>, bytes: Option<Vec<u8, A>>) -> Call<A>
+    ensures { call_view result ≡ asks_of wish path (option_map (λ v. v.items) bytes) }
+{
+    match wish {
+        Wish::Exists(watch) => Call::Exists { path, watch },
+        Wish::GetData(watch) => Call::GetData { path, watch },
+        Wish::GetChildren(watch) => Call::GetChildren { path, watch },
+        Wish::SetData(version) => Call::SetData {
+            path,
+            bytes,
+            version,
+        },
+        Wish::Create(mode) => Call::Create { path, bytes, mode },
+        Wish::Delete(version) => Call::Delete { path, version },
+    }
+}
+
+/// The data that a call brings, if its kind brings some.
+fn parse_content<A: Allocator + Copy>(
+    alloc: A,
+    word: Option<&[u8]>,
+) -> Result<Option<Vec<u8, A>>, ScriptFault>
+    ensures { Reads (option_map (λ v. v.items)) result (content_at (option_map (λ w. w.now) word.entry)) }
+{
+    match word {
+        None => Ok(None),
+        Some(word) => parse_data(alloc, word),
+    }
+}
+
+fn parse_on_path<A: Allocator + Copy>(
+    alloc: A,
+    kind: CallKind,
+    ticket: &[u8],
+    path: &[u8],
+    bytes: Option<&[u8]>,
+    word: &[u8],
+) -> Result<Asked<A>, ScriptFault>
+    ensures { Reads asked_of result (on_path_at kind ticket.now path.now (option_map (λ w. w.now) bytes.entry) word.now) }
+{
     let path = parse_text(alloc, path)?;
-    let watch = parse_boolean(watch)?;
+    let wish = parse_wish(kind, word)?;
     let ticket = parse_natural(ticket)?;
+    let bytes = parse_content(alloc, bytes)?;
     let path = parse_path(alloc, path.as_str())?;
-    Ok(Watched {
-        ticket,
-        path,
-        watch,
-    })
-}
-
-fn parse_exists<A: Allocator + Copy>(
-    alloc: A,
-    ticket: &[u8],
-    words: &[&[u8]],
-) -> Result<Asked<A>, ScriptFault>
-    ensures { Reads asked_of result (exists_at ticket.now (map (λ w. w.now) words.now)) }
-{
-    let Watched {
-        ticket,
-        path,
-        watch,
-    } = parse_watched(alloc, ticket, words)?;
-    let call = Call::Exists { path, watch };
-    Ok(Asked { ticket, call })
-}
-
-fn parse_get_data<A: Allocator + Copy>(
-    alloc: A,
-    ticket: &[u8],
-    words: &[&[u8]],
-) -> Result<Asked<A>, ScriptFault>
-    ensures { Reads asked_of result (get_data_at ticket.now (map (λ w. w.now) words.now)) }
-{
-    let Watched {
-        ticket,
-        path,
-        watch,
-    } = parse_watched(alloc, ticket, words)?;
-    let call = Call::GetData { path, watch };
-    Ok(Asked { ticket, call })
-}
-
-fn parse_get_children<A: Allocator + Copy>(
-    alloc: A,
-    ticket: &[u8],
-    words: &[&[u8]],
-) -> Result<Asked<A>, ScriptFault>
-    ensures { Reads asked_of result (get_children_at ticket.now (map (λ w. w.now) words.now)) }
-{
-    let Watched {
-        ticket,
-        path,
-        watch,
-    } = parse_watched(alloc, ticket, words)?;
-    let call = Call::GetChildren { path, watch };
-    Ok(Asked { ticket, call })
-}
-
-fn parse_set_data<A: Allocator + Copy>(
-    alloc: A,
-    ticket: &[u8],
-    words: &[&[u8]],
-) -> Result<Asked<A>, ScriptFault>
-    ensures { Reads asked_of result (set_data_at ticket.now (map (λ w. w.now) words.now)) }
-{
-    let [path, bytes, version] = words else {
-        return Err(ScriptFault::Words);
-    };
-    let path = parse_text(alloc, path)?;
-    let version = parse_version(version)?;
-    let ticket = parse_natural(ticket)?;
-    let bytes = parse_data(alloc, bytes)?;
-    let path = parse_path(alloc, path.as_str())?;
-    let call = Call::SetData {
-        path,
-        bytes,
-        version,
-    };
-    Ok(Asked { ticket, call })
-}
-
-fn parse_create<A: Allocator + Copy>(
-    alloc: A,
-    ticket: &[u8],
-    words: &[&[u8]],
-) -> Result<Asked<A>, ScriptFault>
-    ensures { Reads asked_of result (create_at ticket.now (map (λ w. w.now) words.now)) }
-{
-    let [path, bytes, mode] = words else {
-        return Err(ScriptFault::Words);
-    };
-    let path = parse_text(alloc, path)?;
-    let mode = parse_mode(mode)?;
-    let ticket = parse_natural(ticket)?;
-    let bytes = parse_data(alloc, bytes)?;
-    let path = parse_path(alloc, path.as_str())?;
-    let call = Call::Create { path, bytes, mode };
-    Ok(Asked { ticket, call })
-}
-
-fn parse_delete<A: Allocator + Copy>(
-    alloc: A,
-    ticket: &[u8],
-    words: &[&[u8]],
-) -> Result<Asked<A>, ScriptFault>
-    ensures { Reads asked_of result (delete_at ticket.now (map (λ w. w.now) words.now)) }
-{
-    let [path, version] = words else {
-        return Err(ScriptFault::Words);
-    };
-    let path = parse_text(alloc, path)?;
-    let version = parse_version(version)?;
-    let ticket = parse_natural(ticket)?;
-    let path = parse_path(alloc, path.as_str())?;
-    let call = Call::Delete { path, version };
+    let call = call_of(wish, path, bytes);
     Ok(Asked { ticket, call })
 }
 
@@ -201,6 +141,7 @@ fn parse_close<A: Allocator + Copy>(ticket: &[u8], words: &[&[u8]]) -> Result<As
     Ok(Asked { ticket, call })
 }
 
+/// The call of a kind. Some bring data, between their path and their last word.
 fn parse_kind<A: Allocator + Copy>(
     alloc: A,
     kind: CallKind,
@@ -210,13 +151,19 @@ fn parse_kind<A: Allocator + Copy>(
     ensures { Reads asked_of result (kind_at kind ticket.now (map (λ w. w.now) words.now)) }
 {
     match kind {
-        CallKind::Exists => parse_exists(alloc, ticket, words),
-        CallKind::GetData => parse_get_data(alloc, ticket, words),
-        CallKind::GetChildren => parse_get_children(alloc, ticket, words),
-        CallKind::SetData => parse_set_data(alloc, ticket, words),
-        CallKind::Create => parse_create(alloc, ticket, words),
-        CallKind::Delete => parse_delete(alloc, ticket, words),
         CallKind::Close => parse_close(ticket, words),
+        CallKind::SetData | CallKind::Create => {
+            let [path, bytes, word] = words else {
+                return Err(ScriptFault::Words);
+            };
+            parse_on_path(alloc, kind, ticket, path, Some(bytes), word)
+        }
+        CallKind::Exists | CallKind::GetData | CallKind::GetChildren | CallKind::Delete => {
+            let [path, word] = words else {
+                return Err(ScriptFault::Words);
+            };
+            parse_on_path(alloc, kind, ticket, path, None, word)
+        }
     }
 }
 

@@ -9,7 +9,7 @@ use crate::call_line::{Asked, parse_call};
 use crate::reads::parse_natural;
 use std::alloc::Allocator;
 use zk_nodes::{Path, Side};
-use zk_script::reads::{are_printed, is_named, parse_path, parse_side, parse_text};
+use zk_script::reads::{are_printed, is_named, only, parse_path, parse_side, parse_text};
 use zk_script::script_fault::ScriptFault;
 
 /// What a line does with a client, by its first word.
@@ -71,10 +71,7 @@ pub enum ClientLine<A: Allocator> {
 fn parse_now<A: Allocator + Copy>(words: &[&[u8]]) -> Result<ClientLine<A>, ScriptFault>
     ensures { Reads client_value_of result (now_at (map (λ w. w.now) words.now)) }
 {
-    let [moment] = words else {
-        return Err(ScriptFault::Words);
-    };
-    let moment = parse_natural(moment)?;
+    let moment = parse_natural(only(words)?)?;
     Ok(ClientLine::Now(moment))
 }
 

@@ -8,7 +8,7 @@ ghost use Rattle.zk_replay.specs.ReplayLines.{drive_keyword_of, piece_at, printe
 use crate::client_line::{ClientKeyword, ClientLine, parse_client_line};
 use crate::reads::parse_bytes;
 use std::alloc::Allocator;
-use zk_script::reads::{are_printed, is_named};
+use zk_script::reads::{are_printed, is_named, only};
 use zk_script::script_fault::ScriptFault;
 
 /// What a line does with the client, by its first word.
@@ -51,10 +51,7 @@ pub enum DriveLine<A: Allocator> {
 fn parse_piece<A: Allocator + Copy>(alloc: A, words: &[&[u8]]) -> Result<DriveLine<A>, ScriptFault>
     ensures { Reads drive_value_of result (piece_at (map (λ w. w.now) words.now)) }
 {
-    let [bytes] = words else {
-        return Err(ScriptFault::Words);
-    };
-    let bytes = parse_bytes(alloc, bytes)?;
+    let bytes = parse_bytes(alloc, only(words)?)?;
     Ok(DriveLine::Bytes(bytes))
 }
 

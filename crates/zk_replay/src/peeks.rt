@@ -123,25 +123,13 @@ pub fn names_line<A: Allocator + Copy>(
     }
 }
 
-/// Adds the line of the last seen zxid.
-fn push_last<A: Allocator + Copy>(
-    text: &mut String<A>,
-    alloc: A,
-    zxid: i64,
-) -> Result<(), AllocError>
-    ensures { OnOk result (string_bytes text.new ≡ string_bytes text.old ++ last_line zxid) }
-{
-    text.push_str("last")?;
-    push_word(text, alloc, &zxid)?;
-    text.push_str("\n")
-}
-
 /// The line of the last seen zxid.
 pub fn last_line<A: Allocator + Copy>(alloc: A, zxid: i64) -> Result<String<A>, AllocError>
     ensures { IfOk result (λ text. string_bytes text ≡ last_line zxid) }
 {
-    let mut text = String::new(alloc);
-    push_last(&mut text, alloc, zxid)?;
+    let mut text = String::from_str(alloc, "last")?;
+    push_word(&mut text, alloc, &zxid)?;
+    text.push_str("\n")?;
     Ok(text)
 }
 

@@ -1,19 +1,18 @@
 //! What a call is answered, as it is printed.
 
-ghost use Rattle.std.specs.Prelude.{◌≡◌, ◌++◌, ◌∷◌, ℕ, ℤ, List, Some, OnOk, map, string_bytes, vec_items, option_map};
+ghost use Rattle.std.specs.Prelude.{◌≡◌, ◌++◌, ◌∷◌, ℕ, ℤ, List, Some, OnOk, map, string_bytes};
 ghost use Rattle.std.specs.FinSet as set;
 ghost use Rattle.zk_client.specs.Views.{call_result_view, outcome_view};
-ghost use Rattle.zk_conversation.specs.Results.{Found, Read, Listing, Made};
-ghost use Rattle.zk_records.specs.Codes.{code_number};
+ghost use Rattle.zk_conversation.specs.Results.{Listing};
 ghost use Rattle.zk_turns.specs.Turns.{Replied};
 ghost use Rattle.zk_script.specs.Words.{bytes_word};
-ghost use Rattle.zk_replay.specs.Shown.{reason_text, front_words, back_words, full_words, plain_text, code_text, TellsSet, TellsResult, TellsOutcome};
+ghost use Rattle.zk_replay.specs.Shown.{reason_text, front_words, back_words, full_words, TellsSet, TellsResult, TellsOutcome};
 
 use crate::names::push_listing;
 use crate::words::push_spaced;
 use std::alloc::{AllocError, Allocator};
 use zk_client::{CallResult, Outcome};
-use zk_records::{Code, Stat};
+use zk_records::Stat;
 use zk_script::values::{push_data_word, push_name, push_numbers, push_value, push_word};
 
 /// Adds the first six numbers of a Stat.
@@ -68,44 +67,6 @@ fn push_full<A: Allocator + Copy>(
     push_back(text, alloc, stat)
 }
 
-/// Adds the number of a code.
-fn push_code<A: Allocator + Copy>(
-    text: &mut String<A>,
-    alloc: A,
-    code: Code,
-) -> Result<(), AllocError>
-    ensures { OnOk result (string_bytes text.new ≡ string_bytes text.old ++ code_text (code_number code)) }
-{
-    text.push_str("code")?;
-    push_word(text, alloc, &code.number())
-}
-
-/// Adds a Stat.
-fn push_stat_result<A: Allocator + Copy>(
-    text: &mut String<A>,
-    alloc: A,
-    stat: &Stat,
-) -> Result<(), AllocError>
-    ensures { OnOk result (string_bytes text.new ≡ string_bytes text.old ++ plain_text (Found stat.now)) }
-{
-    text.push_str("stat")?;
-    push_full(text, alloc, stat)
-}
-
-/// Adds data and a Stat.
-fn push_data_result<A: Allocator + Copy>(
-    text: &mut String<A>,
-    alloc: A,
-    bytes: &Option<Vec<u8, A>>,
-    stat: &Stat,
-) -> Result<(), AllocError>
-    ensures { OnOk result (string_bytes text.new ≡ string_bytes text.old ++ plain_text (Read (option_map vec_items bytes.now) stat.now)) }
-{
-    text.push_str("data ")?;
-    push_data_word(text, alloc, bytes)?;
-    push_full(text, alloc, stat)
-}
-
 /// Adds names and a Stat.
 fn push_names_result<A: Allocator + Copy>(
     text: &mut String<A>,
@@ -119,18 +80,6 @@ fn push_names_result<A: Allocator + Copy>(
     push_full(text, alloc, stat)
 }
 
-/// Adds the path of a node that was made.
-fn push_created<A: Allocator + Copy>(
-    text: &mut String<A>,
-    alloc: A,
-    path: &str,
-) -> Result<(), AllocError>
-    ensures { OnOk result (string_bytes text.new ≡ string_bytes text.old ++ plain_text (Made path.now)) }
-{
-    text.push_str("created")?;
-    push_name(text, alloc, path.as_bytes())
-}
-
 /// Adds what a reply brought.
 pub fn push_result<A: Allocator + Copy>(
     text: &mut String<A>,
@@ -140,13 +89,26 @@ pub fn push_result<A: Allocator + Copy>(
     ensures { OnOk result ((told : List ℕ) × TellsResult (call_result_view found.now) told × (string_bytes text.new ≡ string_bytes text.old ++ told)) }
 {
     match found {
-        CallResult::Code(code) => push_code(text, alloc, *code),
-        CallResult::Stat(stat) => push_stat_result(text, alloc, stat),
-        CallResult::Data { bytes, stat } => push_data_result(text, alloc, bytes, stat),
+        CallResult::Code(code) => {
+            text.push_str("code")?;
+            push_word(text, alloc, &code.number())
+        }
+        CallResult::Stat(stat) => {
+            text.push_str("stat")?;
+            push_full(text, alloc, stat)
+        }
+        CallResult::Data { bytes, stat } => {
+            text.push_str("data ")?;
+            push_data_word(text, alloc, bytes)?;
+            push_full(text, alloc, stat)
+        }
         CallResult::Names { names, stat } => {
             push_names_result(text, alloc, names.as_slice(), stat)
         }
-        CallResult::Created(path) => push_created(text, alloc, path.as_str()),
+        CallResult::Created(path) => {
+            text.push_str("created")?;
+            push_name(text, alloc, path.as_bytes())
+        }
         CallResult::Done => text.push_str("done"),
     }
 }

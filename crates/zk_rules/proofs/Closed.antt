@@ -1,6 +1,6 @@
 -- What the reply to a close ends.
-use Rattle.std.proofs.Common.{◌≡◌, ℕ, ℤ, pos, Bool, true, false, cond, ◌&&◌, ◌||◌, List, [], ◌∷◌, ◌++◌, Option, Some, None, Ok, refl, sym, ap, subst, ◌∙◌, inl, inr}
-use Rattle.std.specs.Prelude.{negsuc, nat_le, ◌*◌, ◌-◌}
+use Rattle.std.proofs.Common.{◌≡◌, ℕ, ℤ, pos, Bool, true, false, cond, ◌||◌, List, [], ◌∷◌, ◌++◌, Option, Some, None, Ok, refl, sym, ap, subst, ◌∙◌, inl, inr}
+use Rattle.std.specs.Prelude.{negsuc}
 use Rattle.std.specs.Ordering.{int_eq}
 use Rattle.zk_session.specs.declared.states.State.{State}
 use Rattle.zk_session.specs.declared.states.State.TheVariants.{Idle, Connecting, Connected, Expired, Closed}
@@ -8,45 +8,38 @@ use Rattle.zk_conversation.specs.Calls.{Call}
 use Rattle.zk_conversation.specs.Questions.{Close}
 use Rattle.zk_conversation.specs.Results.{Result, NoNode, Refused, Done, record_of}
 use Rattle.zk_turns.specs.Turns.{Start, Item, Outcome, Signal, Opens, Comes, Cuts, Ticks, Calls, Forget, Halt, signals}
-use Rattle.zk_turns.specs.Past.{Past, Happening, Came, Took, Lost, Denied, Pinged, Ticked, Forgot, Halted, Replies, state_of, has_halted, held_of, is_final, is_talking}
+use Rattle.zk_turns.specs.Past.{Past, Happening, Came, Took, Lost, Denied, Ticked, Forgot, Halted, Replies, state_of, has_halted, held_of, is_final}
 use Rattle.zk_turns.specs.View.{View, view_at}
-use Rattle.zk_turns.specs.Taken.{happenings, caused, opens, if_open, comes, of_cutting, cut, Cutting, Unfinished, Bad, Payload, due, timeout_of, refusal_when_connected, joined, past_after, past_of}
+use Rattle.zk_turns.specs.Taken.{happenings, caused, opens, if_open, comes, of_cutting, cut, Cutting, Unfinished, Bad, Payload, due, refusal_when_connected, joined, past_after, past_of}
 use Rattle.zk_turns.specs.Meaning.{Among}
 use Rattle.zk_turns.proofs.Words.{calls, refusal_in}
-use Rattle.zk_turns.proofs.Over.{nothing_kept}
+use Rattle.zk_turns.proofs.Cases.{by_cond, by_due}
+use Rattle.zk_turns.proofs.Over.{IsQuiet, nothing_kept}
 use Rattle.zk_rules.specs.Closing.{CloseSays, CodeIsNoMatter, CloseStays}
 
 pub close_says : CloseSays
 close_says ticket zxid result view = refl
 
--- what may still happen to a client that is closed
-abbrev IsTame : Happening → Type 0
-IsTame (Ticked moment) = Unit {0}
-IsTame (Denied ticket why) = Unit {0}
-IsTame Forgot = Unit {0}
-IsTame Halted = Unit {0}
-IsTame _ = ⊥
-
+-- a client that is closed is only told moments, denies calls, forgets or halts
 abbrev AllTame : List Happening → Past → Type 0
 AllTame [] past = Unit {0}
-AllTame (happening ∷ more) past = (state_of past ≡ Closed → IsTame happening) × AllTame more (happening ∷ past)
+AllTame (happening ∷ more) past = (state_of past ≡ Closed → IsQuiet happening) × AllTame more (happening ∷ past)
 
-tame_stays : (happening : Happening) (past : Past) → IsTame happening → state_of past ≡ Closed → state_of (happening ∷ past) ≡ Closed
+tame_stays : (happening : Happening) (past : Past) → IsQuiet happening → state_of past ≡ Closed → state_of (happening ∷ past) ≡ Closed
 tame_stays (Ticked moment) past t e = e
 tame_stays (Denied ticket why) past t e = e
 tame_stays Forgot past t e = e
 tame_stays Halted past t e = e
 tame_stays _ past t e = absurd t
 
-tame_cond : (b : Bool) (x y : List Happening) (past : Past) → AllTame x past → AllTame y past → AllTame (cond b x y) past
-tame_cond true x y past p q = p
-tame_cond false x y past p q = q
+abbrev TameBehind : Past → List Happening → Type 0
+TameBehind past more = AllTame more past
 
 module _ (start : Start) (ticket : ℕ) (zxid : ℤ) (result : Result) where
   abbrev IsClosing : Past → Type 0
   IsClosing past = Among (Took (Replies ticket Close zxid result)) past → state_of past ≡ Closed
 
-  closing_next : (happening : Happening) (past : Past) → (state_of past ≡ Closed → IsTame happening) → IsClosing past → IsClosing (happening ∷ past)
+  closing_next : (happening : Happening) (past : Past) → (state_of past ≡ Closed → IsQuiet happening) → IsClosing past → IsClosing (happening ∷ past)
   closing_next happening past t c (inl e) = subst (λ h. state_of (h ∷ past) ≡ Closed) e refl
   closing_next happening past t c (inr a) = tame_stays happening past (t (c a)) (c a)
 
@@ -76,9 +69,7 @@ module _ (start : Start) (ticket : ℕ) (zxid : ℤ) (result : Result) where
   lost_tame _ past e = tt
 
   due_tame : (view : View) (now : ℕ) (past : Past) → (state_of past ≡ Closed → ⊥) → AllTame (due view now) past
-  due_tame view now past n =
-      tame_cond (nat_le (2 * timeout_of view) (3 * (now - view.moments.heard))) _ _ past (λ f. absurd (n f), tt)
-      (tame_cond (is_talking view.standing.state && nat_le (timeout_of view) (3 * (now - view.moments.sent))) (Pinged ∷ []) [] past (λ f. absurd (n f), tt) tt)
+  due_tame view now past n = by_due (TameBehind past) view now (λ f. absurd (n f), tt) (λ f. absurd (n f), tt) tt
 
   due_open_tame : (state : State) (view : View) (now moment : ℕ) (past : Past) → state_of past ≡ state → AllTame (if_open state (due view now)) (Ticked moment ∷ past)
   due_open_tame Connecting view now moment past e = due_tame view now (Ticked moment ∷ past) (λ f. let g = sym e ∙ f in cc)
@@ -108,7 +99,7 @@ module _ (start : Start) (ticket : ℕ) (zxid : ℤ) (result : Result) where
   signal_tame : (signal : Signal) (past : Past) → AllTame (happenings (view_at start past) signal) past
   signal_tame Forget past = (λ f. tt, tt)
   signal_tame Halt past = (λ f. tt, tt)
-  signal_tame signal past = tame_cond (has_halted past) [] (caused (view_at start past) signal) past tt (caused_tame signal past)
+  signal_tame signal past = by_cond (TameBehind past) (has_halted past) [] (caused (view_at start past) signal) tt (caused_tame signal past)
 
   closing_signals : (more : List Signal) (past : Past) → IsClosing past → IsClosing (past_after start past more)
   closing_signals [] past c = c

@@ -1,6 +1,6 @@
 -- No reply is ahead of what is seen behind its turn.
-use Rattle.std.proofs.Common.{◌≡◌, ℕ, ℤ, pos, length, Bool, true, false, cond, ◌&&◌, List, [], ◌∷◌, ◌++◌, map, Option, Some, None, refl, sym, ap, subst, ◌∙◌, inl, inr, ◌⊎◌, arith}
-use Rattle.std.specs.Prelude.{◌≤ℤ◌, nat_le, nat_lt, ◌*◌, ◌-◌}
+use Rattle.std.proofs.Common.{◌≡◌, ℕ, ℤ, pos, length, Bool, true, false, cond, List, [], ◌∷◌, ◌++◌, map, Option, Some, None, refl, sym, ap, subst, ◌∙◌, inl, inr, ◌⊎◌, arith}
+use Rattle.std.specs.Prelude.{◌≤ℤ◌, nat_le, nat_lt}
 use Rattle.std.specs.List.{flat_map}
 use Rattle.std.proofs.lemmas.Int.{ints}
 use Rattle.zk_nodes.specs.Path.{Text}
@@ -16,13 +16,15 @@ use Rattle.zk_conversation.specs.Questions.{Question, Close, question_of, watche
 use Rattle.zk_conversation.specs.Results.{Result}
 use Rattle.zk_conversation.specs.Pending.{Pending, Waiting, Part_waits, Call_waits, is_close_pending, calls_pending}
 use Rattle.zk_turns.specs.Turns.{Outcome, Replied, ConnectionLoss, SessionClosed, TooManyPending, TooManyWatches, TooLarge, Output, Answer, Report, Signal, Opens, Comes, Cuts, Ticks, Calls, Forget, Halt, signals_of}
-use Rattle.zk_turns.specs.Past.{Happening, Began, Came, Took, Dropped, Lost, Asked, Denied, Pinged, Ticked, Forgot, Halted, Message, Accepted, Expiry, Replies, Watches_set, Notifies, Pong, Skipped, is_talking}
+use Rattle.zk_turns.specs.Past.{Happening, Began, Came, Took, Dropped, Lost, Asked, Denied, Pinged, Ticked, Forgot, Halted, Message, Accepted, Expiry, Replies, Watches_set, Notifies, Pong, Skipped}
 use Rattle.std.specs.Int.{int_max}
 use Rattle.zk_turns.specs.View.{View}
-use Rattle.zk_turns.specs.Taken.{happenings, caused, opens, if_open, comes, of_cutting, cut, Cutting, Unfinished, Bad, Payload, due, timeout_of, is_full_on}
+use Rattle.zk_turns.specs.Taken.{happenings, caused, opens, comes, of_cutting, cut, Cutting, Unfinished, Bad, Payload, due, is_full_on}
 use Rattle.zk_turns.specs.Meaning.{Among}
 use Rattle.zk_turns.specs.Rule.{says, next, next_reply, next_message, seen, loss, losses, part_frame, report, after_all, says_all, after_signals, says_signals}
 use Rattle.zk_turns.proofs.Words.{calls, refusal_in, closing}
+use Rattle.zk_turns.proofs.Cases.{by_cond, by_open, by_due}
+use Rattle.zk_turns.proofs.Over.{later_le, le_itself, le_through}
 use Rattle.zk_turns.proofs.Stream.{of_reading}
 use Rattle.zk_rules.specs.Seeing.{LaterMoves, EarlierLeaves, TurnsRaise, RepliesAreSeen}
 use Rattle.zk_limits.specs.declared.limits.TheConstants.{LONGEST_OUTGOING, MOST_PENDING}
@@ -39,34 +41,25 @@ earlier_leaves ticket question zxid result view e = ap (λ s. s.last) (reply_sav
 
 -- ---- it never falls
 
-le_later : (a b : ℤ) → b ≤ℤ int_max a b
-le_later a b = grind (arith, ints)
-
 first_later : (a b : ℤ) → a ≤ℤ int_max a b
 first_later a b = grind (arith, ints)
 
-le_self : (a : ℤ) → a ≤ℤ a
-le_self a = grind (arith, ints)
-
-le_through : (a b c : ℤ) → a ≤ℤ b → b ≤ℤ c → a ≤ℤ c
-le_through a b c p q = grind (arith, ints)
-
 message_raises : (message : Message) (view : View) → view.saved.last ≤ℤ (next_message view message).saved.last
-message_raises (Replies ticket question zxid result) view = subst (λ s. view.saved.last ≤ℤ s.last) (sym (reply_saved question zxid result view)) (le_later zxid view.saved.last)
-message_raises (Watches_set true zxid) view = le_later zxid view.saved.last
-message_raises (Watches_set false zxid) view = le_self view.saved.last
-message_raises _ view = le_self view.saved.last
+message_raises (Replies ticket question zxid result) view = subst (λ s. view.saved.last ≤ℤ s.last) (sym (reply_saved question zxid result view)) (later_le zxid view.saved.last)
+message_raises (Watches_set true zxid) view = later_le zxid view.saved.last
+message_raises (Watches_set false zxid) view = le_itself view.saved.last
+message_raises _ view = le_itself view.saved.last
 
 raises : (happening : Happening) (view : View) → view.saved.last ≤ℤ (next view happening).saved.last
 raises (Took message) view = message_raises message view
-raises _ view = le_self view.saved.last
+raises _ view = le_itself view.saved.last
 
 raises_all : (more : List Happening) (view : View) → view.saved.last ≤ℤ (after_all view more).saved.last
-raises_all [] view = le_self view.saved.last
+raises_all [] view = le_itself view.saved.last
 raises_all (happening ∷ more) view = le_through _ _ _ (raises happening view) (raises_all more (next view happening))
 
 raises_signals : (more : List Signal) (view : View) → view.saved.last ≤ℤ (after_signals view more).saved.last
-raises_signals [] view = le_self view.saved.last
+raises_signals [] view = le_itself view.saved.last
 raises_signals (signal ∷ more) view = le_through _ _ _ (raises_all (happenings view signal) view) (raises_signals more (after_all view (happenings view signal)))
 
 pub turns_raise : TurnsRaise
@@ -86,22 +79,9 @@ abbrev ArePlain : List Happening → Type 0
 ArePlain [] = Unit {0}
 ArePlain (happening ∷ more) = IsPlain happening × ArePlain more
 
-plain_cond : (b : Bool) (x y : List Happening) → ArePlain x → ArePlain y → ArePlain (cond b x y)
-plain_cond true x y p q = p
-plain_cond false x y p q = q
-
 abbrev NoReply : Option Outcome → Type 0
 NoReply None = Unit {0}
 NoReply (Some why) = ¬ IsReply why
-
-no_reply_cond : (b : Bool) (x y : Option Outcome) → NoReply x → NoReply y → NoReply (cond b x y)
-no_reply_cond true x y p q = p
-no_reply_cond false x y p q = q
-
-plain_open : (state : State) (x : List Happening) → ArePlain x → ArePlain (if_open state x)
-plain_open Connecting x p = p
-plain_open Connected x p = p
-plain_open _ x p = tt
 
 plain_opens : (state : State) → ArePlain (opens state)
 plain_opens Idle = (tt, tt)
@@ -119,10 +99,10 @@ plain_refusal Connected view call =
     let long : Option Outcome = cond size (Some TooLarge) None in
     let full : Option Outcome = cond (is_full_on view (watched_side (question_of call))) (Some TooManyWatches) long in
     let many : Option Outcome = cond (nat_le MOST_PENDING (calls_pending view.pending)) (Some TooManyPending) full in
-    no_reply_cond (is_close_pending view.pending) (Some SessionClosed) many (λ r. r)
-    (no_reply_cond (nat_le MOST_PENDING (calls_pending view.pending)) (Some TooManyPending) full (λ r. r)
-    (no_reply_cond (is_full_on view (watched_side (question_of call))) (Some TooManyWatches) long (λ r. r)
-    (no_reply_cond size (Some TooLarge) None (λ r. r) tt)))
+    by_cond NoReply (is_close_pending view.pending) (Some SessionClosed) many (λ r. r)
+    (by_cond NoReply (nat_le MOST_PENDING (calls_pending view.pending)) (Some TooManyPending) full (λ r. r)
+    (by_cond NoReply (is_full_on view (watched_side (question_of call))) (Some TooManyWatches) long (λ r. r)
+    (by_cond NoReply size (Some TooLarge) None (λ r. r) tt)))
 plain_refusal Idle view call = λ r. r
 plain_refusal Connecting view call = λ r. r
 plain_refusal Expired view call = λ r. r
@@ -133,16 +113,11 @@ plain_cutting view Unfinished = tt
 plain_cutting view (Bad fault) = (tt, tt)
 plain_cutting view (Payload payload) = (of_reading IsPlain (λ message. tt) (λ fault. tt) view.standing.state view.pending view.saved.last payload, tt)
 
-plain_due : (view : View) (now : ℕ) → ArePlain (due view now)
-plain_due view now =
-    plain_cond (nat_le (2 * timeout_of view) (3 * (now - view.moments.heard))) _ _ (tt, tt)
-    (plain_cond (is_talking view.standing.state && nat_le (timeout_of view) (3 * (now - view.moments.sent))) (Pinged ∷ []) [] (tt, tt) tt)
-
 plain_caused : (signal : Signal) (view : View) → ArePlain (caused view signal)
 plain_caused Opens view = plain_opens view.standing.state
-plain_caused (Comes byte) view = plain_open view.standing.state (comes view byte) (tt, plain_cutting view (cut (view.held ++ byte ∷ [])))
-plain_caused Cuts view = plain_open view.standing.state (Lost ∷ []) (tt, tt)
-plain_caused (Ticks moment) view = (tt, plain_open view.standing.state (due view _) (plain_due view _))
+plain_caused (Comes byte) view = by_open ArePlain view.standing.state (comes view byte) tt (tt, plain_cutting view (cut (view.held ++ byte ∷ [])))
+plain_caused Cuts view = by_open ArePlain view.standing.state (Lost ∷ []) tt (tt, tt)
+plain_caused (Ticks moment) view = (tt, by_open ArePlain view.standing.state (due view _) tt (by_due ArePlain view _ (tt, tt) (tt, tt) tt))
 plain_caused (Calls ticket call) view = plain_calls ticket call _ (plain_refusal view.standing.state view call)
 plain_caused Forget view = (tt, tt)
 plain_caused Halt view = (tt, tt)
@@ -150,7 +125,7 @@ plain_caused Halt view = (tt, tt)
 plain_signal : (signal : Signal) (view : View) → ArePlain (happenings view signal)
 plain_signal Forget view = (tt, tt)
 plain_signal Halt view = (tt, tt)
-plain_signal signal view = plain_cond view.standing.halted [] (caused view signal) tt (plain_caused signal view)
+plain_signal signal view = by_cond ArePlain view.standing.halted [] (caused view signal) tt (plain_caused signal view)
 
 -- ---- a reply is told where it is taken
 

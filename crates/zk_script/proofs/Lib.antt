@@ -1,3 +1,4 @@
 mod PiecesLemmas
+pub mod LineLemmas
 pub mod NamesLemmas
 mod ScriptLemmas

@@ -1,9 +1,10 @@
 -- What the words of a script stand for.
-use Rattle.std.specs.Prelude.{◌≡◌, ◌≢◌, ℕ, ℤ, pos, ◌&&◌, ◌==◌, Bool, nat_le, if◌then◌else◌, List, [], codes, Option, Some, None, Result, Ok, Err, bytes_eq}
+use Rattle.std.specs.Prelude.{◌≡◌, ◌≢◌, ℕ, ℤ, pos, ◌&&◌, ◌==◌, Bool, nat_le, if◌then◌else◌, List, [], ◌∷◌, codes, Option, Some, None, Result, Ok, Err, bytes_eq}
 use Rattle.std.specs.List.{list_all}
 use Rattle.std.specs.Str.{is_utf8}
 use Rattle.hex.specs.Hex.{decode_of}
 use Rattle.hex.specs.declared.error.FromHexError.{FromHexError}
+use Rattle.zk_nodes.specs.Path.{Text}
 use Rattle.zk_nodes.specs.PathFault.{fault_of}
 use Rattle.zk_nodes.specs.declared.path_fault.PathFault.{PathFault}
 use Rattle.zk_nodes.specs.declared.side.Side.{Side}
@@ -18,6 +19,16 @@ infixl 10 ◌>>=◌
 abbrev pub ◌>>=◌ : {A B : Type 0} → Result A ScriptFault → (A → Result B ScriptFault) → Result B ScriptFault
 (Ok x) >>= f = f x
 (Err e) >>= f = Err e
+
+-- what a word names in a table
+abbrev pub named : {X : Type 0} → List (Text × X) → Text → Option X
+named [] word = None
+named (row ∷ rows) word = if bytes_eq word row.0 then Some row.1 else named rows word
+
+-- the one word that there is
+abbrev pub only : List Text → Result Text ScriptFault
+only (word ∷ []) = Ok word
+only words = Err Words
 
 -- a number from 0 up to the greatest of 64 bits with a sign
 abbrev pub number_read : Option ℕ → Result ℤ ScriptFault

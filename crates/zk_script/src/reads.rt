@@ -5,7 +5,7 @@ ghost use Rattle.std.specs.Str.{is_utf8};
 ghost use Rattle.std.specs.List.{list_all};
 ghost use Rattle.std.specs.Option.{option_map};
 ghost use Rattle.zk_script.specs.Said.{is_remark};
-ghost use Rattle.zk_script.specs.Reads.{Reads, time_at, zxid_at, data_at, text_at, text_read, path_at, side_read, is_printed};
+ghost use Rattle.zk_script.specs.Reads.{Reads, time_at, zxid_at, data_at, text_at, text_read, path_at, side_read, is_printed, only};
 
 use crate::numbers::natural_of;
 use crate::script_fault::ScriptFault;
@@ -23,6 +23,16 @@ pub fn is_named(word: &[u8], name: &str) -> bool
     ensures { result ≡ bytes_eq word.now name.now }
 {
     word == name.as_bytes()
+}
+
+/// The one word that there is.
+pub fn only<'a>(words: &[&'a [u8]]) -> Result<&'a [u8], ScriptFault>
+    ensures { Reads (λ w. w.now) result (only (map (λ w. w.now) words.now)) }
+{
+    match words {
+        [word] => Ok(word),
+        _ => Err(ScriptFault::Words),
+    }
 }
 
 /// The number from 0 to 2^63 - 1 that a word stands for.

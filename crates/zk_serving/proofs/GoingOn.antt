@@ -7,7 +7,7 @@ use Rattle.zk_frames.specs.Frame.{frame}
 use Rattle.zk_nodes.specs.History.{Transaction, Change, History, Tree, after}
 use Rattle.zk_conversation.specs.Calls as call
 use Rattle.zk_conversation.specs.Calls.{Call}
-use Rattle.zk_conversation.specs.Results.{Result, NoNode, Refused, Found, Read, Listing, Made, Done}
+use Rattle.zk_conversation.specs.Results.{Result, NoNode, Found, Read, Listing, Made, Done}
 use Rattle.zk_turns.specs.Turns.{Start, Item, Turned, Forgets, Halts, Input, Bytes, Cut, Now, Call as Calling, Opened as Opening}
 use Rattle.zk_turns.specs.Past.{Past}
 use Rattle.zk_turns.specs.Taken.{past_of}
@@ -49,54 +49,15 @@ changes_more h more place low = ap (λ (o : Option Transaction). elim o [ None �
 
 gives_more : (h : History) (more : List Transaction) (place : ℕ) → place ≤ length h.transactions → (call : Call) (result : Result) → Gives h place call result → Gives (longer h more) place call result
 gives_more h more place low (call.Exists path watch) NoNode g = rw (held_more h more place low) g
-gives_more h more place low (call.Exists path watch) Done g = g
-gives_more h more place low (call.Exists path watch) (Refused code) g = g
 gives_more h more place low (call.Exists path watch) (Found stat) g = rw (held_more h more place low) g
-gives_more h more place low (call.Exists path watch) (Read bytes stat) g = g
-gives_more h more place low (call.Exists path watch) (Listing names stat) g = g
-gives_more h more place low (call.Exists path watch) (Made at) g = g
 gives_more h more place low (call.GetData path watch) NoNode g = rw (held_more h more place low) g
-gives_more h more place low (call.GetData path watch) Done g = g
-gives_more h more place low (call.GetData path watch) (Refused code) g = g
-gives_more h more place low (call.GetData path watch) (Found stat) g = g
 gives_more h more place low (call.GetData path watch) (Read bytes stat) g = rw (held_more h more place low) g
-gives_more h more place low (call.GetData path watch) (Listing names stat) g = g
-gives_more h more place low (call.GetData path watch) (Made at) g = g
 gives_more h more place low (call.GetChildren path watch) NoNode g = rw (held_more h more place low) g
-gives_more h more place low (call.GetChildren path watch) Done g = g
-gives_more h more place low (call.GetChildren path watch) (Refused code) g = g
-gives_more h more place low (call.GetChildren path watch) (Found stat) g = g
-gives_more h more place low (call.GetChildren path watch) (Read bytes stat) g = g
 gives_more h more place low (call.GetChildren path watch) (Listing names stat) g = rw (held_more h more place low) g
-gives_more h more place low (call.GetChildren path watch) (Made at) g = g
-gives_more h more place low (call.SetData path content version) NoNode g = g
-gives_more h more place low (call.SetData path content version) Done g = g
-gives_more h more place low (call.SetData path content version) (Refused code) g = g
 gives_more h more place low (call.SetData path content version) (Found stat) g = rw (held_more h more place low) g
-gives_more h more place low (call.SetData path content version) (Read bytes stat) g = g
-gives_more h more place low (call.SetData path content version) (Listing names stat) g = g
-gives_more h more place low (call.SetData path content version) (Made at) g = g
-gives_more h more place low (call.Create path content mode) NoNode g = g
-gives_more h more place low (call.Create path content mode) Done g = g
-gives_more h more place low (call.Create path content mode) (Refused code) g = g
-gives_more h more place low (call.Create path content mode) (Found stat) g = g
-gives_more h more place low (call.Create path content mode) (Read bytes stat) g = g
-gives_more h more place low (call.Create path content mode) (Listing names stat) g = g
 gives_more h more place low (call.Create path content mode) (Made at) g = rw (held_more h more place low) g
-gives_more h more place low (call.Delete path version) NoNode g = g
 gives_more h more place low (call.Delete path version) Done g = rw (held_more h more place low) g
-gives_more h more place low (call.Delete path version) (Refused code) g = g
-gives_more h more place low (call.Delete path version) (Found stat) g = g
-gives_more h more place low (call.Delete path version) (Read bytes stat) g = g
-gives_more h more place low (call.Delete path version) (Listing names stat) g = g
-gives_more h more place low (call.Delete path version) (Made at) g = g
-gives_more h more place low call.Close NoNode g = g
-gives_more h more place low call.Close Done g = g
-gives_more h more place low call.Close (Refused code) g = g
-gives_more h more place low call.Close (Found stat) g = g
-gives_more h more place low call.Close (Read bytes stat) g = g
-gives_more h more place low call.Close (Listing names stat) g = g
-gives_more h more place low call.Close (Made at) g = g
+gives_more h more place low asked result g = g
 
 may_more : (h : History) (more : List Transaction) (step : ServerStep) (server : ServerEnd) (requests : List Request) → server.place ≤ length h.transactions
     → MayDo h step server requests → MayDo (longer h more) step server requests

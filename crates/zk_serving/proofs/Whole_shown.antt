@@ -22,6 +22,7 @@ use Rattle.zk_turns.specs.View.{view_at}
 use Rattle.zk_turns.specs.Taken.{cut, past_of}
 use Rattle.zk_turns.specs.Rule.{Stands}
 use Rattle.zk_turns.specs.Ranges.{IsTyped, AllAskOf}
+use Rattle.zk_turns.proofs.Stepped.{given_stands}
 use Rattle.zk_laws.specs.Headline.{IsQuietAt}
 use Rattle.zk_serving.specs.GoingOn.{GoesOn}
 use Rattle.zk_serving.proofs.GoingOn.{goes_serving}
@@ -241,15 +242,9 @@ over_then = refl
 
 -- a client stands there, and was asked with values of their types
 pub whole_stands : Stands new_client (items_in until_expired) (view_at new_client (past_of new_client (items_in until_expired)))
-whole_stands = record {
-  standing = refl;
-  saved = refl;
-  lists = refl;
-  cache = refl;
-  going = λ on. refl;
-  said = (refl, (refl, (refl, (refl, (refl, (refl, (refl, (refl, (refl, (refl, (refl, (refl, (refl, (refl, (refl, stands_then.said.1.1.1)))))))))))))));
-  asked = (tt, (tt, (tt, (tt, (refl, (tt, (tt, (tt, (tt, (tt, (tt, (tt, (tt, (refl, (tt, stands_then.asked.1.1.1)))))))))))))));
-}
+whole_stands =
+    given_stands new_client (items_in until_expired) (refl, (refl, (refl, (refl, (refl, (refl, (refl, (refl, (refl, (refl, (refl, (refl, (refl, (refl, (refl, stands_then.said.1.1.1)))))))))))))))
+    (tt, (tt, (tt, (tt, (refl, (tt, (tt, (tt, (tt, (tt, (tt, (tt, (tt, (refl, (tt, stands_then.asked.1.1.1)))))))))))))))
 
 pub whole_typed : AllAskOf IsTyped (items_in until_expired)
 unfolding is_utf8 chars encode

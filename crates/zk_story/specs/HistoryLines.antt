@@ -1,5 +1,5 @@
 -- The lines of a script that make a history and ask it.
-use Rattle.std.specs.Prelude.{ℕ, ℤ, if◌then◌else◌, List, [], ◌∷◌, codes, Option, Some, None, Result, Ok, Err, bytes_eq}
+use Rattle.std.specs.Prelude.{ℕ, ℤ, if◌then◌else◌, List, [], ◌∷◌, codes, Option, Result, Ok, Err}
 use Rattle.std.specs.Option.{option_map}
 use Rattle.std.specs.List.{list_all}
 use Rattle.zk_nodes.specs.Path.{Text, path_of}
@@ -12,17 +12,14 @@ use Rattle.zk_story.specs.declared.history_line.Keyword.{Keyword}
 use Rattle.zk_story.specs.declared.history_line.Keyword.TheVariants as keyword
 use Rattle.zk_script.specs.declared.script_fault.ScriptFault.{ScriptFault}
 use Rattle.zk_script.specs.declared.script_fault.ScriptFault.TheVariants.{Words}
-use Rattle.zk_script.specs.Reads.{◌>>=◌, time_at, zxid_at, data_at, text_at, path_at, side_read, is_printed}
+use Rattle.zk_script.specs.Reads.{◌>>=◌, named, time_at, zxid_at, data_at, text_at, path_at, side_read, is_printed}
 
 abbrev pub keyword_of : Text → Option Keyword
 keyword_of word =
-    if bytes_eq word (codes "node") then Some keyword.Node
-    else (if bytes_eq word (codes "tx") then Some keyword.Tx
-    else (if bytes_eq word (codes "create") then Some keyword.Create
-    else (if bytes_eq word (codes "set") then Some keyword.Set
-    else (if bytes_eq word (codes "delete") then Some keyword.Delete
-    else (if bytes_eq word (codes "ask") then Some keyword.Ask
-    else None)))))
+    named
+    ((codes "node", keyword.Node) ∷ (codes "tx", keyword.Tx) ∷ (codes "create", keyword.Create) ∷ (codes "set", keyword.Set)
+    ∷ (codes "delete", keyword.Delete) ∷ (codes "ask", keyword.Ask) ∷ [])
+    word
 
 -- A node of the first tree, the beginning of a transaction, a change, or a look-up.
 pub data LineValue : Type 0 where
@@ -37,14 +34,18 @@ value_of (line.Begin zxid time) = BeginLine zxid time
 value_of (line.Change change) = ChangeLine (change_of change)
 value_of (line.Ask side zxid path) = AskLine side zxid path
 
-abbrev pub node_at : List Text → Result LineValue ScriptFault
-node_at (path ∷ bytes ∷ time ∷ []) = do
+-- a path, data and a number
+abbrev pub filled_at : (Text → Option (List ℕ) → ℤ → LineValue) → List Text → Result LineValue ScriptFault
+filled_at line (path ∷ bytes ∷ number ∷ []) = do
   text ← text_at path
-  moment ← time_at time
+  count ← time_at number
   content ← data_at bytes
   place ← path_at text
-  Ok (NodeLine place content moment)
-node_at words = Err Words
+  Ok (line place content count)
+filled_at line words = Err Words
+
+abbrev pub node_at : List Text → Result LineValue ScriptFault
+node_at words = filled_at NodeLine words
 
 abbrev pub begin_at : List Text → Result LineValue ScriptFault
 begin_at (zxid ∷ time ∷ []) = do
@@ -54,13 +55,7 @@ begin_at (zxid ∷ time ∷ []) = do
 begin_at words = Err Words
 
 abbrev pub create_at : List Text → Result LineValue ScriptFault
-create_at (path ∷ bytes ∷ owner ∷ []) = do
-  text ← text_at path
-  session ← time_at owner
-  content ← data_at bytes
-  place ← path_at text
-  Ok (ChangeLine (Creates (path_of place) content session))
-create_at words = Err Words
+create_at words = filled_at (λ path bytes owner. ChangeLine (Creates (path_of path) bytes owner)) words
 
 abbrev pub set_at : List Text → Result LineValue ScriptFault
 set_at (path ∷ bytes ∷ []) = do

@@ -1,12 +1,9 @@
 //! A history, as the lines of a script make it and ask it.
 
-ghost use Rattle.std.specs.Prelude.{◌≡◌, ◌≢◌, ◌++◌, List, ℕ, OnOk, OnErr, IfOk, IfErr, map, string_bytes};
+ghost use Rattle.std.specs.Prelude.{◌≡◌, ◌≢◌, OnErr, IfOk, IfErr, map, string_bytes};
 ghost use Rattle.std.specs.Option.{option_map};
-ghost use Rattle.zk_nodes.specs.Path.{path_of};
-ghost use Rattle.zk_nodes.specs.History.{view, tree_at};
-ghost use Rattle.zk_history.specs.HistoryView.{history_of, natural};
+ghost use Rattle.zk_history.specs.HistoryView.{natural};
 ghost use Rattle.zk_nodes.specs.declared.side.Side.TheVariants.{Data, Child};
-ghost use Rattle.zk_story.specs.Answers.{data_text, TellsNames};
 ghost use Rattle.zk_story.specs.HistoryLines.{value_of};
 ghost use Rattle.zk_script.specs.Reads.{Reads};
 ghost use Rattle.zk_story.specs.Stories.{Position, allowed, first_position, may_stand, position_of, rules, said, IsAnswer, IsRefused, RefusesLine, Takes, TakesLine};
@@ -67,35 +64,6 @@ impl<A: Allocator + Copy> Story<A> {
         }
     }
 
-    /// Adds the data of a path at a zxid.
-    fn tell_data(
-        &self,
-        alloc: A,
-        zxid: i64,
-        path: &Path<A>,
-        text: &mut String<A>,
-    ) -> Result<(), AllocError>
-        ensures { OnOk result (string_bytes text.new ≡ string_bytes text.old ++ data_text (view Data (tree_at (history_of self.now.history) (natural zxid)) (path_of path.now))) }
-    {
-        let told = self.history.data_at(zxid, path)?;
-        push_data(text, alloc, &told)
-    }
-
-    /// Adds the names below a path at a zxid.
-    fn tell_names(
-        &self,
-        alloc: A,
-        zxid: i64,
-        path: &Path<A>,
-        text: &mut String<A>,
-    ) -> Result<(), AllocError>
-        ensures { OnOk result ((line : List ℕ) × TellsNames (view Child (tree_at (history_of self.now.history) (natural zxid)) (path_of path.now)) line
-            × (string_bytes text.new ≡ string_bytes text.old ++ line)) }
-    {
-        let told = self.history.names_at(zxid, path)?;
-        push_names(text, alloc, &told)
-    }
-
     /// The line that answers a look-up.
     fn answer(
         &self,
@@ -108,8 +76,14 @@ impl<A: Allocator + Copy> Story<A> {
     {
         let mut text = String::new(alloc);
         match side {
-            Side::Data => self.tell_data(alloc, zxid, path, &mut text)?,
-            Side::Child => self.tell_names(alloc, zxid, path, &mut text)?,
+            Side::Data => {
+                let told = self.history.data_at(zxid, path)?;
+                push_data(&mut text, alloc, &told)?;
+            }
+            Side::Child => {
+                let told = self.history.names_at(zxid, path)?;
+                push_names(&mut text, alloc, &told)?;
+            }
         }
         Ok(text)
     }

@@ -1,6 +1,6 @@
 -- What a payload is read as answers what waits first.
-use Rattle.std.proofs.Common.{◌≡◌, ℕ, ℤ, negsuc, Bool, true, false, cond, List, [], ◌∷◌, length, Option, Some, None, Ok, Err, refl}
-use Rattle.std.specs.Prelude.{if◌then◌else◌, Result as Reading}
+use Rattle.std.proofs.Common.{◌≡◌, ℕ, ℤ, List, [], ◌∷◌, length, Option, Some, None, Ok, Err, refl}
+use Rattle.std.specs.Prelude.{Result as Reading}
 use Rattle.std.specs.Ordering.{int_eq}
 use Rattle.zk_jute.specs.declared.fault.TakeError.{TakeError}
 use Rattle.zk_jute.specs.Layout.{Value}
@@ -17,8 +17,9 @@ use Rattle.zk_nodes.specs.Path.{Text}
 use Rattle.zk_conversation.specs.Questions.{Question}
 use Rattle.zk_conversation.specs.Results.{Result, result_of}
 use Rattle.zk_conversation.specs.Pending.{Pending, Waiting, Part_waits, Call_waits}
-use Rattle.zk_conversation.specs.Arriving.{Arrived, Connected, Replied, Watches_set, Pong, Skipped, header_of, first_arriving, noticed, notice_arriving, call_arriving, reply_arriving, oldest_arriving, header_arriving, later_arriving, arriving}
+use Rattle.zk_conversation.specs.Arriving.{Arrived, Connected, Replied, Watches_set, header_of, first_arriving, noticed, notice_arriving, call_arriving, reply_arriving, oldest_arriving, header_arriving, later_arriving, arriving}
 use Rattle.zk_records.specs.declared.reply_header.ReplyHeader.{ReplyHeader}
+use Rattle.zk_turns.proofs.Cases.{by_cond, by_header}
 
 -- this waits first
 abbrev pub First : Waiting → List Pending → Type 0
@@ -40,10 +41,6 @@ AreOf phase ps (Ok arrived) = IsOf phase ps arrived
 AreOf phase ps (Err fault) = Unit {0}
 
 module _ (phase : Phase) (ps : List Pending) where
-  either : (b : Bool) (x y : Reading Arrived TalkFault) → AreOf phase ps x → AreOf phase ps y → AreOf phase ps (cond b x y)
-  either true x y p q = p
-  either false x y p q = q
-
   of_event : (event : Option Event) (path : Text) → IsOf phase ps (noticed event path)
   of_event (Some event) path = tt
   of_event None path = tt
@@ -63,17 +60,10 @@ module _ (phase : Phase) (ps : List Pending) where
   of_oldest : (qs : List Pending) → ps ≡ qs → (header : ReplyHeader) (end : ℕ) (bytes : List ℕ) → AreOf phase ps (oldest_arriving qs header end bytes)
   of_oldest [] e header end bytes = tt
   of_oldest (oldest ∷ more) e header end bytes =
-      either (int_eq oldest.xid header.xid) (reply_arriving oldest.waiting header end bytes) (Err (OtherXid oldest.xid header.xid)) (of_reply oldest.waiting header end bytes (oldest.xid, more, e)) tt
+      by_cond (AreOf phase ps) (int_eq oldest.xid header.xid) (reply_arriving oldest.waiting header end bytes) (Err (OtherXid oldest.xid header.xid)) (of_reply oldest.waiting header end bytes (oldest.xid, more, e)) tt
 
   of_header : (header : ReplyHeader) (end : ℕ) (bytes : List ℕ) → AreOf phase ps (header_arriving ps header end bytes)
-  of_header header end bytes =
-      let oldest : Reading Arrived TalkFault = oldest_arriving ps header end bytes in
-      let skipped : Reading Arrived TalkFault = if int_eq header.xid (negsuc 3) then Ok Skipped else oldest in
-      let pong : Reading Arrived TalkFault = if int_eq header.xid (negsuc 1) then Ok Pong else skipped in
-      either (int_eq header.xid (negsuc 0)) (notice_arriving (reading watcher_event end bytes)) pong (of_notice (reading watcher_event end bytes))
-      (either (int_eq header.xid (negsuc 1)) (Ok Pong) skipped tt
-      (either (int_eq header.xid (negsuc 3)) (Ok Skipped) oldest tt
-      (of_oldest ps refl header end bytes)))
+  of_header header end bytes = by_header (AreOf phase ps) ps header end bytes (of_notice (reading watcher_event end bytes)) tt tt (of_oldest ps refl header end bytes)
 
   of_later : (end : ℕ) (r : Reading (Value reply_header × List ℕ) TakeError) → AreOf phase ps (later_arriving ps end r)
   of_later end (Ok found) = of_header (header_of found.0) end found.1

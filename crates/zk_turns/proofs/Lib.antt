@@ -1,5 +1,6 @@
 mod Rows
 pub mod Words
+pub mod Cases
 pub mod Lists
 pub mod Registered
 pub mod Cached

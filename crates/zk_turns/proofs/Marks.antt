@@ -9,7 +9,7 @@ use Rattle.zk_nodes.specs.declared.side.Side.TheVariants.{Data, Child}
 use Rattle.zk_records.specs.declared.event.Event.{Event}
 use Rattle.zk_nodes.specs.declared.data_stat.DataStat.{DataStat}
 use Rattle.zk_turns.specs.Turns.{Start, Report}
-use Rattle.zk_turns.specs.Past.{Past, Happening, Took, Forgot, Notifies, Word, Says, Ends, Empties, Nothing, word_data, word_child, standing, is_good, in_known, in_missing, listed, lists_of, data_with, good_answer, kept_by, kept_data, kept_names, IsMarked, fields_in, AgreesWith}
+use Rattle.zk_turns.specs.Past.{Past, Happening, Took, Forgot, Notifies, Word, Says, Ends, Empties, Nothing, word_data, word_child, still_said, is_good, in_known, in_missing, listed, lists_of, data_with, good_answer, kept_by, kept_data, kept_names, IsMarked, fields_in, AgreesWith}
 use Rattle.zk_cache.specs.Kept.{Answer, Absent, Known, Full, Names, stale, without_stale, is_marked_good}
 use Rattle.zk_cache.specs.declared.held.Kept.{Kept}
 use Rattle.zk_cache.specs.declared.held.Mark.{Mark}
@@ -49,12 +49,12 @@ mark_step Nothing known happening kept before e = unless_forgot_same happening k
 pub data_marks : (path : Text) (past : Past) → is_marked_good (kept_data path past) ≡ is_good Data path past
 data_marks path [] = refl
 data_marks path (happening ∷ past) =
-    mark_step (word_data path happening) (λ answer. good_answer path answer past) happening (kept_data path past) (standing (word_data path) past) (data_marks path past)
+    mark_step (word_data path happening) (λ answer. good_answer path answer past) happening (kept_data path past) (still_said (word_data path) past) (data_marks path past)
 
 pub child_marks : (path : Text) (past : Past) → is_marked_good (kept_names path past) ≡ is_good Child path past
 child_marks path [] = refl
 child_marks path (happening ∷ past) =
-    mark_step (word_child path happening) (λ names. names) happening (kept_names path past) (standing (word_child path) past) (child_marks path past)
+    mark_step (word_child path happening) (λ names. names) happening (kept_names path past) (still_said (word_child path) past) (child_marks path past)
 
 -- ---- answers
 
@@ -88,9 +88,9 @@ agree_step path Ends happening past said g = none_agrees (stale (kept_data path 
 agree_step path Empties happening past said g = tt
 agree_step path Nothing happening past said g = unless_forgot_agrees happening (kept_data path past) said g
 
-pub data_agrees : (path : Text) (past : Past) → AgreesWith (kept_data path past) (standing (word_data path) past)
+pub data_agrees : (path : Text) (past : Past) → AgreesWith (kept_data path past) (still_said (word_data path) past)
 data_agrees path [] = tt
-data_agrees path (happening ∷ past) = agree_step path (word_data path happening) happening past (standing (word_data path) past) (data_agrees path past)
+data_agrees path (happening ∷ past) = agree_step path (word_data path happening) happening past (still_said (word_data path) past) (data_agrees path past)
 
 -- ---- watched, and reported
 
@@ -104,7 +104,7 @@ pub watched_is : (side : Side) (path : Text) (past : Past) → side_has (lists_o
 watched_is Data path past =
     ap (λ b. b || has (listed in_missing past) path) (has_known path past)
     ∙ ap (λ b. in_known path past || b) (has_missing path past)
-    ∙ there_or_absent (standing (word_data path) past)
+    ∙ there_or_absent (still_said (word_data path) past)
 watched_is Child path past = has_parents path past
 
 module _ (start : Start) where
@@ -114,11 +114,11 @@ module _ (start : Start) where
 
 no_longer : (path at : Text) (past : Past) (side : Side) (event : Event) → bytes_eq at path ≡ true → concerns event side ≡ true → is_good side path (Took (Notifies event at) ∷ past) ≡ false
 no_longer path at past Data event e about =
-    ap (λ b. is_some (after_word (notice_word {A = Answer} b at path) (standing (word_data path) past))) about
-    ∙ ap (λ b. is_some (after_word (cond {A = Word Answer} b Ends Nothing) (standing (word_data path) past))) e
+    ap (λ b. is_some (after_word (notice_word {A = Answer} b at path) (still_said (word_data path) past))) about
+    ∙ ap (λ b. is_some (after_word (cond {A = Word Answer} b Ends Nothing) (still_said (word_data path) past))) e
 no_longer path at past Child event e about =
-    ap (λ b. is_some (after_word (notice_word {A = Names} b at path) (standing (word_child path) past))) about
-    ∙ ap (λ b. is_some (after_word (cond {A = Word Names} b Ends Nothing) (standing (word_child path) past))) e
+    ap (λ b. is_some (after_word (notice_word {A = Names} b at path) (still_said (word_child path) past))) about
+    ∙ ap (λ b. is_some (after_word (cond {A = Word Names} b Ends Nothing) (still_said (word_child path) past))) e
 
 pub ended_is : (event : Event) (path : Text) (side : Side) (past : Past) → concerns event side ≡ true → is_good side path (Took (Notifies event path) ∷ past) ≡ false
 ended_is event path side past about = no_longer path path past side event (bytes_eq-refl path) about
@@ -126,7 +126,7 @@ ended_is event path side past about = no_longer path path past side event (bytes
 -- ---- in other words
 
 marked_step : {A : Type 0} (word : Happening → Word A) (happening : Happening) (past : Past) (answer : A) (said : Word A) → word happening ≡ said
-    → (standing word past ≡ Some answer → IsMarked word past answer) → after_word said (standing word past) ≡ Some answer → IsMarked word (happening ∷ past) answer
+    → (still_said word past ≡ Some answer → IsMarked word past answer) → after_word said (still_said word past) ≡ Some answer → IsMarked word (happening ∷ past) answer
 marked_step word happening past answer (Says a) e ih is = record { since = []; reply = happening; before = past; whole = refl; says = e ∙ (let s : a ≡ answer = cc in ap Says s); quiet = tt }
 marked_step word happening past answer Ends e ih is = absurd cc
 marked_step word happening past answer Empties e ih is = absurd cc
@@ -134,15 +134,15 @@ marked_step word happening past answer Nothing e ih is =
     let m = ih is in
     record { since = happening ∷ m.since; reply = m.reply; before = m.before; whole = ap (λ t. happening ∷ t) m.whole; says = m.says; quiet = (e, m.quiet) }
 
-pub marked : {A : Type 0} (word : Happening → Word A) (past : Past) (answer : A) → standing word past ≡ Some answer → IsMarked word past answer
+pub marked : {A : Type 0} (word : Happening → Word A) (past : Past) (answer : A) → still_said word past ≡ Some answer → IsMarked word past answer
 marked word [] answer is = absurd cc
 marked word (happening ∷ past) answer is = marked_step word happening past answer (word happening) refl (marked word past answer) is
 
 stands_through : {A : Type 0} (word : Happening → Word A) (since : List Happening) (reply : Happening) (before : Past) (answer : A) → word reply ≡ Says answer
-    → AllByRecursion (λ happening. word happening ≡ Nothing) since → standing word (since ++ reply ∷ before) ≡ Some answer
-stands_through word [] reply before answer e q = ap (λ w. after_word w (standing word before)) e
+    → AllByRecursion (λ happening. word happening ≡ Nothing) since → still_said word (since ++ reply ∷ before) ≡ Some answer
+stands_through word [] reply before answer e q = ap (λ w. after_word w (still_said word before)) e
 stands_through word (happening ∷ since) reply before answer e q =
-    ap (λ w. after_word w (standing word (since ++ reply ∷ before))) q.0 ∙ stands_through word since reply before answer e q.1
+    ap (λ w. after_word w (still_said word (since ++ reply ∷ before))) q.0 ∙ stands_through word since reply before answer e q.1
 
-pub stands_marked : {A : Type 0} (word : Happening → Word A) (past : Past) (answer : A) → IsMarked word past answer → standing word past ≡ Some answer
-stands_marked word past answer m = ap (standing word) m.whole ∙ stands_through word m.since m.reply m.before answer m.says m.quiet
+pub stands_marked : {A : Type 0} (word : Happening → Word A) (past : Past) (answer : A) → IsMarked word past answer → still_said word past ≡ Some answer
+stands_marked word past answer m = ap (still_said word) m.whole ∙ stands_through word m.since m.reply m.before answer m.says m.quiet

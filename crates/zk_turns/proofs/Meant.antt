@@ -13,7 +13,7 @@ use Rattle.zk_nodes.specs.DataStats.{data_stat_of}
 use Rattle.zk_conversation.specs.Questions.{Question, Exists, GetData, GetChildren, SetData, Create, Delete, Close}
 use Rattle.zk_conversation.specs.Results.{Result, NoNode, Found, Read, Listing}
 use Rattle.zk_turns.specs.Turns.{Start}
-use Rattle.zk_turns.specs.Past.{Left, word_on, reply_word, Past, Happening, Took, Forgot, Halted, Message, Accepted, Expiry, Replies, Watches_set, Notifies, Pong, Skipped, names_of, Word, Says, Ends, Empties, Nothing, leaves_data, leaves_child, word_data, word_child, standing, is_good, kept_by, data_by, data_with, good_answer, kept_data, last_of}
+use Rattle.zk_turns.specs.Past.{Left, word_on, reply_word, Past, Happening, Took, Forgot, Halted, Message, Accepted, Expiry, Replies, Watches_set, Notifies, Pong, Skipped, names_of, Word, Says, Ends, Empties, Nothing, leaves_data, leaves_child, word_data, word_child, still_said, is_good, kept_by, data_by, data_with, good_answer, kept_data, last_of}
 use Rattle.std.specs.Int.{int_max}
 use Rattle.zk_cache.specs.Kept.{Answer, Absent, Known, Full, good, stale, without_stale, same_fields}
 use Rattle.zk_cache.specs.declared.held.Kept.{Kept}
@@ -99,7 +99,7 @@ child_means path x = on_means Child leaves_child path (child_reply path) x
 -- ---- since when an answer is good
 
 module _ {A : Type 0} (side : Side) (path : Text) (word : Happening → Word A) (means : (x : Happening) → Means side path x (word x)) where
-  good_step : (x : Happening) (past : Past) (w : Word A) → word x ≡ w → is_some (after_word w (standing word past)) ≡ true → (is_some (standing word past) ≡ true → IsGoodSince side path past) → IsGoodSince side path (x ∷ past)
+  good_step : (x : Happening) (past : Past) (w : Word A) → word x ≡ w → is_some (after_word w (still_said word past)) ≡ true → (is_some (still_said word past) ≡ true → IsGoodSince side path past) → IsGoodSince side path (x ∷ past)
   good_step x past (Says a) e g ih = record { since = []; reply = x; before = past; whole = refl; left = (subst (λ w. Means side path x w) e (means x)).0; quiet = tt }
   good_step x past Ends e g ih = absurd cc
   good_step x past Empties e g ih = absurd cc
@@ -107,11 +107,11 @@ module _ {A : Type 0} (side : Side) (path : Text) (word : Happening → Word A) 
       let m = ih g in
       record { since = x ∷ m.since; reply = m.reply; before = m.before; whole = ap (λ l. x ∷ l) m.whole; left = m.left; quiet = ((subst (λ w. Means side path x w) e (means x)).0, m.quiet) }
 
-  pub good_since : (past : Past) → is_some (standing word past) ≡ true → IsGoodSince side path past
+  pub good_since : (past : Past) → is_some (still_said word past) ≡ true → IsGoodSince side path past
   good_since [] g = absurd cc
   good_since (x ∷ past) g = good_step x past (word x) refl g (good_since past)
 
-  left_good : (x : Happening) (past : Past) (w : Word A) → word x ≡ w → LeavesAt side path x → is_some (after_word w (standing word past)) ≡ true
+  left_good : (x : Happening) (past : Past) (w : Word A) → word x ≡ w → LeavesAt side path x → is_some (after_word w (still_said word past)) ≡ true
   left_good x past (Says a) e l = refl
   left_good x past Ends e l = absurd ((subst (λ w. Means side path x w) e (means x)).1 l)
   left_good x past Empties e l = absurd ((subst (λ w. Means side path x w) e (means x)).1 l)
@@ -123,12 +123,12 @@ module _ {A : Type 0} (side : Side) (path : Text) (word : Happening → Word A) 
   kept_good x Empties k e n s = absurd (n (subst (λ w. Means side path x w) e (means x)).0)
   kept_good x Nothing k e n s = s
 
-  good_through : (since : List Happening) (reply : Happening) (before : Past) → LeavesAt side path reply → AllByRecursion (λ h. ¬ EndsGood side path h) since → is_some (standing word (since ++ reply ∷ before)) ≡ true
+  good_through : (since : List Happening) (reply : Happening) (before : Past) → LeavesAt side path reply → AllByRecursion (λ h. ¬ EndsGood side path h) since → is_some (still_said word (since ++ reply ∷ before)) ≡ true
   good_through [] reply before l q = left_good reply before (word reply) refl l
-  good_through (x ∷ since) reply before l q = kept_good x (word x) (standing word (since ++ reply ∷ before)) refl q.0 (good_through since reply before l q.1)
+  good_through (x ∷ since) reply before l q = kept_good x (word x) (still_said word (since ++ reply ∷ before)) refl q.0 (good_through since reply before l q.1)
 
-  pub since_good : (past : Past) → IsGoodSince side path past → is_some (standing word past) ≡ true
-  since_good past m = ap (λ l. is_some (standing word l)) m.whole ∙ good_through m.since m.reply m.before m.left m.quiet
+  pub since_good : (past : Past) → IsGoodSince side path past → is_some (still_said word past) ≡ true
+  since_good past m = ap (λ l. is_some (still_said word l)) m.whole ∙ good_through m.since m.reply m.before m.left m.quiet
 
   -- a reply left a watch after something ended the last one
   read_step : (x : Happening) (w : Word A) (k : Option A) (rest : List Happening) → word x ≡ w → is_some (after_word w k) ≡ true → (is_some k ≡ true → (y : Happening) × Among y rest × LeavesAt side path y) → (y : Happening) × Among y (x ∷ rest) × LeavesAt side path y
@@ -143,9 +143,9 @@ module _ {A : Type 0} (side : Side) (path : Text) (word : Happening → Word A) 
   ended_none x Empties k e n = refl
   ended_none x Nothing k e n = absurd ((subst (λ w. Means side path x w) e (means x)).0 n)
 
-  pub read_between : (since : List Happening) (x : Happening) (before : Past) → EndsGood side path x → is_some (standing word (since ++ x ∷ before)) ≡ true → (y : Happening) × Among y since × LeavesAt side path y
-  read_between [] x before n g = absurd (let e = ended_none x (word x) (standing word before) refl n in cc)
-  read_between (y ∷ since) x before n g = read_step y (word y) (standing word (since ++ x ∷ before)) since refl g (read_between since x before n)
+  pub read_between : (since : List Happening) (x : Happening) (before : Past) → EndsGood side path x → is_some (still_said word (since ++ x ∷ before)) ≡ true → (y : Happening) × Among y since × LeavesAt side path y
+  read_between [] x before n g = absurd (let e = ended_none x (word x) (still_said word before) refl n in cc)
+  read_between (y ∷ since) x before n g = read_step y (word y) (still_said word (since ++ x ∷ before)) since refl g (read_between since x before n)
 
 pub is_good_since : (side : Side) (path : Text) (past : Past) → (is_good side path past ≡ true → IsGoodSince side path past) × (IsGoodSince side path past → is_good side path past ≡ true)
 is_good_since Data path past = (good_since Data path (word_data path) (data_means path) past, since_good Data path (word_data path) (data_means path) past)

@@ -1,21 +1,22 @@
 -- After an expiry, a close or a halt nothing is kept. The last seen zxid never falls.
 use Rattle.zk_conversation.specs.Calls.{Call}
 use Rattle.std.proofs.Common.{◌≡◌, ℕ, ℤ, Bool, true, false, cond, ◌||◌, List, [], ◌∷◌, ◌++◌, Option, Some, None, refl, sym, ap, arith}
-use Rattle.std.specs.Prelude.{◌&&◌, if◌then◌else◌, ◌≤ℤ◌, nat_le, ◌*◌, ◌-◌}
+use Rattle.std.specs.Prelude.{if◌then◌else◌, ◌≤ℤ◌}
 use Rattle.std.proofs.lemmas.Int.{ints}
 use Rattle.zk_turns.specs.Turns.{Start, Outcome, Signal, Opens, Comes, Cuts, Ticks, Calls, Forget, Halt, Item, signals}
 use Rattle.zk_conversation.specs.Questions.{Close}
 use Rattle.zk_session.specs.declared.states.State.{State}
 use Rattle.zk_session.specs.declared.states.State.TheVariants.{Idle, Connecting, Connected, Expired, Closed}
-use Rattle.zk_turns.specs.Past.{is_talking, Past, Happening, Began, Came, Took, Dropped, Lost, Denied, Pinged, Ticked, Forgot, Halted, Accepted, Expiry, Replies, Watches_set, is_final, is_over, has_halted, state_of, KeepsNothing, last_of, held_of}
+use Rattle.zk_turns.specs.Past.{Past, Happening, Began, Came, Took, Dropped, Lost, Denied, Ticked, Forgot, Halted, Accepted, Expiry, Replies, Watches_set, is_final, is_over, has_halted, state_of, KeepsNothing, last_of, held_of}
 use Rattle.std.specs.Int.{int_max}
 use Rattle.zk_cache.specs.Kept.{without_stale}
 use Rattle.zk_turns.specs.View.{View, view_at}
-use Rattle.zk_turns.specs.Taken.{happenings, caused, opens, if_open, of_cutting, cut, Cutting, Unfinished, Bad, Payload, due, timeout_of, refusal_when_connected, joined, past_after, past_of}
+use Rattle.zk_turns.specs.Taken.{happenings, caused, opens, if_open, of_cutting, cut, Cutting, Unfinished, Bad, Payload, due, refusal_when_connected, joined, past_after, past_of}
+use Rattle.zk_turns.proofs.Cases.{by_due}
 use Rattle.zk_turns.proofs.Registered.{empty_lists}
 use Rattle.zk_turns.proofs.Words.{calls, refusal_in}
 
-abbrev IsQuiet : Happening → Type 0
+abbrev pub IsQuiet : Happening → Type 0
 IsQuiet (Ticked moment) = Unit {0}
 IsQuiet (Denied ticket why) = Unit {0}
 IsQuiet Forgot = Unit {0}
@@ -63,9 +64,8 @@ over_all : (more : List Happening) (past : Past) → AllQuiet more past → Keep
 over_all [] past q k = k
 over_all (happening ∷ more) past q k = over_all more (happening ∷ past) q.1 (over_step happening past q.0 k)
 
-quiet_cond : (b : Bool) (x y : List Happening) (past : Past) → AllQuiet x past → AllQuiet y past → AllQuiet (cond b x y) past
-quiet_cond true x y past p q = p
-quiet_cond false x y past p q = q
+abbrev QuietBehind : Past → List Happening → Type 0
+QuietBehind past more = AllQuiet more past
 
 not_over : (past : Past) (X : Type 0) → has_halted past ≡ false → is_final (state_of past) ≡ false → is_over past ≡ true → X
 not_over past X h e f = by (has_halted past) (is_final (state_of past)) h e f
@@ -86,12 +86,7 @@ module _ (start : Start) where
   cutting_quiet (Payload payload) byte past n = (λ f. absurd (n f), tt)
 
   due_quiet : (view : View) (now moment : ℕ) (past : Past) → (is_over past ≡ true → ⊥) → AllQuiet (due view now) (Ticked moment ∷ past)
-  due_quiet view now moment past n =
-      quiet_cond (nat_le (2 * timeout_of view) (3 * (now - view.moments.heard))) _ _ (Ticked moment ∷ past) (λ f. absurd (n f), tt) (by view.standing.state)
-    where
-      by : (state : State) → AllQuiet (if is_talking state && nat_le (timeout_of view) (3 * (now - view.moments.sent)) then Pinged ∷ [] else []) (Ticked moment ∷ past)
-      by Connected = quiet_cond (nat_le (timeout_of view) (3 * (now - view.moments.sent))) (Pinged ∷ []) [] (Ticked moment ∷ past) (λ f. absurd (n f), tt) tt
-      by _ = tt
+  due_quiet view now moment past n = by_due (QuietBehind (Ticked moment ∷ past)) view now (λ f. absurd (n f), tt) (λ f. absurd (n f), tt) tt
 
   due_open_quiet : (state : State) (view : View) (now moment : ℕ) (past : Past) → (is_final state ≡ false → is_over past ≡ true → ⊥) → AllQuiet (if_open state (due view now)) (Ticked moment ∷ past)
   due_open_quiet Connecting view now moment past n = due_quiet view now moment past (n refl)
@@ -147,17 +142,18 @@ module _ (start : Start) where
   nothing_kept [] f = absurd cc
   nothing_kept (item ∷ items) f = over_signals (signals item) (past_of start items) (nothing_kept items) f
 
-  -- ---- the last seen zxid
+-- ---- the last seen zxid
 
-  later_le : (a b : ℤ) → b ≤ℤ int_max a b
-  later_le a b = grind (arith, ints)
+pub later_le : (a b : ℤ) → b ≤ℤ int_max a b
+later_le a b = grind (arith, ints)
 
-  le_itself : (a : ℤ) → a ≤ℤ a
-  le_itself a = grind (arith, ints)
+pub le_itself : (a : ℤ) → a ≤ℤ a
+le_itself a = grind (arith, ints)
 
-  le_through : (a b c : ℤ) → a ≤ℤ b → b ≤ℤ c → a ≤ℤ c
-  le_through a b c p q = grind (arith, ints)
+pub le_through : (a b c : ℤ) → a ≤ℤ b → b ≤ℤ c → a ≤ℤ c
+le_through a b c p q = grind (arith, ints)
 
+module _ (start : Start) where
   last_step : (happening : Happening) (past : Past) → last_of start past ≤ℤ last_of start (happening ∷ past)
   last_step (Took (Replies ticket question zxid result)) past = later_le zxid (last_of start past)
   last_step (Took (Watches_set true zxid)) past = later_le zxid (last_of start past)

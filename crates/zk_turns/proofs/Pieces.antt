@@ -330,22 +330,27 @@ frame_rest view left payload rest h u le e =
     let some : 0 < length s.0 = omega arith in
     (s.0, s.2, some, sym s.1, payload_view s.0 view payload h some le (sym s.1) ∙ ap (λ v. next v (arrival view payload)) (fed_as s.0 view some) ∙ same_next view (view.held ++ s.0) payload)
 
+-- bytes that come in two parts
+pub parted_view : (view : View) (left first rest : List ℕ) → left ≡ first ++ rest → after_signals view (map Comes left) ≡ after_signals (after_signals view (map Comes first)) (map Comes rest)
+parted_view view left first rest e =
+    ap (λ t. after_signals view (map Comes t)) e ∙ ap (after_signals view) (map-append Comes first rest) ∙ after_append (map Comes first) (map Comes rest) view
+
+pub parted_says : (view : View) (left first rest : List ℕ) → left ≡ first ++ rest
+    → says_signals view (map Comes left) ≡ says_signals view (map Comes first) ++ says_signals (after_signals view (map Comes first)) (map Comes rest)
+parted_says view left first rest e =
+    ap (λ t. says_signals view (map Comes t)) e ∙ ap (says_signals view) (map-append Comes first rest) ∙ says_append (map Comes first) (map Comes rest) view
+
 pub frame_view : (view : View) (left payload rest : List ℕ) → Hears view → IsUnfinished view.held → length payload ≤ LONGEST_INCOMING → view.held ++ left ≡ frame payload ++ rest
     → after_signals view (map Comes left) ≡ after_signals (next (heard view) (arrival view payload)) (map Comes rest)
 frame_view view left payload rest h u le e =
     let s = frame_rest view left payload rest h u le e in
-    ap (λ t. after_signals view (map Comes t)) s.1
-    ∙ ap (after_signals view) (map-append Comes s.0 rest)
-    ∙ after_append (map Comes s.0) (map Comes rest) view
-    ∙ ap (λ v. after_signals v (map Comes rest)) s.4
+    parted_view view left s.0 rest s.1 ∙ ap (λ v. after_signals v (map Comes rest)) s.4
 
 pub frame_says : (view : View) (left payload rest : List ℕ) → Hears view → IsUnfinished view.held → length payload ≤ LONGEST_INCOMING → view.held ++ left ≡ frame payload ++ rest
     → says_signals view (map Comes left) ≡ says (heard view) (arrival view payload) ++ says_signals (next (heard view) (arrival view payload)) (map Comes rest)
 frame_says view left payload rest h u le e =
     let s = frame_rest view left payload rest h u le e in
-    ap (λ t. says_signals view (map Comes t)) s.1
-    ∙ ap (says_signals view) (map-append Comes s.0 rest)
-    ∙ says_append (map Comes s.0) (map Comes rest) view
+    parted_says view left s.0 rest s.1
     ∙ ap (λ t. t ++ says_signals (after_signals view (map Comes s.0)) (map Comes rest)) (
     payload_says s.0 view payload h s.2 le s.3
     ∙ ap (λ v. says v (arrival view payload)) (fed_as s.0 view s.2)
@@ -410,9 +415,7 @@ pub bad_first_view : (view : View) (left : List ℕ) (fault : FrameFault) → He
     → after_signals view (map Comes left) ≡ next (heard view) (Dropped (Framed fault))
 bad_first_view view left fault h u bad =
     let s = split_bad view left fault u (stands_bad (view.held ++ left) fault bad) in
-    ap (λ t. after_signals view (map Comes t)) s.whole
-    ∙ ap (after_signals view) (map-append Comes s.first s.rest)
-    ∙ after_append (map Comes s.first) (map Comes s.rest) view
+    parted_view view left s.first s.rest s.whole
     ∙ ap (λ v. after_signals v (map Comes s.rest)) (bad_view s.first view fault h s.some s.bad ∙ ap (λ v. next v (Dropped (Framed fault))) (fed_as s.first view s.some))
     ∙ unheard_view s.rest (next (heard view) (Dropped (Framed fault))) not_idle
 
@@ -420,9 +423,7 @@ pub bad_first_says : (view : View) (left : List ℕ) (fault : FrameFault) → He
     → says_signals view (map Comes left) ≡ says (heard view) (Dropped (Framed fault))
 bad_first_says view left fault h u bad =
     let s = split_bad view left fault u (stands_bad (view.held ++ left) fault bad) in
-    ap (λ t. says_signals view (map Comes t)) s.whole
-    ∙ ap (says_signals view) (map-append Comes s.first s.rest)
-    ∙ says_append (map Comes s.first) (map Comes s.rest) view
+    parted_says view left s.first s.rest s.whole
     ∙ ap (λ v. says_signals view (map Comes s.first) ++ says_signals v (map Comes s.rest)) (bad_view s.first view fault h s.some s.bad ∙ ap (λ v. next v (Dropped (Framed fault))) (fed_as s.first view s.some))
     ∙ ap (λ t. says_signals view (map Comes s.first) ++ t) (unheard_says s.rest (next (heard view) (Dropped (Framed fault))) not_idle)
     ∙ append-nil (says_signals view (map Comes s.first))

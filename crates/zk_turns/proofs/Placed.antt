@@ -1,13 +1,14 @@
 -- The paths of a list stand in the order in which they last came into it.
 use Rattle.std.proofs.Common.{◌≡◌, ◌<◌, Bool, true, false, cond, ◌&&◌, ◌||◌, List, [], ◌∷◌, ◌++◌, length, refl, sym, ap, subst, ◌∙◌, inl, inr, ◌⊎◌, arith}
-use Rattle.std.specs.Prelude.{bytes_eq, not, filter}
+use Rattle.std.specs.Prelude.{bytes_eq, not, filter, ◌↔◌}
 use Rattle.std.proofs.lemmas.List.{length-append}
 use Rattle.zk_nodes.specs.Path.{Text}
 use Rattle.zk_conversation.specs.Questions.{Question, Exists, GetData, GetChildren}
-use Rattle.zk_turns.specs.Past.{Past, Happening, Took, Replies, path_of_read, path_of_reply, arrivals, listed}
+use Rattle.zk_turns.specs.Past.{Past, Happening, Took, Replies, path_of_read, path_of_reply, arrivals, listed, in_known, in_missing, in_parents}
 use Rattle.zk_watches.specs.Lists.{has}
 use Rattle.zk_turns.specs.Meaning.{Among, StaysIn, CameIn, StandsBefore}
 use Rattle.zk_turns.proofs.Lists.{same_text, bytes_eq-refl, Tracks, has_listed, grows}
+use Rattle.zk_turns.proofs.Registered.{tracks_known, tracks_missing, tracks_parents}
 
 -- ---- members
 
@@ -233,3 +234,21 @@ module _ (is_in : Text → Past → Bool) (tracks : Tracks is_in) where
           let old = listed_in p past (among_passes (λ q. is_in q (x ∷ past)) p (listed is_in past) m.0).1 in
           let new = new_out p x past m.1 in
           cc
+
+-- what a list is, by the test of being in it
+pub record IsPlaced (is_in : Text → Past → Bool) : Type 0 where
+  pub members : (path : Text) (past : Past) → Among path (listed is_in past) ↔ CameIn is_in path past
+  pub order : (first second : Text) (past : Past) (a : CameIn is_in first past) (b : CameIn is_in second past) → length a.before < length b.before → StandsBefore first second (listed is_in past)
+  pub once : (path : Text) (past : Past) → ¬ StandsBefore path path (listed is_in past)
+
+placed : (is_in : Text → Past → Bool) → Tracks is_in → IsPlaced is_in
+placed is_in tracks = record { members = members is_in tracks; order = in_order is_in tracks; once = each_once is_in tracks }
+
+pub known_placed : IsPlaced in_known
+known_placed = placed in_known tracks_known
+
+pub missing_placed : IsPlaced in_missing
+missing_placed = placed in_missing tracks_missing
+
+pub parents_placed : IsPlaced in_parents
+parents_placed = placed in_parents tracks_parents

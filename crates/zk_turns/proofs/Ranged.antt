@@ -1,6 +1,6 @@
 -- What happens to a client is in range: what it takes is read of a payload, and what it sends was not refused.
 use Rattle.std.proofs.Common.{◌≡◌, ℕ, zero, suc, ℤ, pos, negsuc, ◌+◌, ◌≤◌, ◌^◌, Bool, true, false, cond, eqb, leb, ltb, ◌&&◌, List, [], ◌∷◌, ◌++◌, map, reverse, drop, length, Option, Some, None, Ok, Err, refl, sym, subst, ◌∙◌, arith, length-drop, ltb-false, ltb-true}
-use Rattle.std.specs.Prelude.{FitsSigned, if◌then◌else◌, int_lt, nat_le, ◌==◌, ◌*◌, ◌-◌, filter, not, Result as Reading}
+use Rattle.std.specs.Prelude.{FitsSigned, int_lt, nat_le, ◌==◌, filter, not, Result as Reading}
 use Rattle.std.specs.List.{AllByRecursion}
 use Rattle.std.specs.Int.{w64}
 use Rattle.std.specs.Ordering.{int_eq}
@@ -30,11 +30,12 @@ use Rattle.zk_conversation.specs.Arriving.{Arrived, Connected as Welcomed, Repli
 use Rattle.zk_watches.specs.Lists.{Lists}
 use Rattle.zk_watches.specs.Parts.{parts}
 use Rattle.zk_turns.specs.Turns.{Start, Outcome, SessionClosed, TooManyWatches, TooLarge, TooManyPending, Behind, WatchesRefused, Input, Opened, Bytes, Cut, Now, Call as Asks, Signal, Opens, Comes, Cuts, Ticks, Calls, Forget, Halt, Item, Turned, Forgets, Halts, signals_of}
-use Rattle.zk_turns.specs.Past.{Past, Happening, Began, Came, Took, Dropped, Lost, Asked, Pinged, Ticked, Message, Accepted, Expiry, Replies, Watches_set, Notifies, Pong, Skipped, Asking, For_part, For_call, pending_for, parts_asked, questions, answered, awaited, pending_of, is_talking, state_of, held_of, has_halted, xid_of, lists_of, last_of, session_of, path_of_read, path_of_reply, arrivals, firsts, listed}
+use Rattle.zk_turns.specs.Past.{Past, Happening, Began, Came, Took, Dropped, Lost, Asked, Ticked, Message, Accepted, Expiry, Replies, Watches_set, Notifies, Pong, Skipped, Asking, For_part, For_call, pending_for, parts_asked, questions, answered, awaited, pending_of, is_talking, state_of, held_of, has_halted, xid_of, lists_of, last_of, session_of, path_of_read, path_of_reply, arrivals, firsts, listed}
 use Rattle.std.specs.Int.{int_max}
 use Rattle.zk_turns.specs.View.{View, view_at}
-use Rattle.zk_turns.specs.Taken.{cut, cut_at, Cutting, Unfinished, Bad, Payload, of_cutting, comes, phase_of, welcome_by, leaves_watch, taken_of, timeout_of, due, is_full_on, refusal, opens, if_open, caused, happenings, joined, past_after, past_of}
+use Rattle.zk_turns.specs.Taken.{cut, cut_at, Cutting, Unfinished, Bad, Payload, of_cutting, comes, phase_of, welcome_by, leaves_watch, taken_of, is_full_on, refusal, opens, caused, happenings, joined, past_after, past_of}
 use Rattle.zk_turns.specs.Ranges.{AsksOf, AllAskOf, IsResumable}
+use Rattle.zk_turns.proofs.Cases.{by_cond, by_header, by_open, by_due}
 use Rattle.zk_turns.proofs.Fields.{header_ok, response_ok}
 use Rattle.zk_turns.proofs.Fitting.{IsShort, read_short}
 use Rattle.zk_turns.proofs.Lists.{reverse-cons}
@@ -153,10 +154,6 @@ module _ (P : Call → Type 0) where
     OfReading (Ok arrived) = OfArrived arrived
     OfReading (Err fault) = Unit {0}
 
-    either : (b : Bool) (x y : Reading Arrived TalkFault) → OfReading x → OfReading y → OfReading (cond b x y)
-    either true x y p q = p
-    either false x y p q = q
-
     of_event : (event : Option Event) (path : Text) → OfArrived (noticed event path)
     of_event (Some event) path = tt
     of_event None path = tt
@@ -176,17 +173,10 @@ module _ (P : Call → Type 0) where
     of_oldest : (ps : List Pending) (header : ReplyHeader) (end : ℕ) (bytes : List ℕ) → FitsSigned w64 header.zxid → AllByRecursion OfPending ps → OfReading (oldest_arriving ps header end bytes)
     of_oldest [] header end bytes z w = tt
     of_oldest (oldest ∷ more) header end bytes z w =
-        either (int_eq oldest.xid header.xid) (reply_arriving oldest.waiting header end bytes) (Err (OtherXid oldest.xid header.xid)) (of_reply oldest.waiting header end bytes z w.0) tt
+        by_cond OfReading (int_eq oldest.xid header.xid) (reply_arriving oldest.waiting header end bytes) (Err (OtherXid oldest.xid header.xid)) (of_reply oldest.waiting header end bytes z w.0) tt
 
     of_header : (ps : List Pending) (header : ReplyHeader) (end : ℕ) (bytes : List ℕ) → FitsSigned w64 header.zxid → AllByRecursion OfPending ps → OfReading (header_arriving ps header end bytes)
-    of_header ps header end bytes z w =
-        let oldest : Reading Arrived TalkFault = oldest_arriving ps header end bytes in
-        let skipped : Reading Arrived TalkFault = if int_eq header.xid (negsuc 3) then Ok Passed else oldest in
-        let pong : Reading Arrived TalkFault = if int_eq header.xid (negsuc 1) then Ok Ponged else skipped in
-        either (int_eq header.xid (negsuc 0)) (notice_arriving (reading watcher_event end bytes)) pong (of_notice (reading watcher_event end bytes))
-        (either (int_eq header.xid (negsuc 1)) (Ok Ponged) skipped tt
-        (either (int_eq header.xid (negsuc 3)) (Ok Passed) oldest tt
-        (of_oldest ps header end bytes z w)))
+    of_header ps header end bytes z w = by_header OfReading ps header end bytes (of_notice (reading watcher_event end bytes)) tt tt (of_oldest ps header end bytes z w)
 
     of_later : (ps : List Pending) (end : ℕ) (payload : List ℕ) (r : Reading (Value reply_header × List ℕ) TakeError) → reading reply_header end payload ≡ r → AllByRecursion OfPending ps → OfReading (later_arriving ps end r)
     of_later ps end payload (Ok found) e w = of_header ps (header_of found.0) end found.1 (header_ok end payload found e) w
@@ -205,10 +195,6 @@ module _ (P : Call → Type 0) where
   -- ---- what is taken
 
   module _ (past : Past) where
-    one_of : (b : Bool) (x y : Happening) → IsRanged x past → IsRanged y past → IsRanged (cond b x y) past
-    one_of true x y p q = p
-    one_of false x y p q = q
-
     welcome_ranged : (timeout session : ℤ) (password : List ℕ) → FitsSigned w64 session → length password ≤ LONGEST_INCOMING → IsRanged (Took (welcome_by timeout session password)) past
     welcome_ranged (pos n) session password s p = by (n == 0)
       where
@@ -220,8 +206,8 @@ module _ (P : Call → Type 0) where
     taken_ranged : (last : ℤ) (arrived : Arrived) → OfArrived LONGEST_INCOMING arrived → IsRanged (taken_of last arrived) past
     taken_ranged last (Welcomed response) a = welcome_ranged (response_timeout response) (response_session response) (response_password response) a.0 a.1
     taken_ranged last (Replied ticket question zxid result) a =
-        one_of (leaves_watch question result && int_lt zxid last) (Dropped (Behind last zxid)) (Took (Replies ticket question zxid result)) tt a
-    taken_ranged last (Part_set final zxid err) a = one_of (int_eq err (pos 0)) (Took (Watches_set final zxid)) (Dropped (WatchesRefused err)) a tt
+        by_cond (λ h. IsRanged h past) (leaves_watch question result && int_lt zxid last) (Dropped (Behind last zxid)) (Took (Replies ticket question zxid result)) tt a
+    taken_ranged last (Part_set final zxid err) a = by_cond (λ h. IsRanged h past) (int_eq err (pos 0)) (Took (Watches_set final zxid)) (Dropped (WatchesRefused err)) a tt
     taken_ranged last (Notice event path) a = tt
     taken_ranged last Ponged a = tt
     taken_ranged last Passed a = tt
@@ -282,10 +268,6 @@ module _ (P : Call → Type 0) where
   OfSignal _ = Unit {0}
 
   module _ (start : Start) where
-    ranged_cond : (b : Bool) (x y : List Happening) (past : Past) → AreRanged (joined past x) → AreRanged (joined past y) → AreRanged (joined past (cond b x y))
-    ranged_cond true x y past p q = p
-    ranged_cond false x y past p q = q
-
     cutting_ranged : (cutting : Cutting) (byte : ℕ) (past : Past) → AreRanged past → cut (held_of past ++ byte ∷ []) ≡ cutting → AreRanged (joined (Came byte ∷ past) (of_cutting (view_at start past) cutting))
     cutting_ranged Unfinished byte past r e = (tt, r)
     cutting_ranged (Bad fault) byte past r e = (tt, (tt, r))
@@ -295,17 +277,8 @@ module _ (P : Call → Type 0) where
       (tt, r),
     )
 
-    open_ranged : (state : State) (more : List Happening) (past : Past) → AreRanged past → AreRanged (joined past more) → AreRanged (joined past (if_open state more))
-    open_ranged Connecting more past r s = s
-    open_ranged Connected more past r s = s
-    open_ranged _ more past r s = r
-
-    due_ranged : (view : View) (now : ℕ) (past : Past) → AreRanged past → AreRanged (joined past (due view now))
-    due_ranged view now past r = ranged_cond (nat_le (2 * timeout_of view) (3 * (now - view.moments.heard))) _ _ past (tt, r) (by view.standing.state)
-      where
-        by : (state : State) → AreRanged (joined past (if is_talking state && nat_le (timeout_of view) (3 * (now - view.moments.sent)) then Pinged ∷ [] else []))
-        by Connected = ranged_cond (nat_le (timeout_of view) (3 * (now - view.moments.sent))) (Pinged ∷ []) [] past (tt, r) r
-        by _ = r
+    abbrev RangedBehind : Past → List Happening → Type 0
+    RangedBehind past more = AreRanged (joined past more)
 
     opens_ranged : (state : State) (past : Past) → AreRanged past → AreRanged (joined past (opens state))
     opens_ranged Idle past r = (tt, r)
@@ -319,9 +292,9 @@ module _ (P : Call → Type 0) where
 
     caused_ranged : (signal : Signal) (past : Past) → OfSignal signal → AreRanged past → AreRanged (joined past (caused (view_at start past) signal))
     caused_ranged Opens past o r = opens_ranged (state_of past) past r
-    caused_ranged (Comes byte) past o r = open_ranged (state_of past) (comes (view_at start past) byte) past r (cutting_ranged (cut (held_of past ++ byte ∷ [])) byte past r refl)
-    caused_ranged Cuts past o r = open_ranged (state_of past) (Lost ∷ []) past r (tt, r)
-    caused_ranged (Ticks moment) past o r = open_ranged (state_of past) _ (Ticked moment ∷ past) (tt, r) (due_ranged (view_at start past) _ (Ticked moment ∷ past) (tt, r))
+    caused_ranged (Comes byte) past o r = by_open (RangedBehind past) (state_of past) (comes (view_at start past) byte) r (cutting_ranged (cut (held_of past ++ byte ∷ [])) byte past r refl)
+    caused_ranged Cuts past o r = by_open (RangedBehind past) (state_of past) (Lost ∷ []) r (tt, r)
+    caused_ranged (Ticks moment) past o r = by_open (RangedBehind (Ticked moment ∷ past)) (state_of past) _ (tt, r) (by_due (RangedBehind (Ticked moment ∷ past)) (view_at start past) _ (tt, (tt, r)) (tt, (tt, r)) (tt, r))
     caused_ranged (Calls ticket call) past o r = calls_ranged ticket call (refusal (view_at start past) call) past o (sent_short (state_of past) (view_at start past) call) r
     caused_ranged Forget past o r = (tt, r)
     caused_ranged Halt past o r = (tt, r)
@@ -329,7 +302,7 @@ module _ (P : Call → Type 0) where
     signal_ranged : (signal : Signal) (past : Past) → OfSignal signal → AreRanged past → AreRanged (joined past (happenings (view_at start past) signal))
     signal_ranged Forget past o r = (tt, r)
     signal_ranged Halt past o r = (tt, r)
-    signal_ranged signal past o r = ranged_cond (has_halted past) [] (caused (view_at start past) signal) past r (caused_ranged signal past o r)
+    signal_ranged signal past o r = by_cond (RangedBehind past) (has_halted past) [] (caused (view_at start past) signal) r (caused_ranged signal past o r)
 
     signals_ranged : (more : List Signal) (past : Past) → AllByRecursion OfSignal more → AreRanged past → AreRanged (past_after start past more)
     signals_ranged [] past o r = r

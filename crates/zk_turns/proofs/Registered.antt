@@ -8,7 +8,7 @@ use Rattle.zk_nodes.specs.declared.side.Side.TheVariants.{Data, Child}
 use Rattle.zk_records.specs.declared.event.Event.{Event}
 use Rattle.zk_conversation.specs.Questions.{Question, Exists, GetData, GetChildren, Close}
 use Rattle.zk_conversation.specs.Results.{Result, NoNode, Found, Read, Listing}
-use Rattle.zk_turns.specs.Past.{Past, Happening, Took, Replies, Notifies, Left, Word, Says, Ends, Empties, Nothing, if_at, word_data, word_child, standing, leaves_data, leaves_child, path_of_read, path_of_reply, in_known, in_missing, in_parents, arrivals, listed, lists_of}
+use Rattle.zk_turns.specs.Past.{Past, Happening, Took, Replies, Notifies, Left, Word, Says, Ends, Empties, Nothing, if_at, word_data, word_child, still_said, leaves_data, leaves_child, path_of_read, path_of_reply, in_known, in_missing, in_parents, arrivals, listed, lists_of}
 use Rattle.zk_cache.specs.Kept.{Answer, Absent, Known, Full, Names}
 use Rattle.zk_records.specs.Events.{concerns}
 use Rattle.zk_turns.proofs.Lists.{same_text, shown, stays, leaves, empties, comes, Tracks, has_listed}
@@ -71,21 +71,21 @@ pub tracks_known : Tracks in_known
 tracks_known = record {
   none = λ p. refl;
   by_reply = λ p happening past e was.
-      let c = came is_there refl (word_data p happening) (standing (word_data p) past) e was in says_path_data p happening c.0 c.1;
+      let c = came is_there refl (word_data p happening) (still_said (word_data p) past) e was in says_path_data p happening c.0 c.1;
 }
 
 pub tracks_missing : Tracks in_missing
 tracks_missing = record {
   none = λ p. refl;
   by_reply = λ p happening past e was.
-      let c = came is_absent refl (word_data p happening) (standing (word_data p) past) e was in says_path_data p happening c.0 c.1;
+      let c = came is_absent refl (word_data p happening) (still_said (word_data p) past) e was in says_path_data p happening c.0 c.1;
 }
 
 pub tracks_parents : Tracks in_parents
 tracks_parents = record {
   none = λ p. refl;
   by_reply = λ p happening past e was.
-      let c = came is_some refl (word_child p happening) (standing (word_child p) past) e was in says_path_child p happening c.0 c.1;
+      let c = came is_some refl (word_child p happening) (still_said (word_child p) past) e was in says_path_child p happening c.0 c.1;
 }
 
 -- each list has the paths whose good answer is of its kind
@@ -139,34 +139,34 @@ unchanged : {A : Type 0} (test : Option A → Bool) (before : Text → Option A)
 unchanged test before paths older = sym (stays (λ q. test (before q)) (λ q. test (before q)) paths older (λ q. refl))
 
 data_before : Past → Text → Option Answer
-data_before past q = standing (word_data q) past
+data_before past q = still_said (word_data q) past
 
 known_said : (path : Text) (a : Answer) (paths : List Text) (past : Past) → paths ≡ path ∷ []
-    → (registered (lists_of past) Data (says_there a) path).data_watches ≡ after is_there (if_at (Some (record { path = path; says = a }))) (λ q. standing (word_data q) past) paths (arrivals in_known past)
+    → (registered (lists_of past) Data (says_there a) path).data_watches ≡ after is_there (if_at (Some (record { path = path; says = a }))) (λ q. still_said (word_data q) past) paths (arrivals in_known past)
 known_said path Absent paths past g =
-    takes_out is_there (record { path = path; says = Absent }) (λ q. standing (word_data q) past) paths (arrivals in_known past) refl
+    takes_out is_there (record { path = path; says = Absent }) (λ q. still_said (word_data q) past) paths (arrivals in_known past) refl
 known_said path (Known fields) paths past g =
-    takes_in is_there (record { path = path; says = Known fields }) (λ q. standing (word_data q) past) paths (arrivals in_known past) g refl (has_known path past)
+    takes_in is_there (record { path = path; says = Known fields }) (λ q. still_said (word_data q) past) paths (arrivals in_known past) g refl (has_known path past)
 known_said path (Full bytes fields) paths past g =
-    takes_in is_there (record { path = path; says = Full bytes fields }) (λ q. standing (word_data q) past) paths (arrivals in_known past) g refl (has_known path past)
+    takes_in is_there (record { path = path; says = Full bytes fields }) (λ q. still_said (word_data q) past) paths (arrivals in_known past) g refl (has_known path past)
 
 missing_said : (path : Text) (a : Answer) (paths : List Text) (past : Past) → paths ≡ path ∷ []
-    → (registered (lists_of past) Data (says_there a) path).exist_watches ≡ after is_absent (if_at (Some (record { path = path; says = a }))) (λ q. standing (word_data q) past) paths (arrivals in_missing past)
+    → (registered (lists_of past) Data (says_there a) path).exist_watches ≡ after is_absent (if_at (Some (record { path = path; says = a }))) (λ q. still_said (word_data q) past) paths (arrivals in_missing past)
 missing_said path Absent paths past g =
-    takes_in is_absent (record { path = path; says = Absent }) (λ q. standing (word_data q) past) paths (arrivals in_missing past) g refl (has_missing path past)
+    takes_in is_absent (record { path = path; says = Absent }) (λ q. still_said (word_data q) past) paths (arrivals in_missing past) g refl (has_missing path past)
 missing_said path (Known fields) paths past g =
-    takes_out is_absent (record { path = path; says = Known fields }) (λ q. standing (word_data q) past) paths (arrivals in_missing past) refl
+    takes_out is_absent (record { path = path; says = Known fields }) (λ q. still_said (word_data q) past) paths (arrivals in_missing past) refl
 missing_said path (Full bytes fields) paths past g =
-    takes_out is_absent (record { path = path; says = Full bytes fields }) (λ q. standing (word_data q) past) paths (arrivals in_missing past) refl
+    takes_out is_absent (record { path = path; says = Full bytes fields }) (λ q. still_said (word_data q) past) paths (arrivals in_missing past) refl
 
 known_after : (left : Option (Left Answer)) (paths : List Text) (past : Past) → Agrees left paths
-    → (with_node left (lists_of past)).data_watches ≡ after is_there (if_at left) (λ q. standing (word_data q) past) paths (arrivals in_known past)
-known_after None paths past g = unchanged is_there (λ q. standing (word_data q) past) paths (arrivals in_known past)
+    → (with_node left (lists_of past)).data_watches ≡ after is_there (if_at left) (λ q. still_said (word_data q) past) paths (arrivals in_known past)
+known_after None paths past g = unchanged is_there (λ q. still_said (word_data q) past) paths (arrivals in_known past)
 known_after (Some left) paths past g = known_said left.path left.says paths past g
 
 missing_after : (left : Option (Left Answer)) (paths : List Text) (past : Past) → Agrees left paths
-    → (with_node left (lists_of past)).exist_watches ≡ after is_absent (if_at left) (λ q. standing (word_data q) past) paths (arrivals in_missing past)
-missing_after None paths past g = unchanged is_absent (λ q. standing (word_data q) past) paths (arrivals in_missing past)
+    → (with_node left (lists_of past)).exist_watches ≡ after is_absent (if_at left) (λ q. still_said (word_data q) past) paths (arrivals in_missing past)
+missing_after None paths past g = unchanged is_absent (λ q. still_said (word_data q) past) paths (arrivals in_missing past)
 missing_after (Some left) paths past g = missing_said left.path left.says paths past g
 
 parents_said : (path : Text) (a : Answer) (lists : Lists) → (registered lists Data (says_there a) path).child_watches ≡ lists.child_watches
@@ -181,19 +181,19 @@ parents_kept (Some left) lists = parents_said left.path left.says lists
 -- the three lists, by the words of a happening that came with a reply about these paths
 abbrev after_words : (Text → Word Answer) → (Text → Word Names) → List Text → Past → Lists
 after_words data_word child_word paths past = record {
-  data_watches = after is_there data_word (λ q. standing (word_data q) past) paths (arrivals in_known past);
-  exist_watches = after is_absent data_word (λ q. standing (word_data q) past) paths (arrivals in_missing past);
-  child_watches = after is_some child_word (λ q. standing (word_child q) past) paths (arrivals in_parents past);
+  data_watches = after is_there data_word (λ q. still_said (word_data q) past) paths (arrivals in_known past);
+  exist_watches = after is_absent data_word (λ q. still_said (word_data q) past) paths (arrivals in_missing past);
+  child_watches = after is_some child_word (λ q. still_said (word_child q) past) paths (arrivals in_parents past);
 }
 
 reply_lists_by : (node : Option (Left Answer)) (children : Option (Left Names)) (paths : List Text) (past : Past) → Agrees node paths → Agrees children paths
     → with_children children (with_node node (lists_of past)) ≡ after_words (if_at node) (if_at children) paths past
 reply_lists_by node None paths past g h =
     paths_ext _ _ (known_after node paths past g) (missing_after node paths past g)
-    (parents_kept node (lists_of past) ∙ unchanged is_some (λ q. standing (word_child q) past) paths (arrivals in_parents past))
+    (parents_kept node (lists_of past) ∙ unchanged is_some (λ q. still_said (word_child q) past) paths (arrivals in_parents past))
 reply_lists_by node (Some left) paths past g h =
     paths_ext _ _ (known_after node paths past g) (missing_after node paths past g)
-    (ap (λ t. with_path t left.path) (parents_kept node (lists_of past)) ∙ takes_in is_some left (λ q. standing (word_child q) past) paths (arrivals in_parents past) h refl (has_parents left.path past))
+    (ap (λ t. with_path t left.path) (parents_kept node (lists_of past)) ∙ takes_in is_some left (λ q. still_said (word_child q) past) paths (arrivals in_parents past) h refl (has_parents left.path past))
 
 reply_lists_at : (question : Question) (result : Result) (past : Past)
     → after_reply question result (lists_of past) ≡ after_words (if_at (leaves_data question result)) (if_at (leaves_child question result)) (path_of_read question) past
@@ -232,15 +232,15 @@ notice_ends {A} test none true at before paths older =
 pub notice_lists : (event : Event) (at : Text) (past : Past) → fired (lists_of past) event at ≡ lists_of (Took (Notifies event at) ∷ past)
 notice_lists event at past =
     paths_ext _ _
-    (notice_ends is_there refl (concerns event Data) at (λ q. standing (word_data q) past) [] (arrivals in_known past))
-    (notice_ends is_absent refl (concerns event Data) at (λ q. standing (word_data q) past) [] (arrivals in_missing past))
-    (notice_ends is_some refl (concerns event Child) at (λ q. standing (word_child q) past) [] (arrivals in_parents past))
+    (notice_ends is_there refl (concerns event Data) at (λ q. still_said (word_data q) past) [] (arrivals in_known past))
+    (notice_ends is_absent refl (concerns event Data) at (λ q. still_said (word_data q) past) [] (arrivals in_missing past))
+    (notice_ends is_some refl (concerns event Child) at (λ q. still_said (word_child q) past) [] (arrivals in_parents past))
 
 -- ---- where nothing is left
 
 pub empty_lists : (happening : Happening) (past : Past) → ((q : Text) → word_data q happening ≡ Empties) → ((q : Text) → word_child q happening ≡ Empties) → no_lists ≡ lists_of (happening ∷ past)
 empty_lists happening past node children =
     sym (paths_ext _ _
-    (empties (λ q. in_known q (happening ∷ past)) (arrivals in_known (happening ∷ past)) (λ q. ap (λ w. is_there (after_word w (standing (word_data q) past))) (node q)))
-    (empties (λ q. in_missing q (happening ∷ past)) (arrivals in_missing (happening ∷ past)) (λ q. ap (λ w. is_absent (after_word w (standing (word_data q) past))) (node q)))
-    (empties (λ q. in_parents q (happening ∷ past)) (arrivals in_parents (happening ∷ past)) (λ q. ap (λ w. is_some (after_word w (standing (word_child q) past))) (children q))))
+    (empties (λ q. in_known q (happening ∷ past)) (arrivals in_known (happening ∷ past)) (λ q. ap (λ w. is_there (after_word w (still_said (word_data q) past))) (node q)))
+    (empties (λ q. in_missing q (happening ∷ past)) (arrivals in_missing (happening ∷ past)) (λ q. ap (λ w. is_absent (after_word w (still_said (word_data q) past))) (node q)))
+    (empties (λ q. in_parents q (happening ∷ past)) (arrivals in_parents (happening ∷ past)) (λ q. ap (λ w. is_some (after_word w (still_said (word_child q) past))) (children q))))

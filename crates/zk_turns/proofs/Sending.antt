@@ -4,7 +4,7 @@ use Rattle.zk_turns.specs.Turns.{Turn, Framed, Start, Outcome, Signal, Opens, Co
 use Rattle.zk_conversation.specs.Calls.{Call, call_payload, ping_payload}
 use Rattle.zk_nodes.specs.Path.{Text}
 use Rattle.std.proofs.Common.{◌≡◌, ℕ, ℤ, pos, Bool, true, false, cond, List, [], ◌∷◌, ◌++◌, map, Option, Some, None, refl, sym, ap, subst, ◌∙◌, append_assoc}
-use Rattle.std.specs.Prelude.{reverse, ◌&&◌, if◌then◌else◌, nat_le, ◌*◌, ◌-◌}
+use Rattle.std.specs.Prelude.{reverse}
 use Rattle.std.specs.List.{flat_map}
 use Rattle.std.proofs.lemmas.List.{append-nil}
 use mathlib.Core.List.{reverse_aux, reverse_aux-eq}
@@ -15,12 +15,13 @@ use Rattle.zk_conversation.specs.Questions.{Close}
 use Rattle.zk_session.specs.declared.states.State.{State}
 use Rattle.zk_session.specs.declared.states.State.TheVariants.{Idle, Connecting, Connected}
 use Rattle.zk_frames.specs.Frame.{frame}
-use Rattle.zk_turns.specs.Past.{is_talking, xid_of, Past, Happening, Began, Came, Took, Dropped, Lost, Forgot, Halted, Asked, Denied, Pinged, Ticked, Message, Accepted, Expiry, Replies, Watches_set, Notifies, Pong, Skipped, state_of, held_of, has_halted, lists_of, last_of}
+use Rattle.zk_turns.specs.Past.{xid_of, Past, Happening, Began, Came, Took, Dropped, Lost, Forgot, Halted, Asked, Denied, Pinged, Ticked, Message, Accepted, Expiry, Replies, Watches_set, Notifies, Pong, Skipped, state_of, held_of, has_halted, lists_of, last_of}
 use Rattle.zk_watches.specs.Parts.{parts}
 use Rattle.zk_turns.specs.View.{View, view_at}
-use Rattle.zk_turns.specs.Taken.{reading, caused, happenings, opens, of_cutting, cut, Cutting, Unfinished, Bad, Payload, due, timeout_of, refusal, joined, past_after, past_of, comes, if_open}
+use Rattle.zk_turns.specs.Taken.{reading, caused, happenings, opens, of_cutting, cut, Cutting, Unfinished, Bad, Payload, due, refusal, joined, past_after, past_of, comes, if_open}
 use Rattle.zk_turns.specs.Rule.{IsOpen, says, part_frame, loss, losses, report, due_happenings, due_signals, AllSaid, Stands}
 use Rattle.zk_turns.specs.Sent.{outputs_of, told_state, sends, part_of, sent}
+use Rattle.zk_turns.proofs.Cases.{by_cond, by_open, by_due}
 use Rattle.zk_turns.proofs.Stream.{of_reading}
 use Rattle.zk_turns.proofs.Words.{calls}
 
@@ -149,22 +150,11 @@ module _ (start : Start) where
   opens_sends Connected past outs s o = after_two Lost Began past outs (λ u. refl) o
   opens_sends _ past outs s o = s o
 
-  cond_sends : (b : Bool) (x y : List Happening) (past : Past) (outs : List Output) → After x past outs → After y past outs → After (cond b x y) past outs
-  cond_sends true x y past outs p q = p
-  cond_sends false x y past outs p q = q
+  abbrev AfterThose : Past → List Output → List Happening → Type 0
+  AfterThose past outs more = After more past outs
 
   due_sends : (view : View) (now : ℕ) (past : Past) (outs : List Output) → Sent past outs → After (due view now) past outs
-  due_sends view now past outs s =
-      cond_sends (nat_le (2 * timeout_of view) (3 * (now - view.moments.heard))) _ _ past outs (λ o. absurd cc) (by view.standing.state)
-    where
-      by : (state : State) → After (if is_talking state && nat_le (timeout_of view) (3 * (now - view.moments.sent)) then Pinged ∷ [] else []) past outs
-      by Connected = cond_sends (nat_le (timeout_of view) (3 * (now - view.moments.sent))) (Pinged ∷ []) [] past outs (after_one Pinged past outs (λ o. ap (λ t. t ++ frame ping_payload ∷ []) (s o))) s
-      by _ = s
-
-  due_open_sends : (state : State) (view : View) (now : ℕ) (past : Past) (outs : List Output) → Sent past outs → After (if_open state (due view now)) past outs
-  due_open_sends Connecting view now past outs s = due_sends view now past outs s
-  due_open_sends Connected view now past outs s = due_sends view now past outs s
-  due_open_sends _ view now past outs s = s
+  due_sends view now past outs s = by_due (AfterThose past outs) view now (λ o. absurd cc) (after_one Pinged past outs (λ o. ap (λ t. t ++ frame ping_payload ∷ []) (s o))) s
 
   call_sends : (ticket : ℕ) (question : Call) (why : Option Outcome) (past : Past) (outs : List Output) → Sent past outs → After (calls ticket question why) past outs
   call_sends ticket question None past outs s = after_one (Asked ticket question) past outs (λ o. ap (λ t. t ++ frame (call_payload (pos (xid_of past)) question) ∷ []) (s o))
@@ -174,7 +164,7 @@ module _ (start : Start) where
   caused_sends Opens past outs s = opens_sends (state_of past) past outs s
   caused_sends (Comes byte) past outs s = byte_sends (state_of past) byte past outs (λ up. up) s
   caused_sends Cuts past outs s = lost_sends (state_of past) past outs s
-  caused_sends (Ticks moment) past outs s = due_open_sends (state_of past) (view_at start past) _ (Ticked moment ∷ past) outs s
+  caused_sends (Ticks moment) past outs s = by_open (AfterThose (Ticked moment ∷ past) outs) (state_of past) _ s (due_sends (view_at start past) _ (Ticked moment ∷ past) outs s)
   caused_sends (Calls ticket question) past outs s = call_sends ticket question (refusal (view_at start past) question) past outs s
   caused_sends Forget past outs s = s
   caused_sends Halt past outs s = s
@@ -182,7 +172,7 @@ module _ (start : Start) where
   signal_sends : (signal : Signal) (past : Past) (outs : List Output) → Sent past outs → After (happenings (view_at start past) signal) past outs
   signal_sends Forget past outs s = s
   signal_sends Halt past outs s = s
-  signal_sends signal past outs s = cond_sends (has_halted past) [] (caused (view_at start past) signal) past outs s (caused_sends signal past outs s)
+  signal_sends signal past outs s = by_cond (AfterThose past outs) (has_halted past) [] (caused (view_at start past) signal) s (caused_sends signal past outs s)
 
   pub sent_is : (items : List Item) (view : View) → Stands start items view → IsOpen view.standing.state → sends (outputs_of items) ≡ sent start (past_of start items)
   sent_is items view s up = items_hold start Sent signal_sends (λ up. absurd cc) (λ past outs s. (s, s)) items s.said (subst IsOpen (ap (λ t. t.state) s.standing) up)

@@ -8,17 +8,19 @@ use Rattle.zk_turns.specs.Taken.{phase_of, taken_of, welcome_by}
 use Rattle.zk_conversation.specs.Arriving.{Arrived, Connected as Welcomed, Replied, Watches_set as Part_set, Notice, Pong as Ponged, Skipped as Passed, arriving}
 use Rattle.zk_conversation.specs.declared.fault.TalkFault.{TalkFault}
 use Rattle.std.proofs.Common.{◌≡◌, ℕ, zero, suc, ◌≤◌, ◌<◌, ℤ, pos, Bool, true, false, cond, ◌&&◌, List, [], ◌∷◌, ◌++◌, map, drop, length, Option, Some, None, Ok, Err, refl, sym, ap, subst, ◌∙◌, arith, append_assoc}
-use Rattle.std.specs.Prelude.{if◌then◌else◌, int_lt, nat_le, ◌==◌, ◌*◌, ◌-◌, negsuc, Result as Reading}
+use Rattle.std.specs.Prelude.{int_lt, ◌==◌, negsuc, Result as Reading}
 use Rattle.std.specs.Ordering.{int_eq}
 use Rattle.std.proofs.lemmas.List.{length-append, map-append, append-nil}
-use Rattle.zk_turns.specs.Turns.{Start, Outcome, Behind, WatchesRefused, Signal, Opens, Comes, Cuts, Ticks, Calls, Forget, Halt, Bytes, Turn, Item, Turned, Halts, signals, signals_of}
+use Rattle.zk_turns.specs.Turns.{Start, Outcome, Behind, WatchesRefused, Signal, Opens, Comes, Cuts, Ticks, Calls, Forget, Halt, Bytes, Turn, Item, Turned, Halts, IsAskable, signals, signals_of}
 use Rattle.zk_session.specs.declared.states.State.{State}
 use Rattle.zk_session.specs.declared.states.State.TheVariants.{Idle, Connecting, Connected}
-use Rattle.zk_turns.specs.Past.{Past, Happening, Began, Came, Took, Dropped, Lost, Asked, Pinged, Ticked, Halted, Accepted, Expiry, Replies, Watches_set, is_talking, state_of, questions, answered, pending_of, held_of, xid_of, has_halted}
+use Rattle.zk_turns.specs.Past.{Past, Happening, Began, Came, Took, Dropped, Lost, Asked, Ticked, Halted, Accepted, Expiry, Replies, Watches_set, is_talking, state_of, questions, answered, pending_of, held_of, xid_of, has_halted}
 use Rattle.zk_conversation.specs.Pending.{Pending}
 use Rattle.zk_turns.specs.View.{View, view_at}
-use Rattle.zk_turns.specs.Taken.{reading, leaves_watch, timeout_of, opens, refusal, caused, happenings, of_cutting, cut, Cutting, Unfinished, Bad, Payload, due, joined, past_after, past_of, comes, if_open}
-use Rattle.zk_turns.specs.Rule.{says, after_all, says_all, after_signals, says_signals, Rule, due_happenings, due_signals, Stands, HaltsAs}
+use Rattle.zk_turns.specs.Taken.{reading, leaves_watch, opens, refusal, caused, happenings, of_cutting, cut, Cutting, Unfinished, Bad, Payload, joined, past_after, past_of, comes}
+use Rattle.zk_turns.specs.Rule.{says, after_all, says_all, after_signals, says_signals, Rule, due_happenings, due_signals, AllSaid, Stands, HaltsAs}
+use Rattle.zk_turns.specs.Ranges.{AllAskOf}
+use Rattle.zk_turns.proofs.Cases.{by_cond, by_open, by_due}
 use Rattle.zk_turns.proofs.Registered.{empty_lists}
 use Rattle.zk_turns.proofs.Happened.{MayHappen, one_happening}
 use Rattle.zk_turns.proofs.Words.{happening_of, refusal_in, calls}
@@ -44,10 +46,6 @@ counted_next _ past may c = c
 counted_all : (more : List Happening) (past : Past) → AllMay more past → Counted past → Counted (joined past more)
 counted_all [] past may c = c
 counted_all (happening ∷ more) past may c = counted_all more (happening ∷ past) may.1 (counted_next happening past may.0 c)
-
-may_either : (b : Bool) (x y : Happening) (past : Past) → MayHappen x past → MayHappen y past → MayHappen (cond b x y) past
-may_either true x y past p q = p
-may_either false x y past p q = q
 
 -- a question waits only where not all are answered
 abbrev pub Waits : List Pending → Past → Type 0
@@ -80,9 +78,9 @@ welcome_may (negsuc n) session password past = tt
 taken_may : (phase : Phase) (ps : List Pending) (last : ℤ) (arrived : Arrived) (past : Past) → IsOf phase ps arrived → Waits ps past → MayHappen (taken_of last arrived) past
 taken_may phase ps last (Welcomed response) past f w = welcome_may (response_timeout response) (response_session response) (response_password response) past
 taken_may phase ps last (Replied ticket question zxid result) past f w =
-    may_either (leaves_watch question result && int_lt zxid last) (Dropped (Behind last zxid)) (Took (Replies ticket question zxid result)) past tt (subst (λ l. Waits l past) f.2 w)
+    by_cond (λ h. MayHappen h past) (leaves_watch question result && int_lt zxid last) (Dropped (Behind last zxid)) (Took (Replies ticket question zxid result)) tt (subst (λ l. Waits l past) f.2 w)
 taken_may phase ps last (Part_set final zxid err) past f w =
-    may_either (int_eq err (pos 0)) (Took (Watches_set final zxid)) (Dropped (WatchesRefused err)) past (subst (λ l. Waits l past) f.2 w) tt
+    by_cond (λ h. MayHappen h past) (int_eq err (pos 0)) (Took (Watches_set final zxid)) (Dropped (WatchesRefused err)) (subst (λ l. Waits l past) f.2 w) tt
 taken_may phase ps last (Notice event path) past f w = tt
 taken_may phase ps last Ponged past f w = tt
 taken_may phase ps last Passed past f w = tt
@@ -100,21 +98,8 @@ module _ (start : Start) where
   cutting_may (Bad fault) byte past = (tt, tt)
   cutting_may (Payload payload) byte past = (reading_may (state_of past) (pending_of past) (view_at start past).saved.last payload (Came byte ∷ past) (waits (Came byte ∷ past)), tt)
 
-  open_may : (state : State) (more : List Happening) (past : Past) → AllMay more past → AllMay (if_open state more) past
-  open_may Connecting more past may = may
-  open_may Connected more past may = may
-  open_may _ more past may = tt
-
-  may_cond : (b : Bool) (x y : List Happening) (past : Past) → AllMay x past → AllMay y past → AllMay (cond b x y) past
-  may_cond true x y past p q = p
-  may_cond false x y past p q = q
-
-  due_may : (view : View) (now : ℕ) (past : Past) → AllMay (due view now) past
-  due_may view now past = may_cond (nat_le (2 * timeout_of view) (3 * (now - view.moments.heard))) _ _ past (tt, tt) (by view.standing.state)
-    where
-      by : (state : State) → AllMay (if is_talking state && nat_le (timeout_of view) (3 * (now - view.moments.sent)) then Pinged ∷ [] else []) past
-      by Connected = may_cond (nat_le (timeout_of view) (3 * (now - view.moments.sent))) (Pinged ∷ []) [] past (tt, tt) tt
-      by _ = tt
+  abbrev MayFollow : Past → List Happening → Type 0
+  MayFollow past more = AllMay more past
 
   calls_may : (ticket : ℕ) (question : Call) (why : Option Outcome) (past : Past) → (why ≡ None → is_talking (state_of past) ≡ true) → Counted past → AllMay (calls ticket question why) past
   calls_may ticket question None past talks c = ((talks refl, c), tt)
@@ -132,9 +117,9 @@ module _ (start : Start) where
       by Connecting = (tt, (tt, tt))
       by Connected = (tt, (tt, tt))
       by _ = tt
-  caused_may (Comes byte) past c = open_may (state_of past) (comes (view_at start past) byte) past (tt, cutting_may (cut (held_of past ++ byte ∷ [])) byte past)
-  caused_may Cuts past c = open_may (state_of past) (Lost ∷ []) past (tt, tt)
-  caused_may (Ticks moment) past c = (tt, open_may (state_of past) _ (Ticked moment ∷ past) (due_may (view_at start past) _ (Ticked moment ∷ past)))
+  caused_may (Comes byte) past c = by_open (MayFollow past) (state_of past) (comes (view_at start past) byte) tt (tt, cutting_may (cut (held_of past ++ byte ∷ [])) byte past)
+  caused_may Cuts past c = by_open (MayFollow past) (state_of past) (Lost ∷ []) tt (tt, tt)
+  caused_may (Ticks moment) past c = (tt, by_open (MayFollow (Ticked moment ∷ past)) (state_of past) _ tt (by_due (MayFollow (Ticked moment ∷ past)) (view_at start past) _ (tt, tt) (tt, tt) tt))
   caused_may (Calls ticket question) past c = calls_may ticket question (refusal (view_at start past) question) past (talks_in (state_of past) (view_at start past) question) c
   caused_may Forget past c = (tt, tt)
   caused_may Halt past c = (tt, tt)
@@ -142,7 +127,7 @@ module _ (start : Start) where
   pub all_may : (signal : Signal) (past : Past) → Counted past → AllMay (happenings (view_at start past) signal) past
   all_may Forget past c = (tt, tt)
   all_may Halt past c = (tt, tt)
-  all_may signal past c = may_cond (has_halted past) [] (caused (view_at start past) signal) past tt (caused_may signal past c)
+  all_may signal past c = by_cond (MayFollow past) (has_halted past) [] (caused (view_at start past) signal) tt (caused_may signal past c)
 
   -- ---- steps
 
@@ -210,6 +195,10 @@ module _ (start : Start) where
         said = (turn_said items view after turn s rule, s.said);
         asked = (rule.asked, s.asked);
       }
+
+  -- a client stands where the definitions put it, with what it said and was asked
+  pub given_stands : (items : List Item) → AllSaid start items → AllAskOf IsAskable items → Stands start items (view_at start (past_of start items))
+  given_stands items said asked = record { standing = refl; saved = refl; lists = refl; cache = refl; going = λ on. refl; said = said; asked = asked }
 
   pub halt_stands : (items : List Item) (view after : View) → Stands start items view → HaltsAs view after → Stands start (Halts ∷ items) after
   halt_stands items view after s h =

@@ -4,7 +4,7 @@ use Rattle.zk_turns.specs.Taken.{phase_of, taken_of}
 use Rattle.zk_conversation.specs.Arriving.{Arrived, Connected as Welcomed, Replied, Watches_set as Part_set, Notice, Pong as Ponged, Skipped as Passed, arriving}
 use Rattle.zk_conversation.specs.declared.fault.TalkFault.{TalkFault}
 use Rattle.std.proofs.Common.{◌≡◌, ◌≢◌, ℕ, ◌+◌, ◌^◌, ℤ, pos, Bool, true, false, cond, ◌&&◌, List, [], ◌∷◌, ◌++◌, drop, length, Option, Some, None, Ok, Err, refl, sym, ap, ◌∙◌, append_assoc}
-use Rattle.std.specs.Prelude.{if◌then◌else◌, int_lt, nat_lt, nat_le, ◌==◌, ◌*◌, ◌-◌, Result as Reading}
+use Rattle.std.specs.Prelude.{int_lt, nat_lt, nat_le, ◌==◌, Result as Reading}
 use Rattle.std.specs.List.{flat_map, AllByRecursion}
 use Rattle.std.specs.Ordering.{int_eq}
 use Rattle.std.proofs.lemmas.List.{append-nil}
@@ -12,26 +12,23 @@ use Rattle.zk_turns.specs.Turns.{Start, Outcome, Fault, Behind, WatchesRefused, 
 use Rattle.zk_frames.specs.declared.fault.FrameFault.TheVariants.{Negative, TooLong}
 use Rattle.zk_session.specs.declared.states.State.{State}
 use Rattle.zk_session.specs.declared.states.State.TheVariants.{Idle, Connecting, Connected}
-use Rattle.zk_turns.specs.Past.{is_talking, Past, Happening, Began, Came, Took, Dropped, Lost, Pinged, Ticked, Message, Replies, Watches_set, state_of, held_of, has_halted}
+use Rattle.zk_turns.specs.Past.{Past, Happening, Began, Came, Took, Dropped, Lost, Pinged, Ticked, Message, Replies, Watches_set, state_of, held_of, has_halted}
 use Rattle.zk_conversation.specs.Pending.{Pending}
 use Rattle.zk_turns.specs.View.{View, view_at}
-use Rattle.zk_turns.specs.Taken.{reading, leaves_watch, refusal, caused, happenings, opens, of_cutting, cut, Cutting, Unfinished, Bad, Payload, due, timeout_of, joined, past_after, past_of, comes, if_open, cut_at, received, frames_of, IsStream}
+use Rattle.zk_turns.specs.Taken.{reading, leaves_watch, refusal, caused, happenings, opens, of_cutting, cut, Cutting, Unfinished, Bad, Payload, due, joined, past_after, past_of, comes, if_open, cut_at, received, frames_of, IsStream}
 use Rattle.zk_frames.specs.Frame.{length_field}
 use Rattle.zk_turns.specs.Rule.{IsOpen}
+use Rattle.zk_turns.proofs.Cases.{by_cond, by_open, by_due}
 use Rattle.zk_turns.proofs.Words.{happening_of, calls}
 use Rattle.zk_limits.specs.declared.limits.TheConstants.{LONGEST_INCOMING}
 
 -- ---- a payload is taken, or the connection is dropped
 
 module _ (P : Happening → Type 0) (takes : (message : Message) → P (Took message)) (drops : (fault : Fault) → P (Dropped fault)) where
-  either : (b : Bool) (x y : Happening) → P x → P y → P (cond b x y)
-  either true x y p q = p
-  either false x y p q = q
-
   of_arrived : (last : ℤ) (arrived : Arrived) → P (taken_of last arrived)
   of_arrived last (Welcomed response) = takes _
-  of_arrived last (Replied ticket question zxid result) = either (leaves_watch question result && int_lt zxid last) (Dropped (Behind last zxid)) (Took (Replies ticket question zxid result)) (drops _) (takes _)
-  of_arrived last (Part_set final zxid err) = either (int_eq err (pos 0)) (Took (Watches_set final zxid)) (Dropped (WatchesRefused err)) (takes _) (drops _)
+  of_arrived last (Replied ticket question zxid result) = by_cond P (leaves_watch question result && int_lt zxid last) (Dropped (Behind last zxid)) (Took (Replies ticket question zxid result)) (drops _) (takes _)
+  of_arrived last (Part_set final zxid err) = by_cond P (int_eq err (pos 0)) (Took (Watches_set final zxid)) (Dropped (WatchesRefused err)) (takes _) (drops _)
   of_arrived last (Notice event path) = takes _
   of_arrived last Ponged = takes _
   of_arrived last Passed = takes _
@@ -118,25 +115,14 @@ module _ (start : Start) where
   lost_open Connected past s up = absurd cc
   lost_open _ past s up = s up
 
-  stream_cond : (b : Bool) (x y : List Happening) (past : Past) → StreamIfOpen (joined past x) → StreamIfOpen (joined past y) → StreamIfOpen (joined past (cond b x y))
-  stream_cond true x y past p q = p
-  stream_cond false x y past p q = q
+  abbrev StreamBehind : Past → List Happening → Type 0
+  StreamBehind past more = StreamIfOpen (joined past more)
 
   due_stream : (view : View) (now : ℕ) (past : Past) → StreamIfOpen past → StreamIfOpen (joined past (due view now))
-  due_stream view now past s =
-      stream_cond (nat_le (2 * timeout_of view) (3 * (now - view.moments.heard))) _ _ past (λ up. absurd cc) (by view.standing.state)
+  due_stream view now past s = by_due (StreamBehind past) view now (λ up. absurd cc) pinged s
     where
       pinged : StreamIfOpen (Pinged ∷ past)
       pinged up = record { whole = (s up).whole; each = (s up).each; rest = (s up).rest }
-
-      by : (state : State) → StreamIfOpen (joined past (if is_talking state && nat_le (timeout_of view) (3 * (now - view.moments.sent)) then Pinged ∷ [] else []))
-      by Connected = stream_cond (nat_le (timeout_of view) (3 * (now - view.moments.sent))) (Pinged ∷ []) [] past pinged s
-      by _ = s
-
-  due_open : (state : State) (view : View) (now : ℕ) (past : Past) → StreamIfOpen past → StreamIfOpen (joined past (if_open state (due view now)))
-  due_open Connecting view now past s = due_stream view now past s
-  due_open Connected view now past s = due_stream view now past s
-  due_open _ view now past s = s
 
   opened_stream : (state : State) (past : Past) → StreamIfOpen past → StreamIfOpen (joined past (opens state))
   opened_stream Idle past s up = begun_stream past
@@ -155,7 +141,8 @@ module _ (start : Start) where
   caused_stream Opens past s = opened_stream (state_of past) past s
   caused_stream (Comes byte) past s = byte_open (state_of past) byte past s s
   caused_stream Cuts past s = lost_open (state_of past) past s
-  caused_stream (Ticks moment) past s = due_open (state_of past) (view_at start past) _ (Ticked moment ∷ past) (ticked moment past s)
+  caused_stream (Ticks moment) past s =
+      by_open (StreamBehind (Ticked moment ∷ past)) (state_of past) _ (ticked moment past s) (due_stream (view_at start past) _ (Ticked moment ∷ past) (ticked moment past s))
   caused_stream (Calls ticket question) past s = called_stream ticket question (refusal (view_at start past) question) past s
   caused_stream Forget past s = λ up. record { whole = (s up).whole; each = (s up).each; rest = (s up).rest }
   caused_stream Halt past s = λ up. record { whole = (s up).whole; each = (s up).each; rest = (s up).rest }
@@ -163,7 +150,7 @@ module _ (start : Start) where
   signal_stream : (signal : Signal) (past : Past) → StreamIfOpen past → StreamIfOpen (joined past (happenings (view_at start past) signal))
   signal_stream Forget past s = caused_stream Forget past s
   signal_stream Halt past s = caused_stream Halt past s
-  signal_stream signal past s = stream_cond (has_halted past) [] (caused (view_at start past) signal) past s (caused_stream signal past s)
+  signal_stream signal past s = by_cond (StreamBehind past) (has_halted past) [] (caused (view_at start past) signal) s (caused_stream signal past s)
 
   signals_stream : (more : List Signal) (past : Past) → StreamIfOpen past → StreamIfOpen (past_after start past more)
   signals_stream [] past s = s

@@ -24,6 +24,7 @@ use Rattle.zk_records.specs.declared.event.Event.{Event}
 use Rattle.zk_watches.specs.Parts.{parts}
 use Rattle.zk_turns.specs.View.{View, view_at}
 use Rattle.zk_turns.specs.Rule.{next, says, part_frame, loss, losses, report, due_happenings, due_signals, AllSaid, Stands}
+use Rattle.zk_turns.proofs.Cases.{by_cond, by_open, by_due}
 use Rattle.zk_turns.proofs.Happened.{MayHappen, one_happening}
 use Rattle.zk_turns.proofs.Stepped.{AllMay, Counted, all_may, counted_signal, counted}
 use Rattle.zk_turns.specs.Tickets.{answers_in, calls_in, waiting_with}
@@ -185,10 +186,6 @@ balance t (Took Skipped) view f c = omega arith
 
 -- ---- what is read fits what waits
 
-fits_either : (b : Bool) (x y : Happening) (view : View) → Fits x view → Fits y view → Fits (cond b x y) view
-fits_either true x y view p q = p
-fits_either false x y view p q = q
-
 welcome_fits : (timeout session : ℤ) (password : List ℕ) (view : View) → view.pending ≡ [] → Fits (Took (welcome_by timeout session password)) view
 welcome_fits (pos n) session password view e = by (n == 0)
   where
@@ -200,9 +197,9 @@ welcome_fits (negsuc n) session password view e = e
 taken_fits : (phase : Phase) (last : ℤ) (arrived : Arrived) (view : View) → IsOf phase view.pending arrived → (IsQuiet phase → view.pending ≡ []) → Fits (taken_of last arrived) view
 taken_fits phase last (Welcomed response) view f none = welcome_fits (response_timeout response) (response_session response) (response_password response) view (none f)
 taken_fits phase last (Replied ticket question zxid result) view f none =
-    fits_either (leaves_watch question result && int_lt zxid last) (Dropped (Behind last zxid)) (Took (Replies ticket question zxid result)) view tt f
+    by_cond (λ h. Fits h view) (leaves_watch question result && int_lt zxid last) (Dropped (Behind last zxid)) (Took (Replies ticket question zxid result)) tt f
 taken_fits phase last (Part_set final zxid err) view f none =
-    fits_either (int_eq err (pos 0)) (Took (Watches_set final zxid)) (Dropped (WatchesRefused err)) view f tt
+    by_cond (λ h. Fits h view) (int_eq err (pos 0)) (Took (Watches_set final zxid)) (Dropped (WatchesRefused err)) f tt
 taken_fits phase last (Notice event path) view f none = tt
 taken_fits phase last Ponged view f none = tt
 taken_fits phase last Passed view f none = tt
@@ -227,27 +224,14 @@ module _ (start : Start) where
   AllFit [] past = Unit {0}
   AllFit (happening ∷ more) past = Fits happening (view_at start past) × AllFit more (happening ∷ past)
 
-  fit_cond : (b : Bool) (x y : List Happening) (past : Past) → AllFit x past → AllFit y past → AllFit (cond b x y) past
-  fit_cond true x y past p q = p
-  fit_cond false x y past p q = q
+  abbrev FitBehind : Past → List Happening → Type 0
+  FitBehind past more = AllFit more past
 
   cutting_fits : (cutting : Cutting) (byte : ℕ) (past : Past) → AllFit (of_cutting (view_at start past) cutting) (Came byte ∷ past)
   cutting_fits Unfinished byte past = tt
   cutting_fits (Bad fault) byte past = (tt, tt)
   cutting_fits (Payload payload) byte past =
       (reading_fits (state_of past) (view_at start past).saved.last payload (view_at start (Came byte ∷ past)) (nobody_waits past), tt)
-
-  open_fits : (state : State) (more : List Happening) (past : Past) → AllFit more past → AllFit (if_open state more) past
-  open_fits Connecting more past may = may
-  open_fits Connected more past may = may
-  open_fits _ more past may = tt
-
-  due_fits : (view : View) (now : ℕ) (past : Past) → AllFit (due view now) past
-  due_fits view now past = fit_cond (nat_le (2 * timeout_of view) (3 * (now - view.moments.heard))) _ _ past (tt, tt) (by view.standing.state)
-    where
-      by : (state : State) → AllFit (if is_talking state && nat_le (timeout_of view) (3 * (now - view.moments.sent)) then Pinged ∷ [] else []) past
-      by Connected = fit_cond (nat_le (timeout_of view) (3 * (now - view.moments.sent))) (Pinged ∷ []) [] past (tt, tt) tt
-      by _ = tt
 
   first_none : (b : Bool) (why : Outcome) (rest : Option Outcome) → cond b (Some why) rest ≡ None → b ≡ false
   first_none true why rest e = absurd cc
@@ -269,9 +253,9 @@ module _ (start : Start) where
 
   caused_fit : (signal : Signal) (past : Past) → AllFit (caused (view_at start past) signal) past
   caused_fit Opens past = opens_fit (state_of past) past refl
-  caused_fit (Comes byte) past = open_fits (state_of past) (comes (view_at start past) byte) past (tt, cutting_fits (cut (held_of past ++ byte ∷ [])) byte past)
-  caused_fit Cuts past = open_fits (state_of past) (Lost ∷ []) past (tt, tt)
-  caused_fit (Ticks moment) past = (tt, open_fits (state_of past) _ (Ticked moment ∷ past) (due_fits (view_at start past) _ (Ticked moment ∷ past)))
+  caused_fit (Comes byte) past = by_open (FitBehind past) (state_of past) (comes (view_at start past) byte) tt (tt, cutting_fits (cut (held_of past ++ byte ∷ [])) byte past)
+  caused_fit Cuts past = by_open (FitBehind past) (state_of past) (Lost ∷ []) tt (tt, tt)
+  caused_fit (Ticks moment) past = (tt, by_open (FitBehind (Ticked moment ∷ past)) (state_of past) _ tt (by_due (FitBehind (Ticked moment ∷ past)) (view_at start past) _ (tt, tt) (tt, tt) tt))
   caused_fit (Calls ticket question) past = call_fits ticket question (refusal (view_at start past) question) past (no_close (state_of past) (view_at start past) question)
   caused_fit Forget past = (tt, tt)
   caused_fit Halt past = (tt, tt)
@@ -279,7 +263,7 @@ module _ (start : Start) where
   all_fit : (signal : Signal) (past : Past) → AllFit (happenings (view_at start past) signal) past
   all_fit Forget past = (tt, tt)
   all_fit Halt past = (tt, tt)
-  all_fit signal past = fit_cond (has_halted past) [] (caused (view_at start past) signal) past tt (caused_fit signal past)
+  all_fit signal past = by_cond (FitBehind past) (has_halted past) [] (caused (view_at start past) signal) tt (caused_fit signal past)
 
   -- ---- over lists of happenings
 
@@ -311,15 +295,11 @@ zero_either : (b : Bool) → cond {A = ℕ} b 0 0 ≡ zero
 zero_either true = refl
 zero_either false = refl
 
-calls_either : (t : ℕ) (b : Bool) (x y : Happening) → called_with t x ≡ 0 → called_with t y ≡ 0 → called_with t (cond b x y) ≡ 0
-calls_either t true x y p q = p
-calls_either t false x y p q = q
-
 taken_calls : (t : ℕ) (last : ℤ) (arrived : Arrived) → called_with t (taken_of last arrived) ≡ 0
 unfolding called_with
 taken_calls t last (Welcomed response) = refl
-taken_calls t last (Replied ticket question zxid result) = calls_either t (leaves_watch question result && int_lt zxid last) (Dropped (Behind last zxid)) (Took (Replies ticket question zxid result)) refl refl
-taken_calls t last (Part_set final zxid err) = calls_either t (int_eq err (pos 0)) (Took (Watches_set final zxid)) (Dropped (WatchesRefused err)) refl refl
+taken_calls t last (Replied ticket question zxid result) = by_cond (λ h. called_with t h ≡ 0) (leaves_watch question result && int_lt zxid last) (Dropped (Behind last zxid)) (Took (Replies ticket question zxid result)) refl refl
+taken_calls t last (Part_set final zxid err) = by_cond (λ h. called_with t h ≡ 0) (int_eq err (pos 0)) (Took (Watches_set final zxid)) (Dropped (WatchesRefused err)) refl refl
 taken_calls t last (Notice event path) = refl
 taken_calls t last Ponged = refl
 taken_calls t last Passed = refl

@@ -154,14 +154,14 @@ abbrev pub word_child : Text → Happening → Word Names
 word_child path happening = word_on Child leaves_child path happening
 
 -- what the newest reply that leaves a watch said, if since then nothing ended it
-abbrev pub standing : {A : Type 0} → (Happening → Word A) → Past → Option A
-standing word [] = None
-standing word (happening ∷ past) = elim (word happening) [ Says answer ↦ Some answer | Nothing ↦ standing word past | _ ↦ None ]
+abbrev pub still_said : {A : Type 0} → (Happening → Word A) → Past → Option A
+still_said word [] = None
+still_said word (happening ∷ past) = elim (word happening) [ Says answer ↦ Some answer | Nothing ↦ still_said word past | _ ↦ None ]
 
 -- whether the answer of a side for a path is good
 abbrev pub is_good : Side → Text → Past → Bool
-is_good Data path past = is_some (standing (word_data path) past)
-is_good Child path past = is_some (standing (word_child path) past)
+is_good Data path past = is_some (still_said (word_data path) past)
+is_good Child path past = is_some (still_said (word_child path) past)
 
 -- A reply that leaves a watch said this, and nothing that happened since then concerns the path on that side.
 pub record IsMarked {A : Type 0} (word : Happening → Word A) (past : Past) (answer : A) : Type 0 where
@@ -223,13 +223,13 @@ AgreesWith kept said = Unit {0}
 
 -- which paths are in a list: those whose good answer says that the node is there, that it is absent, or which its children are
 abbrev pub in_known : Text → Past → Bool
-in_known path past = elim (standing (word_data path) past) [ Some (Known fields) ↦ true | Some (Full bytes fields) ↦ true | _ ↦ false ]
+in_known path past = elim (still_said (word_data path) past) [ Some (Known fields) ↦ true | Some (Full bytes fields) ↦ true | _ ↦ false ]
 
 abbrev pub in_missing : Text → Past → Bool
-in_missing path past = elim (standing (word_data path) past) [ Some Absent ↦ true | _ ↦ false ]
+in_missing path past = elim (still_said (word_data path) past) [ Some Absent ↦ true | _ ↦ false ]
 
 abbrev pub in_parents : Text → Past → Bool
-in_parents path past = is_some (standing (word_child path) past)
+in_parents path past = is_some (still_said (word_child path) past)
 
 -- the path that a question is about
 abbrev pub path_of_read : Question → List Text

@@ -33,7 +33,7 @@ ghost use Rattle.zk_turns.specs.Turns.{Report, Start, Item, Turned, Forgets, Hal
 ghost use Rattle.zk_frames.specs.Frame.{frame, IsUnfinished};
 ghost use Rattle.zk_cache.specs.Kept.{Full, is_marked_good, Answer, Names};
 ghost use Rattle.zk_cache.specs.declared.held.Mark.TheVariants.{Good};
-ghost use Rattle.zk_turns.specs.Past.{Past, Happening, Began, Asked, Took, Accepted, Notifies, Dropped, session_of, state_of, is_talking, is_over, is_good, kept_data, kept_names, standing, word_data, word_child, IsMarked, AgreesWith, in_known, in_missing, in_parents, KeepsNothing, last_of, xid_of, lists_of};
+ghost use Rattle.zk_turns.specs.Past.{Past, Happening, Began, Asked, Took, Accepted, Notifies, Dropped, session_of, state_of, is_talking, is_over, is_good, kept_data, kept_names, still_said, word_data, word_child, IsMarked, AgreesWith, in_known, in_missing, in_parents, KeepsNothing, last_of, xid_of, lists_of};
 ghost use Rattle.zk_records.specs.Events.{concerns};
 ghost use Rattle.zk_turns.specs.View.{View, view_at};
 ghost use Rattle.zk_limits.specs.declared.limits.TheConstants.{LONGEST_INCOMING};
@@ -127,13 +127,13 @@ pub fn unheard_piece()
 pub fn good_marks()
     ensures nodes { (path : Text) (past : Past) → is_marked_good (kept_data path past) ≡ is_good Data path past }
     ensures children { (path : Text) (past : Past) → is_marked_good (kept_names path past) ≡ is_good Child path past }
-    ensures answers { (path : Text) (past : Past) → AgreesWith (kept_data path past) (standing (word_data path) past) }
+    ensures answers { (path : Text) (past : Past) → AgreesWith (kept_data path past) (still_said (word_data path) past) }
 {}
 
 /// An answer stands exactly where a reply that leaves a watch said it and nothing since then concerns its path and side.
 pub fn standing_answers()
-    ensures nodes { (path : Text) (past : Past) (answer : Answer) → standing (word_data path) past ≡ Some answer ↔ IsMarked (word_data path) past answer }
-    ensures children { (path : Text) (past : Past) (names : Names) → standing (word_child path) past ≡ Some names ↔ IsMarked (word_child path) past names }
+    ensures nodes { (path : Text) (past : Past) (answer : Answer) → still_said (word_data path) past ≡ Some answer ↔ IsMarked (word_data path) past answer }
+    ensures children { (path : Text) (past : Past) (names : Names) → still_said (word_child path) past ≡ Some names ↔ IsMarked (word_child path) past names }
 {}
 
 /// An answer is good exactly where a reply that left a watch was taken and no notice about that side of its path, no expiry,
@@ -155,6 +155,7 @@ pub fn last_seen()
 {}
 
 /// A list has each path that came into it and stayed, once, in the order in which they last came in.
+#[tactic(auto, using(crate::proofs::Placed::known_placed, crate::proofs::Placed::missing_placed, crate::proofs::Placed::parents_placed))]
 pub fn listed_order()
     ensures known { (path : Text) (past : Past) → Among path (lists_of past).data_watches ↔ CameIn in_known path past }
     ensures missing { (path : Text) (past : Past) → Among path (lists_of past).exist_watches ↔ CameIn in_missing path past }

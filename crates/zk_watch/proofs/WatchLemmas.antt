@@ -54,13 +54,6 @@ pub heard_nothing : (output : Output) (is_told : Bool) (before : List ℕ) → I
     → (told : List ℕ) × TellsHeard output told × (before ≡ before ++ told)
 heard_nothing output is_told before is is_not = ([], untold output is_told is is_not, sym (append-nil before))
 
--- one more
-pub one_more : (outputs : List Output) (output : Output) (text told : List ℕ) → TellsEach outputs text → TellsHeard output told
-    → TellsEach (outputs ++ output ∷ []) (text ++ told)
-one_more [] output text told none tells = (told, [], tells, refl, ap (λ x. x ++ told) none ∙ sym (append-nil told))
-one_more (first ∷ outputs) output text told all tells =
-    (all.0, all.1 ++ told, all.2, one_more outputs output all.1 told all.3 tells, ap (λ x. x ++ told) all.4 ∙ append_assoc all.0 all.1 told)
-
 -- those that are given print as much as all of them
 all_of_given : (outputs : List Output) (text : List ℕ) → TellsEach (filter is_given outputs) text → TellsEach outputs text
 all_of_given [] text tells = tells

@@ -7,6 +7,7 @@ use Rattle.zk_session.specs.declared.states.State.TheVariants.{Expired}
 use Rattle.zk_turns.specs.Turns.{Output, Answer, Enters, Drop, Turn, Start, Item, new_start}
 use Rattle.zk_turns.specs.View.{View, view_at}
 use Rattle.zk_turns.specs.Rule.{Rule, Stands}
+use Rattle.zk_script.specs.Lines.{TellsInOrder}
 use Rattle.zk_script.specs.Values.{spaced}
 use Rattle.zk_script.specs.Words.{text_word}
 use Rattle.zk_replay.specs.ClientLines.{PeekLine}
@@ -38,8 +39,7 @@ IsToldAs _ is_told = is_told ≡ false
 
 -- What is printed of outputs, in order.
 abbrev pub TellsEach : List Output → List ℕ → Type 0
-TellsEach [] text = text ≡ []
-TellsEach (output ∷ outputs) text = (first rest : List ℕ) × TellsHeard output first × TellsEach outputs rest × (text ≡ first ++ rest)
+TellsEach outputs text = TellsInOrder TellsHeard outputs text
 
 -- the path of a subject, the words of what is kept of it, and the last seen zxid
 abbrev pub subject_line : Text → List ℕ → ℤ → List ℕ

@@ -8,10 +8,10 @@ use Rattle.zk_laws.specs.Server.{Notice, leaves_set}
 use Rattle.zk_bench.specs.Serving.{watched, Tells, fires_at, leaves_at}
 use Rattle.zk_bench.proofs.Watched.{IsMove, moved_fires, moved_left, moved_none, tells_both, tells_nothing, left_set}
 use Rattle.zk_bench.proofs.notices.tell_change.Goals as goal
-use Rattle.zk_bench.proofs.notices.tell_change.Goals.{in-Create, in-Delete}
+use Rattle.zk_bench.proofs.notices.tell_change.Goals.{After-parent, in-Create, in-Delete}
 
--- which change it is, for one that is neither
-moves : (g : _) (c : goal.In_default g) → IsMove c.match-change.event.0 (path_of c.match-change.event.1.now) (change_of c.args.change.now)
+-- which change it is, of one that makes or deletes a node
+moves : (g : _) (c : After-parent g) → IsMove c.match-change.event.0 (path_of c.match-change.event.1.now) (change_of c.args.change.now)
 moves g c = elim c.match-change.branch [
   | in-Create w ↦ inl (
     ap (λ e. e.0) w.event-is,
@@ -24,7 +24,7 @@ moves g c = elim c.match-change.branch [
 
 pub returns-in_default-clause-tells : goal.returns-in_default-clause-tells
 returns-in_default-clause-tells g c =
-    let none = moved_none c.match-change.event.0 (path_of c.match-change.event.1.now) (change_of c.args.change.now) (watched c.args.connection.now.watches) (moves g c) (sym c.in_default.ensures.names) in
+    let none = moved_none c.match-change.event.0 (path_of c.match-change.event.1.now) (change_of c.args.change.now) (watched c.args.connection.now.watches) (moves g (goal.at.returns-in_default-clause-tells g c).After-parent) (sym c.in_default.ensures.names) in
     subst (λ (f : List Notice). Tells f c.args.connection.now.output.items c.args.connection.now.output.items) (sym none.0) (tells_nothing c.args.connection.now.output.items c.args.connection.now.output.items refl)
 
 pub returns-in-Set-clause-left : goal.returns-in-Set-clause-left
@@ -33,25 +33,13 @@ returns-in-Set-clause-left g c =
     ∙ left_set (path_of c.in-Set.path) (option_map (λ v. v.items) c.in-Set.field-1) (watched c.args.connection.now.watches)
     ∙ ap (λ ch. leaves_set (change_of ch) (watched c.args.connection.now.watches)) (sym c.in-Set.is)
 
--- the same where it has a parent
-moves_on : (g : _) (c : goal.In_ok-tell-2 g) → IsMove c.match-change.event.0 (path_of c.match-change.event.1.now) (change_of c.args.change.now)
-moves_on g c = elim c.match-change.branch [
-  | in-Create w ↦ inl (
-    ap (λ e. e.0) w.event-is,
-    option_map (λ v. v.items) w.in-Create.field-1,
-    w.in-Create.field-2,
-    ap change_of w.in-Create.is ∙ ap (λ e. Creates (path_of e.1.now) (option_map (λ v. v.items) w.in-Create.field-1) w.in-Create.field-2) (sym w.event-is),
-  )
-  | in-Delete w ↦ inr (ap (λ e. e.0) w.event-is, ap change_of w.in-Delete.is ∙ ap (λ e. Deletes (path_of e.1.now)) (sym w.event-is))
-]
-
 left_on : (g : _) (c : goal.In_ok-tell-2 g) → watched c.tell-2.new.connection.watches ≡ leaves_at c.match-change.event.0 (path_of c.match-change.event.1.now) (watched c.args.connection.now.watches)
 left_on g c = c.tell-2.ensures.left ∙ ap (λ t. leaves_at c.match-change.event.0 (path_of t) (watched c.args.connection.now.watches)) c.as_str-2.ensures.text
 
 pub returns-clause-left : goal.returns-clause-left
 returns-clause-left g c =
     c.tell-3.ensures.left ∙ ap (leaves_at ChildrenChanged (path_of c.in-Some.parent.now)) (left_on g c)
-    ∙ moved_left c.match-change.event.0 (path_of c.match-change.event.1.now) (path_of c.in-Some.parent.now) (change_of c.args.change.now) (watched c.args.connection.now.watches) (moves_on g c) (sym c.in-Some.ensures.names)
+    ∙ moved_left c.match-change.event.0 (path_of c.match-change.event.1.now) (path_of c.in-Some.parent.now) (change_of c.args.change.now) (watched c.args.connection.now.watches) (moves g (goal.at.returns-clause-left g c).After-parent) (sym c.in-Some.ensures.names)
 
 pub returns-clause-tells : goal.returns-clause-tells
 returns-clause-tells g c =
@@ -64,5 +52,5 @@ returns-clause-tells g c =
     let new = c.tell-3.new.connection.output.items in
     let first : Tells (fires_at event at w) old mid = subst (λ t. Tells (fires_at event (path_of t) w) old mid) c.as_str-2.ensures.text c.in_ok-tell.ensures.tells in
     let second : Tells (fires_at ChildrenChanged above (leaves_at event at w)) mid new = subst (λ v. Tells (fires_at ChildrenChanged above v) mid new) (left_on g c) c.in_ok-tell-2.ensures.tells in
-    subst (λ (f : List Notice). Tells f old new) (moved_fires event at above (change_of c.args.change.now) w (moves_on g c) (sym c.in-Some.ensures.names))
+    subst (λ (f : List Notice). Tells f old new) (moved_fires event at above (change_of c.args.change.now) w (moves g (goal.at.returns-clause-tells g c).After-parent) (sym c.in-Some.ensures.names))
     (tells_both (fires_at event at w) (fires_at ChildrenChanged above (leaves_at event at w)) old mid new first second)

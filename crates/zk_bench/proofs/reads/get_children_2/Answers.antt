@@ -13,26 +13,20 @@ use Rattle.zk_history.specs.Shown.{IsStat}
 use Rattle.zk_nodes.specs.StatLayout.{stat}
 use Rattle.zk_nodes.proofs.PathLemmas.{IsPath-absolute}
 use Rattle.zk_records.specs.Layouts.{reply_header, get_children2_response}
+use Rattle.zk_conversation.specs.Calls.{GetChildren}
 use Rattle.zk_conversation.specs.Results.{Listing, texts_of}
 use Rattle.zk_bench.specs.Refusals.{IsCode}
 use Rattle.zk_bench.specs.Serving.{watches_of}
 use Rattle.zk_bench.specs.Answering.{ListsChildren}
-use Rattle.zk_bench.proofs.Answered.{errs_so, sends_for, numbers_of, children_left, no_children_left, none_to_list_told, both_told, children_read, stat_read, names_payload, no_copy}
+use Rattle.zk_bench.proofs.Answered.{errs_so, finds_none, sends_for, numbers_of, children_left, no_children_left, none_to_list_told, both_told, children_read, stat_read, names_payload, no_copy}
 use Rattle.zk_bench.proofs.reads.get_children_2.Goals as goal
 
 pub returns-in_err-stat-clause-refuses : goal.returns-in_err-stat-clause-refuses
 returns-in_err-stat-clause-refuses g c = λ text zxid is path at. errs_so c.from_residual.result _ _ c.from_residual.ensures.1 (λ refusal same code.
     let h = history_of c.args.tree.now.history.now in
-    let missed = c.in_err-stat.ensures.misses text is path (subst IsCode same code) in (
-      same ∙ missed.0,
-      record {
-        reads = none_to_list_told (tree_at h zxid) (path_of text) (subst (λ z. IsStat (tree_at h (natural z)) (path_of text) None) at missed.1);
-        output = refl;
-        left = ap (λ parents. watches_of (names_of c.args.connection.now.watches.«data») parents) missed.2
-            ∙ no_children_left (watches_of (names_of c.args.connection.now.watches.«data») (names_of c.args.connection.now.watches.child)) text c.args.request.now.watch;
-        rest = refl;
-      },
-    ))
+    let missed = c.in_err-stat.ensures.misses text is path (subst IsCode same code) in
+    finds_none h zxid c.args.tree.now.zxid (path_of text) (GetChildren text c.args.request.now.watch) c.args.connection.now _ (same ∙ missed.0) at missed.1 (none_to_list_told (tree_at h zxid) (path_of text)) refl
+    (ap (λ parents. watches_of (names_of c.args.connection.now.watches.«data») parents) missed.2 ∙ no_children_left (watches_of (names_of c.args.connection.now.watches.«data») (names_of c.args.connection.now.watches.child)) text c.args.request.now.watch) refl)
 
 -- the node at which a Stat was found has a list of children
 pub returns-in_err-children-clause-refuses : goal.returns-in_err-children-clause-refuses

@@ -1,4 +1,4 @@
-use Rattle.std.proofs.Common.{rules, sym, refl, ap, subst, ◌∙◌, ◌≡◌, ◌++◌, Some, None, Option, ℕ, pos, cond, List, to_z, of_z, w32, w64}
+use Rattle.std.proofs.Common.{rules, sym, refl, ap, subst, ◌∙◌, ◌≡◌, ◌++◌, Some, Option, ℕ, pos, cond, List, to_z, of_z, w32, w64}
 use Rattle.std.specs.Option.{option_map}
 use Rattle.std.specs.FinSet as set
 use Rattle.zk_jute.specs.Lenient.{or_empty}
@@ -14,25 +14,19 @@ use Rattle.zk_nodes.specs.StatLayout.{stat}
 use Rattle.zk_nodes.specs.declared.side.Side.TheVariants as sides
 use Rattle.zk_nodes.proofs.PathLemmas.{IsPath-absolute}
 use Rattle.zk_records.specs.Layouts.{reply_header, get_data_response}
+use Rattle.zk_conversation.specs.Calls.{GetData}
 use Rattle.zk_conversation.specs.Results.{Read}
 use Rattle.zk_bench.specs.Refusals.{IsCode}
 use Rattle.zk_bench.specs.Serving.{watches_of}
-use Rattle.zk_bench.proofs.Answered.{errs_so, sends_for, numbers_of, left_by, none_left, data_read, data_none, both_told, none_told, data_payload}
+use Rattle.zk_bench.proofs.Answered.{errs_so, finds_none, sends_for, numbers_of, left_by, none_left, data_read, data_none, both_told, none_told, data_payload}
 use Rattle.zk_bench.proofs.reads.get_data.Goals as goal
 
 pub returns-in_err-stat-clause-refuses : goal.returns-in_err-stat-clause-refuses
 returns-in_err-stat-clause-refuses g c = λ text zxid is path at. errs_so c.from_residual.result _ _ c.from_residual.ensures.1 (λ refusal same code.
     let h = history_of c.args.tree.now.history.now in
-    let missed = c.in_err-stat.ensures.misses text is path (subst IsCode same code) in (
-      same ∙ missed.0,
-      record {
-        reads = none_told (tree_at h zxid) (path_of text) (subst (λ z. IsStat (tree_at h (natural z)) (path_of text) None) at missed.1);
-        output = refl;
-        left = ap (λ nodes. watches_of nodes (names_of c.args.connection.now.watches.child)) missed.2
-            ∙ none_left (watches_of (names_of c.args.connection.now.watches.«data») (names_of c.args.connection.now.watches.child)) text c.args.request.now.watch;
-        rest = refl;
-      },
-    ))
+    let missed = c.in_err-stat.ensures.misses text is path (subst IsCode same code) in
+    finds_none h zxid c.args.tree.now.zxid (path_of text) (GetData text c.args.request.now.watch) c.args.connection.now _ (same ∙ missed.0) at missed.1 (none_told (tree_at h zxid) (path_of text)) refl
+    (ap (λ nodes. watches_of nodes (names_of c.args.connection.now.watches.child)) missed.2 ∙ none_left (watches_of (names_of c.args.connection.now.watches.«data») (names_of c.args.connection.now.watches.child)) text c.args.request.now.watch) refl)
 
 -- the node at which a Stat was found has data
 pub returns-in_default-clause-refuses : goal.returns-in_default-clause-refuses

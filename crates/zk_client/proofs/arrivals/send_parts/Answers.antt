@@ -47,27 +47,20 @@ loop-at-preserved g c =
           ∙ append_assoc (said c.args.outputs.now.items) (take at (map (part_frame (to_z w64 (of_z w64 c.args.last))) ps)) sent ∙ ap (λ (l : List Output). said c.args.outputs.now.items ++ l) (sym one.sent);
     }
 
+how_many : (g : _) (c : goal.After-drop-3 g) → c.len-count.result ≡ length (parts c.args.registry.now)
+how_many g c =
+    counted c.in_ok-parts.parts.items (parts c.args.registry.now) c.len-count.result (vec_len c.in_ok-parts.parts) (c.in_ok-parts.ensures.parts ∙ ap parts c.in_ok-lists.ensures) c.len-count.ensures c.in_ok-parts.parts.ok.0
+
 pub returns-clause-pending : goal.returns-clause-pending
 returns-clause-pending g c =
-    let items = c.in_ok-parts.parts.items in
-    let ps = parts c.args.registry.now in
-    let same : map lists_of items ≡ ps = c.in_ok-parts.ensures.parts ∙ ap parts c.in_ok-lists.ensures in
-    let count : c.len-count.result ≡ length ps = counted items ps c.len-count.result (vec_len c.in_ok-parts.parts) same c.len-count.ensures c.in_ok-parts.parts.ok.0 in
-    c.loop-at.invariant.pending ∙ ap (λ (l : List Pending). c.args.conversation.now.pending ++ l) (all-parts ps c.loop-at.at (omega arith))
+    let count = how_many g c in
+    c.loop-at.invariant.pending ∙ ap (λ (l : List Pending). c.args.conversation.now.pending ++ l) (all-parts (parts c.args.registry.now) c.loop-at.at (omega arith))
 
 pub returns-clause-says : goal.returns-clause-says
 returns-clause-says g c =
-    let items = c.in_ok-parts.parts.items in
-    let ps = parts c.args.registry.now in
     let last : to_z w64 (of_z w64 c.args.last) ≡ c.args.last = omega (arith, ints) in
-    let same : map lists_of items ≡ ps = c.in_ok-parts.ensures.parts ∙ ap parts c.in_ok-lists.ensures in
-    let count : c.len-count.result ≡ length ps = counted items ps c.len-count.result (vec_len c.in_ok-parts.parts) same c.len-count.ensures c.in_ok-parts.parts.ok.0 in
-    rw last at c.loop-at.invariant.told ∙ ap (λ (l : List Output). said c.args.outputs.now.items ++ l) (all-frames c.args.last ps c.loop-at.at (omega arith))
+    let count = how_many g c in
+    rw last at c.loop-at.invariant.told ∙ ap (λ (l : List Output). said c.args.outputs.now.items ++ l) (all-frames c.args.last (parts c.args.registry.now) c.loop-at.at (omega arith))
 
 pub returns-clause-any : goal.returns-clause-any
-returns-clause-any g c =
-    let items = c.in_ok-parts.parts.items in
-    let ps = parts c.args.registry.now in
-    let same : map lists_of items ≡ ps = c.in_ok-parts.ensures.parts ∙ ap parts c.in_ok-lists.ensures in
-    let count : c.len-count.result ≡ length ps = counted items ps c.len-count.result (vec_len c.in_ok-parts.parts) same c.len-count.ensures c.in_ok-parts.parts.ok.0 in
-    ap (λ (n : ℕ). nat_lt 0 n) count ∙ any-part ps
+returns-clause-any g c = ap (λ (n : ℕ). nat_lt 0 n) (how_many g c) ∙ any-part (parts c.args.registry.now)

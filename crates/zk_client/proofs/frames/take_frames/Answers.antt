@@ -3,6 +3,7 @@ use Rattle.zk_session.specs.States.{is_open}
 use Rattle.std.proofs.lemmas.Result.{on_ok_weaker}
 use Rattle.std.proofs.lemmas.List.{append-nil}
 use Rattle.zk_frames.specs.Held.{Held}
+use Rattle.zk_frames.specs.Stream.{StandsNext}
 use Rattle.zk_turns.specs.Turns.{Output, Comes}
 use Rattle.zk_turns.specs.View.{View}
 use Rattle.zk_turns.specs.Rule.{IsOpen, after_signals, says_signals, says, next, arrival}
@@ -52,33 +53,34 @@ returns-in-Ok-None-clause-says g c =
     sym (append-nil (said c.loop-reader.outputs.items))
     ∙ ap (λ (l : List Output). said c.loop-reader.outputs.items ++ l) (sym (rest-says view up c.loop-reader.invariant.goes_on c.loop-reader.invariant.heard refl c.loop-reader.reader.bytes nothing.unfinished)) ∙ c.loop-reader.invariant.says
 
+-- a length that is not admitted stands there, while the connection is open
+bad_there : (g : _) (c : goal.After-give_up g) → StandsNext c.in-Err.fault c.loop-reader.reader.bytes
+bad_there g c =
+    let fails = rw c.in-Err.is at c.next_frame.follows.holds-at-none in
+    stands-there c.loop-reader.reader c.in-Err.fault c.next_frame.follows.lender-at-none c.loop-reader.invariant.clean fails
+
+up_there : (g : _) (c : goal.After-give_up g) → IsOpen c.loop-reader.core.session.state
+up_there g c = ap is_open (sym c.state.ensures) ∙ sym c.loop-reader-test.ensures
+
 pub returns-in-Err-clause-next : goal.returns-in-Err-clause-next
 returns-in-Err-clause-next g c =
-    let fails = rw c.in-Err.is at c.next_frame.follows.holds-at-none in
-    let bad = stands-there c.loop-reader.reader c.in-Err.fault c.next_frame.follows.lender-at-none c.loop-reader.invariant.clean fails in
-    let view = view_with [] c.loop-reader.core in
-    let up : IsOpen c.loop-reader.core.session.state = ap is_open (sym c.state.ensures) ∙ sym c.loop-reader-test.ensures in
     on_ok_weaker c.give_up.result (λ told. ap (λ (h : Held). view_with h.bytes c.give_up.new.self) c.reset.ensures ∙ told []
-    ∙ sym (bad-view view up c.loop-reader.invariant.goes_on c.loop-reader.invariant.heard refl c.loop-reader.reader.bytes c.in-Err.fault bad) ∙ c.loop-reader.invariant.next) c.give_up.ensures.next
+    ∙ sym (bad-view (view_with [] c.loop-reader.core) (up_there g c) c.loop-reader.invariant.goes_on c.loop-reader.invariant.heard refl c.loop-reader.reader.bytes c.in-Err.fault (bad_there g c)) ∙ c.loop-reader.invariant.next) c.give_up.ensures.next
 
 pub returns-in-Err-clause-says : goal.returns-in-Err-clause-says
 returns-in-Err-clause-says g c =
-    let fails = rw c.in-Err.is at c.next_frame.follows.holds-at-none in
-    let bad = stands-there c.loop-reader.reader c.in-Err.fault c.next_frame.follows.lender-at-none c.loop-reader.invariant.clean fails in
-    let view = view_with [] c.loop-reader.core in
-    let up : IsOpen c.loop-reader.core.session.state = ap is_open (sym c.state.ensures) ∙ sym c.loop-reader-test.ensures in
     on_ok_weaker c.give_up.result (λ told. told []
-    ∙ ap (λ (l : List Output). said c.loop-reader.outputs.items ++ l) (sym (bad-says view up c.loop-reader.invariant.goes_on c.loop-reader.invariant.heard refl c.loop-reader.reader.bytes c.in-Err.fault bad)) ∙ c.loop-reader.invariant.says) c.give_up.ensures.says
+    ∙ ap (λ (l : List Output). said c.loop-reader.outputs.items ++ l) (sym (bad-says (view_with [] c.loop-reader.core) (up_there g c) c.loop-reader.invariant.goes_on c.loop-reader.invariant.heard refl c.loop-reader.reader.bytes c.in-Err.fault (bad_there g c))) ∙ c.loop-reader.invariant.says) c.give_up.ensures.says
+
+-- no connection is open any more
+down : (g : _) (c : goal.After-reset-2 g) → IsOpen c.loop-reader.core.session.state → ⊥
+down g c up = let clash : true ≡ false = sym up ∙ ap is_open (sym c.state.ensures) ∙ sym c.loop-reader-test.ensures in cc
 
 pub returns-clause-next : goal.returns-clause-next
 returns-clause-next g c =
-    let view = view_with [] c.loop-reader.core in
-    let down : IsOpen c.loop-reader.core.session.state → ⊥ = λ up. let clash : true ≡ false = sym up ∙ ap is_open (sym c.state.ensures) ∙ sym c.loop-reader-test.ensures in cc in
-    ap (λ (h : Held). view_with h.bytes c.loop-reader.core) c.reset-2.ensures ∙ sym (unheard_view c.loop-reader.reader.bytes view down) ∙ c.loop-reader.invariant.next
+    ap (λ (h : Held). view_with h.bytes c.loop-reader.core) c.reset-2.ensures ∙ sym (unheard_view c.loop-reader.reader.bytes (view_with [] c.loop-reader.core) (down g c)) ∙ c.loop-reader.invariant.next
 
 pub returns-clause-says : goal.returns-clause-says
 returns-clause-says g c =
-    let view = view_with [] c.loop-reader.core in
-    let down : IsOpen c.loop-reader.core.session.state → ⊥ = λ up. let clash : true ≡ false = sym up ∙ ap is_open (sym c.state.ensures) ∙ sym c.loop-reader-test.ensures in cc in
     sym (append-nil (said c.loop-reader.outputs.items))
-    ∙ ap (λ (l : List Output). said c.loop-reader.outputs.items ++ l) (sym (unheard_says c.loop-reader.reader.bytes view down)) ∙ c.loop-reader.invariant.says
+    ∙ ap (λ (l : List Output). said c.loop-reader.outputs.items ++ l) (sym (unheard_says c.loop-reader.reader.bytes (view_with [] c.loop-reader.core) (down g c))) ∙ c.loop-reader.invariant.says

@@ -1,4 +1,7 @@
-use Rattle.std.proofs.Common.{rules, arith, ◌≡◌, ◌∙◌, ℕ, ℤ, List, [], map, sym, subst, ap, codes, slice_index, Some, None, Option}
+use Rattle.std.proofs.Common.{rules, ◌≡◌, ◌∙◌, ℕ, ℤ, List, [], false, map, refl, sym, subst, ap, codes, Some, None, Option}
+use Rattle.std.specs.Prelude.{bytes_eq}
+use Rattle.std.proofs.lemmas.Bool.{true≢false}
+use Rattle.std.proofs.lemmas.Slice.Eq.{bytes_eq-Decides}
 use Rattle.std.proofs.lemmas.Result.{IfErr-weaker}
 use Rattle.clap.specs.Words.{found_of, first_of, rows_of, subcommand_rows_of, Text, Row}
 use Rattle.clap.proofs.WalkLemmas.{first_value-rows}
@@ -20,10 +23,11 @@ abbrev rows_in : Option (Text × List Row) → List Row
 rows_in None = []
 rows_in (Some p) = p.1
 
--- the first letter of the one name is that of the other
-first_letter : {found : Option (Text × List Row)} {name other : Text} {rows others : List Row} → found ≡ Some (name, rows)
-    → found ≡ Some (other, others) → slice_index name 0 ≡ slice_index other 0
-first_letter one two = ap (λ (o : Option (Text × List Row)). slice_index (name_in o) 0) (sym one ∙ two)
+-- two names that differ are not found at once
+apart : {found : Option (Text × List Row)} {name other : Text} {rows others : List Row} → found ≡ Some (name, rows)
+    → found ≡ Some (other, others) → bytes_eq name other ≡ false → ⊥
+apart {name = name} {other = other} one two differ =
+    true≢false (sym ((bytes_eq-Decides name other).1 (ap name_in (sym one ∙ two))) ∙ differ)
 
 -- where `show` was found without its two values, the words ask for no command
 without_values : (found : Option (Text × List Row)) (rows : List Row) → found ≡ Some (codes "show", rows)
@@ -32,48 +36,33 @@ without_values : (found : Option (Text × List Row)) (rows : List Row) → found
 without_values found rows is absent (Show kind hex) f =
     let same : rows ≡ f.0 = ap rows_in (sym is ∙ f.1) in
     absent kind hex.now (rw same f.2) (rw same f.3)
-without_values found rows is absent History f =
-    let bad : ◌≡◌ {A = ℕ} 115 104 = first_letter is f.1 in absurd (omega arith)
-without_values found rows is absent Replay f =
-    let bad : ◌≡◌ {A = ℕ} 115 114 = first_letter is f.1 in absurd (omega arith)
-without_values found rows is absent Rehearse f =
-    let bad : ◌≡◌ {A = ℕ} 115 114 = first_letter is f.1 in absurd (omega arith)
-without_values found rows is absent (Live addresses) f =
-    let bad : ◌≡◌ {A = ℕ} 115 108 = first_letter is f.1 in absurd (omega arith)
-without_values found rows is absent (Watch addresses subjects timeout_ms for_ms) f =
-    let bad : ◌≡◌ {A = ℕ} 115 119 = first_letter is f.1 in absurd (omega arith)
+without_values found rows is absent History f = apart is f.1 refl
+without_values found rows is absent Replay f = apart is f.1 refl
+without_values found rows is absent Rehearse f = apart is f.1 refl
+without_values found rows is absent (Live addresses) f = apart is f.1 refl
+without_values found rows is absent (Watch addresses subjects timeout_ms for_ms) f = apart is f.1 refl
 
 -- where `live` was found without words that are addresses, the words ask for no command
 without_addresses : (found : Option (Text × List Row)) (rows : List Row) → found ≡ Some (codes "live", rows)
     → ((words : List Text) → AreAddresses words rows → ⊥) → AsksForNone found
-without_addresses found rows is absent (Show kind hex) f =
-    let bad : ◌≡◌ {A = ℕ} 108 115 = first_letter is f.1 in absurd (omega arith)
-without_addresses found rows is absent History f =
-    let bad : ◌≡◌ {A = ℕ} 108 104 = first_letter is f.1 in absurd (omega arith)
-without_addresses found rows is absent Replay f =
-    let bad : ◌≡◌ {A = ℕ} 108 114 = first_letter is f.1 in absurd (omega arith)
-without_addresses found rows is absent Rehearse f =
-    let bad : ◌≡◌ {A = ℕ} 108 114 = first_letter is f.1 in absurd (omega arith)
+without_addresses found rows is absent (Show kind hex) f = apart is f.1 refl
+without_addresses found rows is absent History f = apart is f.1 refl
+without_addresses found rows is absent Replay f = apart is f.1 refl
+without_addresses found rows is absent Rehearse f = apart is f.1 refl
 without_addresses found rows is absent (Live addresses) f =
     let same : rows ≡ f.0 = ap rows_in (sym is ∙ f.1) in
     absent (map (λ a. a.now) addresses.items) (rw same f.2)
-without_addresses found rows is absent (Watch addresses subjects timeout_ms for_ms) f =
-    let bad : ◌≡◌ {A = ℕ} 108 119 = first_letter is f.1 in absurd (omega arith)
+without_addresses found rows is absent (Watch addresses subjects timeout_ms for_ms) f = apart is f.1 refl
 
 -- where `watch` was found without what it is to be given, the words ask for no command
 without_watch : (found : Option (Text × List Row)) (rows : List Row) → found ≡ Some (codes "watch", rows)
     → ((addresses : List Text) (aims : List (Side × Text)) (timeout_ms : ℤ) (for_ms : Option ℕ) → IsWatch addresses aims timeout_ms for_ms rows → ⊥)
     → AsksForNone found
-without_watch found rows is absent (Show kind hex) f =
-    let bad : ◌≡◌ {A = ℕ} 119 115 = first_letter is f.1 in absurd (omega arith)
-without_watch found rows is absent History f =
-    let bad : ◌≡◌ {A = ℕ} 119 104 = first_letter is f.1 in absurd (omega arith)
-without_watch found rows is absent Replay f =
-    let bad : ◌≡◌ {A = ℕ} 119 114 = first_letter is f.1 in absurd (omega arith)
-without_watch found rows is absent Rehearse f =
-    let bad : ◌≡◌ {A = ℕ} 119 114 = first_letter is f.1 in absurd (omega arith)
-without_watch found rows is absent (Live addresses) f =
-    let bad : ◌≡◌ {A = ℕ} 119 108 = first_letter is f.1 in absurd (omega arith)
+without_watch found rows is absent (Show kind hex) f = apart is f.1 refl
+without_watch found rows is absent History f = apart is f.1 refl
+without_watch found rows is absent Replay f = apart is f.1 refl
+without_watch found rows is absent Rehearse f = apart is f.1 refl
+without_watch found rows is absent (Live addresses) f = apart is f.1 refl
 without_watch found rows is absent (Watch addresses subjects timeout_ms for_ms) f =
     let same : rows ≡ f.0 = ap rows_in (sym is ∙ f.1) in
     absent (map (λ a. a.now) addresses.items) (aims_of subjects.items) timeout_ms for_ms (rw same f.2)

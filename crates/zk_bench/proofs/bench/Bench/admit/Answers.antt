@@ -8,7 +8,8 @@ use Rattle.zk_bench.specs.Served.{Served}
 use Rattle.zk_bench.specs.declared.phase.Phase.TheVariants.{Opening, Accepted, Ended}
 use Rattle.zk_bench.specs.Stepping.{ProcessesOne, shown_of}
 use Rattle.zk_bench.proofs.Fields.{bench_of}
-use Rattle.zk_bench.proofs.Stepped.{ready_answered, admits_so, expires_so, not_ahead}
+use Rattle.zk_bench.proofs.Stepped.{ready_answered, not_ahead}
+use Rattle.zk_bench.proofs.Processed.{admits_so, expires_so}
 use Rattle.zk_bench.proofs.bench.Bench.admit.Goals as goal
 
 pub returns-in_err-send_expired-clause-ready : goal.returns-in_err-send_expired-clause-ready

@@ -1,16 +1,23 @@
 use Rattle.std.proofs.Common.{rules, ◌≡◌, sym, ap, ◌∙◌, subst, ℤ, pos, to_z, of_z, w32}
 use Rattle.std.specs.Prelude.{Err, IfErr}
+use Rattle.std.specs.Result.{IsErrAnd}
+use Rattle.std.specs.Prelude.{Result as Outcome}
 use Rattle.zk_jute.specs.Lenient.{or_empty}
 use Rattle.zk_nodes.specs.Path.{Text, path_of}
 use Rattle.zk_nodes.specs.History.{Deletes}
 use Rattle.zk_conversation.specs.Calls.{Delete}
 use Rattle.zk_laws.specs.Messages.{Request, Ask}
 use Rattle.zk_bench.specs.Serving.{SendsHeader}
-use Rattle.zk_bench.specs.Stepping.{ProcessesOne, Declines, HasWritten, zxid_of, shown_of}
+use Rattle.zk_records.specs.declared.request.Request.TheVariants as requests
+use Rattle.zk_bench.specs.declared.stop.Refusal.{Refusal}
+use Rattle.zk_bench.specs.Asking.{Asks}
+use Rattle.zk_bench.specs.Served.{Served}
+use Rattle.zk_bench.specs.Stepping.{ProcessesOne, Declines, HasClient, HasWritten, LeavesUnmade, zxid_of, shown_of}
 use Rattle.zk_bench.proofs.Answered.{errs_so}
 use Rattle.zk_bench.proofs.Called.{deletes_asked}
 use Rattle.zk_bench.proofs.Processed.{takes_then, ends_then, ends_sending, stops_by, declines_then, declines_unmade, unmade_same, deleted_so}
 use Rattle.zk_bench.proofs.bench.Bench.delete.Goals as goal
+use Rattle.zk_bench.proofs.bench.Bench.delete.Goals.{In_ok-catch_up}
 
 pub returns-in_err-catch_up-clause-declines : goal.returns-in_err-catch_up-clause-declines
 returns-in_err-catch_up-clause-declines g c = λ asked has asks.
@@ -19,30 +26,29 @@ returns-in_err-catch_up-clause-declines g c = λ asked has asks.
     errs_so c.from_residual.result _ _ c.from_residual.ensures.1
     (λ refusal same. subst (Declines asked c.args.xid old new) (sym same) (stops_by asked c.args.xid old new _ (λ over. ends_then asked c.args.xid old new (c.in_err-catch_up.ensures.ends has))))
 
-pub returns-in_err-path-clause-declines : goal.returns-in_err-path-clause-declines
-returns-in_err-path-clause-declines g c = λ asked has asks.
+-- what is left unmade once the server has caught up is declined
+declines_left : (g : _) (c : In_ok-catch_up g) (result : Outcome (Unit {0}) Refusal) (why : Refusal) (new : Served) (asked : Request) → HasClient c.args.self.now → HasClient new → Asks (requests.Delete c.args.request.now) asked
+    → IsErrAnd result (λ refusal. refusal ≡ why) → LeavesUnmade c.catch_up.new.self new why → IfErr result (Declines asked c.args.xid c.args.self.now new)
+declines_left g c result why new asked has now asks is unmade =
     let old = c.args.self.now in
     let mid = c.catch_up.new.self in
     let more = c.catch_up.ensures.has has in
-    deletes_asked (λ (one : Request). IfErr c.from_residual-in_err-path.result (Declines one c.args.xid old mid)) c.args.request.now asked asks
-    (λ text is at.
+    deletes_asked (λ (one : Request). IfErr result (Declines one c.args.xid old new)) c.args.request.now asked asks
+    (λ text path at.
     let one = Delete text c.args.request.now.version in
-    errs_so c.from_residual-in_err-path.result _ _ c.from_residual-in_err-path.ensures.1
-    (λ refusal same. subst (Declines (Ask one) c.args.xid old mid) (sym same)
-    (declines_then one c.args.xid old mid mid _ has more (c.in_ok-catch_up.ensures.takes has) (declines_unmade one c.args.xid mid mid _ tt more more (unmade_same mid _ more c.in_err-path.ensures.refused)))))
+    errs_so result _ _ is
+    (λ refusal same. subst (Declines (Ask one) c.args.xid old new) (sym same)
+    (declines_then one c.args.xid old mid new why has more (c.in_ok-catch_up.ensures.takes has) (declines_unmade one c.args.xid mid new why tt more now unmade))))
+
+pub returns-in_err-path-clause-declines : goal.returns-in_err-path-clause-declines
+returns-in_err-path-clause-declines g c = λ asked has asks.
+    let more = c.catch_up.ensures.has has in
+    declines_left g (goal.at.returns-in_err-path-clause-declines g c).In_ok-catch_up c.from_residual-in_err-path.result _ c.catch_up.new.self asked has more asks c.from_residual-in_err-path.ensures.1 (unmade_same c.catch_up.new.self _ more c.in_err-path.ensures.refused)
 
 pub returns-in_err-write-clause-declines : goal.returns-in_err-write-clause-declines
 returns-in_err-write-clause-declines g c = λ asked has asks.
-    let old = c.args.self.now in
-    let mid = c.catch_up.new.self in
-    let new = c.write.new.self in
     let more = c.catch_up.ensures.has has in
-    deletes_asked (λ (one : Request). IfErr c.from_residual-in_err-write.result (Declines one c.args.xid old new)) c.args.request.now asked asks
-    (λ text is at.
-    let one = Delete text c.args.request.now.version in
-    errs_so c.from_residual-in_err-write.result _ _ c.from_residual-in_err-write.ensures.1
-    (λ refusal same. subst (Declines (Ask one) c.args.xid old new) (sym same)
-    (declines_then one c.args.xid old mid new _ has more (c.in_ok-catch_up.ensures.takes has) (declines_unmade one c.args.xid mid new _ tt more (c.write.ensures.has more) (c.in_err-write.ensures.refuses more)))))
+    declines_left g (goal.at.returns-in_err-write-clause-declines g c).In_ok-catch_up c.from_residual-in_err-write.result _ c.write.new.self asked has (c.write.ensures.has more) asks c.from_residual-in_err-write.ensures.1 (c.in_err-write.ensures.refuses more)
 
 pub returns-in_err-send_err-clause-declines : goal.returns-in_err-send_err-clause-declines
 returns-in_err-send_err-clause-declines g c = λ asked has asks.

@@ -1,17 +1,13 @@
-use Rattle.std.proofs.Common.{◌≡◌, Option, ap, sym, ◌∙◌, subst, w64, arith, Result, OnOk, Ok, Err}
+use Rattle.std.proofs.Common.{◌≡◌, refl, sym, ◌∙◌, subst, w64, arith, Result, OnOk, Ok, Err}
 use Rattle.std.proofs.lemmas.Result.{on_ok_weaker}
 use mir.Val.{to_z, of_z}
 use Rattle.std.proofs.lemmas.Int.{ints}
 use Rattle.zk_conversation.specs.Views.{question_view, result_view}
 use Rattle.zk_session.specs.Table as session
 use Rattle.zk_watches.specs.Lists.{Lists}
-use Rattle.zk_cache.specs.Cache.{data_kept, names_kept}
-use Rattle.zk_cache.specs.Kept.{Answer, Names}
-use Rattle.zk_turns.specs.Past.{Left}
-use Rattle.zk_turns.specs.Rule.{keep_node, keep_children}
 use Rattle.zk_client.specs.Left.{side_left}
 use Rattle.zk_client.specs.Sound.{HasRoom}
-use Rattle.zk_client.proofs.Answered.{answered-view, closed-view, left-lists}
+use Rattle.zk_client.proofs.Answered.{left-view, closed-view, left-lists}
 use Rattle.zk_client.proofs.Rooms.{room-for, reply-room, tied-talking}
 use Rattle.zk_client.proofs.machine.Core.take_reply.Goals as goal
 
@@ -55,11 +51,8 @@ pub returns-in-None-clause-next : goal.returns-in-None-clause-next
 returns-in-None-clause-next g c =
     let core = c.args.self.now in
     let zxid : to_z w64 (of_z w64 c.args.zxid) ≡ c.args.zxid = omega (arith, ints) in
-    let known = rw c.in-None.is at c.requires.data in
-    let children = rw c.in-None.is at c.requires.child in
-    λ held pending left. answered-view held core.halted core.session core.conversation core.registry core.cache pending left.0 c.args.ticket (question_view c.args.question.now) c.args.zxid (result_view c.args.found.now)
-    c.saw.new.self core.registry core.cache (sym c.closes.ensures ∙ c.if-closes.false) left.1 (rw zxid at c.saw.ensures) (left-lists _ _ (question_view c.args.question.now) (result_view c.args.found.now) core.registry known children)
-    (λ text. ap (λ (l : Option (Left Answer)). keep_node l text (data_kept core.cache text)) known) (λ text. ap (λ (l : Option (Left Names)). keep_children l text (names_kept core.cache text)) children)
+    λ held pending left. left-view held core.halted core.session core.conversation core.registry core.cache pending left.0 c.args.ticket (question_view c.args.question.now) c.args.zxid (result_view c.args.found.now)
+    c.saw.new.self core.registry core.cache _ _ (sym c.closes.ensures ∙ c.if-closes.false) left.1 (rw zxid at c.saw.ensures) (rw c.in-None.is at c.requires.data) (rw c.in-None.is at c.requires.child) refl (λ text. refl) (λ text. refl)
 
 pub returns-in-Some-clause-sound : goal.returns-in-Some-clause-sound
 returns-in-Some-clause-sound g c =
@@ -75,10 +68,5 @@ pub returns-in-Some-clause-next : goal.returns-in-Some-clause-next
 returns-in-Some-clause-next g c =
     let core = c.args.self.now in
     let zxid : to_z w64 (of_z w64 c.args.zxid) ≡ c.args.zxid = omega (arith, ints) in
-    let known = rw c.in-Some.is at c.requires.data in
-    let children = rw c.in-Some.is at c.requires.child in
-    let left_lists = left-lists _ _ (question_view c.args.question.now) (result_view c.args.found.now) core.registry known children in
-    let keep = c.keep.ensures in
-    of-three c.keep.result (λ lists nodes names. λ held pending left. answered-view held core.halted core.session core.conversation core.registry core.cache pending left.0 c.args.ticket (question_view c.args.question.now) c.args.zxid (result_view c.args.found.now)
-    c.saw.new.self c.keep.new.registry c.keep.new.cache (sym c.closes.ensures ∙ c.if-closes.false) left.1 (rw zxid at c.saw.ensures) (lists ∙ left_lists)
-    (λ text. nodes text ∙ ap (λ (l : Option (Left Answer)). keep_node l text (data_kept core.cache text)) known) (λ text. names text ∙ ap (λ (l : Option (Left Names)). keep_children l text (names_kept core.cache text)) children)) keep.lists keep.nodes keep.children
+    of-three c.keep.result (λ lists nodes names. λ held pending left. left-view held core.halted core.session core.conversation core.registry core.cache pending left.0 c.args.ticket (question_view c.args.question.now) c.args.zxid (result_view c.args.found.now)
+    c.saw.new.self c.keep.new.registry c.keep.new.cache _ _ (sym c.closes.ensures ∙ c.if-closes.false) left.1 (rw zxid at c.saw.ensures) (rw c.in-Some.is at c.requires.data) (rw c.in-Some.is at c.requires.child) lists nodes names) c.keep.ensures.lists c.keep.ensures.nodes c.keep.ensures.children

@@ -33,9 +33,7 @@ note-requires g c =
     record { fits = can_be_noted kept (versions_of c.self.inside.versions) (Creates (path_of c.args.path) (option_map (λ v. v.items) c.args.bytes) (pos 0)) c.self.invariant.0 c.self.invariant.1 here }
 
 pub invariant_of-self : goal.invariant_of-self
-invariant_of-self g c =
-    let kept : HistoryView = record { nodes = map transaction_of c.self.inside.nodes.items; transactions = map transaction_of c.self.inside.transactions.items } in
-    (c.self.invariant.0, IsIndexed-same kept (versions_of c.self.inside.versions) (versions_of c.note.new.versions) (λ text is. c.in_err-note.ensures.err text) c.self.invariant.1)
+invariant_of-self g c = (c.self.invariant.0, IsIndexed-same _ (versions_of c.self.inside.versions) (versions_of c.note.new.versions) (λ text is. c.in_err-note.ensures.err text) c.self.invariant.1)
 
 pub returns-in_err-note-clause-refused : goal.returns-in_err-note-clause-refused
 returns-in_err-note-clause-refused g c =

@@ -1,20 +1,15 @@
 use Rattle.std.proofs.Common.{rules}
 use Rattle.zk_nodes.specs.Path.{path_of}
 use Rattle.zk_history.specs.HistoryView.{natural}
-use Rattle.zk_history.specs.Replay.{children_at}
-use Rattle.zk_history.proofs.ViewLemmas.{names_first, names_later-children}
+use Rattle.zk_history.proofs.ViewLemmas.{names_later-children}
 use Rattle.zk_history.proofs.history.History.stat_at.Goals as goal
 
 pub returns-in-Some-clause-told : goal.returns-in-Some-clause-told
 returns-in-Some-clause-told g c =
-    let p = path_of c.args.path.now in
-    let names = children_at (natural c.args.z) p c.args.self.now.transactions (names_first c.args.self.now p) in
-    let children = names_later-children c.args.self.now (natural c.args.z) p c.found.ensures.sound in
-    (names, children, search (rules, children))
+    let children = names_later-children c.args.self.now (natural c.args.z) (path_of c.args.path.now) c.found.ensures.sound in
+    (_, children, search (rules, children))
 
 pub returns-in-None-clause-told : goal.returns-in-None-clause-told
 returns-in-None-clause-told g c =
-    let p = path_of c.args.path.now in
-    let names = children_at (natural c.args.z) p c.args.self.now.transactions (names_first c.args.self.now p) in
-    let children = names_later-children c.args.self.now (natural c.args.z) p c.found.ensures.sound in
-    (names, children, search (rules, children))
+    let children = names_later-children c.args.self.now (natural c.args.z) (path_of c.args.path.now) c.found.ensures.sound in
+    (_, children, search (rules, children))
