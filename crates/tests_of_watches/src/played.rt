@@ -21,6 +21,7 @@ const TIMEOUT: i32 = 9_000;
 const FOR_MS: u64 = 2_000;
 
 /// A row of the test: what is watched, and what happens.
+#[derive(Drop)]
 pub struct Row {
     name: &'static str,
     side: Side,
