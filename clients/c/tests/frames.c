@@ -113,16 +113,15 @@ void add_header(struct bytes *bytes, int32_t xid, int64_t zxid, int32_t code)
 void add_data(struct bytes *bytes, int32_t xid, int64_t zxid, const char *data, const dw_stat *stat)
 {
     size_t begin = begin_reply(bytes, xid, zxid, 0);
-    put_text(bytes, data);
+    if (data)
+        put_text(bytes, data);
     put_stat(bytes, stat);
     end_frame(bytes, begin);
 }
 
 void add_stat(struct bytes *bytes, int32_t xid, int64_t zxid, const dw_stat *stat)
 {
-    size_t begin = begin_reply(bytes, xid, zxid, 0);
-    put_stat(bytes, stat);
-    end_frame(bytes, begin);
+    add_data(bytes, xid, zxid, NULL, stat);
 }
 
 void add_names(struct bytes *bytes, int32_t xid, int64_t zxid, const char *first, const char *second, const dw_stat *stat)

@@ -31,7 +31,7 @@ void add_expired(struct bytes *bytes);
 /* ReplyHeader alone: a reply that brings nothing. */
 void add_header(struct bytes *bytes, int32_t xid, int64_t zxid, int32_t code);
 
-/* GetDataResponse, and the Stat of ExistsResponse and SetDataResponse. */
+/* GetDataResponse, or where the data is NULL, the Stat alone of ExistsResponse and SetDataResponse. */
 void add_data(struct bytes *bytes, int32_t xid, int64_t zxid, const char *data, const dw_stat *stat);
 void add_stat(struct bytes *bytes, int32_t xid, int64_t zxid, const dw_stat *stat);
 

@@ -4,12 +4,13 @@ from __future__ import annotations
 
 import collections
 import contextlib
+import enum
 import itertools
 import logging
 import struct
 import threading
-from collections.abc import Iterator
-from typing import Any, Callable, NamedTuple, Optional, Protocol
+from collections.abc import Generator, Iterator
+from typing import Any, Callable, NamedTuple, Optional, Protocol, Union
 
 from dirwolleu import _library as library
 from dirwolleu import _requests as requests
@@ -47,6 +48,20 @@ class Waiter(Protocol):
     def set_exception(self, exception: Any, /) -> None: ...
 
 
+class News(Protocol):
+    """What is set where there is news: an event."""
+
+    def set(self) -> None: ...
+    def clear(self) -> None: ...
+
+
+class Need(enum.Enum):
+    """What one who follows a node needs before it looks again."""
+
+    READ = enum.auto()
+    NEWS = enum.auto()
+
+
 class _Asked(NamedTuple):
     """A request, who waits for its answer, and the moment at which it is given up if it could not be sent."""
 
@@ -72,7 +87,7 @@ def _session_behind(last_zxid: int) -> bytes:
     return struct.pack(">qi16xq", 0, 16, last_zxid)
 
 
-def differs(kept: Kept, told: Optional[Kept]) -> bool:
+def _differs(kept: Kept, told: Optional[Kept]) -> bool:
     """Whether an answer is another one than that which was told last."""
     return told is None or (kept.stat, kept.data) != (told.stat, told.data)
 
@@ -195,7 +210,27 @@ class Engine:
             has_data = found.kind == library.FULL
             return Kept(path, Mark(found.mark), self._machine.last_zxid(), found.stat, found.data, has_data)
 
-    def settled(self, path: str) -> Optional[Kept]:
+    def follow(self, path: str, news: News) -> Generator[Union[Kept, Need], None, None]:
+        """Each answer that one who follows a node is to be told, and between them what is needed until the next one.
+
+        `news` is set at each news of the node, and is not set where that is needed.
+        """
+        if not self.is_running:
+            raise ConnectionClosedError("the client is not started")
+        told: Optional[Kept] = None
+        with self.news(news.set, path):
+            while self.is_running:
+                news.clear()
+                kept = self._settled(path)
+                if kept is not None and _differs(kept, told):
+                    told = kept
+                    yield kept
+                elif kept is None and self.state is State.CONNECTED:
+                    yield Need.READ
+                else:
+                    yield Need.NEWS
+
+    def _settled(self, path: str) -> Optional[Kept]:
         """What is kept of a path, where it is good and whole: its data, or that there is no node."""
         kept = self.kept(path)
         return kept if kept and kept.mark is Mark.GOOD and (kept.has_data or not kept.exists) else None

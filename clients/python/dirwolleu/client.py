@@ -15,7 +15,7 @@ from typing import Any, Callable, Optional
 
 from dirwolleu import _requests as requests
 from dirwolleu._driver import Driver, addresses, moment
-from dirwolleu._engine import Engine, differs
+from dirwolleu._engine import Engine, Need
 from dirwolleu._requests import Request, Result
 from dirwolleu._shown import Shown
 from dirwolleu.exceptions import ConnectionClosedError, ConnectionLoss, NoNodeError, SessionExpiredError, ZookeeperError
@@ -209,21 +209,15 @@ class Client(Shown):
         one is told. Where there is no node, that is told too. It ends when the client is stopped or closed, and raises
         what `get` raises for other reasons than the connection.
         """
-        if not self._engine.is_running:
-            raise ConnectionClosedError("the client is not started")
         news = threading.Event()
-        told: Optional[Kept] = None
-        with self._engine.news(news.set, path):
-            while self._engine.is_running:
-                news.clear()
-                kept = self._engine.settled(path)
-                if kept is not None and differs(kept, told):
-                    told = kept
-                    yield kept
-                elif kept is None and self.connected:
+        with contextlib.closing(self._engine.follow(path, news)) as followed:
+            for told in followed:
+                if told is Need.READ:
                     self._read(path)
-                else:
+                elif told is Need.NEWS:
                     news.wait()
+                else:
+                    yield told
 
     def _read(self, path: str) -> None:
         """Reads a node, or its absence, with a watch."""

@@ -10,7 +10,7 @@ use zk_conclusions::Snapshot;
 use zk_link::{Clock, Dial, Link};
 
 /// The timeout to ask for, in milliseconds.
-const TIMEOUT_MS: i32 = 9_000;
+pub const TIMEOUT_MS: i32 = 9_000;
 
 /// The read of a node: whether one is on its way, and whether the last one found no node.
 #[derive(Clone, Copy)]
@@ -86,19 +86,16 @@ pub fn nodes_of(alloc: Global, names: &[&str]) -> Result<(Vec<Path>, Vec<Reading
 }
 
 impl<'a, D: Dial + Drop, C: Clock + Drop> Follower<'a, D, C> {
-    /// A program that follows these nodes over these addresses.
+    /// A program that follows these nodes over this link.
     pub fn new(
         alloc: Global,
+        link: Link<'a, Global, D, C>,
         nodes: Vec<Path>,
         readings: Vec<Reading>,
-        dial: D,
-        clock: C,
-        addresses: &'a [&'a str],
     ) -> Follower<'a, D, C> {
-        let client = Client::new(alloc, TIMEOUT_MS);
         Follower {
             alloc,
-            link: Link::new(alloc, client, dial, clock, addresses),
+            link,
             nodes,
             readings,
             line: Vec::new(alloc),

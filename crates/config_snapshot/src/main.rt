@@ -6,10 +6,11 @@ mod follower;
 mod memory;
 
 use anyhow::Result;
-use follower::{Follower, nodes_of};
+use follower::{Follower, TIMEOUT_MS, nodes_of};
 use std::io::Write;
 use std::process::ExitCode;
-use zk_link::{SystemClock, Tcp};
+use zk_client::Client;
+use zk_link::{Link, SystemClock, Tcp};
 
 /// How many bytes a read brings at most, over servers in memory: as many as there are, and then few.
 static PIECES: [usize; 2] = [usize::MAX, 7];
@@ -26,8 +27,10 @@ fn run<W: Write>(
     out: &mut W,
 ) -> Result<()> {
     let (nodes, readings) = nodes_of(rt.alloc(), &nodes)?;
+    let client = Client::new(rt.alloc(), TIMEOUT_MS);
     let (dial, clock) = (Tcp::new(rt), SystemClock::new(rt));
-    let mut follower = Follower::new(rt.alloc(), nodes, readings, dial, clock, addresses);
+    let link = Link::new(rt.alloc(), client, dial, clock, addresses);
+    let mut follower = Follower::new(rt.alloc(), link, nodes, readings);
     let until = follower.now().saturating_add(seconds.saturating_mul(1_000));
     let followed = follower.follow(until, out);
     drop(follower);
@@ -57,9 +60,6 @@ fn run_words(rt: &HostRuntime, words: &[&str]) -> Result<u8> {
 
 fn main(rt: HostRuntime) -> Result<ExitCode> {
     let words: Vec<String> = std::env::args(&rt)?.collect(rt.alloc())?;
-    let mut texts = Vec::new(rt.alloc());
-    for word in words.iter() {
-        texts.push(word.as_str())?;
-    }
+    let texts: Vec<&str> = words.iter().map(|word| word.as_str()).collect(rt.alloc())?;
     Ok(ExitCode::from(run_words(&rt, texts.as_slice())?))
 }

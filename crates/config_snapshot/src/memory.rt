@@ -1,12 +1,13 @@
 //! The same over a server in memory, while another session changes all three nodes, in one transaction each time.
 
-use crate::follower::{Follower, nodes_of};
+use crate::follower::{Follower, TIMEOUT_MS, nodes_of};
 use anyhow::Result;
 use example_world::{Change, History, Moments, Shared, World};
 use std::alloc::Global;
 use std::cell::RefCell;
 use std::io::Write;
-use zk_client::Path;
+use zk_client::{Client, Path};
+use zk_link::Link;
 
 /// The nodes of the configuration.
 static NODES: [&str; 3] = ["/config/host", "/config/port", "/config/mode"];
@@ -114,7 +115,14 @@ pub fn run<W: Write>(alloc: Global, piece: usize, out: &mut W) -> Result<()> {
     let world = RefCell::new(World::new(alloc, history, piece));
     let moments = Moments::new();
     let (dial, clock) = (Shared::new(&world, &moments), Shared::new(&world, &moments));
-    let mut follower = Follower::new(alloc, nodes, readings, dial, clock, &ADDRESSES);
+    let link = Link::new(
+        alloc,
+        Client::new(alloc, TIMEOUT_MS),
+        dial,
+        clock,
+        &ADDRESSES,
+    );
+    let mut follower = Follower::new(alloc, link, nodes, readings);
     let played = play(&mut follower, &world, out);
     drop(follower);
     played

@@ -51,30 +51,20 @@ fn run<W: Write>(
     held
 }
 
-/// Does what the words ask for. The first word is the program's name.
-fn run_words(rt: &HostRuntime, words: &[&str]) -> Result<u8> {
-    let mut out = rt.stdout();
-    if words.len() < 2 {
-        memory::run(rt.alloc(), &mut out)?;
-        return Ok(0);
-    }
-    let [_, name, directory, seconds, addresses @ ..] = words else {
-        writeln!(out, "{USAGE}")?;
-        return Ok(2);
-    };
-    let Ok(seconds) = seconds.parse::<u64>() else {
-        writeln!(out, "{USAGE}")?;
-        return Ok(2);
-    };
-    run(rt, name, directory, seconds, addresses, &mut out)?;
-    Ok(0)
-}
-
 fn main(rt: HostRuntime) -> Result<ExitCode> {
     let words: Vec<String> = std::env::args(&rt)?.collect(rt.alloc())?;
-    let mut texts = Vec::new(rt.alloc());
-    for word in words.iter() {
-        texts.push(word.as_str())?;
+    let texts: Vec<&str> = words.iter().map(|word| word.as_str()).collect(rt.alloc())?;
+    let seconds = texts.get(3).and_then(|word| word.parse::<u64>().ok());
+    let mut out = rt.stdout();
+    match (texts.as_slice(), seconds) {
+        ([] | [_], _) => memory::run(rt.alloc(), &mut out)?,
+        ([_, name, directory, _, addresses @ ..], Some(seconds)) => {
+            run(&rt, name, directory, seconds, addresses, &mut out)?;
+        }
+        _ => {
+            writeln!(out, "{USAGE}")?;
+            return Ok(ExitCode::from(2));
+        }
     }
-    Ok(ExitCode::from(run_words(&rt, texts.as_slice())?))
+    Ok(ExitCode::SUCCESS)
 }

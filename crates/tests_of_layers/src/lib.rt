@@ -3,16 +3,4 @@
 #![tactic(auto)]
 
 #[cfg(test)]
-mod conversation;
-#[cfg(test)]
-mod faults;
-#[cfg(test)]
-mod kept_answers;
-#[cfg(test)]
-mod refusals;
-#[cfg(test)]
-mod rows;
-#[cfg(test)]
-mod session;
-#[cfg(test)]
-mod watches;
+mod tests;

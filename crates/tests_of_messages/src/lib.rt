@@ -4,20 +4,4 @@
 #![tactic(auto)]
 
 #[cfg(test)]
-mod checks;
-#[cfg(test)]
-mod encoding;
-#[cfg(test)]
-mod frames;
-#[cfg(test)]
-mod histories;
-#[cfg(test)]
-mod paths;
-#[cfg(test)]
-mod records;
-#[cfg(test)]
-mod refused_memory;
-#[cfg(test)]
-mod replies;
-#[cfg(test)]
-mod requests;
+mod tests;

@@ -10,7 +10,7 @@ ghost use Rattle.zk_device.specs.Steps.{Steps};
 ghost use Rattle.zk_c.specs.Held.{Holds, IsClosed};
 
 use crate::handle::DwClient;
-use crate::taking::{CLOSED, put_back, take};
+use crate::taking::drive;
 use std::alloc::Global;
 
 // Data, or null.
@@ -33,11 +33,9 @@ pub extern "C" fn dw_exists(
     ensures closed { handle.old.slot.held ≡ None → IsClosed result handle.new.slot.held }
     ensures steps { (d : Device) → handle.old.slot.held ≡ Some d → Holds handle.new.slot.held (Steps (RefusesPath path.now) now_ms (Calls ticket (Exists path.now watch)) d result) }
 {
-    let Some(mut device) = take(alloc, handle) else {
-        return CLOSED;
-    };
-    let done = device.exists_at(alloc, now_ms, ticket, path, watch);
-    put_back(handle, device, done)
+    drive(alloc, handle, |device| {
+        device.exists_at(alloc, now_ms, ticket, path, watch)
+    })
 }
 
 /// Asks for the data of a node.
@@ -53,11 +51,9 @@ pub extern "C" fn dw_get_data(
     ensures closed { handle.old.slot.held ≡ None → IsClosed result handle.new.slot.held }
     ensures steps { (d : Device) → handle.old.slot.held ≡ Some d → Holds handle.new.slot.held (Steps (RefusesPath path.now) now_ms (Calls ticket (GetData path.now watch)) d result) }
 {
-    let Some(mut device) = take(alloc, handle) else {
-        return CLOSED;
-    };
-    let done = device.get_data_at(alloc, now_ms, ticket, path, watch);
-    put_back(handle, device, done)
+    drive(alloc, handle, |device| {
+        device.get_data_at(alloc, now_ms, ticket, path, watch)
+    })
 }
 
 /// Asks for the names below a node.
@@ -73,11 +69,9 @@ pub extern "C" fn dw_get_children(
     ensures closed { handle.old.slot.held ≡ None → IsClosed result handle.new.slot.held }
     ensures steps { (d : Device) → handle.old.slot.held ≡ Some d → Holds handle.new.slot.held (Steps (RefusesPath path.now) now_ms (Calls ticket (GetChildren path.now watch)) d result) }
 {
-    let Some(mut device) = take(alloc, handle) else {
-        return CLOSED;
-    };
-    let done = device.get_children_at(alloc, now_ms, ticket, path, watch);
-    put_back(handle, device, done)
+    drive(alloc, handle, |device| {
+        device.get_children_at(alloc, now_ms, ticket, path, watch)
+    })
 }
 
 /// Asks to set the data of a node. Version -1 is any.
@@ -95,12 +89,10 @@ pub extern "C" fn dw_set_data(
     ensures closed { handle.old.slot.held ≡ None → IsClosed result handle.new.slot.held }
     ensures steps { (d : Device) → handle.old.slot.held ≡ Some d → Holds handle.new.slot.held (Steps (RefusesPath path.now) now_ms (Calls ticket (SetData path.now (if is_null then None else Some bytes.now) version)) d result) }
 {
-    let Some(mut device) = take(alloc, handle) else {
-        return CLOSED;
-    };
-    let data = data_of(bytes, is_null);
-    let done = device.set_data_at(alloc, now_ms, ticket, path, data, version);
-    put_back(handle, device, done)
+    drive(alloc, handle, |device| {
+        let data = data_of(bytes, is_null);
+        device.set_data_at(alloc, now_ms, ticket, path, data, version)
+    })
 }
 
 /// Asks to make a node. The mode is a sum: 1 where it goes with the session, and 2 where a number is added to its name.
@@ -118,12 +110,10 @@ pub extern "C" fn dw_create(
     ensures closed { handle.old.slot.held ≡ None → IsClosed result handle.new.slot.held }
     ensures steps { (d : Device) → handle.old.slot.held ≡ Some d → Holds handle.new.slot.held (Steps (RefusesCreate path.now mode) now_ms (Calls ticket (Create path.now (if is_null then None else Some bytes.now) mode)) d result) }
 {
-    let Some(mut device) = take(alloc, handle) else {
-        return CLOSED;
-    };
-    let data = data_of(bytes, is_null);
-    let done = device.create_at(alloc, now_ms, ticket, path, data, mode);
-    put_back(handle, device, done)
+    drive(alloc, handle, |device| {
+        let data = data_of(bytes, is_null);
+        device.create_at(alloc, now_ms, ticket, path, data, mode)
+    })
 }
 
 /// Asks to delete a node. Version -1 is any.
@@ -139,11 +129,9 @@ pub extern "C" fn dw_delete(
     ensures closed { handle.old.slot.held ≡ None → IsClosed result handle.new.slot.held }
     ensures steps { (d : Device) → handle.old.slot.held ≡ Some d → Holds handle.new.slot.held (Steps (RefusesPath path.now) now_ms (Calls ticket (Delete path.now version)) d result) }
 {
-    let Some(mut device) = take(alloc, handle) else {
-        return CLOSED;
-    };
-    let done = device.delete_at(alloc, now_ms, ticket, path, version);
-    put_back(handle, device, done)
+    drive(alloc, handle, |device| {
+        device.delete_at(alloc, now_ms, ticket, path, version)
+    })
 }
 
 /// Asks to end the session.
@@ -157,9 +145,7 @@ pub extern "C" fn dw_close_session(
     ensures closed { handle.old.slot.held ≡ None → IsClosed result handle.new.slot.held }
     ensures steps { (d : Device) → handle.old.slot.held ≡ Some d → Holds handle.new.slot.held (Steps RefusesNothing now_ms (Calls ticket Close) d result) }
 {
-    let Some(mut device) = take(alloc, handle) else {
-        return CLOSED;
-    };
-    let done = device.close_session_at(now_ms, ticket);
-    put_back(handle, device, done)
+    drive(alloc, handle, |device| {
+        device.close_session_at(now_ms, ticket)
+    })
 }

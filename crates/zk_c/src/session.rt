@@ -11,6 +11,7 @@ ghost use Rattle.zk_device.specs.Sessions.{FirstDue, put_of, put_start, state_nu
 ghost use Rattle.zk_c.specs.Held.{IsClosed, Makes, Writes};
 
 use crate::handle::DwClient;
+use crate::making::hold;
 use crate::taking::{CLOSED, NONE, take};
 use std::alloc::Global;
 use zk_device::{Device, Refusal, copy_into};
@@ -27,19 +28,9 @@ pub extern "C" fn dw_resume(
     ensures unread { (fault : SavedFault) → bytes_read saved.now ≡ Err fault → fault ≢ saved_faults.Memory → pos 0 <ℤ timeout_ms → result ≡ negsuc 7 }
 {
     *handle = DwClient::closed(alloc);
-    let device = match Device::resume(alloc, timeout_ms, saved) {
-        Ok(device) => device,
-        Err(refusal) => return refusal.code(),
-    };
-    match Box::new(alloc, device) {
-        Ok(held) => {
-            *handle = DwClient::of(held);
-            0
-        }
-        Err(failed) => {
-            drop(failed);
-            Refusal::Memory.code()
-        }
+    match Device::resume(alloc, timeout_ms, saved) {
+        Ok(device) => hold(alloc, handle, device),
+        Err(refusal) => refusal.code(),
     }
 }
 

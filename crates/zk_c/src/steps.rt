@@ -8,7 +8,7 @@ ghost use Rattle.zk_device.specs.Steps.{Steps, Ticks};
 ghost use Rattle.zk_c.specs.Held.{Holds, IsClosed};
 
 use crate::handle::DwClient;
-use crate::taking::{CLOSED, put_back, take};
+use crate::taking::drive;
 use std::alloc::Global;
 
 /// A connection begins at this moment.
@@ -17,11 +17,7 @@ pub extern "C" fn dw_opened(alloc: Global, handle: &mut DwClient, now_ms: u64) -
     ensures closed { handle.old.slot.held ≡ None → IsClosed result handle.new.slot.held }
     ensures steps { (d : Device) → handle.old.slot.held ≡ Some d → Holds handle.new.slot.held (Steps RefusesNothing now_ms Opened d result) }
 {
-    let Some(mut device) = take(alloc, handle) else {
-        return CLOSED;
-    };
-    let done = device.opened_at(now_ms);
-    put_back(handle, device, done)
+    drive(alloc, handle, |device| device.opened_at(now_ms))
 }
 
 /// The connection is over at this moment.
@@ -30,11 +26,7 @@ pub extern "C" fn dw_cut(alloc: Global, handle: &mut DwClient, now_ms: u64) -> i
     ensures closed { handle.old.slot.held ≡ None → IsClosed result handle.new.slot.held }
     ensures steps { (d : Device) → handle.old.slot.held ≡ Some d → Holds handle.new.slot.held (Steps RefusesNothing now_ms Cut d result) }
 {
-    let Some(mut device) = take(alloc, handle) else {
-        return CLOSED;
-    };
-    let done = device.cut_at(now_ms);
-    put_back(handle, device, done)
+    drive(alloc, handle, |device| device.cut_at(now_ms))
 }
 
 /// The moment, in milliseconds of a clock that does not go back.
@@ -43,11 +35,7 @@ pub extern "C" fn dw_tick(alloc: Global, handle: &mut DwClient, now_ms: u64) -> 
     ensures closed { handle.old.slot.held ≡ None → IsClosed result handle.new.slot.held }
     ensures ticks { (d : Device) → handle.old.slot.held ≡ Some d → Holds handle.new.slot.held (Ticks now_ms d result) }
 {
-    let Some(mut device) = take(alloc, handle) else {
-        return CLOSED;
-    };
-    let done = device.tick(now_ms);
-    put_back(handle, device, done)
+    drive(alloc, handle, |device| device.tick(now_ms))
 }
 
 /// Bytes came from the server at this moment, cut anyhow.
@@ -56,9 +44,7 @@ pub extern "C" fn dw_bytes(alloc: Global, handle: &mut DwClient, now_ms: u64, by
     ensures closed { handle.old.slot.held ≡ None → IsClosed result handle.new.slot.held }
     ensures steps { (d : Device) → handle.old.slot.held ≡ Some d → Holds handle.new.slot.held (Steps RefusesMemory now_ms (Bytes bytes.now) d result) }
 {
-    let Some(mut device) = take(alloc, handle) else {
-        return CLOSED;
-    };
-    let done = device.bytes_at(alloc, now_ms, bytes);
-    put_back(handle, device, done)
+    drive(alloc, handle, |device| {
+        device.bytes_at(alloc, now_ms, bytes)
+    })
 }

@@ -1,7 +1,11 @@
 //! A device is taken out of its handle for a call, and put back.
 
-ghost use Rattle.std.specs.Prelude.{◌≡◌, Some, None, IfSome, IfNone};
+ghost use Rattle.std.specs.Prelude.{◌≡◌, ⊤, Result, Some, None, IfSome, IfNone};
+ghost use Rattle.std.specs.Fn.{FnOnceReturnsAtMut};
 ghost use Rattle.zk_device.specs.Codes.{code_of};
+ghost use Rattle.zk_device.specs.declared.device.Device.{Device};
+ghost use Rattle.zk_device.specs.declared.refusal.Refusal.{Refusal};
+ghost use Rattle.zk_c.specs.Held.{IsClosed};
 
 use crate::handle::DwClient;
 use std::alloc::Global;
@@ -22,15 +26,21 @@ pub fn take(alloc: Global, handle: &mut DwClient) -> Option<Box<Device, Global>>
     std::mem::replace(handle, DwClient::closed(alloc)).into_box()
 }
 
-/// Puts a device back, and tells the number of what was done.
-pub fn put_back(
+/// Does this with the device of a handle, if it has one, puts it back, and tells the number of what was done.
+pub fn drive<F: FnOnce(&mut Device) -> Result<(), Refusal>>(
+    alloc: Global,
     handle: &mut DwClient,
-    device: Box<Device, Global>,
-    done: Result<(), Refusal>,
+    step: F,
 ) -> i32
-    ensures held { handle.new.slot.held ≡ Some device.value }
-    ensures code { result ≡ code_of done }
+    requires { F.IsAlwaysCallable step }
+    ensures closed { handle.old.slot.held ≡ None → IsClosed result handle.new.slot.held }
+    ensures done { (before : Device) → handle.old.slot.held ≡ Some before → (after : Device) × (done : Result ⊤ Refusal)
+        × (handle.new.slot.held ≡ Some after) × (result ≡ code_of done) × FnOnceReturnsAtMut F.FnOnce step before done after }
 {
+    let Some(mut device) = take(alloc, handle) else {
+        return CLOSED;
+    };
+    let done = step(&mut device);
     *handle = DwClient::of(device);
     code_of(done)
 }

@@ -39,12 +39,16 @@ pub record Prints (IsValue : List ℕ → List ℕ → List ℕ → Type 0) (pay
   pub begins : payload ≡ spelled ++ ignored
   pub printed : text ≡ print_of lines spelled ignored
 
+-- a value that fits, of which this is the spelling and these are the lines
+pub record IsShown {V : Type 0} (IsFit : V → Type 0) (spelling_of lines_of : V → List ℕ) (lines spelled : List ℕ) : Type 0 where
+  pub value : V
+  pub fits : IsFit value
+  pub spells : spelled ≡ spelling_of value
+  pub shows : lines ≡ lines_of value
+
 -- a value of a layout, whose fields have these names
-pub record IsRecord (layout : Layout) (names : Names) (lines spelled ignored : List ℕ) : Type 0 where
-  pub value : Value layout
-  pub fits : Fits layout value
-  pub spells : spelled ≡ spelling layout value
-  pub shows : lines ≡ lines_of layout names value
+abbrev pub IsRecord : (layout : Layout) → Names → (lines spelled ignored : List ℕ) → Type 0
+IsRecord layout names lines spelled ignored = IsShown (Fits layout) (spelling layout) (lines_of layout names) lines spelled
 
 abbrev pub response_lines : Response → List ℕ
 response_lines r =
@@ -52,11 +56,8 @@ response_lines r =
     ++ (line (codes "passwd") (bytes_word r.front.1.1.1) ++ line (codes "readOnly") (optional_boolean_word r.read_only))))
 
 -- a response that the whole payload spells: where readOnly is missing, nothing stands behind it
-pub record IsResponse (payload lines spelled ignored : List ℕ) : Type 0 where
-  pub response : Response
-  pub whole : IsPayload payload response ignored
-  pub spells : spelled ≡ response_spelling response
-  pub shows : lines ≡ response_lines response
+abbrev pub IsResponse : (payload lines spelled ignored : List ℕ) → Type 0
+IsResponse payload lines spelled ignored = IsShown (λ response. IsPayload payload response ignored) response_spelling response_lines lines spelled
 
 abbrev pub result_lines : (layout : Layout) → Names → Option (Value layout) → List ℕ
 result_lines layout names None = []
@@ -66,21 +67,16 @@ abbrev pub reply_lines : (layout : Layout) → Names → ReplyValue layout → L
 reply_lines layout names reply = lines_of reply_header reply_header_names reply.0 ++ result_lines layout names reply.1
 
 -- a header, and with err 0 a value of a layout
-pub record IsReply (layout : Layout) (names : Names) (lines spelled ignored : List ℕ) : Type 0 where
-  pub reply : ReplyValue layout
-  pub fits : ReplyFits layout reply
-  pub spells : spelled ≡ reply_spelling layout reply
-  pub shows : lines ≡ reply_lines layout names reply
+abbrev pub IsReply : (layout : Layout) → Names → (lines spelled ignored : List ℕ) → Type 0
+IsReply layout names lines spelled ignored = IsShown (ReplyFits layout) (reply_spelling layout) (reply_lines layout names) lines spelled
 
 abbrev pub request_lines : Asked → List ℕ
 request_lines asked = lines_of (request_layout asked.operation) (request_names asked.operation) (asked_value asked)
 
 -- a request: its header, and the record of its type
-pub record IsRequest (lines spelled ignored : List ℕ) : Type 0 where
-  pub asked : Asked
-  pub fits : Fits (request_layout asked.operation) (asked_value asked)
-  pub spells : spelled ≡ spelling (request_layout asked.operation) (asked_value asked)
-  pub shows : lines ≡ request_lines asked
+abbrev pub IsRequest : (lines spelled ignored : List ℕ) → Type 0
+IsRequest lines spelled ignored =
+    IsShown (λ asked. Fits (request_layout asked.operation) (asked_value asked)) (λ asked. spelling (request_layout asked.operation) (asked_value asked)) request_lines lines spelled
 
 -- the values of a kind of payload
 abbrev pub IsOf : Kind → List ℕ → List ℕ → List ℕ → List ℕ → Type 0
@@ -120,16 +116,13 @@ IsPayloadFault kind payload (Reading e) = FailsWith kind payload e
 IsPayloadFault kind payload (Unknown number) = IsUnknown kind payload number
 IsPayloadFault kind payload fault = ⊥
 
-abbrev pub shown_fault : TakeError → ShowFault
-shown_fault jute.Memory = Memory
-shown_fault (jute.Short place) = Reading (jute.Short place)
-shown_fault (jute.BadLength place) = Reading (jute.BadLength place)
-shown_fault (jute.BadBool place) = Reading (jute.BadBool place)
-shown_fault (jute.NotUtf8 place) = Reading (jute.NotUtf8 place)
-
-abbrev pub shown_request_fault : RequestFault → ShowFault
-shown_request_fault (request.Unknown number) = Unknown number
-shown_request_fault (request.Unread e) = shown_fault e
+abbrev pub shown_fault : RequestFault → ShowFault
+shown_fault (request.Unknown number) = Unknown number
+shown_fault (request.Unread jute.Memory) = Memory
+shown_fault (request.Unread (jute.Short place)) = Reading (jute.Short place)
+shown_fault (request.Unread (jute.BadLength place)) = Reading (jute.BadLength place)
+shown_fault (request.Unread (jute.BadBool place)) = Reading (jute.BadBool place)
+shown_fault (request.Unread (jute.NotUtf8 place)) = Reading (jute.NotUtf8 place)
 
 pub record IsHexOf (bytes text : List ℕ) : Type 0 where
   pub decoded : decode_of text ≡ Ok bytes

@@ -47,30 +47,17 @@ impl fmt::Display for ShowFault {
     }
 }
 
-impl From<TakeError> for ShowFault {
+impl From<RequestFault> for ShowFault {
     ghost use Rattle.std.specs.Prelude.{◌≡◌};
     ghost use Rattle.zk_commands.specs.Show.{shown_fault};
 
     ghost from_gives = { λ e f. f ≡ shown_fault e };
 
-    fn from(e: TakeError) -> ShowFault {
-        match e {
-            TakeError::Memory => ShowFault::Memory,
-            e => ShowFault::Reading(e),
-        }
-    }
-}
-
-impl From<RequestFault> for ShowFault {
-    ghost use Rattle.std.specs.Prelude.{◌≡◌};
-    ghost use Rattle.zk_commands.specs.Show.{shown_request_fault};
-
-    ghost from_gives = { λ e f. f ≡ shown_request_fault e };
-
     fn from(e: RequestFault) -> ShowFault {
         match e {
             RequestFault::Unknown(number) => ShowFault::Unknown(number),
-            RequestFault::Unread(e) => ShowFault::from(e),
+            RequestFault::Unread(TakeError::Memory) => ShowFault::Memory,
+            RequestFault::Unread(e) => ShowFault::Reading(e),
         }
     }
 }

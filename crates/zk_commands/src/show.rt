@@ -17,7 +17,7 @@ use std::alloc::Allocator;
 use std::io::Write;
 use zk_records::{
     ConnectRequest, CreateResponse, GetChildren2Response, GetChildrenResponse, GetDataResponse,
-    ReplyHeader, Stat,
+    ReplyHeader, RequestFault, Stat,
 };
 
 /// The bytes that a text in hex stands for.
@@ -55,7 +55,7 @@ fn print_payload<A: Allocator + Copy>(
         Kind::ReplyCreate => print_reply::<A, CreateResponse<A>>(alloc, payload),
         Kind::ReplyHeader => print_record::<A, ReplyHeader>(alloc, payload),
     };
-    Ok(printed?)
+    Ok(printed.map_err(RequestFault::Unread)?)
 }
 
 /// What is printed of one whole frame in hex.

@@ -1,6 +1,6 @@
 //! What a caller asks, from bytes.
 
-ghost use Rattle.std.specs.Prelude.{◌≡◌, ◌<◌, IfOk, IfErr, IfSome, None, OnOk, OnErr};
+ghost use Rattle.std.specs.Prelude.{◌≡◌, ◌<◌, IfOk, IfErr, IfSome, None, OnOk};
 ghost use Rattle.std.specs.Option.{option_map};
 ghost use Rattle.zk_conversation.specs.Calls.{Exists, GetData, GetChildren, SetData, Create, Delete, Close};
 ghost use Rattle.zk_conversation.specs.Views.{call_view, mode_number};
@@ -13,7 +13,7 @@ use crate::device::Device;
 use crate::paths::path_of;
 use crate::refusal::Refusal;
 use std::alloc::Global;
-use zk_client::{Call, CreateMode, Halt, Input};
+use zk_client::{Call, CreateMode, Input};
 use zk_nodes::copied_data;
 
 fn set_data(
@@ -67,10 +67,10 @@ fn create(
 }
 
 impl Device {
-    // A caller asks.
-    fn ask_at(&mut self, now: u64, ticket: u64, call: Call<Global>) -> Result<(), Halt>
+    // A caller asks. The one refusal is `Halted`.
+    fn ask_at(&mut self, now: u64, ticket: u64, call: Call<Global>) -> Result<(), Refusal>
         ensures heard { OnOk result (Heard now (Calls ticket (call_view call)) self.old self.new) }
-        ensures halted { OnErr result (Halted now self.old self.new) }
+        ensures halted { IfErr result (λ refusal. (refusal ≡ Refusal.Halted) × Halted now self.old self.new) }
     {
         self.step_at(now, Input::Call(ticket, call))
     }
@@ -88,8 +88,7 @@ impl Device {
         ensures { Steps (RefusesPath path.now) now (Calls ticket (Exists path.now watch)) self.old (code_of result) self.new }
     {
         let path = path_of(alloc, path)?;
-        self.ask_at(now, ticket, Call::Exists { path, watch })?;
-        Ok(())
+        self.ask_at(now, ticket, Call::Exists { path, watch })
     }
 
     /// Asks for the data of a node.
@@ -105,8 +104,7 @@ impl Device {
         ensures { Steps (RefusesPath path.now) now (Calls ticket (GetData path.now watch)) self.old (code_of result) self.new }
     {
         let path = path_of(alloc, path)?;
-        self.ask_at(now, ticket, Call::GetData { path, watch })?;
-        Ok(())
+        self.ask_at(now, ticket, Call::GetData { path, watch })
     }
 
     /// Asks for the names below a node.
@@ -122,8 +120,7 @@ impl Device {
         ensures { Steps (RefusesPath path.now) now (Calls ticket (GetChildren path.now watch)) self.old (code_of result) self.new }
     {
         let path = path_of(alloc, path)?;
-        self.ask_at(now, ticket, Call::GetChildren { path, watch })?;
-        Ok(())
+        self.ask_at(now, ticket, Call::GetChildren { path, watch })
     }
 
     /// Asks to set the data of a node, null where there are none. Version -1 is any.
@@ -140,8 +137,7 @@ impl Device {
         ensures { Steps (RefusesPath path.now) now (Calls ticket (SetData path.now (option_map (λ s. s.now) bytes.entry) version)) self.old (code_of result) self.new }
     {
         let call = set_data(alloc, path, bytes, version)?;
-        self.ask_at(now, ticket, call)?;
-        Ok(())
+        self.ask_at(now, ticket, call)
     }
 
     /// Asks to make a node with these data, null where there are none. The mode is a sum: 1 where the node goes with the session, and 2
@@ -159,8 +155,7 @@ impl Device {
         ensures { Steps (RefusesCreate path.now mode) now (Calls ticket (Create path.now (option_map (λ s. s.now) bytes.entry) mode)) self.old (code_of result) self.new }
     {
         let call = create(alloc, path, bytes, mode)?;
-        self.ask_at(now, ticket, call)?;
-        Ok(())
+        self.ask_at(now, ticket, call)
     }
 
     /// Asks to delete a node. Version -1 is any.
@@ -176,15 +171,13 @@ impl Device {
         ensures { Steps (RefusesPath path.now) now (Calls ticket (Delete path.now version)) self.old (code_of result) self.new }
     {
         let path = path_of(alloc, path)?;
-        self.ask_at(now, ticket, Call::Delete { path, version })?;
-        Ok(())
+        self.ask_at(now, ticket, Call::Delete { path, version })
     }
 
     /// Asks to end the session.
     pub fn close_session_at(&mut self, now: u64, ticket: u64) -> Result<(), Refusal>
         ensures { Steps RefusesNothing now (Calls ticket Close) self.old (code_of result) self.new }
     {
-        self.ask_at(now, ticket, Call::Close)?;
-        Ok(())
+        self.ask_at(now, ticket, Call::Close)
     }
 }

@@ -1,6 +1,6 @@
 //! A client with the outputs of its last step.
 
-ghost use Rattle.std.specs.Prelude.{◌≡◌, ◌<ℤ◌, pos, [], OnOk, OnErr, unsigned_abs};
+ghost use Rattle.std.specs.Prelude.{◌≡◌, ◌<ℤ◌, pos, [], IfErr, OnOk, unsigned_abs};
 ghost use Rattle.zk_turns.specs.Turns.{Bytes, Opened, Cut, new_start};
 ghost use Rattle.zk_client.specs.Views.{input_view};
 ghost use Rattle.zk_client.specs.Clients.{view_of};
@@ -11,7 +11,7 @@ ghost use Rattle.zk_device.specs.Steps.{Halted, Heard, Steps, Ticks};
 
 use crate::refusal::Refusal;
 use std::alloc::Global;
-use zk_client::{Client, Halt, Input, Output};
+use zk_client::{Client, Input, Output};
 
 /// A client, what it said at its last step, and how much of that was read. Its methods stand by what they are about: calls in
 /// `calls`, what was said in `outputs`, what is kept in `kept`, the session in `sessions`, and here what comes from a connection.
@@ -56,13 +56,16 @@ impl Device {
         self.read = 0;
     }
 
-    /// Takes an input that is noticed at this moment. What was said before is forgotten.
-    pub(crate) fn step_at(&mut self, now: u64, input: Input<Global>) -> Result<(), Halt>
+    /// Takes an input that is noticed at this moment. What was said before is forgotten. The one refusal is `Halted`.
+    pub(crate) fn step_at(&mut self, now: u64, input: Input<Global>) -> Result<(), Refusal>
         ensures heard { OnOk result (Heard now (input_view input) self.old self.new) }
-        ensures halted { OnErr result (Halted now self.old self.new) }
+        ensures halted { IfErr result (λ refusal. (refusal ≡ Refusal.Halted) × Halted now self.old self.new) }
     {
         self.forget_said();
-        self.said = self.client.step_at(now, input)?;
+        let Ok(said) = self.client.step_at(now, input) else {
+            return Err(Refusal::Halted);
+        };
+        self.said = said;
         Ok(())
     }
 
@@ -70,16 +73,14 @@ impl Device {
     pub fn opened_at(&mut self, now: u64) -> Result<(), Refusal>
         ensures { Steps RefusesNothing now Opened self.old (code_of result) self.new }
     {
-        self.step_at(now, Input::Opened)?;
-        Ok(())
+        self.step_at(now, Input::Opened)
     }
 
     /// The connection is over.
     pub fn cut_at(&mut self, now: u64) -> Result<(), Refusal>
         ensures { Steps RefusesNothing now Cut self.old (code_of result) self.new }
     {
-        self.step_at(now, Input::Cut)?;
-        Ok(())
+        self.step_at(now, Input::Cut)
     }
 
     /// The moment, and nothing else.
@@ -87,7 +88,10 @@ impl Device {
         ensures { Ticks now self.old (code_of result) self.new }
     {
         self.forget_said();
-        self.said = self.client.step(Input::Now(now))?;
+        let Ok(said) = self.client.step(Input::Now(now)) else {
+            return Err(Refusal::Halted);
+        };
+        self.said = said;
         Ok(())
     }
 
@@ -96,7 +100,6 @@ impl Device {
         ensures { Steps RefusesMemory now (Bytes bytes.now) self.old (code_of result) self.new }
     {
         let owned = Vec::from_slice(alloc, bytes)?;
-        self.step_at(now, Input::Bytes(owned))?;
-        Ok(())
+        self.step_at(now, Input::Bytes(owned))
     }
 }

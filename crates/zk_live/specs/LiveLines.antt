@@ -1,20 +1,18 @@
 -- The lines of a live session.
 use Rattle.std.specs.Prelude.{pos, Bool, true, false, if◌then◌else◌, List, [], ◌∷◌, codes, Option, Some, None, Result, Ok, Err, bytes_eq}
-use Rattle.std.specs.Option.{option_map, option_or}
 use Rattle.zk_nodes.specs.Path.{Text}
 use Rattle.zk_script.specs.declared.script_fault.ScriptFault.{ScriptFault}
 use Rattle.zk_script.specs.declared.script_fault.ScriptFault.TheVariants.{Unknown, Place, Words}
-use Rattle.zk_script.specs.Reads.{◌>>=◌, named}
+use Rattle.zk_script.specs.Reads.{◌>>=◌, alone}
 use Rattle.zk_script.specs.Said.{says_by}
 use Rattle.zk_replay.specs.declared.begin_line.BeginKeyword.TheVariants as begin_keyword
-use Rattle.zk_replay.specs.ClientLines.{ClientValue, client_keyword_of, client_line_at, alone}
+use Rattle.zk_replay.specs.ClientLines.{ClientValue, keyword_or_client, client_line_at}
 use Rattle.zk_replay.specs.ReplayLines.{BeginValue, TimeoutLine, begin_line_at}
 use Rattle.zk_live.specs.declared.live_line.LiveKeyword.{LiveKeyword}
 use Rattle.zk_live.specs.declared.live_line.LiveKeyword.TheVariants as keyword
 
 abbrev pub keyword_of : Text → Option LiveKeyword
-keyword_of word =
-    option_or (named ((codes "resume", keyword.Resume) ∷ (codes "open", keyword.Open) ∷ []) word) (option_map keyword.Client (client_keyword_of word))
+keyword_of word = keyword_or_client ((codes "resume", keyword.Resume) ∷ (codes "open", keyword.Open) ∷ []) keyword.Client word
 
 -- A session is taken up, a connection is to begin, or what is the same whatever is at the other end.
 pub data LiveValue : Type 0 where

@@ -13,7 +13,7 @@ use std::alloc::Allocator;
 use zk_replay::begin_line::{BeginKeyword, BeginLine, parse_begin_line};
 use zk_replay::client_line::{ClientKeyword, ClientLine, parse_client_line};
 use zk_script::pieces::words_of;
-use zk_script::reads::{is_named, is_remark};
+use zk_script::reads::{alone, is_named, split_keyword};
 use zk_script::script_fault::ScriptFault;
 
 /// The timeout that a client asks for, in milliseconds.
@@ -69,6 +69,7 @@ fn parse_resume<A: Allocator + Copy>(alloc: A, words: &[&[u8]]) -> Result<BeginL
 }
 
 /// The line of a keyword and the words behind it. A session is taken up by the first line alone.
+#[tactic(auto, using(zk_script::proofs::ReadLemmas::alone_reads))]
 fn parse_placed<A: Allocator + Copy>(
     alloc: A,
     keyword: LiveKeyword,
@@ -83,10 +84,7 @@ fn parse_placed<A: Allocator + Copy>(
             let line = parse_resume(alloc, words)?;
             Ok(LiveLine::Resume(line))
         }
-        LiveKeyword::Open => match words {
-            [] => Ok(LiveLine::Open),
-            _ => Err(ScriptFault::Words),
-        },
+        LiveKeyword::Open => alone(LiveLine::Open, words),
         LiveKeyword::Client(word) => {
             let line = parse_client_line(alloc, word, words)?;
             Ok(LiveLine::Client(line))
@@ -102,15 +100,10 @@ fn parse_words<A: Allocator + Copy>(
 ) -> Result<Option<LiveLine<A>>, ScriptFault>
     ensures { Reads (option_map live_value_of) result (says_at (map (λ w. w.now) words.now) is_begun) }
 {
-    let Some((first, behind)) = words.split_first() else {
+    let Some((first, behind)) = split_keyword(words) else {
         return Ok(None);
     };
-    if is_remark(first) {
-        return Ok(None);
-    }
-    let Some(keyword) = LiveKeyword::named(first) else {
-        return Err(ScriptFault::Unknown);
-    };
+    let keyword = LiveKeyword::named(first).ok_or(ScriptFault::Unknown)?;
     let line = parse_placed(alloc, keyword, is_begun, behind)?;
     Ok(Some(line))
 }
@@ -137,12 +130,9 @@ fn parse_begin_words<A: Allocator + Copy>(
     ensures value { Reads (option_map begin_value_of) result (begins_at (map (λ w. w.now) words.now)) }
     ensures can { IfOk result (λ found. IfSome found (λ line. CanBegin (begin_value_of line))) }
 {
-    let Some((first, behind)) = words.split_first() else {
+    let Some((first, behind)) = split_keyword(words) else {
         return Ok(None);
     };
-    if is_remark(first) {
-        return Ok(None);
-    }
     if !is_named(first, "resume") {
         return Ok(Some(BeginLine::Timeout(ASKED)));
     }

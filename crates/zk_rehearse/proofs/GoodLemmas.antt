@@ -1,9 +1,9 @@
--- Names that are kept, and those that a history tells.
-use Rattle.std.proofs.Common.{◌≡◌, ◌≢◌, ℕ, Bool, true, false, ◌||◌, cond, not, List, [], ◌∷◌, Bor, refl, sym, ap, subst, ◌∙◌}
+-- Names that are kept, and those that a history tells; and what is printed of a path.
+use Rattle.std.proofs.Common.{◌≡◌, ◌≢◌, ℕ, Bool, true, false, ◌||◌, cond, not, List, [], ◌∷◌, ◌++◌, Bor, OnOk, refl, sym, ap, subst, ◌∙◌, append_assoc}
 use Rattle.std.proofs.lemmas.Bool.{true≢false}
 use Rattle.std.proofs.lemmas.Slice.Eq.{bytes_eq-Decides}
 use Rattle.std.proofs.lemmas.Map.Text.{is_eq-slice_cmp}
-use Rattle.std.specs.Prelude.{String, string_bytes, IsTrue, ◌↔◌, Option, Some, None, is_some}
+use Rattle.std.specs.Prelude.{String, string_bytes, IsTrue, ◌↔◌, Option, Some, None, Result, Ok, Err, is_some}
 use Rattle.std.specs.BTreeSet.{BTreeSet, contains_text, IsSymmetricDifference}
 use Rattle.std.specs.Cmp.{tied_itself}
 use Rattle.std.specs.Cmp.Lexicographic.{slice_cmp}
@@ -12,11 +12,15 @@ use Rattle.std.specs.Option.{MatchOption}
 use Rattle.std.specs.Ordering.{nat_cmp, eq_by_cmp, is_eq}
 use Rattle.std.specs.String.{string_cmp, string_cmp_total}
 use Rattle.zk_nodes.specs.Names.{names_of}
+use Rattle.zk_nodes.specs.Path.{Text}
+use Rattle.zk_nodes.specs.declared.side.Side.TheVariants.{Data, Child}
+use Rattle.zk_history.specs.HistoryView.{HistoryView}
 use Rattle.zk_history.specs.Shown.{names_told}
 use Rattle.zk_nodes.specs.declared.names.Names.{Names}
 use Rattle.zk_nodes.proofs.NamesLemmas.{contains-names_of}
 use Rattle.zk_cache.specs.Contents.{names_in}
-use Rattle.zk_rehearse.specs.Good.{AgreesNames, HasNames}
+use Rattle.zk_turns.specs.View.{View}
+use Rattle.zk_rehearse.specs.Good.{data_verdict, AgreesNames, HasNames, TellsPath, TellsVerdict}
 
 -- whether a name is among texts
 abbrev has_text : {A : Type 0} → List (String A) → List ℕ → Bool
@@ -90,3 +94,16 @@ both_same kept told same zxid names = ((λ yes. (names.0 yes, zxid)), (λ are. n
 -- where it is another, they differ
 pub other_zxid : {A : Type 0} (kept told : Names A) → kept.pzxid ≢ told.pzxid → AgreesNames (names_in kept) (names_told (Some told)) false
 other_zxid kept told other = ((λ yes. absurd (true≢false (sym yes))), (λ are. absurd (other are.1)))
+
+-- data before names
+pub both_sides : {X E : Type 0} (r : Result X E) (client : View) (history : HistoryView) (path : Text) (before between after : List ℕ)
+    → (told : List ℕ) × TellsVerdict Data client history path told × (between ≡ before ++ told)
+    → OnOk r ((told : List ℕ) × TellsVerdict Child client history path told × (after ≡ between ++ told))
+    → OnOk r ((told : List ℕ) × TellsPath client history path told × (after ≡ before ++ told))
+both_sides (Ok x) client history path before between after first second =
+    let line = data_verdict client history path in (
+      line ++ second.0,
+      (second.0, second.1, refl),
+      second.2 ∙ (ap (λ text. text ++ second.0) (first.2 ∙ ap (λ told. before ++ told) first.1) ∙ append_assoc before line second.0),
+    )
+both_sides (Err e) client history path before between after first second = tt

@@ -1,13 +1,12 @@
 -- The lines behind the one that makes the client.
-use Rattle.std.specs.Prelude.{◌≤◌, ⊤, ℕ, ◌==◌, nat_le, if◌then◌else◌, List, [], ◌∷◌, codes, Option, Some, None, Result, Ok, Err}
+use Rattle.std.specs.Prelude.{ℕ, ◌==◌, nat_le, if◌then◌else◌, List, [], ◌∷◌, codes, Option, Some, None, Result, Ok, Err}
 use Rattle.std.specs.List.{list_all}
-use Rattle.std.specs.Option.{option_map, option_or}
 use Rattle.zk_nodes.specs.Path.{Text}
 use Rattle.zk_script.specs.declared.script_fault.ScriptFault.{ScriptFault}
 use Rattle.zk_script.specs.declared.script_fault.ScriptFault.TheVariants.{Words, Number}
 use Rattle.zk_script.specs.Numbers.{natural_of}
-use Rattle.zk_script.specs.Reads.{◌>>=◌, named, only, is_printed}
-use Rattle.zk_replay.specs.ClientLines.{ClientValue, alone, client_keyword_of, client_line_at}
+use Rattle.zk_script.specs.Reads.{◌>>=◌, alone, only, is_printed}
+use Rattle.zk_replay.specs.ClientLines.{ClientValue, keyword_or_client, client_line_at}
 use Rattle.zk_replay.specs.Lines.{client_value_of}
 use Rattle.zk_replay.specs.Reads.{natural_at}
 use Rattle.zk_rehearse.specs.declared.bench_line.BenchKeyword.{BenchKeyword}
@@ -17,12 +16,10 @@ use Rattle.zk_rehearse.specs.declared.bench_line.BenchLine.TheVariants as line
 
 abbrev pub bench_keyword_of : Text → Option BenchKeyword
 bench_keyword_of word =
-    option_or
-    (named
+    keyword_or_client
     ((codes "open", keyword.Open) ∷ (codes "take", keyword.Take) ∷ (codes "process", keyword.Process) ∷ (codes "deliver", keyword.Deliver)
     ∷ (codes "expire", keyword.Expire) ∷ (codes "good", keyword.Good) ∷ (codes "rejoin", keyword.Rejoin) ∷ [])
-    word)
-    (option_map keyword.Client (client_keyword_of word))
+    keyword.Client word
 
 -- A connection to a server begins; a server takes a transaction; the connected one processes a request; so many bytes of it are
 -- delivered; sessions expire; the good answers are looked up; another client takes up the session; or what is not about servers.
@@ -37,25 +34,14 @@ pub data BenchValue : Type 0 where
   ClientValueLine : ClientValue → BenchValue
 
 abbrev pub bench_value_of : {A : Type 0} → BenchLine A → BenchValue
-bench_value_of (line.Open server) = OpenLine server
-bench_value_of (line.Take server) = TakeLine server
+bench_value_of (line.Open server) = OpenLine server.number
+bench_value_of (line.Take server) = TakeLine server.number
 bench_value_of line.Process = ProcessLine
 bench_value_of (line.Deliver most) = DeliverLine most
 bench_value_of line.Expire = ExpireLine
 bench_value_of line.Good = GoodLine
 bench_value_of line.Rejoin = RejoinLine
 bench_value_of (line.Client value) = ClientValueLine (client_value_of value)
-
--- There is a server of this number.
-pub record IsServer (server : ℕ) : Type 0 where
-  pub low : 1 ≤ server
-  pub high : server ≤ 8
-
--- The servers that are named are there.
-abbrev pub CanServe : BenchValue → Type 0
-CanServe (OpenLine server) = IsServer server
-CanServe (TakeLine server) = IsServer server
-CanServe value = ⊤
 
 -- from 1 to 8
 abbrev pub server_read : Option ℕ → Result ℕ ScriptFault

@@ -11,11 +11,11 @@ use Rattle.zk_story.specs.HistoryLines.{keyword_of as history_keyword_of}
 use Rattle.zk_script.specs.Reads.{◌>>=◌, is_printed}
 use Rattle.zk_script.specs.Said.{says_by}
 use Rattle.zk_replay.specs.Reads.{timeout_at}
-use Rattle.zk_rehearse.specs.declared.said.Keyword.{Keyword}
-use Rattle.zk_rehearse.specs.declared.said.Keyword.TheVariants as keyword
+use Rattle.zk_rehearse.specs.declared.keywords.Keyword.{Keyword}
+use Rattle.zk_rehearse.specs.declared.keywords.Keyword.TheVariants as keyword
 use Rattle.zk_rehearse.specs.declared.said.Said.{Said}
 use Rattle.zk_rehearse.specs.declared.said.Said.TheVariants as said
-use Rattle.zk_rehearse.specs.BenchLines.{BenchValue, bench_keyword_of, bench_line_at, bench_value_of, CanServe}
+use Rattle.zk_rehearse.specs.BenchLines.{BenchValue, bench_keyword_of, bench_line_at, bench_value_of}
 
 -- a word that is none of the history's
 abbrev pub other_keyword_of : Text → Option Keyword
@@ -41,11 +41,11 @@ said_value said.History = HistoryLine
 said_value (said.Begin timeout) = BeginLine timeout
 said_value (said.Bench line) = BenchValueLine (bench_value_of line)
 
--- The line may stand here, the client can be made so, and the servers that are named are there.
+-- The line may stand here, and the client can be made so.
 abbrev pub CanPlay : (begun : Bool) → RehearseValue → Type 0
 CanPlay begun HistoryLine = begun ≡ false
 CanPlay begun (BeginLine timeout) = (begun ≡ false) × (pos 0 <ℤ timeout)
-CanPlay begun (BenchValueLine value) = (begun ≡ true) × CanServe value
+CanPlay begun (BenchValueLine value) = begun ≡ true
 
 abbrev pub begin_words_at : List Text → Result ℤ ScriptFault
 begin_words_at (timeout ∷ []) = timeout_at timeout

@@ -5,7 +5,7 @@ ghost use Rattle.std.specs.Option.{option_map};
 ghost use Rattle.zk_script.specs.Pieces.{words_of};
 ghost use Rattle.zk_script.specs.Scripts.{IsDue};
 ghost use Rattle.zk_script.specs.Stops.{IfHalted, IsDueBy, IsWant};
-ghost use Rattle.zk_rehearse.specs.BenchLines.{bench_value_of, CanServe};
+ghost use Rattle.zk_rehearse.specs.BenchLines.{bench_value_of};
 ghost use Rattle.zk_rehearse.specs.RehearseLines.{said_value, says_at, BenchValueLine, HistoryLine, CanPlay};
 ghost use Rattle.zk_rehearse.specs.Rehearsed.{Position, position_of, is_begun, Begins, Does, DoesBenchLine, DoesHistory, HaltsBenchLine, HaltsLine, HaltsSaid, IsDueOf, TakesLine};
 ghost use Rattle.zk_rehearse.specs.Scripts.{first_position, rules, IsAt};
@@ -59,8 +59,7 @@ impl<A: Allocator + Copy> Rehearsal<A> {
 
     /// Does what a line behind the one that makes the client says.
     fn perform(&mut self, alloc: A, line: BenchLine<A>) -> Result<String<A>, Stop>
-        requires serves { CanServe (bench_value_of line) }
-        requires begun { is_begun (position_of self.old) ≡ true }
+        requires { is_begun (position_of self.old) ≡ true }
         ensures ok { IfOk result (λ text. DoesBenchLine (bench_value_of line) (position_of self.old) (position_of self.new) (string_bytes text)) }
         ensures err { IfErr result IsWant }
         ensures halt { IfErr result (IfHalted (HaltsBenchLine (bench_value_of line) (position_of self.old) (position_of self.new))) }

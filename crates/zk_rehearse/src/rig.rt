@@ -6,6 +6,7 @@ use crate::bench_line::BenchLine;
 use crate::called::add_path;
 use crate::good::push_paths;
 use crate::heard::hear_all;
+use crate::server::Server;
 use std::alloc::{AllocError, Allocator};
 use std::collections::BTreeSet;
 use std::mem;
@@ -37,7 +38,7 @@ impl<A: Allocator + Copy> Rig<A> {
     ghost use Rattle.zk_replay.specs.Lines.{client_value_of, asked_of};
     ghost use Rattle.zk_replay.specs.Played.{HaltsAt, HaltsClient};
     ghost use Rattle.zk_script.specs.Stops.{IfHalted, IsWant};
-    ghost use Rattle.zk_rehearse.specs.BenchLines.{TakeLine, ProcessLine, bench_value_of, CanServe, IsServer};
+    ghost use Rattle.zk_rehearse.specs.BenchLines.{TakeLine, ProcessLine, bench_value_of};
     ghost use Rattle.zk_rehearse.specs.Good.{TellsPaths};
     ghost use Rattle.zk_rehearse.specs.Scenes.{scene_of, first_scene, Plays, Delivers, Processes, TakesNext, Calls, Rejoins, TellsGood, DoesBench, DoesClientLine, HaltsBench};
 
@@ -70,13 +71,12 @@ impl<A: Allocator + Copy> Rig<A> {
     }
 
     /// A server takes the next transaction.
-    fn take_next(&mut self, alloc: A, server: usize) -> Result<String<A>, Stop>
-        requires { IsServer server }
-        ensures ok { IfOk result (λ text. DoesBench (TakeLine server) (scene_of self.old) (scene_of self.new) (string_bytes text)) }
+    fn take_next(&mut self, alloc: A, server: Server) -> Result<String<A>, Stop>
+        ensures ok { IfOk result (λ text. DoesBench (TakeLine server.number) (scene_of self.old) (scene_of self.new) (string_bytes text)) }
         ensures err { IfErr result IsWant }
         ensures halt { IfErr result (IfHalted ⊥) }
     {
-        self.bench.take(server)?;
+        self.bench.take(server.number)?;
         Ok(String::new(alloc))
     }
 
@@ -162,14 +162,13 @@ impl<A: Allocator + Copy> Rig<A> {
     /// Does what a line says, and gives what is to be printed. Where that is answered by a halt, the line brings an input, and the
     /// client has halted at it.
     pub fn perform(&mut self, alloc: A, line: BenchLine<A>) -> Result<String<A>, Stop>
-        requires { CanServe (bench_value_of line) }
         ensures ok { IfOk result (λ text. DoesBench (bench_value_of line) (scene_of self.old) (scene_of self.new) (string_bytes text)) }
         ensures err { IfErr result IsWant }
         ensures halt { IfErr result (IfHalted (HaltsBench (bench_value_of line) (scene_of self.old) (scene_of self.new))) }
     {
         match line {
             BenchLine::Open(server) => {
-                self.bench.connect(server);
+                self.bench.connect(server.number);
                 self.play(alloc, Input::Opened)
             }
             BenchLine::Take(server) => self.take_next(alloc, server),

@@ -3,46 +3,14 @@
 ghost use Rattle.std.specs.Prelude.{◌≡◌, ◌<ℤ◌, pos, map, IfOk, IfSome};
 ghost use Rattle.std.specs.Option.{option_map};
 ghost use Rattle.zk_script.specs.Reads.{Reads};
-ghost use Rattle.zk_rehearse.specs.RehearseLines.{keyword_of, begin_at, placed_at, says_at, said_value, CanPlay};
+ghost use Rattle.zk_rehearse.specs.RehearseLines.{begin_at, placed_at, says_at, said_value, CanPlay};
 
-use crate::bench_line::{BenchKeyword, BenchLine, parse_bench_line};
+use crate::bench_line::{BenchLine, parse_bench_line};
+use crate::keywords::Keyword;
 use std::alloc::Allocator;
 use zk_replay::reads::parse_timeout;
-use zk_script::reads::{are_printed, is_named, is_remark};
+use zk_script::reads::{are_printed, split_keyword};
 use zk_script::script_fault::ScriptFault;
-use zk_story::history_line::Keyword as HistoryKeyword;
-
-/// What a line does, by its first word.
-#[derive(Clone, Copy)]
-pub enum Keyword {
-    /// It makes the history.
-    History,
-    /// It makes the client.
-    Begin,
-    /// It drives the client or the servers.
-    Bench(BenchKeyword),
-}
-
-impl Keyword {
-    /// The keyword that a word is. A look-up of the history is none.
-    pub fn named(word: &[u8]) -> Option<Keyword>
-        ensures { result ≡ keyword_of word.now }
-    {
-        match HistoryKeyword::named(word) {
-            Some(HistoryKeyword::Ask) => None,
-            Some(_) => Some(Keyword::History),
-            None => {
-                if is_named(word, "begin") {
-                    return Some(Keyword::Begin);
-                }
-                match BenchKeyword::named(word) {
-                    Some(word) => Some(Keyword::Bench(word)),
-                    None => None,
-                }
-            }
-        }
-    }
-}
 
 /// A line that may stand where it stands.
 #[derive(Drop)]
@@ -100,15 +68,10 @@ pub fn parse_said<A: Allocator + Copy>(
     ensures value { Reads (option_map said_value) result (says_at (map (λ w. w.now) words.now) begun) }
     ensures can { IfOk result (λ said. IfSome said (λ line. CanPlay begun (said_value line))) }
 {
-    let Some((first, behind)) = words.split_first() else {
+    let Some((first, behind)) = split_keyword(words) else {
         return Ok(None);
     };
-    if is_remark(first) {
-        return Ok(None);
-    }
-    let Some(keyword) = Keyword::named(first) else {
-        return Err(ScriptFault::Unknown);
-    };
+    let keyword = Keyword::named(first).ok_or(ScriptFault::Unknown)?;
     let line = parse_placed(alloc, keyword, begun, behind)?;
     Ok(Some(line))
 }

@@ -115,7 +115,7 @@ does_value (Drives value) course old new text s goes =
     let there = one_there course old goes.before s goes.was in
     let driven = drive value there.0 goes.before goes.after text there.2 goes.does in (
       Some driven.0,
-      record { before = there.0; after = driven.0; was = there.1; is = refl; adds = driven.1 },
+      record { before = there.0; after = driven.0; was = there.1; is = refl; does = driven.1 },
       subst (λ (view : Option View). StandsBy (Some driven.0) view) (sym goes.is) driven.2,
     )
 

@@ -1,11 +1,12 @@
 -- The lines that drive a client, whatever is at the other end of its connection.
 use Rattle.std.specs.Prelude.{ℕ, if◌then◌else◌, List, [], ◌∷◌, codes, Option, Result, Ok, Err}
 use Rattle.std.specs.List.{list_all}
+use Rattle.std.specs.Option.{option_map, option_or}
 use Rattle.zk_nodes.specs.Path.{Text}
 use Rattle.zk_nodes.specs.declared.side.Side.{Side}
 use Rattle.zk_script.specs.declared.script_fault.ScriptFault.{ScriptFault}
 use Rattle.zk_script.specs.declared.script_fault.ScriptFault.TheVariants.{Words}
-use Rattle.zk_script.specs.Reads.{◌>>=◌, named, only, text_at, path_at, side_read, is_printed}
+use Rattle.zk_script.specs.Reads.{◌>>=◌, named, alone, only, text_at, path_at, side_read, is_printed}
 use Rattle.zk_replay.specs.declared.client_line.ClientKeyword.{ClientKeyword}
 use Rattle.zk_replay.specs.declared.client_line.ClientKeyword.TheVariants as keyword
 use Rattle.zk_replay.specs.CallLines.{Asked, call_at}
@@ -17,6 +18,10 @@ client_keyword_of word =
     ((codes "cut", keyword.Cut) ∷ (codes "now", keyword.Now) ∷ (codes "call", keyword.Call) ∷ (codes "peek", keyword.Peek)
     ∷ (codes "last", keyword.Last) ∷ (codes "forget", keyword.Forget) ∷ (codes "saved", keyword.Saved) ∷ [])
     word
+
+-- the keyword that a word names in a table, or else one that every script of a client has
+abbrev pub keyword_or_client : {X : Type 0} → List (Text × X) → (ClientKeyword → X) → Text → Option X
+keyword_or_client table client word = option_or (named table word) (option_map client (client_keyword_of word))
 
 -- The connection ends, a moment comes, a call is asked; a look-up of a path, of the last seen zxid or of the session; or the stale
 -- answers are taken out.
@@ -39,11 +44,6 @@ peek_at (side ∷ path ∷ []) = do
   place ← path_at text
   Ok (PeekLine which place)
 peek_at words = Err Words
-
--- a line of its first word alone
-abbrev pub alone : {X : Type 0} → X → List Text → Result X ScriptFault
-alone value [] = Ok value
-alone value words = Err Words
 
 -- what the words behind a keyword say
 abbrev pub client_words_at : ClientKeyword → List Text → Result ClientValue ScriptFault

@@ -2,7 +2,7 @@
 -- prints what the definitions give for the whole past. No client is named here but where it is said that one stands there.
 use Rattle.std.specs.Prelude.{◌≡◌, ⊤, is_some, ℕ, List, [], ◌∷◌, Option, Some, None}
 use Rattle.zk_nodes.specs.Path.{Text}
-use Rattle.zk_turns.specs.Turns.{Input, Opened, Bytes, Output, Start, Item, Turned, Forgets, signals_of}
+use Rattle.zk_turns.specs.Turns.{Input, Output, Start, Item, Turned, Forgets, signals_of}
 use Rattle.zk_turns.specs.Past.{Past}
 use Rattle.zk_turns.specs.View.{View, view_at}
 use Rattle.zk_turns.specs.Taken.{past_of}
@@ -10,9 +10,9 @@ use Rattle.zk_turns.specs.Rule.{Stands, due_signals}
 use Rattle.zk_script.specs.Pieces.{words_of}
 use Rattle.zk_script.specs.Said.{TakesSaid}
 use Rattle.zk_replay.specs.ClientLines.{ClientValue}
-use Rattle.zk_replay.specs.ReplayLines.{DriveValue, OpenedLine, BytesLine, ClientValueLine, ReplayValue, Begins, Drives, says_at}
+use Rattle.zk_replay.specs.ReplayLines.{DriveValue, ReplayValue, Begins, Drives, says_at}
 use Rattle.zk_replay.specs.Shown.{TellsAll}
-use Rattle.zk_replay.specs.Played.{start_of, DoesBy}
+use Rattle.zk_replay.specs.Played.{start_of, DoesBy, DrivesBy, GoesOn}
 
 -- What a client began with, and what has happened to it since, the newest first.
 pub record Course : Type 0 where
@@ -39,22 +39,12 @@ abbrev pub AddsClient : ClientValue → Course → Course → List ℕ → Type 
 AddsClient value old new text = DoesBy AddsTurn (λ course. view_at course.start (past_in course)) (λ course. and_then course Forgets) value old new text
 
 abbrev pub AddsDrive : DriveValue → Course → Course → List ℕ → Type 0
-AddsDrive OpenedLine old new text = AddsTurn Opened old new text
-AddsDrive (BytesLine bytes) old new text = AddsTurn (Bytes bytes) old new text
-AddsDrive (ClientValueLine value) old new text = AddsClient value old new text
+AddsDrive value old new text = DrivesBy AddsTurn AddsClient value old new text
 
--- A course that had begun goes on.
-pub record Continues (value : DriveValue) (old new : Option Course) (text : List ℕ) : Type 0 where
-  pub before : Course
-  pub after : Course
-  pub was : old ≡ Some before
-  pub is : new ≡ Some after
-  pub adds : AddsDrive value before after text
-
--- the line that makes the client begins the course
+-- the line that makes the client begins the course, and each behind it goes on with one that had begun
 abbrev pub Adds : ReplayValue → Option Course → Option Course → List ℕ → Type 0
 Adds (Begins value) old new text = (old ≡ None) × (new ≡ Some (record { start = start_of value; items = [] })) × (text ≡ [])
-Adds (Drives value) old new text = Continues value old new text
+Adds (Drives value) old new text = GoesOn (AddsDrive value) old new text
 
 -- What the words of a line say is added, and printed.
 abbrev pub AddsLine : Text → Option Course → Option Course → List ℕ → Type 0

@@ -47,22 +47,26 @@ DoesBy Turns seen forgets ForgetLine old new text = (new ≡ forgets old) × (te
 abbrev pub DoesClient : ClientValue → View → View → List ℕ → Type 0
 DoesClient value old new text = DoesBy TakesTurn (λ view. view) (λ view. record view { cache = forgotten view.cache }) value old new text
 
-abbrev pub DoesDrive : DriveValue → View → View → List ℕ → Type 0
-DoesDrive OpenedLine old new text = TakesTurn Opened old new text
-DoesDrive (BytesLine bytes) old new text = TakesTurn (Bytes bytes) old new text
-DoesDrive (ClientValueLine value) old new text = DoesClient value old new text
+-- What a line behind the first does: a connection begins or bytes come, which is a turn, or what lines do at any other end.
+abbrev pub DrivesBy : {S : Type 0} → (Input → S → S → List ℕ → Type 0) → (ClientValue → S → S → List ℕ → Type 0) → DriveValue → S → S → List ℕ → Type 0
+DrivesBy Turns Does OpenedLine old new text = Turns Opened old new text
+DrivesBy Turns Does (BytesLine bytes) old new text = Turns (Bytes bytes) old new text
+DrivesBy Turns Does (ClientValueLine value) old new text = Does value old new text
 
--- A client that was there goes on.
-pub record GoesOn (value : DriveValue) (old new : Option View) (text : List ℕ) : Type 0 where
-  pub before : View
-  pub after : View
+abbrev pub DoesDrive : DriveValue → View → View → List ℕ → Type 0
+DoesDrive value old new text = DrivesBy TakesTurn DoesClient value old new text
+
+-- What was there goes on.
+pub record GoesOn {S : Type 0} (Does : S → S → List ℕ → Type 0) (old new : Option S) (text : List ℕ) : Type 0 where
+  pub before : S
+  pub after : S
   pub was : old ≡ Some before
   pub is : new ≡ Some after
-  pub does : DoesDrive value before after text
+  pub does : Does before after text
 
 abbrev pub Does : ReplayValue → Option View → Option View → List ℕ → Type 0
 Does (Begins value) old new text = (old ≡ None) × (new ≡ Some (view_at (start_of value) [])) × (text ≡ [])
-Does (Drives value) old new text = GoesOn value old new text
+Does (Drives value) old new text = GoesOn (DoesDrive value) old new text
 
 -- What was said is done.
 pub record DoesSaid (said : Result ReplayValue ScriptFault) (old new : Option View) (text : List ℕ) : Type 0 where

@@ -1,11 +1,11 @@
 -- The lines of a replay.
 use Rattle.std.specs.Prelude.{◌≤◌, ◌<ℤ◌, ◌≤ℤ◌, ℕ, ℤ, pos, Bool, true, false, if◌then◌else◌, length, List, [], ◌∷◌, codes, Option, Some, None, Result, Ok, Err}
 use Rattle.std.specs.List.{list_all}
-use Rattle.std.specs.Option.{ok_or, option_map, option_or}
+use Rattle.std.specs.Option.{ok_or, option_map}
 use Rattle.zk_nodes.specs.Path.{Text}
 use Rattle.zk_script.specs.declared.script_fault.ScriptFault.{ScriptFault}
 use Rattle.zk_script.specs.declared.script_fault.ScriptFault.TheVariants.{Unknown, Place, Words, Hex}
-use Rattle.zk_script.specs.Reads.{◌>>=◌, named, only, time_at, is_printed}
+use Rattle.zk_script.specs.Reads.{◌>>=◌, named, alone, only, time_at, is_printed}
 use Rattle.zk_script.specs.Said.{says_by}
 use Rattle.zk_replay.specs.declared.begin_line.BeginKeyword.{BeginKeyword}
 use Rattle.zk_replay.specs.declared.begin_line.BeginKeyword.TheVariants as begin_keyword
@@ -13,7 +13,7 @@ use Rattle.zk_replay.specs.declared.drive_line.DriveKeyword.{DriveKeyword}
 use Rattle.zk_replay.specs.declared.drive_line.DriveKeyword.TheVariants as drive_keyword
 use Rattle.zk_replay.specs.declared.player.Keyword.{Keyword}
 use Rattle.zk_replay.specs.declared.player.Keyword.TheVariants as keyword
-use Rattle.zk_replay.specs.ClientLines.{ClientValue, client_keyword_of, client_line_at, alone}
+use Rattle.zk_replay.specs.ClientLines.{ClientValue, keyword_or_client, client_line_at}
 use Rattle.zk_replay.specs.Reads.{timeout_at, session_at, bytes_at, password_at}
 use Rattle.zk_limits.specs.declared.limits.TheConstants.{LONGEST_PASSWORD}
 
@@ -58,9 +58,7 @@ CanBegin (ResumeLine timeout session password last) = (pos 0 <ℤ timeout) × (p
 -- A line behind it
 
 abbrev pub drive_keyword_of : Text → Option DriveKeyword
-drive_keyword_of word =
-    option_or (named ((codes "opened", drive_keyword.Opened) ∷ (codes "bytes", drive_keyword.Bytes) ∷ []) word)
-    (option_map drive_keyword.Client (client_keyword_of word))
+drive_keyword_of word = keyword_or_client ((codes "opened", drive_keyword.Opened) ∷ (codes "bytes", drive_keyword.Bytes) ∷ []) drive_keyword.Client word
 
 -- A connection begins, bytes come, or what is not about the server's side.
 pub data DriveValue : Type 0 where

@@ -3,6 +3,7 @@ use Rattle.std.specs.Prelude.{◌≡◌, ℕ, ℤ, negsuc, List, [], ◌∷◌, 
 use Rattle.std.specs.Fmt.{decimal, signed_decimal}
 use Rattle.std.specs.FinSet as set
 use Rattle.zk_nodes.specs.Path.{Text}
+use Rattle.zk_nodes.specs.DataStats.{data_stat_of}
 use Rattle.zk_nodes.specs.Names.{Names as NameSet}
 use Rattle.zk_nodes.specs.declared.side.Side.{Side}
 use Rattle.zk_nodes.specs.declared.side.Side.TheVariants.{Data, Child}
@@ -18,26 +19,20 @@ use Rattle.zk_cache.specs.declared.held.Mark.{Mark}
 use Rattle.zk_cache.specs.declared.held.Mark.TheVariants.{Good, Stale}
 use Rattle.zk_turns.specs.Turns.{Outcome, Replied, Fault, Output, Send, Answer as Answers, Report, Enters, Drop}
 use Rattle.zk_client.specs.FaultText.{fault_code, outcome_code}
-use Rattle.zk_script.specs.Values.{AreNames, spaced, stat_words, names_text}
+use Rattle.zk_script.specs.Values.{AreNames, front_words, spaced, stat_words, names_text}
 use Rattle.zk_script.specs.Lines.{line, TellsInOrder}
 use Rattle.zk_script.specs.Words.{bytes_word, text_word}
 use Rattle.zk_replay.specs.FaultTexts.{fault_values}
 
--- the first six numbers of a Stat, in wire order
-unfoldable pub front_words : Stat → List ℕ
-front_words s =
-    spaced (signed_decimal s.czxid) ++ (spaced (signed_decimal s.mzxid) ++ (spaced (signed_decimal s.ctime) ++ (spaced (signed_decimal s.mtime)
-    ++ (spaced (signed_decimal s.version) ++ spaced (signed_decimal s.cversion)))))
-
--- and the other five
+-- the six numbers of a Stat behind the first five, in wire order
 unfoldable pub back_words : Stat → List ℕ
 back_words s =
-    spaced (signed_decimal s.aversion) ++ (spaced (signed_decimal s.ephemeral_owner) ++ (spaced (signed_decimal s.data_length)
-    ++ (spaced (signed_decimal s.num_children) ++ spaced (signed_decimal s.pzxid))))
+    spaced (signed_decimal s.cversion) ++ (spaced (signed_decimal s.aversion) ++ (spaced (signed_decimal s.ephemeral_owner)
+    ++ (spaced (signed_decimal s.data_length) ++ (spaced (signed_decimal s.num_children) ++ spaced (signed_decimal s.pzxid)))))
 
 -- the eleven numbers of a Stat, a space before each
 unfoldable pub full_words : Stat → List ℕ
-full_words s = front_words s ++ back_words s
+full_words s = front_words (data_stat_of s) ++ back_words s
 
 -- how many names there are, and each of them
 abbrev pub names_words : List Text → List ℕ

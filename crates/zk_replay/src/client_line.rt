@@ -2,14 +2,14 @@
 
 ghost use Rattle.std.specs.Prelude.{◌≡◌, map};
 ghost use Rattle.zk_script.specs.Reads.{Reads};
-ghost use Rattle.zk_replay.specs.ClientLines.{client_keyword_of, now_at, peek_at, alone, client_words_at, client_line_at};
+ghost use Rattle.zk_replay.specs.ClientLines.{client_keyword_of, now_at, peek_at, client_words_at, client_line_at};
 ghost use Rattle.zk_replay.specs.Lines.{client_value_of};
 
 use crate::call_line::{Asked, parse_call};
 use crate::reads::parse_natural;
 use std::alloc::Allocator;
 use zk_nodes::{Path, Side};
-use zk_script::reads::{are_printed, is_named, only, parse_path, parse_side, parse_text};
+use zk_script::reads::{alone, are_printed, is_named, only, parse_path, parse_side, parse_text};
 use zk_script::script_fault::ScriptFault;
 
 /// What a line does with a client, by its first word.
@@ -87,20 +87,8 @@ fn parse_peek<A: Allocator + Copy>(alloc: A, words: &[&[u8]]) -> Result<ClientLi
     Ok(ClientLine::Peek(side, path))
 }
 
-/// A line of its first word alone.
-fn alone<A: Allocator + Copy>(
-    line: ClientLine<A>,
-    words: &[&[u8]],
-) -> Result<ClientLine<A>, ScriptFault>
-    ensures { Reads client_value_of result (alone (client_value_of line) (map (λ w. w.now) words.now)) }
-{
-    match words {
-        [] => Ok(line),
-        _ => Err(ScriptFault::Words),
-    }
-}
-
 /// The line of a keyword and the words behind it.
+#[tactic(auto, using(zk_script::proofs::ReadLemmas::alone_reads))]
 pub fn parse_client_line<A: Allocator + Copy>(
     alloc: A,
     keyword: ClientKeyword,

@@ -8,7 +8,7 @@ ghost use Rattle.zk_replay.specs.ReplayLines.{drive_keyword_of, piece_at, printe
 use crate::client_line::{ClientKeyword, ClientLine, parse_client_line};
 use crate::reads::parse_bytes;
 use std::alloc::Allocator;
-use zk_script::reads::{are_printed, is_named, only};
+use zk_script::reads::{alone, are_printed, is_named, only};
 use zk_script::script_fault::ScriptFault;
 
 /// What a line does with the client, by its first word.
@@ -68,6 +68,7 @@ fn parse_printed_piece<A: Allocator + Copy>(
 }
 
 /// The line of a keyword and the words behind it.
+#[tactic(auto, using(zk_script::proofs::ReadLemmas::alone_reads))]
 pub fn parse_drive_line<A: Allocator + Copy>(
     alloc: A,
     keyword: DriveKeyword,
@@ -76,10 +77,7 @@ pub fn parse_drive_line<A: Allocator + Copy>(
     ensures { Reads drive_value_of result (drive_line_at keyword (map (λ w. w.now) words.now)) }
 {
     match keyword {
-        DriveKeyword::Opened => match words {
-            [] => Ok(DriveLine::Opened),
-            _ => Err(ScriptFault::Words),
-        },
+        DriveKeyword::Opened => alone(DriveLine::Opened, words),
         DriveKeyword::Bytes => parse_printed_piece(alloc, words),
         DriveKeyword::Client(word) => {
             let line = parse_client_line(alloc, word, words)?;

@@ -15,7 +15,7 @@ use crate::driven::{make_client, replayed};
 use std::alloc::Allocator;
 use zk_client::Client;
 use zk_script::pieces::words_of;
-use zk_script::reads::is_remark;
+use zk_script::reads::split_keyword;
 use zk_script::script::LineReader;
 use zk_script::script_fault::ScriptFault;
 use zk_script::stop::Stop;
@@ -101,15 +101,10 @@ impl<A: Allocator + Copy> Player<A> {
         ensures err { IfErr result (IsDueBy (says_at (map (λ w. w.now) words.now) (is_some (view_of_player self.old)))) }
         ensures halt { IfErr result (IfHalted (HaltsWords (map (λ w. w.now) words.now) (view_of_player self.old) (view_of_player self.new))) }
     {
-        let Some((first, behind)) = words.split_first() else {
+        let Some((first, behind)) = split_keyword(words) else {
             return Ok(String::new(alloc));
         };
-        if is_remark(first) {
-            return Ok(String::new(alloc));
-        }
-        let Some(keyword) = Keyword::named(first) else {
-            return Err(Stop::Refused(ScriptFault::Unknown));
-        };
+        let keyword = Keyword::named(first).ok_or(ScriptFault::Unknown)?;
         self.take(alloc, keyword, behind)
     }
 

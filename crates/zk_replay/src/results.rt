@@ -6,36 +6,19 @@ ghost use Rattle.zk_client.specs.Views.{call_result_view, outcome_view};
 ghost use Rattle.zk_conversation.specs.Results.{Listing};
 ghost use Rattle.zk_turns.specs.Turns.{Replied};
 ghost use Rattle.zk_script.specs.Words.{bytes_word};
-ghost use Rattle.zk_replay.specs.Shown.{reason_text, front_words, back_words, full_words, TellsSet, TellsResult, TellsOutcome};
+ghost use Rattle.zk_replay.specs.Shown.{reason_text, back_words, full_words, TellsSet, TellsResult, TellsOutcome};
 
 use crate::names::push_listing;
 use crate::words::push_spaced;
 use std::alloc::{AllocError, Allocator};
 use zk_client::{CallResult, Outcome};
+use zk_nodes::DataStat;
 use zk_records::Stat;
-use zk_script::values::{push_data_word, push_name, push_numbers, push_value, push_word};
+use zk_script::values::{
+    push_data_word, push_front, push_name, push_numbers, push_value, push_word,
+};
 
-/// Adds the first six numbers of a Stat.
-#[tactic(auto, unfolding(crate::specs::Shown::front_words))]
-fn push_front<A: Allocator + Copy>(
-    text: &mut String<A>,
-    alloc: A,
-    stat: &Stat,
-) -> Result<(), AllocError>
-    ensures { OnOk result (string_bytes text.new ≡ string_bytes text.old ++ front_words stat.now) }
-{
-    let numbers = [
-        stat.czxid,
-        stat.mzxid,
-        stat.ctime,
-        stat.mtime,
-        stat.version as i64,
-        stat.cversion as i64,
-    ];
-    push_numbers(text, alloc, numbers.as_slice())
-}
-
-/// Adds the other five.
+/// Adds the six numbers of a Stat behind the first five, a space before each.
 #[tactic(auto, unfolding(crate::specs::Shown::back_words))]
 fn push_back<A: Allocator + Copy>(
     text: &mut String<A>,
@@ -45,6 +28,7 @@ fn push_back<A: Allocator + Copy>(
     ensures { OnOk result (string_bytes text.new ≡ string_bytes text.old ++ back_words stat.now) }
 {
     let numbers = [
+        stat.cversion as i64,
         stat.aversion as i64,
         stat.ephemeral_owner,
         stat.data_length as i64,
@@ -63,7 +47,7 @@ fn push_full<A: Allocator + Copy>(
 ) -> Result<(), AllocError>
     ensures { OnOk result (string_bytes text.new ≡ string_bytes text.old ++ full_words stat.now) }
 {
-    push_front(text, alloc, stat)?;
+    push_front(text, alloc, &DataStat::from(*stat))?;
     push_back(text, alloc, stat)
 }
 

@@ -30,6 +30,11 @@ abbrev pub only : List Text → Result Text ScriptFault
 only (word ∷ []) = Ok word
 only words = Err Words
 
+-- what a keyword stands for behind which there are no words
+abbrev pub alone : {X : Type 0} → X → List Text → Result X ScriptFault
+alone value [] = Ok value
+alone value words = Err Words
+
 -- a number from 0 up to the greatest of 64 bits with a sign
 abbrev pub number_read : Option ℕ → Result ℤ ScriptFault
 number_read (Some n) = Ok (pos n)

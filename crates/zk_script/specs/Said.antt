@@ -12,10 +12,18 @@ abbrev pub something : {X : Type 0} → Result X ScriptFault → Result (Option 
 something (Ok value) = Ok (Some value)
 something (Err fault) = Err fault
 
+-- the first word of a line and those behind it, unless there are none or it is a remark
+abbrev pub split_keyword : List Text → Option (Text × List Text)
+split_keyword [] = None
+split_keyword (first ∷ words) = if is_remark first then None else Some (first, words)
+
+abbrev pub says_split : {X : Type 0} → (Text → List Text → Result X ScriptFault) → Option (Text × List Text) → Result (Option X) ScriptFault
+says_split reading None = Ok None
+says_split reading (Some line) = something (reading line.0 line.1)
+
 -- What the words of a line say, by the first and those behind it: nothing where there are none and for a remark.
 abbrev pub says_by : {X : Type 0} → (Text → List Text → Result X ScriptFault) → List Text → Result (Option X) ScriptFault
-says_by reading [] = Ok None
-says_by reading (first ∷ words) = if is_remark first then Ok None else something (reading first words)
+says_by reading words = says_split reading (split_keyword words)
 
 -- nothing changes nothing and prints nothing
 abbrev pub DoesSome : {X S : Type 0} → (X → S → S → List ℕ → Type 0) → Option X → S → S → List ℕ → Type 0

@@ -17,11 +17,15 @@ spaced word = 32 ∷ word
 abbrev pub numbers_text : List ℤ → List ℕ
 numbers_text numbers = flat_map (λ n. spaced (signed_decimal n)) numbers
 
--- czxid, mzxid, ctime, mtime, version, owner and length
-abbrev pub stat_words : DataStat → List ℕ
-stat_words s =
+-- the five with which a Stat begins: czxid, mzxid, ctime, mtime and version
+unfoldable pub front_words : DataStat → List ℕ
+front_words s =
     spaced (signed_decimal s.czxid) ++ (spaced (signed_decimal s.mzxid) ++ (spaced (signed_decimal s.ctime) ++ (spaced (signed_decimal s.mtime)
-    ++ (spaced (signed_decimal s.version) ++ (spaced (signed_decimal s.ephemeral_owner) ++ spaced (signed_decimal s.data_length))))))
+    ++ spaced (signed_decimal s.version))))
+
+-- these, owner and length
+abbrev pub stat_words : DataStat → List ℕ
+stat_words s = front_words s ++ (spaced (signed_decimal s.ephemeral_owner) ++ spaced (signed_decimal s.data_length))
 
 -- a name's word with a space before it
 abbrev pub name_text : Text → List ℕ

@@ -4,8 +4,8 @@ ghost use Rattle.std.specs.Prelude.{◌≡◌, bytes_eq, string_bytes, map, true
 ghost use Rattle.std.specs.Str.{is_utf8};
 ghost use Rattle.std.specs.List.{list_all};
 ghost use Rattle.std.specs.Option.{option_map};
-ghost use Rattle.zk_script.specs.Said.{is_remark};
-ghost use Rattle.zk_script.specs.Reads.{Reads, time_at, zxid_at, data_at, text_at, text_read, path_at, side_read, is_printed, only};
+ghost use Rattle.zk_script.specs.Said.{is_remark, split_keyword};
+ghost use Rattle.zk_script.specs.Reads.{Reads, time_at, zxid_at, data_at, text_at, text_read, path_at, side_read, is_printed, alone, only};
 
 use crate::numbers::natural_of;
 use crate::script_fault::ScriptFault;
@@ -31,6 +31,16 @@ pub fn only<'a>(words: &[&'a [u8]]) -> Result<&'a [u8], ScriptFault>
 {
     match words {
         [word] => Ok(word),
+        _ => Err(ScriptFault::Words),
+    }
+}
+
+/// What a keyword stands for behind which there are no words.
+pub fn alone<X: Drop>(value: X, words: &[&[u8]]) -> Result<X, ScriptFault>
+    ensures { result ≡ alone value (map (λ w. w.now) words.now) }
+{
+    match words {
+        [] => Ok(value),
         _ => Err(ScriptFault::Words),
     }
 }
@@ -162,8 +172,18 @@ pub fn are_printed(words: &[&[u8]]) -> bool
 }
 
 /// Whether a line is a remark, by its first word.
-pub fn is_remark(word: &[u8]) -> bool
+fn is_remark(word: &[u8]) -> bool
     ensures { result ≡ is_remark word.now }
 {
     matches!(word, [b'#', ..])
+}
+
+/// The first word of a line and those behind it. An empty line and a remark, which begins with `#`, say nothing.
+pub fn split_keyword<'a, 'b>(words: &'a [&'b [u8]]) -> Option<(&'b [u8], &'a [&'b [u8]])>
+    ensures { option_map (λ line. (line.0.now, map (λ w. w.now) line.1.now)) result ≡ split_keyword (map (λ w. w.now) words.now) }
+{
+    match words {
+        [first, behind @ ..] if !is_remark(first) => Some((first, behind)),
+        _ => None,
+    }
 }

@@ -3,7 +3,7 @@
 ghost use Rattle.std.specs.Prelude.{◌≡◌, ◌++◌, [], map, OnOk, IsSome, unwrap_or, string_bytes};
 ghost use Rattle.std.specs.Option.{option_map};
 ghost use Rattle.zk_script.specs.Words.{bytes_word};
-ghost use Rattle.zk_script.specs.Values.{numbers_text, stat_words, spaced, name_text, names_text};
+ghost use Rattle.zk_script.specs.Values.{front_words, numbers_text, stat_words, spaced, name_text, names_text};
 
 use crate::words::{NULL, bytes_to_word, text_to_word};
 use std::alloc::{AllocError, Allocator};
@@ -52,6 +52,25 @@ pub fn push_numbers<A: Allocator + Copy>(
     Ok(())
 }
 
+/// Adds the five numbers with which a Stat begins, a space before each.
+#[tactic(auto, unfolding(crate::specs::Values::front_words))]
+pub fn push_front<A: Allocator + Copy>(
+    text: &mut String<A>,
+    alloc: A,
+    stat: &DataStat,
+) -> Result<(), AllocError>
+    ensures { OnOk result (string_bytes text.new ≡ string_bytes text.old ++ front_words stat.now) }
+{
+    let numbers = [
+        stat.czxid,
+        stat.mzxid,
+        stat.ctime,
+        stat.mtime,
+        stat.version as i64,
+    ];
+    push_numbers(text, alloc, numbers.as_slice())
+}
+
 /// Adds the seven numbers, a space before each.
 pub fn push_stat<A: Allocator + Copy>(
     text: &mut String<A>,
@@ -60,16 +79,9 @@ pub fn push_stat<A: Allocator + Copy>(
 ) -> Result<(), AllocError>
     ensures { OnOk result (string_bytes text.new ≡ string_bytes text.old ++ stat_words stat.now) }
 {
-    let numbers = [
-        stat.czxid,
-        stat.mzxid,
-        stat.ctime,
-        stat.mtime,
-        stat.version as i64,
-        stat.ephemeral_owner,
-        stat.data_length as i64,
-    ];
-    push_numbers(text, alloc, numbers.as_slice())
+    push_front(text, alloc, stat)?;
+    push_word(text, alloc, &stat.ephemeral_owner)?;
+    push_word(text, alloc, &stat.data_length)
 }
 
 /// Adds the word for bytes, which may be null.

@@ -14,7 +14,7 @@ use std::alloc::{AllocError, Allocator};
 use zk_history::{History, HistoryFault};
 use zk_nodes::{Path, Side};
 use zk_script::pieces::words_of;
-use zk_script::reads::is_remark;
+use zk_script::reads::split_keyword;
 use zk_script::script::LineReader;
 use zk_script::script_fault::ScriptFault;
 use zk_script::stop::Stop;
@@ -116,15 +116,10 @@ impl<A: Allocator + Copy> Story<A> {
     fn said(&self, alloc: A, words: &[&[u8]]) -> Result<Option<HistoryLine<A>>, ScriptFault>
         ensures { Reads (option_map value_of) result (said (map (λ w. w.now) words.now) self.now.begun self.now.asked) }
     {
-        let Some((first, behind)) = words.split_first() else {
+        let Some((first, behind)) = split_keyword(words) else {
             return Ok(None);
         };
-        if is_remark(first) {
-            return Ok(None);
-        }
-        let Some(keyword) = Keyword::named(first) else {
-            return Err(ScriptFault::Unknown);
-        };
+        let keyword = Keyword::named(first).ok_or(ScriptFault::Unknown)?;
         if !self.takes(keyword) {
             return Err(ScriptFault::Place);
         }

@@ -14,7 +14,7 @@ returns-in-Ok-clause-prints g c =
       lines = request_lines asked;
       spelled = spelled;
       ignored = rest;
-      value = record { asked = asked; fits = c.in_ok-asked.ensures.found.0; spells = refl; shows = refl };
+      value = record { value = asked; fits = c.in_ok-asked.ensures.found.0; spells = refl; shows = refl };
       begins = sym c.new-at.ensures.left ∙ c.in_ok-asked.ensures.found.1 ∙ ap (λ (x : List ℕ). spelled ++ x) (sym c.rest.ensures);
       printed = rw c.in-Ok.is at c.print_asked-printed.ensures rest refl;
     }

@@ -1,13 +1,14 @@
 use Rattle.std.proofs.Common.{◌≡◌, ◌⊎◌, ◌∙◌, ap, sym, subst, inl, inr, refl, List, map, true}
 use Rattle.std.specs.Borrow.{Bor}
 use Rattle.std.proofs.lemmas.Result.{IfErr-weaker, IfOk-weaker}
-use Rattle.clap.specs.Words.{App, IsAmong, Text, fault_of, kind_of, is_simple_and_free, is_simple, subcommand_of}
+use Rattle.clap.specs.Words.{App, IsAmong, Text, fault_of, kind_of, is_simple_and_free, is_simple, subcommand_of, subcommand_rows_of}
 use Rattle.clap.specs.declared.error.kind.ErrorKind.{ErrorKind}
 use Rattle.clap.specs.declared.error.kind.ErrorKind.TheVariants as kinds
 use Rattle.zk_commands.specs.declared.line_fault.LineFault.{LineFault}
 use Rattle.zk_commands.specs.declared.line_fault.LineFault.TheVariants.{Help, Refused, Memory}
 use Rattle.zk_commands.specs.CommandLine.{AreKinds, AsksForNone, IsDue, IsFound, Tells, TellsIf, shell_app}
 use Rattle.zk_commands.proofs.command.command_of.Goals as goal
+use Rattle.zk_commands.proofs.command.command_of.Goals.{In-Ok}
 
 -- the program's form is one of which `clap` gives the matches and the faults
 simple_and_free : (names : Bor (List (Bor Text))) → is_simple_and_free (shell_app names) ≡ true
@@ -41,18 +42,21 @@ returns-in-Err-clause-err c =
     told_is_due words form.0 kind c.told_of.result form.1
     (subst (λ (a : App). (kind ≡ kinds.OutOfMemory) ⊎ IsAmong kind (fault_of a words)) form.2 has) c.told_of.ensures
 
+-- the rows of the matches are what is found of the words
+rows_found : (c : In-Ok) → subcommand_rows_of c.in-Ok.matches ≡ subcommand_of (shell_app c.in_ok-form.ensures.0) (map (λ w. w.now) c.args.words.now)
+rows_found c =
+    let form = c.in_ok-form.ensures in
+    let words : List Text = map (λ w. w.now) c.args.words.now in
+    (c.in-Ok.ensures.matches (ap is_simple form.2 ∙ simple form.0)).1 ∙ ap (λ (a : App). subcommand_of a words) form.2
+
 pub returns-in-Ok-clause-err : goal.returns-in-Ok-clause-err
 returns-in-Ok-clause-err c =
     let form = c.in_ok-form.ensures in
-    let words : List Text = map (λ w. w.now) c.args.words.now in
-    let found = (c.in-Ok.ensures.matches (ap is_simple form.2 ∙ simple form.0)).1 ∙ ap (λ (a : App). subcommand_of a words) form.2 in
-    IfErr-weaker c.asked.result _ _
-    (λ fault told. nothing_is_due words form.0 fault form.1 (subst (λ rows. TellsIf (AsksForNone rows) fault) found told)) c.asked.ensures.err
+    let found = rows_found (goal.at.returns-in-Ok-clause-err c).In-Ok in
+    IfErr-weaker c.asked.result _ _ (λ fault told. nothing_is_due (map (λ w. w.now) c.args.words.now) form.0 fault form.1 (subst (λ rows. TellsIf (AsksForNone rows) fault) found told)) c.asked.ensures.err
 
 pub returns-in-Ok-clause-ok : goal.returns-in-Ok-clause-ok
 returns-in-Ok-clause-ok c =
     let form = c.in_ok-form.ensures in
-    let words : List Text = map (λ w. w.now) c.args.words.now in
-    let found = (c.in-Ok.ensures.matches (ap is_simple form.2 ∙ simple form.0)).1 ∙ ap (λ (a : App). subcommand_of a words) form.2 in
-    IfOk-weaker c.asked.result _ _
-    (λ command asked. (form.0, form.1, subst (λ rows. IsFound command rows) found asked)) c.asked.ensures.ok
+    let found = rows_found (goal.at.returns-in-Ok-clause-ok c).In-Ok in
+    IfOk-weaker c.asked.result _ _ (λ command asked. (form.0, form.1, subst (λ rows. IsFound command rows) found asked)) c.asked.ensures.ok
