@@ -1,5 +1,5 @@
 -- Which request stands in a payload.
-use Rattle.std.proofs.Common.{ℕ, ℤ, pos, ◌≡◌, refl, sym, ap, subst, ◌∙◌, Bool, List, Some, Option, take, drop}
+use Rattle.std.proofs.Common.{ℕ, ℤ, pos, ◌≡◌, refl, sym, ap, subst, ◌∙◌, Bool, List, None, Some, Option, take, drop}
 use Rattle.std.specs.Prelude.{◌≤◌, option_map, unwrap_or}
 use Rattle.zk_jute.specs.Layout.{Value}
 use Rattle.zk_nodes.specs.Path.{Text}
@@ -117,6 +117,13 @@ mode_is flags number ephemeral sequential low is told =
     sym (mode_of-low number low) ∙ ap (λ (z : ℤ). option_map (λ (mode : Bool × Bool). mode.1) (mode_of z)) (sym is) ∙ ap (option_map (λ (mode : Bool × Bool). mode.1)) told in
     ap (λ (o : Option Bool). unwrap_or o sequential) same
 
+-- a mode from 0 to 3 is there
+pub mode_there : (flags : ℤ) (number : ℕ) → number ≤ 3 → flags ≡ pos number → None ≡ mode_of flags → ⊥
+mode_there flags number low is none =
+    let told : option_map (λ (mode : Bool × Bool). mode.1) None ≡ Some (is_sequential number) =
+    ap (option_map (λ (mode : Bool × Bool). mode.1)) (none ∙ ap mode_of is) ∙ mode_of-low number low in
+    absurd cc
+
 -- What is no write, no ping and no end of a session is a look.
 pub look_if : {A : Type 0} (request : Request A) (asked : wanted.Request) → Asks request asked → ((r : CreateRequest A) → request ≡ requests.Create r → ⊥) → ((r : SetDataRequest A) → request ≡ requests.SetData r → ⊥)
     → ((r : DeleteRequest A) → request ≡ requests.Delete r → ⊥) → (request ≡ requests.Ping → ⊥) → (request ≡ requests.CloseSession → ⊥) → IsLook asked
@@ -143,6 +150,16 @@ found_so asked xid found payload request later read fit is =
     let t = told_so asked xid payload (λ seen e. subst (λ (a : wanted.Request). IsFor a Serving) e later refl) read fit in
     let same = is (record { xid = xid; operation = t.named; body = t.body }) t.read in
     (asks_so asked xid found payload t request same, ap (λ (a : Asked). a.xid) same)
+
+-- What is read has no other fault than want of memory.
+pub read_front : (b old : Served) (count : ℕ) (bytes : List ℕ) (asked : wanted.Request) (xid : ℤ) (P : Type 0) → b ≡ old → bytes ≡ b.connection.requests → IsFor asked Serving
+    → IsReadAs asked xid (take count (drop 4 old.connection.requests)) → IsFit asked (take count (drop 4 old.connection.requests))
+    → ((a : Asked) → IsRecord (request_layout a.operation) (asked_value a) (take count (drop 4 bytes)) → P) → P
+read_front b old count bytes asked xid P same field later is fit gives =
+    let at : old.connection.requests ≡ bytes = ap (λ (s : Served). s.connection.requests) (sym same) ∙ sym field in
+    let t = told_so asked xid (take count (drop 4 old.connection.requests)) (λ seen e. subst (λ (a : wanted.Request). IsFor a Serving) e later refl) is fit in
+    gives (record { xid = xid; operation = t.named; body = t.body })
+    (subst (λ (bs : List ℕ). IsRecord (request_layout t.named) (xid, (operation_number t.named, t.body)) (take count (drop 4 bs))) at t.read)
 
 -- and so does the one that is read from the front of a bench
 pub found_front : {A : Type 0} (b old : Served) (count : ℕ) (bytes : List ℕ) (asked : wanted.Request) (xid read found : ℤ) (request : Request A) → b ≡ old → bytes ≡ b.connection.requests → read ≡ found → IsFor asked Serving

@@ -3,6 +3,8 @@ pub mod Continuing
 pub mod Watched
 pub mod Placed
 pub mod Answered
+pub mod Staying
+pub mod Sized
 pub mod Admitted
 pub mod Restored
 pub mod Stepped

@@ -47,7 +47,7 @@ use Rattle.zk_bench.specs.Linked.{linked_of}
 use Rattle.zk_bench.specs.Serving.{watched, Sends, SendsHeader, SendsMessage}
 use Rattle.zk_bench.specs.Answering.{IsRead, FindsNone, RefusesRead}
 use Rattle.zk_bench.specs.Restoring.{RestoresPart}
-use Rattle.zk_bench.specs.Stepping.{Catches, CatchesUp, IsReady, TakesSome, ProcessesOne, Owes, OwesTo, IsRefusal, Declines, HasClient, HasAll, HasWritten, LeavesUnmade, LeavesUnsent, SendsStat, IsSending, zxid_of, stage_of, phase_of, end_of, shown_of}
+use Rattle.zk_bench.specs.Stepping.{Catches, CatchesUp, IsReady, TakesSome, ProcessesIf, ProcessesOne, AnswersOne, Owes, OwesTo, IsRefusal, Declines, HasClient, HasAll, HasWritten, LeavesUnmade, LeavesUnsent, SendsStat, IsSending, zxid_of, stage_of, phase_of, end_of, shown_of}
 use Rattle.zk_bench.specs.Writing.{IsAnswer, appended}
 use Rattle.zk_bench.proofs.Answered.{or-false, stat_read}
 use Rattle.zk_bench.proofs.Written.{appended-transactions}
@@ -97,7 +97,7 @@ takes_more old mid new a up low b =
 pub processes_after : (request : Request) (xid : ℤ) (old mid new : Shown) (last : Step) → TakesSome old mid → mid.phase ≡ Open
     → MayDo mid.history last.step mid.server (request ∷ []) → ArePayloads xid (messages_by mid.history last.step mid.server.place) last.payloads → used_by last.step ≡ 1
     → new.history ≡ mid.history → new.output ≡ mid.output ++ joined last.payloads → new.phase ≢ Apart → (new.phase ≡ Open → new.server ≡ end_after mid.history last.step mid.server)
-    → ProcessesOne request xid old new
+    → AnswersOne request xid old new
 processes_after request xid old mid new last took up may told one same sent there ended =
     let g = took.takes.goes in
     let at : mid.server ≡ ended_by mid.history took.steps old.server = g.ended up in
@@ -122,7 +122,7 @@ processes_after request xid old mid new last took up may told one same sent ther
     }
 
 -- They are taken, and then a request is processed.
-pub processes_more : (request : Request) (xid : ℤ) (old mid new : Shown) → TakesSome old mid → mid.phase ≡ Open → old.server.place ≤ length old.history.transactions → ProcessesOne request xid mid new → ProcessesOne request xid old new
+pub processes_more : {P : Type 0} (request : Request) (xid : ℤ) (old mid new : Shown) → TakesSome old mid → mid.phase ≡ Open → old.server.place ≤ length old.history.transactions → ProcessesIf P request xid mid new → ProcessesIf P request xid old new
 processes_more request xid old mid new a up low b =
     let g = a.takes.goes in
     let k = b.goes in
@@ -163,7 +163,7 @@ twice bs = sym (append-nil bs)
 
 pub admits_so : (b : Served) (new : Linked) (seen : ℕ) (xid : ℤ) → b.connection.phase ≡ phases.Opening → seen ≤ zxid_held (history_of b.history) (slice_index b.taken b.server)
     → SendsMessage message.Accepted b.connection.output new.output → new ≡ record b.connection { phase = phases.Accepted; output = new.output }
-    → ProcessesOne (Connect seen) xid (shown_of b) (shown_of (record b { connection = new }))
+    → AnswersOne (Connect seen) xid (shown_of b) (shown_of (record b { connection = new }))
 admits_so b new seen xid opening low s rest =
     let at : new.phase ≡ phases.Accepted = ap (λ (c : Linked). c.phase) rest in
     processes_after (Connect seen) xid (shown_of b) (shown_of b) (shown_of (record b { connection = new })) (record { step = Admits seen; payloads = s.payload ∷ [] }) (shows_same b (ap is_open opening)) (ap phase_of opening)
@@ -172,7 +172,7 @@ admits_so b new seen xid opening low s rest =
 
 pub expires_so : (b : Served) (new : Linked) (seen : ℕ) (xid : ℤ) → b.connection.phase ≡ phases.Opening → seen ≤ zxid_held (history_of b.history) (slice_index b.taken b.server)
     → SendsMessage message.Expired b.connection.output new.output → new.phase ≡ phases.Ended
-    → ProcessesOne (Connect seen) xid (shown_of b) (shown_of (record b { connection = new }))
+    → AnswersOne (Connect seen) xid (shown_of b) (shown_of (record b { connection = new }))
 expires_so b new seen xid opening low s over =
     processes_after (Connect seen) xid (shown_of b) (shown_of b) (shown_of (record b { connection = new })) (record { step = Refuses seen; payloads = s.payload ∷ [] }) (shows_same b (ap is_open opening)) (ap phase_of opening)
     (ap stage_of opening, refl, low) (s.small, s.spelled xid, tt) refl refl (s.output ∙ ap (λ (bs : List ℕ). b.connection.output ++ bs) (twice (frame s.payload)))
@@ -195,7 +195,7 @@ payload_refused xid question zxid (Made at) code old new is same s = absurd is
 
 -- A code that is owed is sent.
 pub owed_sent : (call : Call) (code xid : ℤ) (old mid new : Shown) → Owes call code old mid → SendsHeader (xid, (pos (zxid_held mid.history mid.server.place), code)) mid.output new.output
-    → new ≡ record mid { output = new.output } → ProcessesOne (Ask call) xid old new
+    → new ≡ record mid { output = new.output } → AnswersOne (Ask call) xid old new
 owed_sent call code xid old mid new owes s rest =
     let from = owes.mid in
     let left = owes.left in
@@ -226,7 +226,7 @@ not_apart : (old : Served) → HasClient old → phase_of old.connection.phase �
 not_apart old has e = let f : Open ≡ Apart = sym (opened old has) ∙ e in absurd cc
 
 -- a ping
-pub pongs : (old : Served) (output : List ℕ) (xid : ℤ) → HasClient old → SendsHeader (ping_xid, (pos (zxid_of old), pos 0)) old.connection.output output → ProcessesOne Ping xid (shown_of old) (shown_of (sending old output))
+pub pongs : (old : Served) (output : List ℕ) (xid : ℤ) → HasClient old → SendsHeader (ping_xid, (pos (zxid_of old), pos 0)) old.connection.output output → AnswersOne Ping xid (shown_of old) (shown_of (sending old output))
 pongs old output xid has s =
     let payload = spelling reply_header (ping_xid, (pos (zxid_of old), pos 0)) in
     processes_after Ping xid (shown_of old) (shown_of old) (shown_of (sending old output)) (record { step = Pongs; payloads = payload ∷ [] }) (shows_same old (ap is_open has.accepted)) (opened old has)
@@ -235,7 +235,7 @@ pongs old output xid has s =
 
 -- the end of a session
 pub closes_so : (old : Served) (output : List ℕ) (xid : ℤ) → HasClient old → SendsHeader (xid, (pos (zxid_of old), pos 0)) old.connection.output output
-    → ProcessesOne (Ask call.Close) xid (shown_of old) (shown_of (record old { connection = record old.connection { phase = phases.Ended; output = output } }))
+    → AnswersOne (Ask call.Close) xid (shown_of old) (shown_of (record old { connection = record old.connection { phase = phases.Ended; output = output } }))
 closes_so old output xid has s =
     let payload = spelling reply_header (xid, (pos (zxid_of old), pos 0)) in
     processes_after (Ask call.Close) xid (shown_of old) (shown_of old) (shown_of (record old { connection = record old.connection { phase = phases.Ended; output = output } }))
@@ -290,9 +290,9 @@ module _ {A : Type 0} (b : Served) (old new : Connection A) (accepted : old.phas
     left = shown_is f.rest ∙ ap (λ (w : Watches). shown w new.output.items) f.left ∙ ap (λ (bs : List ℕ). shown (both (watched old.watches) (sets (question_of asked) NoNode)) bs) f.output;
   }
 
-  pub restores_so : (is_last : Bool) (since : ℕ) (part : Lists) (xid : ℤ) → RestoresPart (tree_held h place) (zxid_held h place) xid since part old new → ProcessesOne (Restore is_last since part) xid (shown_of before) (shown_of after)
+  pub restores_so : (is_last : Bool) (since : ℕ) (part : Lists) (xid : ℤ) → RestoresPart (tree_held h place) (zxid_held h place) xid since part old new → AnswersOne (Restore is_last since part) xid (shown_of before) (shown_of after)
   restores_so is_last since part xid r =
-      subst (λ (s : Shown). ProcessesOne (Restore is_last since part) xid (shown_of before) s) (sym (shown_is r.rest))
+      subst (λ (s : Shown). AnswersOne (Restore is_last since part) xid (shown_of before) s) (sym (shown_is r.rest))
       (processes_after (Restore is_last since part) xid (shown_of before) (shown_of before) (shown (watched new.watches) new.output.items) (record { step = Restores is_last since part r.sent; payloads = r.payloads })
       (shows_same before (ap is_open accepted)) up (ap stage_of accepted, refl, r.admitted) (r.spelled is_last) refl refl r.output (λ e. let f : Open ≡ Apart = sym up ∙ e in absurd cc)
       (λ still. ap (λ (w : Watches). record { place = place; watches = w; stage = stage_of old.phase }) r.left))
@@ -414,8 +414,8 @@ takes_later b old history new same goes has takes =
     subst (λ (s : Served). TakesSome (shown_of s) (shown_of new)) same
     (takes_then b (record b { history = history }) new mine (has_later b history on mine) (takes_none b (record b { history = history }) on mine refl) takes)
 
-pub processes_then : (request : Request) (xid : ℤ) (old mid new : Served) → HasClient old → HasClient mid → TakesSome (shown_of old) (shown_of mid) → ProcessesOne request xid (shown_of mid) (shown_of new)
-    → ProcessesOne request xid (shown_of old) (shown_of new)
+pub processes_then : {P : Type 0} (request : Request) (xid : ℤ) (old mid new : Served) → HasClient old → HasClient mid → TakesSome (shown_of old) (shown_of mid) → ProcessesIf P request xid (shown_of mid) (shown_of new)
+    → ProcessesIf P request xid (shown_of old) (shown_of new)
 processes_then request xid old mid new has more a b = processes_more request xid (shown_of old) (shown_of mid) (shown_of new) a (opened mid more) (low_place old has) b
 
 pub ends_then : (request : Request) (xid : ℤ) (old new : Served) → TakesSome (shown_of old) (shown_of (ended new)) → ProcessesOne request xid (shown_of old) (shown_of (ended new))
@@ -544,7 +544,7 @@ unmade_same old (refusals.Stop stop) has is = takes_ended old old (shows_same ol
 -- A write that was made is answered.
 pub answers_made : (one : Call) (result : Result) (xid : ℤ) (old mid : Served) (output payload : List ℕ) → IsWrite one → HasClient mid → TakesSome (shown_of old) (shown_of mid)
     → Gives (history_of mid.history) (slice_index mid.taken mid.server) one result → length payload < 2 ^ 31 → IsPayload xid (Replies (question_of one) (zxid_of mid) result) payload
-    → output ≡ mid.connection.output ++ frame payload → ProcessesOne (Ask one) xid (shown_of old) (shown_of (sending mid output))
+    → output ≡ mid.connection.output ++ frame payload → AnswersOne (Ask one) xid (shown_of old) (shown_of (sending mid output))
 answers_made one result xid old mid output payload is has took gives small spelled sent =
     processes_after (Ask one) xid (shown_of old) (shown_of mid) (shown_of (sending mid output)) (record { step = Answers one result; payloads = payload ∷ [] }) took (opened mid has)
     (ap stage_of has.accepted, refl, gives) (small, spelled, tt) refl refl
@@ -567,29 +567,29 @@ stops_by request xid old new stops.Memory ends = tt
 -- the path that was made is answered
 pub created_so : (text : Text) (content : Option (List ℕ)) (number : ℕ) (xid : ℤ) (old mid new : Served) (at : Text) (owner : ℤ) → HasClient mid → TakesSome (shown_of old) (shown_of mid) → IsMadeOf text (is_sequential number) at
     → HasWritten (Creates (path_of at) content owner) mid → Sends (xid, (pos (zxid_of mid), pos 0)) create_response (Some at) mid.connection.output new.connection.output → IsSending mid new
-    → ProcessesOne (Ask (call.Create text content number)) xid (shown_of old) (shown_of new)
+    → AnswersOne (Ask (call.Create text content number)) xid (shown_of old) (shown_of new)
 created_so text content number xid old mid new at owner has took made wrote s only =
     let behind = spelling create_response (Some at) in
-    subst (λ (n : Served). ProcessesOne (Ask (call.Create text content number)) xid (shown_of old) (shown_of n)) (sym only)
+    subst (λ (n : Served). AnswersOne (Ask (call.Create text content number)) xid (shown_of old) (shown_of n)) (sym only)
     (answers_made (call.Create text content number) (Made at) xid old mid new.connection.output (spelling reply_header (xid, (pos (zxid_of mid), pos 0)) ++ behind) tt has took (owner, made, wrote) s.small
     (behind, record { fits = s.header_fits; whole = refl }, (Some at, record { ignored = []; fits = s.value_fits; whole = twice behind }, refl)) s.output)
 
 -- so is the Stat behind a write
 pub set_so : (text : Text) (content : Option (List ℕ)) (version xid : ℤ) (old mid new : Served) → HasClient mid → TakesSome (shown_of old) (shown_of mid) → HasWritten (Sets (path_of text) content) mid → SendsStat xid text mid new
-    → IsSending mid new → ProcessesOne (Ask (call.SetData text content version)) xid (shown_of old) (shown_of new)
+    → IsSending mid new → AnswersOne (Ask (call.SetData text content version)) xid (shown_of old) (shown_of new)
 set_so text content version xid old mid new has took wrote s only =
     let behind = spelling stat s.value in
-    subst (λ (n : Served). ProcessesOne (Ask (call.SetData text content version)) xid (shown_of old) (shown_of n)) (sym only)
+    subst (λ (n : Served). AnswersOne (Ask (call.SetData text content version)) xid (shown_of old) (shown_of n)) (sym only)
     (answers_made (call.SetData text content version) (Found (stat_of s.value)) xid old mid new.connection.output (spelling reply_header (xid, (pos (zxid_of mid), pos 0)) ++ behind) tt has took
     (wrote, stat_read (tree_held (history_of mid.history) (slice_index mid.taken mid.server)) (path_of text) (stat_of s.value) s.told) s.sends.small
     (behind, record { fits = s.sends.header_fits; whole = refl }, (s.value, record { ignored = []; fits = s.sends.value_fits; whole = twice behind }, refl)) s.sends.output)
 
 -- and a header alone, where a node is gone
 pub deleted_so : (text : Text) (version xid : ℤ) (old mid new : Served) → HasClient mid → TakesSome (shown_of old) (shown_of mid) → HasWritten (Deletes (path_of text)) mid
-    → SendsHeader (xid, (pos (zxid_of mid), pos 0)) mid.connection.output new.connection.output → IsSending mid new → ProcessesOne (Ask (call.Delete text version)) xid (shown_of old) (shown_of new)
+    → SendsHeader (xid, (pos (zxid_of mid), pos 0)) mid.connection.output new.connection.output → IsSending mid new → AnswersOne (Ask (call.Delete text version)) xid (shown_of old) (shown_of new)
 deleted_so text version xid old mid new has took wrote s only =
     let payload = spelling reply_header (xid, (pos (zxid_of mid), pos 0)) in
-    subst (λ (n : Served). ProcessesOne (Ask (call.Delete text version)) xid (shown_of old) (shown_of n)) (sym only)
+    subst (λ (n : Served). AnswersOne (Ask (call.Delete text version)) xid (shown_of old) (shown_of n)) (sym only)
     (answers_made (call.Delete text version) Done xid old mid new.connection.output payload tt has took wrote s.small
     ([], record { fits = s.fits; whole = twice payload }, (tt, record { ignored = []; fits = tt; whole = refl }, refl)) s.output)
 
@@ -615,7 +615,7 @@ ready_sending mid new ready only = subst IsReady (sym only) (record { taken = re
 
 -- a code that a request is owed is sent
 pub owed_to : (request : Request) (code xid : ℤ) (old : Shown) (mid new : Served) → OwesTo request code old (shown_of mid) → SendsHeader (xid, (pos (zxid_of mid), code)) mid.connection.output new.connection.output → IsSending mid new
-    → ProcessesOne request xid old (shown_of new)
+    → AnswersOne request xid old (shown_of new)
 owed_to (Connect seen) code xid old mid new owes s only = absurd owes
 owed_to (Restore is_last since part) code xid old mid new owes s only = absurd owes
 owed_to (Ask one) code xid old mid new owes s only = owed_sent one code xid old (shown_of mid) (shown_of new) owes s (ap shown_of only)

@@ -39,7 +39,7 @@ use Rattle.zk_bench.specs.declared.bench.Bench.TheInside.{Inside}
 use Rattle.zk_bench.proofs.Fields.{bench_of}
 use Rattle.zk_bench.proofs.Placed.{no_room}
 use Rattle.zk_bench.specs.Linked.{linked_of}
-use Rattle.zk_bench.specs.Stepping.{stage_of, end_at, Catches, CatchesUp, shown_watches, phase_of, end_of, shown_of, IsReady, TakesSome, ProcessesOne, ProcessesFirst}
+use Rattle.zk_bench.specs.Stepping.{stage_of, end_at, Catches, CatchesUp, shown_watches, phase_of, end_of, shown_of, IsReady, TakesSome, ProcessesIf, ProcessesOne, AnswersOne, ProcessesFirst, AnswersFirst}
 use Rattle.zk_bench.specs.Front.{IsShort, IsWhole}
 use Rattle.zk_serving.proofs.Fronts.{front_there, front_field, front_behind, front_payload}
 
@@ -318,13 +318,20 @@ seen_by held seen e = grind (arith, nat_tests)
 pub not_ahead : (held seen : ℕ) (kept last : ℤ) → kept ≡ pos held → last ≡ pos seen → int_lt kept last ≡ false → seen ≤ held
 not_ahead held seen kept last is asked e = seen_by held seen (ap (λ (z : ℤ). int_lt z (pos seen)) (sym is) ∙ ap (int_lt kept) (sym asked) ∙ e)
 
+-- A client that has seen no more is not ahead.
+pub no_more_seen : (held seen : ℕ) (kept last : ℤ) → kept ≡ pos held → last ≡ pos seen → seen ≤ held → int_lt kept last ≡ true → ⊥
+no_more_seen held seen kept last is asked low e =
+    let ahead : int_lt (pos held) (pos seen) ≡ true = ap (λ (z : ℤ). int_lt z (pos seen)) (sym is) ∙ ap (int_lt kept) (sym asked) ∙ e in
+    let more : held < seen = grind (arith, nat_tests) in
+    omega (arith, more, low)
+
 pub ready_answered : {A : Type 0} (i : Inside A) (before : Served) (out : Vec ℕ A) → bench_of i ≡ before → IsReady before → IsReady (record (bench_of i) { connection = linked_of (record i.connection { output = out }) })
 ready_answered i before out same was_ready = let ready : IsReady (bench_of i) = subst IsReady (sym same) was_ready in record { taken = ready.taken; there = ready.there; unwatched = ready.unwatched }
 
 -- the bytes of the request do not count
-pub front_gone : (b old : Served) (requests : List ℕ) (request : Request) (xid : ℤ) (new : Shown) → b ≡ old → ProcessesOne request xid (shown_of (record b { connection = record b.connection { requests = requests } })) new
-    → ProcessesOne request xid (shown_of old) new
-front_gone b old requests request xid new same p = subst (λ (s : Served). ProcessesOne request xid (shown_of s) new) same (record {
+pub front_gone : {P : Type 0} (b old : Served) (requests : List ℕ) (request : Request) (xid : ℤ) (new : Shown) → b ≡ old → ProcessesIf P request xid (shown_of (record b { connection = record b.connection { requests = requests } })) new
+    → ProcessesIf P request xid (shown_of old) new
+front_gone {P} b old requests request xid new same p = subst (λ (s : Served). ProcessesIf P request xid (shown_of s) new) same (record {
   steps = p.steps;
   goes = record { history = p.goes.history; moves = p.goes.moves; sent = p.goes.sent; there = p.goes.there; ended = p.goes.ended };
   done = p.done;
@@ -340,6 +347,13 @@ ok_so (Err e) P Q h f = tt
 pub err_so : {T E : Type 0} (r : Outcome T E) (P Q : E → Type 0) → IfErr r P → ((e : E) → P e → Q e) → IfErr r Q
 err_so (Ok x) P Q h f = tt
 err_so (Err e) P Q h f = f e h
+
+-- what is answered is processed
+pub processed_so : (request : Request) (xid : ℤ) (old new : Shown) → AnswersOne request xid old new → ProcessesOne request xid old new
+processed_so request xid old new a = record { steps = a.steps; goes = a.goes; done = λ still. a.done tt }
+
+pub answered_so : (request : Request) (xid : ℤ) (old new : Shown) → AnswersOne request xid old new → AnswersFirst request xid old new
+answered_so request xid old new a = record { steps = a.steps; goes = a.goes; done = a.done tt }
 
 -- What stands first
 
@@ -396,7 +410,7 @@ gives_read h place asked result is told reads = reads
 -- so a server that serves answers
 pub reads_so : {A : Type 0} (b : Served) (old new : Connection A) (asked : Call) (xid : ℤ) → b.connection ≡ linked_of old → old.phase ≡ Accepted
     → AnswersRead (tree_held (history_of b.history) (slice_index b.taken b.server)) (zxid_held (history_of b.history) (slice_index b.taken b.server)) xid asked old new
-    → ProcessesOne (Ask asked) xid (shown_of b) (shown_of (record b { connection = linked_of new }))
+    → AnswersOne (Ask asked) xid (shown_of b) (shown_of (record b { connection = linked_of new }))
 reads_so b old new asked xid is accepted a =
     let h : History = history_of b.history in
     let place : ℕ = slice_index b.taken b.server in

@@ -100,6 +100,13 @@ count_told : (node : Option Node) (count : ℕ) (told : Stat) → Some told ≡ 
 count_told None count told is = absurd cc
 count_told (Some node) count told is = ap (λ (o : Option Stat). (unwrap_or o told).num_children) is
 
+-- the names below the parent of a path are beside it
+pub beside_there : (tree : Tree) (path parent : NodePath) (names : Names) → Some parent ≡ parent_of path → HasChildren tree parent names → (others : Names) × AreBeside tree path others
+beside_there tree [] parent names above children = absurd cc
+beside_there tree (name ∷ path) parent names above children =
+    let same : parent ≡ path = ap (λ (o : Option NodePath). unwrap_or o parent) above in
+    (names, subst (λ (p : NodePath). HasChildren tree p names) same children)
+
 -- the Stat of the parent of a path tells how many names are beside that of the path
 pub beside_counted : (tree : Tree) (path parent : NodePath) (told : Stat) (names : Names) → Some parent ≡ parent_of path → IsStat tree parent (Some told) → AreBeside tree path names
     → told.num_children ≡ pos (set.len names)

@@ -7,5 +7,6 @@ pub mod Serving
 pub mod Answering
 pub mod Restoring
 pub mod Stepping
+pub mod Answerable
 pub mod Asking
 pub mod Writing

@@ -1,5 +1,5 @@
 -- What a server watches and sends, in the words of the laws.
-use Rattle.std.specs.Prelude.{ℕ, ℤ, ◌≡◌, ◌<◌, ◌^◌, Bool, ◌&&◌, ◌||◌, if◌then◌else◌, false, List, [], ◌++◌, map, length}
+use Rattle.std.specs.Prelude.{ℕ, ℤ, ◌+◌, ◌≡◌, ◌<◌, ◌^◌, Bool, ◌&&◌, ◌||◌, if◌then◌else◌, false, List, [], ◌++◌, map, length}
 use Rattle.std.specs.List.{flat_map}
 use Rattle.std.specs.FinSet as set
 use Rattle.zk_jute.specs.Layout.{Layout, Value}
@@ -42,6 +42,20 @@ leaves_at event at watches side path = if concerns event side && path_eq path at
 -- whether a side is watched that the event concerns
 abbrev pub is_watched : Event → NodePath → Watches → Bool
 is_watched event at watches = (concerns event Data && watches Data at) || (concerns event Child && watches Child at)
+
+-- a result of so many bytes fits a frame, behind a header of 16
+abbrev pub FitsReply : ℕ → Type 0
+FitsReply count = 16 + count < 2 ^ 31
+
+-- A result can be sent.
+pub record CanBeSent (layout : Layout) (value : Value layout) : Type 0 where
+  pub fits : Fits layout value
+  pub small : FitsReply (length (spelling layout value))
+
+-- So can an answer to a ConnectRequest.
+pub record CanBeTold (response : Response) : Type 0 where
+  pub fits : Fits connect_response_front response.front
+  pub small : length (response_spelling response) < 2 ^ 31
 
 -- A payload of a header and a record is sent.
 pub record Sends (header : Value reply_header) (layout : Layout) (value : Value layout) (old new : List ℕ) : Type 0 where

@@ -90,11 +90,19 @@ pub record IsReady (served : Served) : Type 0 where
   pub there : served.server < length served.taken
   pub unwatched : served.connection.phase ≡ Opening → shown_watches served.connection ≡ no_watches
 
--- The connected server processes a request, in which this xid stands, or ends the connection.
-pub record ProcessesOne (request : Request) (xid : ℤ) (old new : Shown) : Type 0 where
+-- The connected server goes on by steps, with a request to process, in which this xid stands. It has processed it under a condition.
+pub record ProcessesIf (condition : Type 0) (request : Request) (xid : ℤ) (old new : Shown) : Type 0 where
   pub steps : List Step
   pub goes : GoesBy xid (request ∷ []) steps old new
-  pub done : new.phase ≡ shows.Open → processed_by steps ≡ 1
+  pub done : condition → processed_by steps ≡ 1
+
+-- It processes the request, or ends the connection.
+abbrev pub ProcessesOne : Request → ℤ → Shown → Shown → Type 0
+ProcessesOne request xid old new = ProcessesIf (new.phase ≡ shows.Open) request xid old new
+
+-- It processes the request, and so it answers it, also where it ends the connection then.
+abbrev pub AnswersOne : Request → ℤ → Shown → Shown → Type 0
+AnswersOne request xid old new = ProcessesIf ⊤ request xid old new
 
 -- The connected server takes transactions.
 pub record TakesSome (old new : Shown) : Type 0 where
@@ -105,6 +113,12 @@ pub record TakesSome (old new : Shown) : Type 0 where
 pub record ProcessesFirst (request : Request) (xid : ℤ) (payload : List ℕ) (old new : Shown) : Type 0 where
   pub steps : List Step
   pub processes : Processes request xid payload steps old new
+
+-- It answers that request: it has processed it, also where it ends the connection then.
+pub record AnswersFirst (request : Request) (xid : ℤ) (old new : Shown) : Type 0 where
+  pub steps : List Step
+  pub goes : GoesBy xid (request ∷ []) steps old new
+  pub done : processed_by steps ≡ 1
 
 -- a result that a header alone tells
 abbrev pub IsRefusal : Result → Type 0

@@ -4,8 +4,9 @@ ghost use Rattle.std.specs.Prelude.{◌≡◌, ◌≢◌, ◌≤◌, ◌<◌, �
 ghost use Rattle.zk_frames.specs.Frame.{frame, IsNegative};
 ghost use Rattle.zk_bench.specs.declared.phase.Phase.TheVariants.{Apart, Opening, Accepted};
 ghost use Rattle.zk_bench.specs.declared.stop.Stop.TheVariants as stops;
+ghost use Rattle.zk_bench.specs.declared.stop.Refusal.TheVariants as refusals;
 ghost use Rattle.zk_bench.specs.Front.{IsShort, IsWhole};
-ghost use Rattle.zk_history.specs.HistoryView.{history_of, natural};
+ghost use Rattle.zk_history.specs.HistoryView.{IsAccepted, history_of, natural, newest_tree};
 ghost use Rattle.zk_history.specs.declared.history_fault.HistoryFault.TheVariants as faults;
 ghost use Rattle.zk_laws.specs.Server.{zxid_held, tree_held, is_sequential};
 ghost use Rattle.zk_laws.specs.ServerSteps.{Serving};
@@ -13,9 +14,13 @@ ghost use Rattle.zk_laws.specs.Messages.{Request as Wanted, Connect, Ask, Ping};
 ghost use Rattle.zk_conversation.specs.Calls.{SetData, Create, Close};
 ghost use Rattle.zk_laws.specs.Parsed.{IsRecord};
 ghost use Rattle.zk_records.specs.Layouts.{connect_request};
-ghost use Rattle.zk_bench.specs.Stepping.{IsReady, HasClient, TakesSome, ProcessesOne, ProcessesFirst, Declines, IsSending, HasAll, HasWritten, LeavesUnmade, SendsStat, LeavesUnsent, zxid_of, stage_of, shown_of};
-ghost use Rattle.zk_bench.specs.Writing.{appended, mode_of as mode_told};
-ghost use Rattle.zk_nodes.specs.History.{tree_at};
+ghost use Rattle.zk_bench.specs.Stepping.{IsReady, HasClient, TakesSome, ProcessesOne, AnswersOne, ProcessesFirst, AnswersFirst, Declines, IsSending, HasAll, HasWritten, LeavesUnmade, SendsStat, LeavesUnsent, zxid_of, stage_of, shown_of};
+ghost use Rattle.zk_bench.specs.Answerable.{IsAnswerable};
+ghost use Rattle.zk_bench.specs.Writing.{appended, mode_of as mode_told, tree_of};
+ghost use Rattle.zk_nodes.specs.History.{tree_at, size_of};
+ghost use Rattle.zk_jute.specs.Spelling.{Fits};
+ghost use Rattle.zk_records.specs.Operations.{body_layout};
+ghost use Rattle.zk_records.specs.Request.{operation_of, body_of};
 ghost use Rattle.zk_history.specs.Made.{change_of};
 ghost use Rattle.zk_nodes.specs.PathFault.{IsPath};
 ghost use Rattle.zk_records.specs.declared.request.Request.TheVariants as requests;
@@ -196,6 +201,7 @@ impl<A: Allocator + Copy> Bench<A> {
         ensures advances { IsReady self.old → n - 1 ≡ self.old.server → is_open self.old.connection.phase ≡ true → OnOk result (TakesSome (shown_of self.old) (shown_of self.new)) }
         ensures apart { is_open self.old.connection.phase ≡ false → OnOk result (self.new.connection ≡ self.old.connection) }
         ensures lost { OnErr result (self.new.connection ≡ linked Apart) }
+        ensures stays { OnOk result (self.new.connection.phase ≡ self.old.connection.phase) }
         ensures rest { self.new ≡ record self.old { taken = self.new.taken; connection = self.new.connection } }
     {
         let outcome = self.take_next(n - 1);
@@ -207,7 +213,8 @@ impl<A: Allocator + Copy> Bench<A> {
     /// The first is a ConnectRequest: a server that is behind its zxid ends the connection without an answer. Reads and
     /// setWatches are answered at the server's place in the history. A write first takes all transactions that are left;
     /// one that is accepted is appended to the history, and taken before the reply. A frame that is none of these
-    /// requests ends the connection without an answer, and so does a reply of more than 2,147,483,647 bytes.
+    /// requests ends the connection without an answer, and so do a create with flags other than 0 to 3 and a reply of
+    /// more than 2,147,483,647 bytes. Each other request is answered.
     #[tactic(auto, using(crate::proofs::Continuing::same_goes_on))]
     pub fn process(&mut self) -> Result<(), AllocError>
         ensures idle { is_open self.old.connection.phase ≡ false → self.new ≡ self.old }
@@ -219,6 +226,9 @@ impl<A: Allocator + Copy> Bench<A> {
         ensures ready { IsReady self.old → IsReady self.new }
         ensures serves { (request : Wanted) (xid : ℤ) (payload rest : List ℕ) → IsReady self.old → is_open self.old.connection.phase ≡ true → StandsFirst request xid payload rest self.old.connection.requests
             → IsFor request (shown_of self.old).server.stage → OnOk result (ProcessesFirst request xid payload (shown_of self.old) (shown_of self.new)) }
+        // And it is answered, where it has an answer.
+        ensures answers { (request : Wanted) (xid : ℤ) (payload rest : List ℕ) → IsReady self.old → is_open self.old.connection.phase ≡ true → StandsFirst request xid payload rest self.old.connection.requests
+            → IsFor request (shown_of self.old).server.stage → IsAnswerable request self.old → OnOk result (AnswersFirst request xid (shown_of self.old) (shown_of self.new)) }
         ensures lost { OnErr result (self.new.connection ≡ linked Apart) }
         ensures history { Continues self.old.history self.new.history }
         ensures rest { self.new ≡ record self.old { history = self.new.history; taken = self.new.taken; connection = self.new.connection } }
@@ -239,9 +249,11 @@ impl<A: Allocator + Copy> Bench<A> {
             → self.new.connection.requests ≡ drop (4 + count) self.old.connection.requests }
         ensures ready { is_open self.old.connection.phase ≡ true → IsReady self.old → IsReady self.new }
         ensures serves { (asked : Wanted) (xid : ℤ) (payload rest : List ℕ) → IsReady self.old → is_open self.old.connection.phase ≡ true → StandsFirst asked xid payload rest self.old.connection.requests
-            → IsFor asked (stage_of self.old.connection.phase) → OnOk result (ProcessesOne asked xid (shown_of self.old) (shown_of self.new)) }
+            → IsFor asked (stage_of self.old.connection.phase) → OnOk result (AnswersOne asked xid (shown_of self.old) (shown_of self.new)) }
         ensures breaks { (asked : Wanted) (xid : ℤ) (payload rest : List ℕ) → IsReady self.old → is_open self.old.connection.phase ≡ true → StandsFirst asked xid payload rest self.old.connection.requests
             → IsFor asked (stage_of self.old.connection.phase) → IsErrOf result stops.End → ProcessesOne asked xid (shown_of self.old) (shown_of (ended self.new)) }
+        ensures stays { (asked : Wanted) (xid : ℤ) (payload rest : List ℕ) → IsReady self.old → is_open self.old.connection.phase ≡ true → StandsFirst asked xid payload rest self.old.connection.requests
+            → IsFor asked (stage_of self.old.connection.phase) → IsAnswerable asked self.old → ¬ IsErrOf result stops.End }
         ensures history { Continues self.old.history self.new.history }
         ensures rest { self.new ≡ record self.old { history = self.new.history; taken = self.new.taken; connection = self.new.connection } }
     {
@@ -282,6 +294,8 @@ impl<A: Allocator + Copy> Bench<A> {
         ensures advances { IsReady self.old → server ≡ self.old.server → is_open self.old.connection.phase ≡ true → OnOk result (TakesSome (shown_of self.old) (shown_of self.new)) }
         ensures apart { is_open self.old.connection.phase ≡ false → (self.new.connection ≡ self.old.connection) × IsOk result }
         ensures sent { OnErr result (self.new.connection.output ≡ self.old.connection.output) }
+        ensures phase { self.new.connection.phase ≡ self.old.connection.phase }
+        ensures stays { ¬ IsErrOf result stops.End }
         ensures rest { self.new ≡ record self.old { taken = self.new.taken; connection = self.new.connection } }
     {
         let place = self.taken[server];
@@ -312,10 +326,12 @@ impl<A: Allocator + Copy> Bench<A> {
         ensures ready { is_open self.old.connection.phase ≡ true → IsReady self.old → IsReady self.new }
         ensures serves { (asked : Wanted) (xid : ℤ) → IsReady self.old → is_open self.old.connection.phase ≡ true → IsFor asked (stage_of self.old.connection.phase)
             → IsReadAs asked xid (first length (drop 4 self.old.connection.requests)) → IsFit asked (first length (drop 4 self.old.connection.requests))
-            → OnOk result (ProcessesOne asked xid (shown_of self.old) (shown_of self.new)) }
+            → OnOk result (AnswersOne asked xid (shown_of self.old) (shown_of self.new)) }
         ensures ends { (asked : Wanted) (xid : ℤ) → IsReady self.old → is_open self.old.connection.phase ≡ true → IsFor asked (stage_of self.old.connection.phase)
             → IsReadAs asked xid (first length (drop 4 self.old.connection.requests)) → IsFit asked (first length (drop 4 self.old.connection.requests))
             → IsErrOf result stops.End → ProcessesOne asked xid (shown_of self.old) (shown_of (ended self.new)) }
+        ensures stays { (asked : Wanted) (xid : ℤ) → IsReady self.old → is_open self.old.connection.phase ≡ true → IsFor asked (stage_of self.old.connection.phase)
+            → IsReadAs asked xid (first length (drop 4 self.old.connection.requests)) → IsFit asked (first length (drop 4 self.old.connection.requests)) → IsAnswerable asked self.old → ¬ IsErrOf result stops.End }
     {
         match self.connection.phase {
             Phase::Opening => self.process_first(length),
@@ -328,9 +344,11 @@ impl<A: Allocator + Copy> Bench<A> {
     fn process_later(&mut self, length: usize) -> Result<(), Stop>
         requires { 4 + length ≤ bytes_of self.old.connection.requests }
         ensures serves { (asked : Wanted) (xid : ℤ) → HasClient self.old → IsFor asked Serving → IsReadAs asked xid (first length (drop 4 self.old.connection.requests)) → IsFit asked (first length (drop 4 self.old.connection.requests))
-            → OnOk result (ProcessesOne asked xid (shown_of self.old) (shown_of self.new)) }
+            → OnOk result (AnswersOne asked xid (shown_of self.old) (shown_of self.new)) }
         ensures ends { (asked : Wanted) (xid : ℤ) → HasClient self.old → IsFor asked Serving → IsReadAs asked xid (first length (drop 4 self.old.connection.requests)) → IsFit asked (first length (drop 4 self.old.connection.requests))
             → IsErrOf result stops.End → ProcessesOne asked xid (shown_of self.old) (shown_of (ended self.new)) }
+        ensures stays { (asked : Wanted) (xid : ℤ) → HasClient self.old → IsFor asked Serving → IsReadAs asked xid (first length (drop 4 self.old.connection.requests)) → IsFit asked (first length (drop 4 self.old.connection.requests))
+            → IsAnswerable asked self.old → ¬ IsErrOf result stops.End }
         ensures ready { HasClient self.old → IsReady self.new }
         ensures processed { self.new.connection.requests ≡ drop (4 + length) self.old.connection.requests }
         ensures history { Continues self.old.history self.new.history }
@@ -352,7 +370,9 @@ impl<A: Allocator + Copy> Bench<A> {
         ensures ready { IsReady self.old → IsReady self.new }
         ensures connects { (seen : ℕ) (timeout session : ℤ) (password : List ℕ) (xid : ℤ) → IsReady self.old → self.old.connection.phase ≡ Opening
             → IsRecord connect_request (pos 0, (pos seen, (timeout, (session, (Some password, false))))) (first length (drop 4 self.old.connection.requests)) → int_lt (pos 0) timeout ≡ true
-            → OnOk result (ProcessesOne (Connect seen) xid (shown_of self.old) (shown_of self.new)) }
+            → OnOk result (AnswersOne (Connect seen) xid (shown_of self.old) (shown_of self.new)) }
+        ensures stays { (seen : ℕ) (timeout session : ℤ) (password : List ℕ) → IsReady self.old
+            → IsRecord connect_request (pos 0, (pos seen, (timeout, (session, (Some password, false))))) (first length (drop 4 self.old.connection.requests)) → seen ≤ zxid_of self.old → ¬ IsErrOf result stops.End }
         ensures sent { IsErrOf result stops.End → self.new.connection.output ≡ self.old.connection.output }
         ensures processed { self.new.connection.requests ≡ drop (4 + length) self.old.connection.requests }
         ensures rest { self.new ≡ record self.old { taken = self.new.taken; connection = self.new.connection } }
@@ -366,6 +386,7 @@ impl<A: Allocator + Copy> Bench<A> {
     fn send_err(&mut self, xid: i32, err: i32) -> Result<(), Stop>
         ensures sends { IsReady self.old → OnOk result (SendsHeader (xid, (pos (zxid_of self.old), err)) self.old.connection.output self.new.connection.output) }
         ensures sent { IsErrOf result stops.End → self.new.connection.output ≡ self.old.connection.output }
+        ensures stays { ¬ IsErrOf result stops.End }
         ensures only { IsSending self.old self.new }
     {
         let zxid = self.zxid();
@@ -377,7 +398,8 @@ impl<A: Allocator + Copy> Bench<A> {
     fn admit(&mut self, request: &ConnectRequest<A>) -> Result<(), Stop>
         ensures ready { IsReady self.old → IsReady self.new }
         ensures admits { (seen : ℕ) (xid : ℤ) → IsReady self.old → self.old.connection.phase ≡ Opening → request.now.last_zxid_seen ≡ pos seen → int_lt (pos 0) request.now.time_out ≡ true
-            → OnOk result (ProcessesOne (Connect seen) xid (shown_of self.old) (shown_of self.new)) }
+            → OnOk result (AnswersOne (Connect seen) xid (shown_of self.old) (shown_of self.new)) }
+        ensures stays { (seen : ℕ) → IsReady self.old → request.now.last_zxid_seen ≡ pos seen → seen ≤ zxid_of self.old → ¬ IsErrOf result stops.End }
         ensures sent { IsErrOf result stops.End → self.new.connection.output ≡ self.old.connection.output }
         ensures requests { self.new.connection.requests ≡ self.old.connection.requests }
         ensures rest { self.new ≡ record self.old { taken = self.new.taken; connection = self.new.connection } }
@@ -399,8 +421,9 @@ impl<A: Allocator + Copy> Bench<A> {
     // Answers a request with its result, or says why it has none.
     #[tactic(auto, using(crate::proofs::Continuing::same_goes_on))]
     fn answer(&mut self, xid: i32, request: Request<A>) -> Result<(), Refusal>
-        ensures answers { (asked : Wanted) → HasClient self.old → Asks request asked → OnOk result (ProcessesOne asked xid (shown_of self.old) (shown_of self.new)) }
+        ensures answers { (asked : Wanted) → HasClient self.old → Asks request asked → OnOk result (AnswersOne asked xid (shown_of self.old) (shown_of self.new)) }
         ensures declines { (asked : Wanted) → HasClient self.old → Asks request asked → IfErr result (Declines asked xid self.old self.new) }
+        ensures stays { (asked : Wanted) → HasClient self.old → Asks request asked → IsAnswerable asked self.old → Fits (body_layout (operation_of request)) (body_of request) → ¬ IsErrOf result (refusals.Stop stops.End) }
         ensures ready { HasClient self.old → IsReady self.new }
         ensures requests { self.new.connection.requests ≡ self.old.connection.requests }
         ensures history { Continues self.old.history self.new.history }
@@ -429,8 +452,9 @@ impl<A: Allocator + Copy> Bench<A> {
     // Answers a request that leaves the history as it is.
     fn read(&mut self, xid: i32, request: &Request<A>) -> Result<(), Refusal>
         ensures answers { (asked : Wanted) → HasClient self.old → IsLook asked → Asks request.now asked
-            → OnOk result (ProcessesOne asked xid (shown_of self.old) (shown_of self.new)) }
+            → OnOk result (AnswersOne asked xid (shown_of self.old) (shown_of self.new)) }
         ensures declines { (asked : Wanted) → HasClient self.old → IsLook asked → Asks request.now asked → IfErr result (Declines asked xid self.old self.new) }
+        ensures stays { (asked : Wanted) → HasClient self.old → IsLook asked → Asks request.now asked → IsAnswerable asked self.old → ¬ IsErrOf result (refusals.Stop stops.End) }
         ensures ready { HasClient self.old → IsReady self.new }
         ensures requests { self.new.connection.requests ≡ self.old.connection.requests }
         ensures rest { self.new ≡ record self.old { connection = self.new.connection } }
@@ -445,8 +469,9 @@ impl<A: Allocator + Copy> Bench<A> {
 
     // Answers a ping.
     fn pong(&mut self) -> Result<(), Stop>
-        ensures answers { (xid : ℤ) → HasClient self.old → OnOk result (ProcessesOne Ping xid (shown_of self.old) (shown_of self.new)) }
+        ensures answers { (xid : ℤ) → HasClient self.old → OnOk result (AnswersOne Ping xid (shown_of self.old) (shown_of self.new)) }
         ensures ends { (xid : ℤ) → HasClient self.old → IsErrOf result stops.End → ProcessesOne Ping xid (shown_of self.old) (shown_of (ended self.new)) }
+        ensures stays { ¬ IsErrOf result stops.End }
         ensures only { IsSending self.old self.new }
     {
         self.send_err(PONG, 0)
@@ -454,8 +479,9 @@ impl<A: Allocator + Copy> Bench<A> {
 
     // Answers the end of a session, and ends the connection.
     fn close(&mut self, xid: i32) -> Result<(), Stop>
-        ensures answers { HasClient self.old → OnOk result (ProcessesOne (Ask Close) xid (shown_of self.old) (shown_of self.new)) }
+        ensures answers { HasClient self.old → OnOk result (AnswersOne (Ask Close) xid (shown_of self.old) (shown_of self.new)) }
         ensures ends { HasClient self.old → IsErrOf result stops.End → ProcessesOne (Ask Close) xid (shown_of self.old) (shown_of (ended self.new)) }
+        ensures stays { ¬ IsErrOf result stops.End }
         ensures ready { HasClient self.old → IsReady self.new }
         ensures requests { self.new.connection.requests ≡ self.old.connection.requests }
         ensures rest { self.new ≡ record self.old { connection = self.new.connection } }
@@ -470,6 +496,7 @@ impl<A: Allocator + Copy> Bench<A> {
         ensures takes { HasClient self.old → OnOk result (TakesSome (shown_of self.old) (shown_of self.new)) }
         ensures ends { HasClient self.old → OnErr result (TakesSome (shown_of self.old) (shown_of (ended self.new))) }
         ensures all { HasClient self.old → OnOk result (HasAll self.new) }
+        ensures stays { ¬ IsErrOf result stops.End }
         ensures has { HasClient self.old → HasClient self.new }
         ensures requests { self.new.connection.requests ≡ self.old.connection.requests }
         ensures rest { self.new ≡ record self.old { taken = self.new.taken; connection = self.new.connection } }
@@ -486,6 +513,7 @@ impl<A: Allocator + Copy> Bench<A> {
     // The tree at the end of the history.
     fn newest(&self) -> Tree<'_, A>
         ensures history { result.history.now ≡ self.now.history }
+        ensures seen { tree_of result.history.now result.zxid ≡ newest_tree self.now.history }
         ensures held { HasAll self.now → tree_at (history_of self.now.history) (natural result.zxid) ≡ tree_held (history_of self.now.history) (slice_index self.now.taken self.now.server) }
     {
         Tree {
@@ -502,6 +530,7 @@ impl<A: Allocator + Copy> Bench<A> {
         ensures wrote { HasClient self.old → OnOk result (HasWritten (change_of change) self.new) }
         ensures all { HasClient self.old → OnOk result (HasAll self.new) }
         ensures refuses { HasClient self.old → IfErr result (LeavesUnmade self.old self.new) }
+        ensures stays { IsAccepted (change_of change) (newest_tree self.old.history) → ¬ IsErrOf result (refusals.Stop stops.End) }
         ensures has { HasClient self.old → HasClient self.new }
         ensures requests { self.new.connection.requests ≡ self.old.connection.requests }
         ensures history { Continues self.old.history self.new.history }
@@ -517,6 +546,7 @@ impl<A: Allocator + Copy> Bench<A> {
         ensures mode { IfOk result (λ mode. mode_told flags ≡ Some (mode.ephemeral, mode.sequential)) }
         ensures takes { HasClient self.old → OnOk result (TakesSome (shown_of self.old) (shown_of self.new)) }
         ensures ends { HasClient self.old → OnErr result (TakesSome (shown_of self.old) (shown_of (ended self.new))) }
+        ensures stays { (number : ℕ) → flags ≡ pos number → number ≤ 3 → ¬ IsErrOf result stops.End }
         ensures has { HasClient self.old → HasClient self.new }
         ensures requests { self.new.connection.requests ≡ self.old.connection.requests }
         ensures rest { self.new ≡ record self.old { taken = self.new.taken; connection = self.new.connection } }
@@ -531,8 +561,9 @@ impl<A: Allocator + Copy> Bench<A> {
     // Answers a create: the codes of the specification in their order, or the path that is made.
     #[tactic(auto, using(crate::proofs::Continuing::same_goes_on))]
     fn create(&mut self, xid: i32, request: CreateRequest<A>) -> Result<(), Refusal>
-        ensures answers { (asked : Wanted) → HasClient self.old → Asks (requests.Create request) asked → OnOk result (ProcessesOne asked xid (shown_of self.old) (shown_of self.new)) }
+        ensures answers { (asked : Wanted) → HasClient self.old → Asks (requests.Create request) asked → OnOk result (AnswersOne asked xid (shown_of self.old) (shown_of self.new)) }
         ensures declines { (asked : Wanted) → HasClient self.old → Asks (requests.Create request) asked → IfErr result (Declines asked xid self.old self.new) }
+        ensures stays { (asked : Wanted) → Asks (requests.Create request) asked → size_of request.bytes ≤ 2147483647 → ¬ IsErrOf result (refusals.Stop stops.End) }
         ensures has { HasClient self.old → HasClient self.new }
         ensures requests { self.new.connection.requests ≡ self.old.connection.requests }
         ensures history { Continues self.old.history self.new.history }
@@ -561,8 +592,9 @@ impl<A: Allocator + Copy> Bench<A> {
     // Makes a node in this mode, below the newest tree, and answers with its path.
     #[tactic(auto, using(crate::proofs::Continuing::same_goes_on))]
     fn make(&mut self, xid: i32, mode: Mode, text: &str, bytes: Buffer<A>) -> Result<(), Refusal>
-        ensures answers { (number : ℕ) → HasClient self.old → is_sequential number ≡ mode.sequential → OnOk result (ProcessesOne (Ask (Create text.now bytes number)) xid (shown_of self.old) (shown_of self.new)) }
+        ensures answers { (number : ℕ) → HasClient self.old → is_sequential number ≡ mode.sequential → OnOk result (AnswersOne (Ask (Create text.now bytes number)) xid (shown_of self.old) (shown_of self.new)) }
         ensures declines { (number : ℕ) → HasClient self.old → IfErr result (Declines (Ask (Create text.now bytes number)) xid self.old self.new) }
+        ensures stays { size_of bytes ≤ 2147483647 → ¬ IsErrOf result (refusals.Stop stops.End) }
         ensures has { HasClient self.old → HasClient self.new }
         ensures requests { self.new.connection.requests ≡ self.old.connection.requests }
         ensures history { Continues self.old.history self.new.history }
@@ -582,6 +614,7 @@ impl<A: Allocator + Copy> Bench<A> {
     fn send_created(&mut self, xid: i32, text: &str) -> Result<(), Stop>
         ensures sends { IsReady self.old → OnOk result (Sends (xid, (pos (zxid_of self.old), pos 0)) create_response (Some text.now) self.old.connection.output self.new.connection.output) }
         ensures sent { IsErrOf result stops.End → self.new.connection.output ≡ self.old.connection.output }
+        ensures stays { IsPath text.now → ¬ IsErrOf result stops.End }
         ensures only { IsSending self.old self.new }
     {
         let zxid = self.zxid();
@@ -593,8 +626,9 @@ impl<A: Allocator + Copy> Bench<A> {
     // Answers a setData: the codes of the specification in their order, or the Stat behind the write.
     #[tactic(auto, using(crate::proofs::Continuing::same_goes_on))]
     fn set_data(&mut self, xid: i32, request: SetDataRequest<A>) -> Result<(), Refusal>
-        ensures answers { (asked : Wanted) → HasClient self.old → Asks (requests.SetData request) asked → OnOk result (ProcessesOne asked xid (shown_of self.old) (shown_of self.new)) }
+        ensures answers { (asked : Wanted) → HasClient self.old → Asks (requests.SetData request) asked → OnOk result (AnswersOne asked xid (shown_of self.old) (shown_of self.new)) }
         ensures declines { (asked : Wanted) → HasClient self.old → Asks (requests.SetData request) asked → IfErr result (Declines asked xid self.old self.new) }
+        ensures stays { size_of request.bytes ≤ 2147483647 → ¬ IsErrOf result (refusals.Stop stops.End) }
         ensures has { HasClient self.old → HasClient self.new }
         ensures requests { self.new.connection.requests ≡ self.old.connection.requests }
         ensures history { Continues self.old.history self.new.history }
@@ -618,8 +652,9 @@ impl<A: Allocator + Copy> Bench<A> {
         bytes: Buffer<A>,
         version: i32,
     ) -> Result<(), Refusal>
-        ensures answers { HasClient self.old → IsPath text.now → OnOk result (ProcessesOne (Ask (SetData text.now bytes version)) xid (shown_of self.old) (shown_of self.new)) }
+        ensures answers { HasClient self.old → IsPath text.now → OnOk result (AnswersOne (Ask (SetData text.now bytes version)) xid (shown_of self.old) (shown_of self.new)) }
         ensures declines { HasClient self.old → IsPath text.now → IfErr result (Declines (Ask (SetData text.now bytes version)) xid self.old self.new) }
+        ensures stays { size_of bytes ≤ 2147483647 → ¬ IsErrOf result (refusals.Stop stops.End) }
         ensures has { HasClient self.old → HasClient self.new }
         ensures requests { self.new.connection.requests ≡ self.old.connection.requests }
         ensures history { Continues self.old.history self.new.history }
@@ -643,6 +678,7 @@ impl<A: Allocator + Copy> Bench<A> {
     fn send_stat(&mut self, xid: i32, text: &str) -> Result<(), Refusal>
         ensures sends { IsReady self.old → HasAll self.old → IsPath text.now → OnOk result (SendsStat xid text.now self.old self.new) }
         ensures unsent { IfErr result (LeavesUnsent self.old self.new) }
+        ensures stays { ¬ IsErrOf result (refusals.Stop stops.End) }
         ensures only { IsSending self.old self.new }
     {
         let zxid = self.zxid();
@@ -657,8 +693,9 @@ impl<A: Allocator + Copy> Bench<A> {
     // Answers a delete: the codes of the specification in their order, or a header alone.
     #[tactic(auto, using(crate::proofs::Continuing::same_goes_on))]
     fn delete(&mut self, xid: i32, request: &DeleteRequest<A>) -> Result<(), Refusal>
-        ensures answers { (asked : Wanted) → HasClient self.old → Asks (requests.Delete request.now) asked → OnOk result (ProcessesOne asked xid (shown_of self.old) (shown_of self.new)) }
+        ensures answers { (asked : Wanted) → HasClient self.old → Asks (requests.Delete request.now) asked → OnOk result (AnswersOne asked xid (shown_of self.old) (shown_of self.new)) }
         ensures declines { (asked : Wanted) → HasClient self.old → Asks (requests.Delete request.now) asked → IfErr result (Declines asked xid self.old self.new) }
+        ensures stays { ¬ IsErrOf result (refusals.Stop stops.End) }
         ensures has { HasClient self.old → HasClient self.new }
         ensures requests { self.new.connection.requests ≡ self.old.connection.requests }
         ensures history { Continues self.old.history self.new.history }

@@ -2,7 +2,8 @@
 
 ghost use Rattle.std.specs.Prelude.{◌≡◌, pos, true, int_lt, None, IfOk, OnOk, IsErrOf};
 ghost use Rattle.zk_laws.specs.Messages.{Accepted, Expired};
-ghost use Rattle.zk_bench.specs.Serving.{SendsMessage};
+ghost use Rattle.zk_records.specs.Views.{response_of};
+ghost use Rattle.zk_bench.specs.Serving.{SendsMessage, CanBeTold};
 ghost use Rattle.zk_bench.specs.declared.stop.Stop.TheVariants as stops;
 
 use crate::replies::send_response;
@@ -16,14 +17,14 @@ const SESSION: i64 = 1;
 
 /// The answer to a client that is accepted: session 1 with the timeout that was asked for, and sixteen bytes 01.
 fn accepted<A: Allocator>(alloc: A, time_out: i32) -> Result<ConnectResponse<A>, AllocError>
-    ensures { IfOk result (λ response. (response.time_out ≡ time_out) × (response.read_only ≡ None)) }
+    ensures { IfOk result (λ response. (response.time_out ≡ time_out) × (response.read_only ≡ None) × CanBeTold (response_of response)) }
 {
     response(alloc, time_out, SESSION, 1)
 }
 
 /// The answer to a client whose session has expired: timeout 0, session 0 and sixteen zero bytes.
 fn expired<A: Allocator>(alloc: A) -> Result<ConnectResponse<A>, AllocError>
-    ensures { IfOk result (λ response. (response.time_out ≡ pos 0) × (response.read_only ≡ None)) }
+    ensures { IfOk result (λ response. (response.time_out ≡ pos 0) × (response.read_only ≡ None) × CanBeTold (response_of response)) }
 {
     response(alloc, 0, 0, 0)
 }
@@ -36,6 +37,7 @@ pub(crate) fn send_accepted<A: Allocator + Copy>(
 ) -> Result<(), Stop>
     ensures sends { int_lt (pos 0) time_out ≡ true → OnOk result (SendsMessage Accepted out.old.items out.new.items) }
     ensures ended { IsErrOf result stops.End → out.new.items ≡ out.old.items }
+    ensures stays { ¬ IsErrOf result stops.End }
 {
     let response = accepted(alloc, time_out)?;
     send_response(alloc, response, out)?;
@@ -46,6 +48,7 @@ pub(crate) fn send_accepted<A: Allocator + Copy>(
 pub(crate) fn send_expired<A: Allocator + Copy>(alloc: A, out: &mut Vec<u8, A>) -> Result<(), Stop>
     ensures sends { OnOk result (SendsMessage Expired out.old.items out.new.items) }
     ensures ended { IsErrOf result stops.End → out.new.items ≡ out.old.items }
+    ensures stays { ¬ IsErrOf result stops.End }
 {
     let response = expired(alloc)?;
     send_response(alloc, response, out)?;
@@ -59,7 +62,7 @@ fn response<A: Allocator>(
     session_id: i64,
     byte: u8,
 ) -> Result<ConnectResponse<A>, AllocError>
-    ensures { IfOk result (λ response. (response.time_out ≡ time_out) × (response.read_only ≡ None)) }
+    ensures { IfOk result (λ response. (response.time_out ≡ time_out) × (response.read_only ≡ None) × CanBeTold (response_of response)) }
 {
     let passwd = Vec::from_slice(alloc, &[byte; 16])?;
     Ok(ConnectResponse {

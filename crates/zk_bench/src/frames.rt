@@ -43,6 +43,7 @@ pub(crate) fn push_frame<A: Allocator>(payload: &[u8], out: &mut Vec<u8, A>) -> 
     ensures ok { OnOk result (out.new.items ≡ out.old.items ++ frame payload.now) }
     ensures small { OnOk result (bytes_of payload.now < 2 ^ 31) }
     ensures ended { IsErrOf result stops.End → out.new.items ≡ out.old.items }
+    ensures stays { bytes_of payload.now < 2 ^ 31 → ¬ IsErrOf result stops.End }
     ensures begun { first (bytes_of out.old.items) out.new.items ≡ out.old.items }
 {
     if payload.len() > i32::MAX as usize {

@@ -1,11 +1,13 @@
 //! What a transaction tells the connection that watches.
 
-ghost use Rattle.std.specs.Prelude.{◌≡◌, ◌≢◌, OnOk, OnErr, IsOk, map, take as first, length as bytes_of};
+ghost use Rattle.std.specs.Prelude.{◌≡◌, ◌≢◌, OnOk, OnErr, IsOk, IsErrOf, map, take as first, length as bytes_of};
 ghost use Rattle.zk_nodes.specs.Path.{path_of, IsPathText};
+ghost use Rattle.zk_nodes.specs.PathFault.{IsPath};
 ghost use Rattle.zk_history.specs.Made.{change_of};
 ghost use Rattle.zk_laws.specs.Server.{fires, leaves_set, fires_all, leaves_set_all};
 ghost use Rattle.zk_bench.specs.declared.phase.Phase.TheVariants.{Accepted};
 ghost use Rattle.zk_bench.specs.Serving.{watched, fires_at, leaves_at, Tells};
+ghost use Rattle.zk_bench.specs.declared.stop.Stop.TheVariants as stops;
 
 use crate::connection::Connection;
 use crate::phase::Phase;
@@ -25,6 +27,7 @@ fn tell<A: Allocator + Copy>(
     requires { IsPathText path.now }
     ensures rest { connection.new ≡ record connection.old { watches = connection.new.watches; output = connection.new.output } }
     ensures left { watched connection.new.watches ≡ leaves_at event (path_of path.now) (watched connection.old.watches) }
+    ensures stays { IsPath path.now → ¬ IsErrOf result stops.End }
     ensures tells { OnOk result (Tells (fires_at event (path_of path.now) (watched connection.old.watches)) connection.old.output.items connection.new.output.items) }
     ensures begun { first (bytes_of connection.old.output.items) connection.new.output.items ≡ connection.old.output.items }
 {
@@ -42,6 +45,7 @@ fn tell_change<A: Allocator + Copy>(
 ) -> Result<(), Stop>
     ensures rest { connection.new ≡ record connection.old { watches = connection.new.watches; output = connection.new.output } }
     ensures left { OnOk result (watched connection.new.watches ≡ leaves_set (change_of change.now) (watched connection.old.watches)) }
+    ensures stays { ¬ IsErrOf result stops.End }
     ensures tells { OnOk result (Tells (fires (change_of change.now) (watched connection.old.watches)) connection.old.output.items connection.new.output.items) }
     ensures begun { first (bytes_of connection.old.output.items) connection.new.output.items ≡ connection.old.output.items }
 {
@@ -70,6 +74,7 @@ pub(crate) fn tell_changes<A: Allocator + Copy>(
 ) -> Result<(), Stop>
     ensures rest { connection.new ≡ record connection.old { watches = connection.new.watches; output = connection.new.output } }
     ensures left { OnOk result (watched connection.new.watches ≡ leaves_set_all (map change_of changes.now) (watched connection.old.watches)) }
+    ensures stays { ¬ IsErrOf result stops.End }
     ensures tells { OnOk result (Tells (fires_all (map change_of changes.now) (watched connection.old.watches)) connection.old.output.items connection.new.output.items) }
     ensures err { OnErr result (connection.new.output.items ≡ connection.old.output.items) }
 {
@@ -91,6 +96,7 @@ pub(crate) fn tell_accepted<A: Allocator + Copy>(
 ) -> Result<(), Stop>
     ensures rest { connection.new ≡ record connection.old { watches = connection.new.watches; output = connection.new.output } }
     ensures left { connection.old.phase ≡ Accepted → OnOk result (watched connection.new.watches ≡ leaves_set_all (map change_of changes.now) (watched connection.old.watches)) }
+    ensures stays { ¬ IsErrOf result stops.End }
     ensures tells { connection.old.phase ≡ Accepted → OnOk result (Tells (fires_all (map change_of changes.now) (watched connection.old.watches)) connection.old.output.items connection.new.output.items) }
     ensures idle { connection.old.phase ≢ Accepted → connection.new ≡ connection.old }
     ensures quiet { connection.old.phase ≢ Accepted → IsOk result }

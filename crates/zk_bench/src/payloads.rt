@@ -1,9 +1,11 @@
 //! Requests as they arrive.
 
-ghost use Rattle.std.specs.Prelude.{◌≡◌, ◌≤◌, ◌+◌, drop, take as first, length as bytes_of, MatchResult};
+ghost use Rattle.std.specs.Prelude.{◌≡◌, ◌≤◌, ◌+◌, drop, take as first, length as bytes_of, IfOk, MatchResult};
 ghost use Rattle.zk_jute.specs.Layout.{Value};
+ghost use Rattle.zk_jute.specs.Spelling.{Fits};
 ghost use Rattle.zk_records.specs.Layouts.{connect_request};
-ghost use Rattle.zk_records.specs.Operations.{request_layout};
+ghost use Rattle.zk_records.specs.Operations.{body_layout, request_layout};
+ghost use Rattle.zk_records.specs.Request.{operation_of, body_of};
 ghost use Rattle.zk_records.specs.Asked.{Asked, asked_of, asked_value};
 ghost use Rattle.zk_records.specs.Views.{request_of};
 ghost use Rattle.zk_laws.specs.Parsed.{IsRecord};
@@ -35,7 +37,8 @@ pub(crate) fn next_request<A: Allocator + Copy>(
     length: usize,
 ) -> Result<(i32, Request<A>), Stop>
     requires { 4 + length ≤ bytes_of bytes.now }
-    ensures { (asked : Asked) → IsRecord (request_layout asked.operation) (asked_value asked) (first length (drop 4 bytes.now))
+    ensures fits { IfOk result (λ request. Fits (body_layout (operation_of request.1)) (body_of request.1)) }
+    ensures read { (asked : Asked) → IsRecord (request_layout asked.operation) (asked_value asked) (first length (drop 4 bytes.now))
         → MatchResult result (λ request. asked_of request.0 request.1 ≡ asked) (λ stop. stop ≡ stops.Memory) }
 {
     let request = Request::take(alloc, &mut Cursor::new(&bytes[4..4 + length]))?;

@@ -3,20 +3,24 @@
 //! exists leaves a data watch whether a node is there or not; getData a data watch, and getChildren a child watch, where
 //! one is there (Programmer's Guide, "ZooKeeper Watches").
 
-ghost use Rattle.std.specs.Prelude.{◌≡◌, ℕ, pos, Some, None, cond, map, OnOk, IfOk, IfErr, IsErrOf, string_bytes};
+ghost use Rattle.std.specs.Prelude.{◌≡◌, ◌+◌, ℕ, pos, Some, None, cond, map, OnOk, IfOk, IfErr, IsErrOf, string_bytes};
 ghost use Rattle.std.specs.Option.{option_map};
 ghost use Rattle.std.specs.FinSet as set;
+ghost use Rattle.std.specs.BTreeSet.{IsOrdered};
+ghost use Rattle.std.specs.String.{string_cmp};
 ghost use Rattle.zk_jute.specs.Lenient.{or_empty};
 ghost use Rattle.zk_nodes.specs.Path.{Text as Bytes, path_of};
 ghost use Rattle.zk_nodes.specs.History.{tree_at};
-ghost use Rattle.zk_history.specs.HistoryView.{history_of, natural};
-ghost use Rattle.zk_nodes.specs.Names.{names_of};
+ghost use Rattle.zk_history.specs.HistoryView.{HasChildren, history_of, natural};
+ghost use Rattle.zk_nodes.specs.Names.{Names as NameSet, names_of};
 ghost use Rattle.zk_nodes.specs.PathFault.{IsPath};
 ghost use Rattle.zk_history.specs.Shown.{IsStat};
 ghost use Rattle.zk_conversation.specs.Calls.{Call, Exists, GetData, GetChildren};
 ghost use Rattle.zk_watches.specs.Lists.{Lists};
 ghost use Rattle.zk_bench.specs.Restoring.{RestoresPart};
 ghost use Rattle.zk_bench.specs.Answering.{AnswersRead, RefusesRead, MissesNode, ListsChildren, FindsNoNode, IsReadOf, IsRestoring};
+ghost use Rattle.zk_bench.specs.Serving.{FitsReply};
+ghost use Rattle.zk_bench.specs.Answerable.{DataFit, size_of_names, NamesFit, ListFits, AnswerFits};
 ghost use Rattle.zk_bench.specs.Refusals.{IsCode};
 ghost use Rattle.zk_bench.specs.declared.stop.Stop.TheVariants as stops;
 ghost use Rattle.zk_bench.specs.declared.stop.Refusal.TheVariants as refusals;
@@ -44,6 +48,9 @@ pub(crate) fn read<A: Allocator + Copy>(
     ensures requests { connection.new.requests ≡ connection.old.requests }
     ensures rest { connection.new ≡ record connection.old { watches = connection.new.watches; output = connection.new.output } }
     ensures ends { IsErrOf result (refusals.Stop stops.End) → connection.new.output.items ≡ connection.old.output.items }
+    ensures stays { (asked : Call) (zxid : ℕ) → IsReadOf request.now asked → tree.now.zxid ≡ pos zxid
+        → AnswerFits (tree_at (history_of tree.now.history.now) zxid) asked → ¬ IsErrOf result (refusals.Stop stops.End) }
+    ensures holds { (since : ℕ) (part : Lists) → IsRestoring request.now since part → ¬ IsErrOf result (refusals.Stop stops.End) }
     ensures answers { (asked : Call) (zxid : ℕ) → IsReadOf request.now asked → tree.now.zxid ≡ pos zxid
         → OnOk result (AnswersRead (tree_at (history_of tree.now.history.now) zxid) zxid xid asked connection.old connection.new) }
     ensures refuses { (asked : Call) (zxid : ℕ) → IsReadOf request.now asked → tree.now.zxid ≡ pos zxid
@@ -75,6 +82,7 @@ fn exists<A: Allocator + Copy>(
     ensures requests { connection.new.requests ≡ connection.old.requests }
     ensures rest { connection.new ≡ record connection.old { watches = connection.new.watches; output = connection.new.output } }
     ensures ends { IsErrOf result (refusals.Stop stops.End) → connection.new.output.items ≡ connection.old.output.items }
+    ensures stays { ¬ IsErrOf result (refusals.Stop stops.End) }
     ensures answers { (text : Bytes) (zxid : ℕ) → IsPath text → request.now.path ≡ Some text → tree.now.zxid ≡ pos zxid
         → OnOk result (AnswersRead (tree_at (history_of tree.now.history.now) zxid) zxid xid (Exists text request.now.watch) connection.old connection.new) }
     ensures refuses { (text : Bytes) (zxid : ℕ) → IsPath text → request.now.path ≡ Some text → tree.now.zxid ≡ pos zxid
@@ -102,6 +110,7 @@ fn watched<A: Allocator + Copy>(
     ensures found { (text : Bytes) → IsPath text → request.now.path ≡ Some text
         → IfOk result (λ stat. IsStat (tree_at (history_of tree.now.history.now) (natural tree.now.zxid)) (path_of text) (Some stat)) }
     ensures left { OnOk result (names_of paths.new ≡ cond request.now.watch (set.insert (names_of paths.old) (or_empty request.now.path)) (names_of paths.old)) }
+    ensures stays { ¬ IsErrOf result (refusals.Stop stops.End) }
     ensures misses { (text : Bytes) → IsPath text → request.now.path ≡ Some text
         → IfErr result (MissesNode (tree_at (history_of tree.now.history.now) (natural tree.now.zxid)) (path_of text) (names_of paths.old) (names_of paths.new)) }
 {
@@ -123,6 +132,8 @@ fn get_data<A: Allocator + Copy>(
     ensures requests { connection.new.requests ≡ connection.old.requests }
     ensures rest { connection.new ≡ record connection.old { watches = connection.new.watches; output = connection.new.output } }
     ensures ends { IsErrOf result (refusals.Stop stops.End) → connection.new.output.items ≡ connection.old.output.items }
+    ensures stays { (text : Bytes) → IsPath text → request.now.path ≡ Some text
+        → DataFit (tree_at (history_of tree.now.history.now) (natural tree.now.zxid) (path_of text)) → ¬ IsErrOf result (refusals.Stop stops.End) }
     ensures answers { (text : Bytes) (zxid : ℕ) → IsPath text → request.now.path ≡ Some text → tree.now.zxid ≡ pos zxid
         → OnOk result (AnswersRead (tree_at (history_of tree.now.history.now) zxid) zxid xid (GetData text request.now.watch) connection.old connection.new) }
     ensures refuses { (text : Bytes) (zxid : ℕ) → IsPath text → request.now.path ≡ Some text → tree.now.zxid ≡ pos zxid
@@ -167,6 +178,8 @@ fn get_children_2<A: Allocator + Copy>(
     ensures requests { connection.new.requests ≡ connection.old.requests }
     ensures rest { connection.new ≡ record connection.old { watches = connection.new.watches; output = connection.new.output } }
     ensures ends { IsErrOf result (refusals.Stop stops.End) → connection.new.output.items ≡ connection.old.output.items }
+    ensures stays { (text : Bytes) → IsPath text → request.now.path ≡ Some text
+        → NamesFit (tree_at (history_of tree.now.history.now) (natural tree.now.zxid)) (path_of text) (tree_at (history_of tree.now.history.now) (natural tree.now.zxid) (path_of text)) → ¬ IsErrOf result (refusals.Stop stops.End) }
     ensures answers { (text : Bytes) (zxid : ℕ) → IsPath text → request.now.path ≡ Some text → tree.now.zxid ≡ pos zxid
         → OnOk result (AnswersRead (tree_at (history_of tree.now.history.now) zxid) zxid xid (GetChildren text request.now.watch) connection.old connection.new) }
     ensures refuses { (text : Bytes) (zxid : ℕ) → IsPath text → request.now.path ≡ Some text → tree.now.zxid ≡ pos zxid
@@ -186,6 +199,9 @@ fn children_at<A: Allocator + Copy>(
     text: &str,
 ) -> Result<List<Text<A>, A>, Refusal>
     ensures found { IsPath text.now → IfOk result (λ list. ListsChildren (tree_at (history_of tree.now.history.now) (natural tree.now.zxid)) (path_of text.now) (option_map (λ v. v.items) list.elements)) }
+    ensures fits { (names : NameSet) → IsPath text.now → HasChildren (tree_at (history_of tree.now.history.now) (natural tree.now.zxid)) (path_of text.now) names
+        → FitsReply (4 + size_of_names names + 68) → IfOk result (λ list. ListFits (option_map (λ v. v.items) list.elements)) }
+    ensures stays { ¬ IsErrOf result (refusals.Stop stops.End) }
     ensures misses { IsPath text.now → IfErr result (FindsNoNode (tree_at (history_of tree.now.history.now) (natural tree.now.zxid)) (path_of text.now)) }
 {
     let Some(names) = tree.names(text)? else {
@@ -200,7 +216,8 @@ fn list_of<A: Allocator + Copy>(
     alloc: A,
     names: BTreeSet<String<A>, A>,
 ) -> Result<List<Text<A>, A>, AllocError>
-    ensures { IfOk result (λ list. option_map (λ v. v.items) list.elements ≡ Some (map Some (map string_bytes names.keys))) }
+    ensures is { IfOk result (λ list. option_map (λ v. v.items) list.elements ≡ Some (map Some (map string_bytes names.keys))) }
+    ensures ordered { IsOrdered string_cmp names }
 {
     let mut elements = Vec::new(alloc);
     for name in names {

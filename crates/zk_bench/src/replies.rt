@@ -3,7 +3,8 @@
 ghost use Rattle.std.specs.Prelude.{◌≡◌, negsuc, pos, Some, OnOk, IsErrOf, take as first, length as bytes_of};
 ghost use Rattle.zk_records.specs.Layouts.{watcher_event};
 ghost use Rattle.zk_records.specs.Events.{event_number};
-ghost use Rattle.zk_bench.specs.Serving.{Sends, SendsHeader, SendsResponse};
+ghost use Rattle.zk_nodes.specs.PathFault.{IsPath};
+ghost use Rattle.zk_bench.specs.Serving.{Sends, SendsHeader, SendsResponse, CanBeSent, CanBeTold};
 ghost use Rattle.zk_bench.specs.declared.stop.Stop.TheVariants as stops;
 ghost use Rattle.zk_records.specs.Views.{response_of};
 
@@ -24,6 +25,7 @@ pub(crate) fn send_header<A: Allocator + Copy>(
 ) -> Result<(), Stop>
     ensures sends { OnOk result (SendsHeader (header.xid, (header.zxid, header.err)) out.old.items out.new.items) }
     ensures ended { IsErrOf result stops.End → out.new.items ≡ out.old.items }
+    ensures stays { ¬ IsErrOf result stops.End }
     ensures begun { first (bytes_of out.old.items) out.new.items ≡ out.old.items }
 {
     let mut payload = Vec::new(alloc);
@@ -41,6 +43,7 @@ pub(crate) fn send_result<A: Allocator + Copy, R: Record<A> + Drop>(
 ) -> Result<(), Stop>
     ensures sends { OnOk result (Sends (xid, (zxid, pos 0)) R.layout (R.view answer) out.old.items out.new.items) }
     ensures ended { IsErrOf result stops.End → out.new.items ≡ out.old.items }
+    ensures stays { CanBeSent R.layout (R.view answer) → ¬ IsErrOf result stops.End }
     ensures begun { first (bytes_of out.old.items) out.new.items ≡ out.old.items }
 {
     let reply = Reply {
@@ -61,6 +64,7 @@ pub(crate) fn send_notice<A: Allocator + Copy>(
 ) -> Result<(), Stop>
     ensures sends { OnOk result (Sends (negsuc 0, (negsuc 0, pos 0)) watcher_event (event_number event, (pos 3, Some path.now)) out.old.items out.new.items) }
     ensures ended { IsErrOf result stops.End → out.new.items ≡ out.old.items }
+    ensures stays { IsPath path.now → ¬ IsErrOf result stops.End }
     ensures begun { first (bytes_of out.old.items) out.new.items ≡ out.old.items }
 {
     let notice = WatcherEventRef {
@@ -79,6 +83,7 @@ pub(crate) fn send_response<A: Allocator + Copy>(
 ) -> Result<(), Stop>
     ensures sends { OnOk result (SendsResponse (response_of response) out.old.items out.new.items) }
     ensures ended { IsErrOf result stops.End → out.new.items ≡ out.old.items }
+    ensures stays { CanBeTold (response_of response) → ¬ IsErrOf result stops.End }
 {
     let mut payload = Vec::new(alloc);
     let put = response.put(&mut payload);

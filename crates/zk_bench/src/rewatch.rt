@@ -1,6 +1,6 @@
 //! Watches that a client sets anew after a reconnect.
 
-ghost use Rattle.std.specs.Prelude.{◌≡◌, ℕ, pos, [], ◌∷◌, OnOk, OnErr, take as first, length as bytes_of};
+ghost use Rattle.std.specs.Prelude.{◌≡◌, ℕ, pos, [], ◌∷◌, OnOk, OnErr, IsErrOf, take as first, length as bytes_of};
 ghost use Rattle.std.specs.List.{AllByRecursion};
 ghost use Rattle.zk_nodes.specs.Path.{path_of, IsPathText};
 ghost use Rattle.zk_nodes.specs.History.{tree_at};
@@ -8,6 +8,7 @@ ghost use Rattle.zk_history.specs.HistoryView.{history_of, natural};
 ghost use Rattle.zk_nodes.specs.PathFault.{IsPath};
 ghost use Rattle.zk_watches.specs.Lists.{Lists};
 ghost use Rattle.zk_laws.specs.Server.{both, part_tells, part_sets};
+ghost use Rattle.zk_bench.specs.declared.stop.Stop.TheVariants as stops;
 ghost use Rattle.zk_bench.specs.Serving.{watched, Tells};
 ghost use Rattle.zk_bench.specs.Restoring.{missed_of, side_of, with_watch, texts_in, Rewatches, RestoresPart, IsPart, ArePaths};
 
@@ -83,6 +84,7 @@ fn rewatch<A: Allocator + Copy>(
 ) -> Result<(), Stop>
     ensures rest { connection.new ≡ record connection.old { watches = connection.new.watches; output = connection.new.output } }
     ensures begun { first (bytes_of connection.old.output.items) connection.new.output.items ≡ connection.old.output.items }
+    ensures stays { IsPath path.now → ¬ IsErrOf result stops.End }
     ensures rewatches { (since : ℕ) → relative ≡ pos since → IsPath path.now
         → OnOk result (Rewatches list since (tree_at (history_of tree.now.history.now) (natural tree.now.zxid)) (path.now ∷ [])
         (watched connection.old.watches) (watched connection.new.watches) connection.old.output.items connection.new.output.items) }
@@ -108,6 +110,7 @@ fn rewatch_all<A: Allocator + Copy>(
 ) -> Result<(), Stop>
     ensures rest { connection.new ≡ record connection.old { watches = connection.new.watches; output = connection.new.output } }
     ensures begun { first (bytes_of connection.old.output.items) connection.new.output.items ≡ connection.old.output.items }
+    ensures stays { AllByRecursion IsPath (texts_in paths.now) → ¬ IsErrOf result stops.End }
     ensures rewatches { (since : ℕ) → relative ≡ pos since → AllByRecursion IsPath (texts_in paths.now)
         → OnOk result (Rewatches list since (tree_at (history_of tree.now.history.now) (natural tree.now.zxid)) (texts_in paths.now)
         (watched connection.old.watches) (watched connection.new.watches) connection.old.output.items connection.new.output.items) }
@@ -126,6 +129,7 @@ fn rewatch_lists<A: Allocator + Copy>(
 ) -> Result<(), Stop>
     ensures rest { connection.new ≡ record connection.old { watches = connection.new.watches; output = connection.new.output } }
     ensures begun { first (bytes_of connection.old.output.items) connection.new.output.items ≡ connection.old.output.items }
+    ensures stays { (since : ℕ) (part : Lists) → IsPart request.now since part → ArePaths part → ¬ IsErrOf result stops.End }
     ensures tells { (since : ℕ) (part : Lists) → IsPart request.now since part → ArePaths part
         → OnOk result (Tells (part_tells since (tree_at (history_of tree.now.history.now) (natural tree.now.zxid)) part) connection.old.output.items connection.new.output.items) }
     ensures left { (since : ℕ) (part : Lists) → IsPart request.now since part → ArePaths part
@@ -150,6 +154,7 @@ pub(crate) fn set_watches<A: Allocator + Copy>(
     connection: &mut Connection<A>,
 ) -> Result<(), Stop>
     ensures rest { connection.new ≡ record connection.old { watches = connection.new.watches; output = connection.new.output } }
+    ensures stays { (since : ℕ) (part : Lists) → IsPart request.now since part → ArePaths part → ¬ IsErrOf result stops.End }
     ensures restores { (since zxid : ℕ) (part : Lists) → IsPart request.now since part → ArePaths part → tree.now.zxid ≡ pos zxid
         → OnOk result (RestoresPart (tree_at (history_of tree.now.history.now) zxid) zxid xid since part connection.old connection.new) }
     ensures err { OnErr result (connection.new.output.items ≡ connection.old.output.items) }

@@ -1,12 +1,13 @@
 //! How far each server is in the history.
 
-ghost use Rattle.std.specs.Prelude.{◌≡◌, ◌<◌, ◌≤◌, ◌^◌, IfSome, OnOk, is_some, false, slice_get, map, length, pos};
+ghost use Rattle.std.specs.Prelude.{◌≡◌, ◌<◌, ◌≤◌, ◌^◌, IfSome, OnOk, IsErrOf, is_some, false, slice_get, map, length, pos};
 ghost use Rattle.zk_history.specs.HistoryView.{history_of};
 ghost use Rattle.zk_history.specs.Made.{change_of};
 ghost use Rattle.zk_laws.specs.Server.{zxid_held, tree_held};
 ghost use Rattle.zk_nodes.specs.History.{tree_at};
 ghost use Rattle.zk_laws.specs.ServerSteps.{changes_next};
 ghost use Rattle.zk_bench.specs.declared.phase.Phase.TheVariants.{Accepted};
+ghost use Rattle.zk_bench.specs.declared.stop.Stop.TheVariants as stops;
 ghost use Rattle.zk_bench.specs.Stepping.{Catches, CatchesUp};
 
 use crate::connection::Connection;
@@ -63,6 +64,7 @@ pub(crate) fn take_all<A: Allocator + Copy>(
     ensures up { connection.old.phase ≡ Accepted → taken.old ≤ length history.now.transactions
         → OnOk result (CatchesUp (history_of history.now) taken.old connection.old taken.new connection.new) }
     ensures all { OnOk result (length history.now.transactions ≤ taken.new) }
+    ensures stays { ¬ IsErrOf result stops.End }
 {
     while let Some(changes) = next_changes(history, *taken) {
         *taken += 1;

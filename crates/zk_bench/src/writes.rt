@@ -1,11 +1,11 @@
 //! Writes: which are refused, and how the others are made.
 
-ghost use Rattle.std.specs.Prelude.{◌≡◌, false, pos, Some, None, IfOk, IfErr, IfSome, OnOk, string_bytes};
+ghost use Rattle.std.specs.Prelude.{◌≡◌, ◌≤◌, ℕ, List, Option, false, pos, Some, None, IfOk, IfErr, IfSome, OnOk, IsErrOf, string_bytes};
 ghost use Rattle.std.specs.Option.{option_map};
 ghost use Rattle.std.specs.FinSet as set;
 ghost use Rattle.zk_jute.specs.Lenient.{or_empty};
 ghost use Rattle.zk_nodes.specs.Path.{path_of as names_in, parent_of};
-ghost use Rattle.zk_nodes.specs.History.{Creates};
+ghost use Rattle.zk_nodes.specs.History.{Creates, Sets, Deletes, size_of};
 ghost use Rattle.zk_history.specs.HistoryView.{HasChildren, IsAccepted, newest_tree};
 ghost use Rattle.zk_history.specs.Made.{change_of};
 ghost use Rattle.zk_nodes.specs.PathFault.{IsPath};
@@ -13,6 +13,7 @@ ghost use Rattle.zk_nodes.specs.Names.{Names as NameSet};
 ghost use Rattle.zk_history.specs.declared.history_fault.HistoryFault.TheVariants as faults;
 ghost use Rattle.zk_records.specs.declared.code.Code.TheVariants as codes;
 ghost use Rattle.zk_laws.specs.Server.{IsMadeOf};
+ghost use Rattle.zk_bench.specs.declared.stop.Stop.TheVariants as stops;
 ghost use Rattle.zk_bench.specs.declared.stop.Refusal.TheVariants as refusals;
 ghost use Rattle.zk_bench.specs.Refusals.{IsCode};
 ghost use Rattle.zk_bench.specs.Served.{Continues};
@@ -65,6 +66,7 @@ fn parent_of<'p, A: Allocator + Copy>(
     ensures accepted { OnOk result (refusal_above (tree_of tree.now.history.now tree.now.zxid) (names_in asked.now) ≡ None) }
     ensures counted { (names : NameSet) → AreBeside (tree_of tree.now.history.now tree.now.zxid) (names_in asked.now) names
         → IfOk result (λ found. found.1.num_children ≡ pos (set.len names)) }
+    ensures beside { OnOk result ((names : NameSet) × AreBeside (tree_of tree.now.history.now tree.now.zxid) (names_in asked.now) names) }
     ensures told { IfErr result (IsRefusedWith (refusal_above (tree_of tree.now.history.now tree.now.zxid) (names_in asked.now))) }
     ensures refused { IfErr result IsAnswer }
 {
@@ -134,6 +136,8 @@ fn created_path<A: Allocator + Copy>(
         → OnOk result (creation_refusal (tree_of tree.now.history.now tree.now.zxid) mode.sequential text.now (creates_beside (names_in text.now) tree.now.history.now.transactions) (set.len names) ≡ None) }
     ensures told { (names : NameSet) → AreBeside (tree_of tree.now.history.now tree.now.zxid) (names_in text.now) names
         → IfErr result (IsRefusedWith (creation_refusal (tree_of tree.now.history.now tree.now.zxid) mode.sequential text.now (creates_beside (names_in text.now) tree.now.history.now.transactions) (set.len names))) }
+    ensures beside { OnOk result ((names : NameSet) × AreBeside (tree_of tree.now.history.now tree.now.zxid) (names_in text.now) names) }
+    ensures stays { ¬ IsErrOf result (refusals.Stop stops.End) }
     ensures refused { IfErr result IsAnswer }
 {
     let asked = Path::new(tree.alloc, text)?;
@@ -169,6 +173,9 @@ pub(crate) fn creation<A: Allocator + Copy>(
         → OnOk result (creation_refusal (tree_of tree.now.history.now tree.now.zxid) mode.sequential text.now (creates_beside (names_in text.now) tree.now.history.now.transactions) (set.len names) ≡ None) }
     ensures told { (names : NameSet) → AreBeside (tree_of tree.now.history.now tree.now.zxid) (names_in text.now) names
         → IfErr result (IsRefusedWith (creation_refusal (tree_of tree.now.history.now tree.now.zxid) mode.sequential text.now (creates_beside (names_in text.now) tree.now.history.now.transactions) (set.len names))) }
+    ensures path { IfOk result (λ made. IsPath (string_bytes made.0)) }
+    ensures allowed { size_of bytes ≤ 2147483647 → IfOk result (λ made. IsAccepted (change_of made.1) (tree_of tree.now.history.now tree.now.zxid)) }
+    ensures stays { ¬ IsErrOf result (refusals.Stop stops.End) }
     ensures refused { IfErr result IsAnswer }
 {
     let path = match created_path(tree, mode, text) {
@@ -235,6 +242,8 @@ pub(crate) fn written_path<A: Allocator + Copy>(
     ensures path { IfOk result (λ path. path ≡ text.now) }
     ensures accepted { OnOk result (set_refusal (node_at (tree_of tree.now.history.now tree.now.zxid) text.now) version ≡ None) }
     ensures told { IfErr result (IsRefusedWith (set_refusal (node_at (tree_of tree.now.history.now tree.now.zxid) text.now) version)) }
+    ensures allowed { (content : Option (List ℕ)) → size_of content ≤ 2147483647 → OnOk result (IsAccepted (Sets (names_in text.now) content) (tree_of tree.now.history.now tree.now.zxid)) }
+    ensures stays { ¬ IsErrOf result (refusals.Stop stops.End) }
     ensures refused { IfErr result IsAnswer }
 {
     let (path, stat) = node_at(tree, text)?;
@@ -270,6 +279,8 @@ pub(crate) fn deleted_path<A: Allocator + Copy>(
         → OnOk result (deletion_refusal (tree_of tree.now.history.now tree.now.zxid) (or_empty request.now.path) (set.len names) request.now.version ≡ None) }
     ensures told { (names : NameSet) → HasChildren (tree_of tree.now.history.now tree.now.zxid) (names_in (or_empty request.now.path)) names
         → IfErr result (IsRefusedWith (deletion_refusal (tree_of tree.now.history.now tree.now.zxid) (or_empty request.now.path) (set.len names) request.now.version)) }
+    ensures allowed { OnOk result (IsAccepted (Deletes (names_in (or_empty request.now.path))) (tree_of tree.now.history.now tree.now.zxid)) }
+    ensures stays { ¬ IsErrOf result (refusals.Stop stops.End) }
     ensures refused { IfErr result IsAnswer }
 {
     let text = text_of(&request.path);

@@ -2,7 +2,7 @@ use Rattle.std.proofs.Common.{rules, sym, refl, ap, subst, ◌∙◌, ◌≡◌,
 use Rattle.std.specs.FinSet as set
 use Rattle.zk_jute.specs.Lenient.{or_empty}
 use Rattle.zk_jute.specs.Layout.{Value}
-use Rattle.zk_jute.specs.Spelling.{spelling}
+use Rattle.zk_jute.specs.Spelling.{spelling, Fits}
 use Rattle.zk_nodes.specs.Path.{path_of}
 use Rattle.zk_nodes.specs.History.{tree_at}
 use Rattle.zk_history.specs.HistoryView.{history_of, natural}
@@ -15,6 +15,7 @@ use Rattle.zk_records.specs.Layouts.{reply_header}
 use Rattle.zk_conversation.specs.Results.{Found}
 use Rattle.zk_bench.specs.Serving.{watches_of}
 use Rattle.zk_bench.proofs.Answered.{sends_for, numbers_of, absence_left, exists_left, none_told, stat_read, stat_payload}
+use Rattle.zk_bench.proofs.Staying.{handed_on, stat_fits}
 use Rattle.zk_bench.proofs.reads.exists.Goals as goal
 
 pub returns-in_default-clause-refuses : goal.returns-in_default-clause-refuses
@@ -67,3 +68,9 @@ returns-clause-answers g c = λ text zxid is path at.
           ∙ exists_left (names_of c.args.connection.now.watches.«data») (names_of c.args.connection.now.watches.child) text c.args.request.now.watch told (IsPath-absolute text is);
       rest = refl;
     }
+
+pub returns-in_err-send_result-clause-stays : goal.returns-in_err-send_result-clause-stays
+returns-in_err-send_result-clause-stays g c =
+    let fits : Fits stat (numbers_of c.in-Some.stat) = search rules in
+    handed_on c.from_residual-in_err-send_result.result _ _ c.from_residual-in_err-send_result.ensures.1
+    (λ over. c.in_err-send_result.ensures.stays (stat_fits (numbers_of c.in-Some.stat) fits) (cc))

@@ -3,10 +3,10 @@ use Rattle.std.specs.Option.{option_map}
 use Rattle.std.specs.FinSet as set
 use Rattle.zk_jute.specs.Lenient.{or_empty}
 use Rattle.zk_jute.specs.Layout.{Value}
-use Rattle.zk_jute.specs.Spelling.{spelling}
+use Rattle.zk_jute.specs.Spelling.{spelling, Fits}
 use Rattle.zk_nodes.specs.Path.{path_of}
 use Rattle.zk_nodes.specs.History.{tree_at}
-use Rattle.zk_history.specs.HistoryView.{history_of, natural}
+use Rattle.zk_history.specs.HistoryView.{history_of, natural, HasChildren}
 use Rattle.zk_nodes.specs.Names.{names_of}
 use Rattle.zk_nodes.specs.PathFault.{IsPath}
 use Rattle.zk_history.specs.Shown.{IsStat}
@@ -16,9 +16,11 @@ use Rattle.zk_records.specs.Layouts.{reply_header, get_children2_response}
 use Rattle.zk_conversation.specs.Calls.{GetChildren}
 use Rattle.zk_conversation.specs.Results.{Listing, texts_of}
 use Rattle.zk_bench.specs.Refusals.{IsCode}
-use Rattle.zk_bench.specs.Serving.{watches_of}
+use Rattle.zk_bench.specs.Serving.{watches_of, CanBeSent}
 use Rattle.zk_bench.specs.Answering.{ListsChildren}
 use Rattle.zk_bench.proofs.Answered.{errs_so, finds_none, sends_for, numbers_of, children_left, no_children_left, none_to_list_told, both_told, children_read, stat_read, names_payload, no_copy}
+use Rattle.zk_bench.proofs.Staying.{handed_on}
+use Rattle.zk_bench.proofs.Sized.{names_there, names_fit}
 use Rattle.zk_bench.proofs.reads.get_children_2.Goals as goal
 
 pub returns-in_err-stat-clause-refuses : goal.returns-in_err-stat-clause-refuses
@@ -67,3 +69,17 @@ returns-clause-answers g c = λ text zxid is path at.
           ∙ children_left (names_of c.args.connection.now.watches.«data») (names_of c.args.connection.now.watches.child) text c.args.request.now.watch (texts_of texts) told (IsPath-absolute text is);
       rest = refl;
     }
+
+pub returns-in_err-send_result-clause-stays : goal.returns-in_err-send_result-clause-stays
+returns-in_err-send_result-clause-stays g c = λ text is path fit.
+    let tree = tree_at (history_of c.args.tree.now.history.now) (natural c.args.tree.now.zxid) in
+    let texts : Option (List (Option (List ℕ))) = option_map (λ v. v.items) c.in_ok-children.children.elements in
+    let told = c.in_ok-stat.stat in
+    let same : c.text_of.result.now ≡ text = c.text_of.ensures ∙ ap or_empty path in
+    let found : IsPath c.text_of.result.now = subst IsPath (sym same) is in
+    let there = names_there tree (path_of text) told (c.in_ok-stat.ensures.found text is path) fit in
+    let list = c.in_ok-children.ensures.fits there.0 found (subst (λ t. HasChildren tree (path_of t) there.0) (sym same) there.1) there.2 in
+    let fits : Fits stat (numbers_of told) = search rules in
+    let sent = names_fit texts (numbers_of told) list fits in
+    handed_on c.from_residual-in_err-send_result.result _ _ c.from_residual-in_err-send_result.ensures.1
+    (λ over. c.in_err-send_result.ensures.stays (subst (λ (ts : Option (List (Option (List ℕ)))). CanBeSent get_children2_response (ts, numbers_of told)) (sym (no_copy c.in_ok-children.children.elements)) sent) (cc))

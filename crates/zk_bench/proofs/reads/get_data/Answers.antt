@@ -3,7 +3,7 @@ use Rattle.std.specs.Option.{option_map}
 use Rattle.std.specs.FinSet as set
 use Rattle.zk_jute.specs.Lenient.{or_empty}
 use Rattle.zk_jute.specs.Layout.{Value}
-use Rattle.zk_jute.specs.Spelling.{spelling}
+use Rattle.zk_jute.specs.Spelling.{spelling, Fits}
 use Rattle.zk_nodes.specs.Path.{path_of}
 use Rattle.zk_nodes.specs.History.{tree_at, view, Contents, Absence}
 use Rattle.zk_history.specs.HistoryView.{history_of, natural}
@@ -17,8 +17,9 @@ use Rattle.zk_records.specs.Layouts.{reply_header, get_data_response}
 use Rattle.zk_conversation.specs.Calls.{GetData}
 use Rattle.zk_conversation.specs.Results.{Read}
 use Rattle.zk_bench.specs.Refusals.{IsCode}
-use Rattle.zk_bench.specs.Serving.{watches_of}
+use Rattle.zk_bench.specs.Serving.{watches_of, CanBeSent}
 use Rattle.zk_bench.proofs.Answered.{errs_so, finds_none, sends_for, numbers_of, left_by, none_left, data_read, data_none, both_told, none_told, data_payload}
+use Rattle.zk_bench.proofs.Staying.{handed_on, data_fits}
 use Rattle.zk_bench.proofs.reads.get_data.Goals as goal
 
 pub returns-in_err-stat-clause-refuses : goal.returns-in_err-stat-clause-refuses
@@ -68,3 +69,17 @@ returns-clause-answers g c = λ text zxid is path at.
           ∙ left_by (names_of c.args.connection.now.watches.«data») (names_of c.args.connection.now.watches.child) text c.args.request.now.watch bytes told (IsPath-absolute text is);
       rest = refl;
     }
+
+pub returns-in_err-send_result-clause-stays : goal.returns-in_err-send_result-clause-stays
+returns-in_err-send_result-clause-stays g c = λ text is path fit.
+    let tree = tree_at (history_of c.args.tree.now.history.now) (natural c.args.tree.now.zxid) in
+    let bytes : Option (List ℕ) = option_map (λ v. v.items) c.in-Some.«data».bytes in
+    let told = c.in_ok-stat.stat in
+    let same : c.text_of.result.now ≡ text = c.text_of.ensures ∙ ap or_empty path in
+    let found : IsPath c.text_of.result.now = subst IsPath (sym same) is in
+    let seen : Contents bytes c.in-Some.«data».stat ≡ view sides.Data tree (path_of text) =
+    ap data_told (sym c.in-Some.is) ∙ c.in_ok-data.ensures found ∙ ap (λ t. view sides.Data tree (path_of t)) same in
+    let fits : Fits stat (numbers_of told) = search rules in
+    let sent = data_fits (tree (path_of text)) bytes c.in-Some.«data».stat (numbers_of told) seen fit fits in
+    handed_on c.from_residual-in_err-send_result.result _ _ c.from_residual-in_err-send_result.ensures.1
+    (λ over. c.in_err-send_result.ensures.stays (subst (λ (b : Option (List ℕ)). CanBeSent get_data_response (b, numbers_of told)) (sym c.new-bytes.ensures) sent) (cc))

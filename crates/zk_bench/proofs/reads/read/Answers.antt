@@ -1,11 +1,16 @@
-use Rattle.std.proofs.Common.{rules, ◌≡◌, subst, to_z, of_z, w32}
-use Rattle.std.specs.Prelude.{OnOk}
+use Rattle.std.proofs.Common.{rules, ◌≡◌, subst, to_z, of_z, w32, sym, ℤ, pos}
+use Rattle.std.specs.Prelude.{OnOk, IsErrOf}
 use Rattle.zk_nodes.specs.History.{tree_at}
-use Rattle.zk_history.specs.HistoryView.{history_of}
+use Rattle.zk_history.specs.HistoryView.{history_of, natural}
 use Rattle.zk_conversation.specs.Calls as call
 use Rattle.zk_bench.specs.Answering.{AnswersRead, IsReadOf, IsRestoring}
+use Rattle.zk_bench.specs.declared.stop.Stop.TheVariants as stops
+use Rattle.zk_bench.specs.declared.stop.Refusal.TheVariants as refusals
 use Rattle.zk_bench.specs.Restoring.{IsPart, ArePaths, RestoresPart}
 use Rattle.zk_bench.proofs.Answered.{read_exists, read_data, read_children}
+use Rattle.zk_nodes.specs.Path.{path_of}
+use Rattle.zk_bench.specs.Answerable.{DataFit, NamesFit, AnswerFits}
+use Rattle.zk_bench.proofs.Staying.{handed_on}
 use Rattle.zk_bench.proofs.reads.read.Goals as goal
 
 pub returns-in-Exists-clause-answers : goal.returns-in-Exists-clause-answers
@@ -39,3 +44,21 @@ returns-in_ok-set_watches-in-SetWatches-clause-restores g c = λ since zxid part
     let xid : to_z w32 (of_z w32 c.args.xid) ≡ c.args.xid = search rules in
     let asked : IsPart c.in-SetWatches.r since part × ArePaths part = subst (λ q. IsRestoring q since part) c.in-SetWatches.is is in
     subst (λ x. RestoresPart tree zxid x since part c.args.connection.now c.set_watches.new.connection) xid (c.in_ok-set_watches-in-SetWatches.ensures.restores since zxid part asked.0 asked.1 at)
+
+pub returns-in-GetData-clause-stays : goal.returns-in-GetData-clause-stays
+returns-in-GetData-clause-stays g c = λ asked zxid is at fits.
+    let tree = λ (z : ℤ). tree_at (history_of c.args.tree.now.history.now) (natural z) in
+    read_data (λ a. AnswerFits (tree (pos zxid)) a → ¬ IsErrOf c.get_data.result (refusals.Stop stops.End)) c.in-GetData.r asked (subst (λ q. IsReadOf q asked) c.in-GetData.is is)
+    (λ text path e small. c.get_data.ensures.stays text path e (subst (λ z. DataFit (tree z (path_of text))) (sym at) small)) fits
+
+pub returns-in-GetChildren2-clause-stays : goal.returns-in-GetChildren2-clause-stays
+returns-in-GetChildren2-clause-stays g c = λ asked zxid is at fits.
+    let tree = λ (z : ℤ). tree_at (history_of c.args.tree.now.history.now) (natural z) in
+    read_children (λ a. AnswerFits (tree (pos zxid)) a → ¬ IsErrOf c.get_children_2.result (refusals.Stop stops.End)) c.in-GetChildren2.r asked (subst (λ q. IsReadOf q asked) c.in-GetChildren2.is is)
+    (λ text path e small. c.get_children_2.ensures.stays text path e (subst (λ z. NamesFit (tree z) (path_of text) (tree z (path_of text))) (sym at) small)) fits
+
+pub returns-in_err-set_watches-in-SetWatches-clause-holds : goal.returns-in_err-set_watches-in-SetWatches-clause-holds
+returns-in_err-set_watches-in-SetWatches-clause-holds g c = λ since part is.
+    let asked : IsPart c.in-SetWatches.r since part × ArePaths part = subst (λ q. IsRestoring q since part) c.in-SetWatches.is is in
+    handed_on c.from_residual.result _ _ c.from_residual.ensures.1
+    (λ over. c.in_err-set_watches-in-SetWatches.ensures.stays since part asked.0 asked.1 (cc))

@@ -1,4 +1,4 @@
-use Rattle.std.proofs.Common.{rules, ◌≡◌, ◌<◌, length, refl, sym, subst, ◌∙◌, [], ◌∷◌, take, arith, to_z, of_z, w64}
+use Rattle.std.proofs.Common.{rules, ◌≡◌, ◌<◌, length, refl, sym, subst, ◌∙◌, [], ◌∷◌, take, arith, to_z, of_z, w64, ap}
 use Rattle.std.proofs.Math.Seq.{take-length}
 use Rattle.zk_jute.specs.Lenient.{or_empty}
 use Rattle.zk_nodes.specs.History.{tree_at}
@@ -8,6 +8,8 @@ use Rattle.zk_bench.specs.Serving.{watched}
 use Rattle.zk_bench.specs.Restoring.{texts_in, Rewatches}
 use Rattle.zk_bench.proofs.Watched.{begun-more, rest-more}
 use Rattle.zk_bench.proofs.Restored.{no_path, more_paths, texts_next, text_has, texts_whole}
+use Rattle.std.specs.Prelude.{Err}
+use Rattle.zk_bench.proofs.Staying.{handed_on}
 use Rattle.zk_bench.proofs.rewatch.rewatch_all.Goals as goal
 
 pub loop-path-init : goal.loop-path-init
@@ -58,3 +60,11 @@ returns-clause-rewatches g c = λ since e all.
     let tree = tree_at (history_of c.args.tree.now.history.now) (natural c.args.tree.now.zxid) in
     subst (λ ts. Rewatches c.args.list since tree ts (watched c.args.connection.now.watches) (watched c.loop-path.connection.watches) c.args.connection.now.output.items c.loop-path.connection.output.items)
     (texts_whole c.args.paths.now c.loop-path.path-index (omega (arith, c.loop-path-test.false, c.loop-path.auto.path-index-end))) (c.loop-path.invariant.rewatches since (ranged ∙ e) all)
+
+pub returns-in_err-rewatch-clause-stays : goal.returns-in_err-rewatch-clause-stays
+returns-in_err-rewatch-clause-stays g c = λ all.
+    let paths = c.args.paths.now in
+    let i = c.loop-path.path-index in
+    let low : i < length paths = omega (arith, c.loop-path-test.true, c.loop-path.auto.path-index-end) in
+    handed_on c.from_residual.result _ _ c.from_residual.ensures.1
+    (λ over. c.in_err-rewatch.ensures.stays (subst IsPath (sym c.text_of.ensures) (text_has IsPath paths i c.path-item.result all low c.path-item.is)) (ap Err over))

@@ -1,12 +1,15 @@
-use Rattle.std.proofs.Common.{◌≡◌, ◌∙◌, rules, to_z, of_z, w64, ℕ}
+use Rattle.std.proofs.Common.{◌≡◌, ◌∙◌, rules, to_z, of_z, w64, ℕ, ap}
 use Rattle.zk_nodes.specs.History.{tree_at}
 use Rattle.zk_history.specs.HistoryView.{history_of, natural}
 use Rattle.zk_watches.specs.Lists.{Lists}
 use Rattle.zk_laws.specs.Server.{both, part_tells, part_sets}
+use Rattle.zk_bench.specs.declared.stop.Stop.TheVariants as stops
 use Rattle.zk_bench.specs.Serving.{watched, Tells}
 use Rattle.zk_bench.specs.declared.rewatch.Watched.TheVariants.{Data, Exist, Child}
 use Rattle.zk_bench.specs.Restoring.{Rewatches, IsPart, ArePaths}
 use Rattle.zk_bench.proofs.Restored.{part_told, part_left, of_texts}
+use Rattle.std.specs.Prelude.{Err, IsErrOf}
+use Rattle.zk_bench.proofs.Staying.{handed_on}
 use Rattle.zk_bench.proofs.rewatch.rewatch_lists.Goals as goal
 
 -- what the three lists tell, and the watches that they set
@@ -35,3 +38,18 @@ returns-clause-tells g c = λ since part is paths. (gone_through g c since part 
 
 pub returns-clause-left : goal.returns-clause-left
 returns-clause-left g c = λ since part is paths. (gone_through g c since part is paths).1
+
+pub returns-in_err-rewatch_all-clause-stays : goal.returns-in_err-rewatch_all-clause-stays
+returns-in_err-rewatch_all-clause-stays g c = λ since part is paths.
+    of_texts (λ ts. ¬ IsErrOf c.from_residual.result stops.End) _ _ part.data_watches c.or_empty-data.ensures is.data_watches paths.data_watches
+    (λ all. handed_on c.from_residual.result _ _ c.from_residual.ensures.1 (λ over. c.in_err-rewatch_all.ensures.stays all (ap Err over)))
+
+pub returns-in_err-rewatch_all-2-clause-stays : goal.returns-in_err-rewatch_all-2-clause-stays
+returns-in_err-rewatch_all-2-clause-stays g c = λ since part is paths.
+    of_texts (λ ts. ¬ IsErrOf c.from_residual-in_err-rewatch_all-2.result stops.End) _ _ part.exist_watches c.or_empty-exist.ensures is.exist_watches paths.exist_watches
+    (λ all. handed_on c.from_residual-in_err-rewatch_all-2.result _ _ c.from_residual-in_err-rewatch_all-2.ensures.1 (λ over. c.in_err-rewatch_all-2.ensures.stays all (ap Err over)))
+
+pub returns-in_err-rewatch_all-3-clause-stays : goal.returns-in_err-rewatch_all-3-clause-stays
+returns-in_err-rewatch_all-3-clause-stays g c = λ since part is paths.
+    of_texts (λ ts. ¬ IsErrOf c.from_residual-in_err-rewatch_all-3.result stops.End) _ _ part.child_watches c.or_empty-child.ensures is.child_watches paths.child_watches
+    (λ all. handed_on c.from_residual-in_err-rewatch_all-3.result _ _ c.from_residual-in_err-rewatch_all-3.ensures.1 (λ over. c.in_err-rewatch_all-3.ensures.stays all (ap Err over)))

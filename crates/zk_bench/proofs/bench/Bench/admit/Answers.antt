@@ -6,9 +6,9 @@ use Rattle.zk_laws.specs.Messages.{Connect}
 use Rattle.zk_bench.specs.Linked.{linked_of}
 use Rattle.zk_bench.specs.Served.{Served}
 use Rattle.zk_bench.specs.declared.phase.Phase.TheVariants.{Opening, Accepted, Ended}
-use Rattle.zk_bench.specs.Stepping.{ProcessesOne, shown_of}
+use Rattle.zk_bench.specs.Stepping.{AnswersOne, shown_of}
 use Rattle.zk_bench.proofs.Fields.{bench_of}
-use Rattle.zk_bench.proofs.Stepped.{ready_answered, not_ahead}
+use Rattle.zk_bench.proofs.Stepped.{ready_answered, not_ahead, no_more_seen}
 use Rattle.zk_bench.proofs.Processed.{admits_so, expires_so}
 use Rattle.zk_bench.proofs.bench.Bench.admit.Goals as goal
 
@@ -26,7 +26,7 @@ returns-then-self-clause-admits g c = λ seen xid ready opening last up.
     let held : to_z w64 (of_z w64 c.zxid.result) ≡ c.zxid.result = search rules in
     let asked : to_z w64 (of_z w64 c.args.request.now.last_zxid_seen) ≡ c.args.request.now.last_zxid_seen = search rules in
     let low = not_ahead (zxid_held (history_of old.history) (slice_index old.taken old.server)) seen _ _ (held ∙ c.zxid.ensures ready) (asked ∙ last) c.if-zxid-request.false in
-    subst (λ (s : Served). ProcessesOne (Connect seen) xid (shown_of s) (shown_of (record b { connection = new }))) c.self.view_is
+    subst (λ (s : Served). AnswersOne (Connect seen) xid (shown_of s) (shown_of (record b { connection = new }))) c.self.view_is
     (expires_so b new seen xid (subst (λ (s : Served). s.connection.phase ≡ Opening) (sym c.self.view_is) opening)
     (subst (λ (s : Served). seen ≤ zxid_held (history_of s.history) (slice_index s.taken s.server)) (sym c.self.view_is) low) c.in_ok-send_expired.ensures.sends refl)
 
@@ -39,6 +39,12 @@ returns-clause-admits g c = λ seen xid ready opening last up.
     let held : to_z w64 (of_z w64 c.zxid.result) ≡ c.zxid.result = search rules in
     let asked : to_z w64 (of_z w64 c.args.request.now.last_zxid_seen) ≡ c.args.request.now.last_zxid_seen = search rules in
     let low = not_ahead (zxid_held (history_of old.history) (slice_index old.taken old.server)) seen _ _ (held ∙ c.zxid.ensures ready) (asked ∙ last) c.if-zxid-request.false in
-    subst (λ (s : Served). ProcessesOne (Connect seen) xid (shown_of s) (shown_of (record b { connection = new }))) c.self.view_is
+    subst (λ (s : Served). AnswersOne (Connect seen) xid (shown_of s) (shown_of (record b { connection = new }))) c.self.view_is
     (admits_so b new seen xid (subst (λ (s : Served). s.connection.phase ≡ Opening) (sym c.self.view_is) opening)
     (subst (λ (s : Served). seen ≤ zxid_held (history_of s.history) (slice_index s.taken s.server)) (sym c.self.view_is) low) (c.in_ok-send_accepted.ensures.sends (ap (int_lt (pos 0)) ranged ∙ up)) refl)
+
+pub returns-then-zxid-request-clause-stays : goal.returns-then-zxid-request-clause-stays
+returns-then-zxid-request-clause-stays g c = λ seen ready last low over.
+    let held : to_z w64 (of_z w64 c.zxid.result) ≡ c.zxid.result = search rules in
+    let asked : to_z w64 (of_z w64 c.args.request.now.last_zxid_seen) ≡ c.args.request.now.last_zxid_seen = search rules in
+    no_more_seen _ seen _ _ (held ∙ c.zxid.ensures ready) (asked ∙ last) low c.if-zxid-request.true

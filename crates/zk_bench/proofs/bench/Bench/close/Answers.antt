@@ -3,7 +3,7 @@ use Rattle.zk_conversation.specs.Calls.{Close}
 use Rattle.zk_laws.specs.Messages.{Ask}
 use Rattle.zk_bench.specs.Served.{Served}
 use Rattle.zk_bench.specs.declared.phase.Phase.TheVariants.{Ended}
-use Rattle.zk_bench.specs.Stepping.{ProcessesOne, zxid_of, shown_of}
+use Rattle.zk_bench.specs.Stepping.{AnswersOne, zxid_of, shown_of}
 use Rattle.zk_bench.specs.Serving.{SendsHeader}
 use Rattle.zk_bench.proofs.Fields.{bench_of}
 use Rattle.zk_bench.proofs.Processed.{closes_so}
@@ -15,7 +15,7 @@ returns-clause-answers g c = λ has.
     let b = bench_of c.self.inside in
     let done = c.in_ok-send_err.ensures in
     let xid : to_z w32 (of_z w32 c.args.xid) ≡ c.args.xid = search rules in
-    subst (λ (n : Served). ProcessesOne (Ask Close) c.args.xid (shown_of old) (shown_of (record n { connection = record n.connection { phase = Ended } }))) (sym c.self.view_is)
-    (subst (λ (n : Served). ProcessesOne (Ask Close) c.args.xid (shown_of old) (shown_of (record n { connection = record n.connection { phase = Ended } }))) (sym done.only)
+    subst (λ (n : Served). AnswersOne (Ask Close) c.args.xid (shown_of old) (shown_of (record n { connection = record n.connection { phase = Ended } }))) (sym c.self.view_is)
+    (subst (λ (n : Served). AnswersOne (Ask Close) c.args.xid (shown_of old) (shown_of (record n { connection = record n.connection { phase = Ended } }))) (sym done.only)
     (closes_so old c.send_err.new.self.connection.output c.args.xid has
     (subst (λ (x : ℤ). SendsHeader (x, (pos (zxid_of old), pos 0)) old.connection.output c.send_err.new.self.connection.output) xid (done.sends has.ready))))

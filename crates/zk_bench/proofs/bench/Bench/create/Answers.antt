@@ -1,12 +1,13 @@
 use Rattle.std.proofs.Common.{rules, ◌≡◌, ◌≤◌, ℕ, pos, ap, ◌∙◌, subst, ℤ, to_z, of_z, w32}
-use Rattle.std.specs.Prelude.{OnOk, IfErr}
+use Rattle.std.specs.Prelude.{OnOk, IfErr, Err}
 use Rattle.zk_jute.specs.Lenient.{or_empty}
 use Rattle.zk_nodes.specs.Path.{Text}
 use Rattle.zk_conversation.specs.Calls.{Create}
 use Rattle.zk_laws.specs.Messages.{Request, Ask}
 use Rattle.zk_records.specs.declared.request.Request.TheVariants as requests
+use Rattle.zk_bench.specs.declared.stop.Stop.TheVariants as stops
 use Rattle.zk_bench.specs.Asking.{Asks}
-use Rattle.zk_bench.specs.Stepping.{ProcessesOne, Declines, shown_of}
+use Rattle.zk_bench.specs.Stepping.{AnswersOne, Declines, shown_of}
 use Rattle.zk_bench.proofs.Stepped.{ok_so, err_so}
 use Rattle.zk_bench.proofs.Called.{creates_asked, mode_is}
 use Rattle.zk_bench.proofs.Processed.{processes_then, declines_then, ends_then, stops_by}
@@ -37,7 +38,7 @@ returns-clause-answers g c = λ asked has asks.
     let mid = c.mode_caught_up.new.self in
     let new = c.make-outcome.new.self in
     let more = c.mode_caught_up.ensures.has has in
-    as_asked g c (λ one xid. OnOk c.make-outcome.result (ProcessesOne one xid (shown_of old) (shown_of new))) asked asks
+    as_asked g c (λ one xid. OnOk c.make-outcome.result (AnswersOne one xid (shown_of old) (shown_of new))) asked asks
     (λ number low flags. ok_so c.make-outcome.result _ _ (c.make-outcome.ensures.answers number more (mode_is (to_z w32 (of_z w32 c.args.request.flags)) number _ _ low flags c.in-Ok.ensures.mode))
     (λ done. processes_then (Ask (Create c.text_of.result.now c.args.request.bytes number)) (to_z w32 (of_z w32 c.args.xid)) old mid new has more (c.in-Ok.ensures.takes has) done))
 
@@ -52,3 +53,9 @@ returns-clause-declines g c = λ asked has asks.
     let one = Create c.text_of.result.now c.args.request.bytes number in
     err_so c.make-outcome.result (Declines (Ask one) (to_z w32 (of_z w32 c.args.xid)) mid new) (Declines (Ask one) (to_z w32 (of_z w32 c.args.xid)) old new) (c.make-outcome.ensures.declines number more)
     (λ refusal d. declines_then one (to_z w32 (of_z w32 c.args.xid)) old mid new refusal has more (c.in-Ok.ensures.takes has) d))
+
+pub returns-in-Err-clause-stays : goal.returns-in-Err-clause-stays
+returns-in-Err-clause-stays g c = λ asked asks small over.
+    let stop : c.in-Err.stop ≡ stops.End = cc in
+    let flagged : to_z w32 (of_z w32 c.args.request.flags) ≡ c.args.request.flags = search rules in
+    creates_asked (λ (one : Request). ⊥) c.args.request asked asks (λ text number is at flags low. c.in-Err.ensures.stays number (flagged ∙ flags) low (ap Err stop))

@@ -4,7 +4,7 @@ use Rattle.std.specs.Result.{IsErrAnd}
 use Rattle.std.specs.Prelude.{Result as Outcome}
 use Rattle.zk_jute.specs.Lenient.{or_empty}
 use Rattle.zk_nodes.specs.Path.{Text, path_of}
-use Rattle.zk_nodes.specs.History.{Deletes}
+use Rattle.zk_nodes.specs.History.{Deletes, Tree}
 use Rattle.zk_conversation.specs.Calls.{Delete}
 use Rattle.zk_laws.specs.Messages.{Request, Ask}
 use Rattle.zk_bench.specs.Serving.{SendsHeader}
@@ -12,12 +12,14 @@ use Rattle.zk_records.specs.declared.request.Request.TheVariants as requests
 use Rattle.zk_bench.specs.declared.stop.Refusal.{Refusal}
 use Rattle.zk_bench.specs.Asking.{Asks}
 use Rattle.zk_bench.specs.Served.{Served}
-use Rattle.zk_bench.specs.Stepping.{ProcessesOne, Declines, HasClient, HasWritten, LeavesUnmade, zxid_of, shown_of}
+use Rattle.zk_bench.specs.Stepping.{AnswersOne, Declines, HasClient, HasWritten, LeavesUnmade, zxid_of, shown_of}
 use Rattle.zk_bench.proofs.Answered.{errs_so}
 use Rattle.zk_bench.proofs.Called.{deletes_asked}
 use Rattle.zk_bench.proofs.Processed.{takes_then, ends_then, ends_sending, stops_by, declines_then, declines_unmade, unmade_same, deleted_so}
 use Rattle.zk_bench.proofs.bench.Bench.delete.Goals as goal
 use Rattle.zk_bench.proofs.bench.Bench.delete.Goals.{In_ok-catch_up}
+use Rattle.zk_history.specs.HistoryView.{IsAccepted, newest_tree}
+use Rattle.zk_bench.proofs.Staying.{handed_on}
 
 pub returns-in_err-catch_up-clause-declines : goal.returns-in_err-catch_up-clause-declines
 returns-in_err-catch_up-clause-declines g c = λ asked has asks.
@@ -74,8 +76,16 @@ returns-clause-answers g c = λ asked has asks.
     let xid : to_z w32 (of_z w32 c.args.xid) ≡ c.args.xid = search rules in
     let sends : SendsHeader (c.args.xid, (pos (zxid_of late), pos 0)) late.connection.output new.connection.output =
     subst (λ (x : ℤ). SendsHeader (x, (pos (zxid_of late), pos 0)) late.connection.output new.connection.output) xid (c.in_ok-send_err.ensures.sends still.ready) in
-    deletes_asked (λ (one : Request). ProcessesOne one c.args.xid (shown_of old) (shown_of new)) c.args.request.now asked asks
+    deletes_asked (λ (one : Request). AnswersOne one c.args.xid (shown_of old) (shown_of new)) c.args.request.now asked asks
     (λ text is at.
     let wrote : HasWritten (Deletes (path_of text)) late =
     subst (λ (t : Text). HasWritten (Deletes (path_of t)) late) (c.in_ok-path.ensures.path ∙ ap or_empty at) (c.in_ok-write.ensures.wrote more) in
     deleted_so text c.args.request.now.version c.args.xid old late new still took wrote sends c.in_ok-send_err.ensures.only)
+
+pub returns-in_err-write-clause-stays : goal.returns-in_err-write-clause-stays
+returns-in_err-write-clause-stays g c =
+    let tree = newest_tree c.catch_up.new.self.history in
+    let text = or_empty c.args.request.now.path in
+    let allowed = subst (λ (t : Tree). IsAccepted (Deletes (path_of text)) t) c.newest.ensures.seen c.in_ok-path.ensures.allowed in
+    let made = subst (λ (t : Text). IsAccepted (Deletes (path_of t)) tree) (sym c.in_ok-path.ensures.path) allowed in
+    handed_on c.from_residual-in_err-write.result _ _ c.from_residual-in_err-write.ensures.1 (λ over. c.in_err-write.ensures.stays made (cc))

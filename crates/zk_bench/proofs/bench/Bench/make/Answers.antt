@@ -12,6 +12,10 @@ use Rattle.zk_bench.specs.Writing.{IsAnswer, owner_of}
 use Rattle.zk_bench.specs.Stepping.{Declines, HasWritten, zxid_of}
 use Rattle.zk_bench.proofs.Answered.{errs_so}
 use Rattle.zk_bench.proofs.Processed.{declines_unmade, unmade_same, ends_sending, stops_by, created_so}
+use Rattle.zk_nodes.specs.PathFault.{IsPath}
+use Rattle.zk_history.specs.HistoryView.{IsAccepted}
+use Rattle.zk_history.specs.Made.{change_of}
+use Rattle.zk_bench.proofs.Staying.{handed_on}
 use Rattle.zk_bench.proofs.bench.Bench.make.Goals as goal
 
 pub returns-in_err-made-clause-declines : goal.returns-in_err-made-clause-declines
@@ -51,3 +55,11 @@ returns-clause-answers g c = λ number has same.
     (subst (λ (b : Bool). IsMadeOf c.args.text.now b at) (sym same) (subst (λ (t : Text). IsMadeOf c.args.text.now c.args.mode.sequential t) (sym c.as_str.ensures.value) made.1))
     (subst (λ (t : Text). HasWritten (Creates (path_of t) c.args.bytes owner) mid) (sym c.as_str.ensures.value) (subst (λ (x : model.Change). HasWritten x mid) made.0 (c.in_default.ensures.wrote has)))
     (subst (λ (x : ℤ). Sends (x, (pos (zxid_of mid), pos 0)) create_response (Some at) mid.connection.output new.connection.output) xid (done.sends more.ready)) done.only
+
+pub returns-in-Err-clause-stays : goal.returns-in-Err-clause-stays
+returns-in-Err-clause-stays g c = λ small. c.in-Err.ensures.stays (subst (IsAccepted (change_of c.in_ok-made.change)) c.newest.ensures.seen (c.in_ok-made.ensures.allowed small))
+
+pub returns-in_err-outcome-clause-stays : goal.returns-in_err-outcome-clause-stays
+returns-in_err-outcome-clause-stays g c = λ small.
+    handed_on c.from_residual-in_err-outcome.result _ _ c.from_residual-in_err-outcome.ensures.1
+    (λ over. c.in_err-outcome.ensures.stays (subst IsPath (sym c.as_str.ensures.value) c.in_ok-made.ensures.path) (cc))

@@ -1,8 +1,8 @@
 use Rattle.std.proofs.Common.{◌≡◌, true, sym, ap, ◌∙◌, length}
 use Rattle.zk_serving.proofs.Fronts.{front_there, front_field}
 use Rattle.zk_bench.specs.Served.{Served, is_open, ended}
-use Rattle.zk_bench.specs.Stepping.{IsReady, ProcessesFirst, shown_of}
-use Rattle.zk_bench.proofs.Stepped.{settled, settled_so, ready_ended, ready_disconnected, ok_so, first_processed}
+use Rattle.zk_bench.specs.Stepping.{IsReady, ProcessesFirst, shown_of, AnswersFirst}
+use Rattle.zk_bench.proofs.Stepped.{settled, settled_so, ready_ended, ready_disconnected, ok_so, first_processed, processed_so, answered_so}
 use Rattle.zk_bench.proofs.bench.Bench.process.Goals as goal
 
 pub returns-clause-ready : goal.returns-clause-ready
@@ -24,5 +24,12 @@ returns-clause-serves g c = λ request xid payload rest ready up stands now.
       small = stands.small;
     }) in
     settled_so (λ (new : Served). ProcessesFirst request xid payload (shown_of old) (shown_of new)) c.process_next-outcome.result c.settle.result mid c.settle.new.self c.settle.ensures.ok c.settle.ensures.ended c.settle.ensures.gives_up
-    (ok_so c.process_next-outcome.result _ _ (done.serves request xid payload rest ready up stands now) (first_processed old mid request xid payload rest stands.whole gone))
+    (ok_so c.process_next-outcome.result _ _ (done.serves request xid payload rest ready up stands now) (λ a. first_processed old mid request xid payload rest stands.whole gone (processed_so request xid (shown_of old) (shown_of mid) a)))
     (λ over. first_processed old (ended mid) request xid payload rest stands.whole gone (done.breaks request xid payload rest ready up stands now over))
+
+pub returns-clause-answers : goal.returns-clause-answers
+returns-clause-answers g c = λ request xid payload rest ready up stands now answerable.
+    let old = c.args.self.now in
+    let done = c.process_next-outcome.ensures in
+    settled_so (λ (new : Served). AnswersFirst request xid (shown_of old) (shown_of new)) c.process_next-outcome.result c.settle.result c.process_next-outcome.new.self c.settle.new.self c.settle.ensures.ok c.settle.ensures.ended c.settle.ensures.gives_up
+    (ok_so c.process_next-outcome.result _ _ (done.serves request xid payload rest ready up stands now) (answered_so request xid (shown_of old) (shown_of c.process_next-outcome.new.self))) (λ over. absurd (done.stays request xid payload rest ready up stands now answerable over))

@@ -1,4 +1,4 @@
-use Rattle.std.proofs.Common.{rules, ◌≡◌, ap, ◌∙◌, subst, ℤ, pos, drop, to_z, of_z, w32}
+use Rattle.std.proofs.Common.{rules, ◌≡◌, ap, ◌∙◌, subst, ℤ, pos, drop, to_z, of_z, w32, sym, refl}
 use Rattle.std.proofs.Common.{take as first}
 use Rattle.std.specs.Prelude.{Ok, Err}
 use Rattle.zk_records.specs.Codes.{code_number}
@@ -11,12 +11,15 @@ use Rattle.zk_bench.specs.Served.{Served, ended}
 use Rattle.zk_bench.specs.declared.stop.Stop.{Stop}
 use Rattle.zk_bench.specs.declared.stop.Stop.TheVariants as stops
 use Rattle.zk_bench.specs.declared.stop.Refusal.{Refusal}
+use Rattle.zk_bench.specs.declared.stop.Refusal.TheVariants as refusals
 use Rattle.zk_bench.specs.Serving.{SendsHeader}
-use Rattle.zk_bench.specs.Stepping.{HasClient, ProcessesOne, Declines, EndsBy, OwesTo, zxid_of, shown_of}
+use Rattle.zk_bench.specs.Stepping.{HasClient, ProcessesOne, AnswersOne, Declines, EndsBy, OwesTo, zxid_of, shown_of}
 use Rattle.zk_bench.proofs.Fields.{bench_of}
 use Rattle.zk_bench.proofs.Stepped.{ok_so, front_gone}
-use Rattle.zk_bench.proofs.Called.{found_front}
-use Rattle.zk_bench.proofs.Processed.{has_front, ready_sending, owed_to, owed_unsent}
+use Rattle.zk_bench.proofs.Called.{found_front, read_front}
+use Rattle.zk_bench.proofs.Processed.{has_front, ready_sending, owed_to, owed_unsent, ends_unsent}
+use Rattle.zk_bench.specs.Answerable.{IsAnswerable}
+use Rattle.zk_bench.proofs.Staying.{handed_on}
 use Rattle.zk_bench.proofs.bench.Bench.process_later.Goals as goal
 
 pub returns-in-Ok-clause-serves : goal.returns-in-Ok-clause-serves
@@ -25,9 +28,9 @@ returns-in-Ok-clause-serves g c = λ asked xid has later read fit.
     let rest = c.remove_front.new.bytes.items in
     let mid : Served = record b { connection = record b.connection { requests = rest } } in
     let ranged : to_z w32 (of_z w32 c.in_ok-xid.xid) ≡ c.in_ok-xid.xid = search rules in
-    let found = found_front b c.args.self.now c.args.length _ asked xid _ _ c.in_ok-xid.request c.self.view_is c.deref.ensures.value ranged later read fit c.in_ok-xid.ensures in
+    let found = found_front b c.args.self.now c.args.length _ asked xid _ _ c.in_ok-xid.request c.self.view_is c.deref.ensures.value ranged later read fit c.in_ok-xid.ensures.read in
     front_gone b c.args.self.now rest asked xid (shown_of c.answer.new.self) c.self.view_is
-    (subst (λ (x : ℤ). ProcessesOne asked x (shown_of mid) (shown_of c.answer.new.self)) found.1 (c.in-Ok.ensures.answers asked (has_front b c.args.self.now rest c.self.view_is has) found.0))
+    (subst (λ (x : ℤ). AnswersOne asked x (shown_of mid) (shown_of c.answer.new.self)) found.1 (c.in-Ok.ensures.answers asked (has_front b c.args.self.now rest c.self.view_is has) found.0))
 
 pub returns-in-Err-Stop-clause-ends : goal.returns-in-Err-Stop-clause-ends
 returns-in-Err-Stop-clause-ends g c = λ asked xid has later read fit over.
@@ -35,7 +38,7 @@ returns-in-Err-Stop-clause-ends g c = λ asked xid has later read fit over.
     let rest = c.remove_front.new.bytes.items in
     let mid : Served = record b { connection = record b.connection { requests = rest } } in
     let ranged : to_z w32 (of_z w32 c.in_ok-xid.xid) ≡ c.in_ok-xid.xid = search rules in
-    let found = found_front b c.args.self.now c.args.length _ asked xid _ _ c.in_ok-xid.request c.self.view_is c.deref.ensures.value ranged later read fit c.in_ok-xid.ensures in
+    let found = found_front b c.args.self.now c.args.length _ asked xid _ _ c.in_ok-xid.request c.self.view_is c.deref.ensures.value ranged later read fit c.in_ok-xid.ensures.read in
     let new = c.answer.new.self in
     let stop : c.in-Err-Stop.stop ≡ stops.End = ap (λ o. elim o [ Ok x ↦ stops.End | Err e ↦ e ]) over in
     let ends : EndsBy c.in-Err-Stop.stop asked xid (shown_of mid) (shown_of (ended new)) =
@@ -52,7 +55,7 @@ owed g c asked xid has later read fit =
     let rest = c.remove_front.new.bytes.items in
     let mid : Served = record b { connection = record b.connection { requests = rest } } in
     let ranged : to_z w32 (of_z w32 c.in_ok-xid.xid) ≡ c.in_ok-xid.xid = search rules in
-    let found = found_front b c.args.self.now c.args.length _ asked xid _ _ c.in_ok-xid.request c.self.view_is c.deref.ensures.value ranged later read fit c.in_ok-xid.ensures in
+    let found = found_front b c.args.self.now c.args.length _ asked xid _ _ c.in_ok-xid.request c.self.view_is c.deref.ensures.value ranged later read fit c.in_ok-xid.ensures.read in
     (subst (λ (r : Refusal). Declines asked (to_z w32 (of_z w32 c.in_ok-xid.xid)) mid c.answer.new.self r) c.in-Err-Code.field-0-is (c.in-Err-Code.ensures.declines asked (has_front b c.args.self.now rest c.self.view_is has) found.0), found.1)
 
 pub returns-in-Err-Code-clause-serves : goal.returns-in-Err-Code-clause-serves
@@ -78,3 +81,24 @@ returns-in-Err-Code-clause-ends g c = λ asked xid has later read fit over.
 pub returns-in-Err-Code-clause-ready : goal.returns-in-Err-Code-clause-ready
 returns-in-Err-Code-clause-ready g c = λ has.
     ready_sending c.answer.new.self c.send_err.new.self (c.answer.ensures.ready (has_front (bench_of c.self.inside) c.args.self.now c.remove_front.new.bytes.items c.self.view_is has)) c.send_err.ensures.only
+
+pub returns-in-Err-Stop-clause-stays : goal.returns-in-Err-Stop-clause-stays
+returns-in-Err-Stop-clause-stays g c = λ asked xid has later read fit answerable over.
+    let b = bench_of c.self.inside in
+    let rest = c.remove_front.new.bytes.items in
+    let ranged : to_z w32 (of_z w32 c.in_ok-xid.xid) ≡ c.in_ok-xid.xid = search rules in
+    let found = found_front b c.args.self.now c.args.length _ asked xid _ _ c.in_ok-xid.request c.self.view_is c.deref.ensures.value ranged later read fit c.in_ok-xid.ensures.read in
+    let stop : c.in-Err-Stop.stop ≡ stops.End = ap (λ o. elim o [ Ok x ↦ stops.End | Err e ↦ e ]) over in
+    c.in-Err-Stop.ensures.stays asked (has_front b c.args.self.now rest c.self.view_is has) found.0 (subst (IsAnswerable asked) (sym c.self.view_is) answerable) c.in_ok-xid.ensures.fits
+    (ap Err (c.in-Err-Stop.field-0-is ∙ ap refusals.Stop stop))
+
+pub returns-in_err-xid-clause-ends : goal.returns-in_err-xid-clause-ends
+returns-in_err-xid-clause-ends g c = λ asked xid has later read fit over.
+    let b = bench_of c.self.inside in
+    let mid : Served = record b { connection = record b.connection { requests = c.remove_front.new.bytes.items } } in
+    subst (λ (s : Served). ProcessesOne asked xid (shown_of s) (shown_of (ended mid))) c.self.view_is (ends_unsent asked xid b mid refl refl)
+
+pub returns-in_err-xid-clause-stays : goal.returns-in_err-xid-clause-stays
+returns-in_err-xid-clause-stays g c = λ asked xid has later read fit answerable.
+    handed_on c.from_residual.result _ _ c.from_residual.ensures.1
+    (λ over. read_front (bench_of c.self.inside) c.args.self.now c.args.length _ asked xid ⊥ c.self.view_is c.deref.ensures.value later read fit (λ a found. let memory = c.in_err-xid.ensures.read a found in cc))

@@ -31,3 +31,15 @@ returns-in-Whole-clause-breaks g c = λ asked xid payload rest ready up stands n
     subst (λ bytes. IsWhole bytes c.in-Whole.length) (c.as_slice.ensures.value ∙ ap (λ (s : Served). s.connection.requests) c.self.view_is) c.in-Whole.ensures in
     let same = whole_payload payload rest c.args.self.now.connection.requests c.in-Whole.length stands.whole stands.small whole in
     c.process_frame.ensures.ends asked xid ready up now (subst (λ (p : List ℕ). IsReadAs asked xid p) same stands.read) (subst (λ (p : List ℕ). IsFit asked p) same stands.fit) over
+
+pub returns-in-Negative-clause-stays : goal.returns-in-Negative-clause-stays
+returns-in-Negative-clause-stays g c = λ asked xid payload rest ready up stands now answerable over.
+    not_negative payload rest c.args.self.now.connection.requests stands.whole stands.small
+    (subst IsNegative (c.as_slice.ensures.value ∙ ap (λ (s : Served). s.connection.requests) c.self.view_is) c.in-Negative.ensures)
+
+pub returns-in-Whole-clause-stays : goal.returns-in-Whole-clause-stays
+returns-in-Whole-clause-stays g c = λ asked xid payload rest ready up stands now answerable.
+    let whole : IsWhole c.args.self.now.connection.requests c.in-Whole.length =
+    subst (λ bytes. IsWhole bytes c.in-Whole.length) (c.as_slice.ensures.value ∙ ap (λ (s : Served). s.connection.requests) c.self.view_is) c.in-Whole.ensures in
+    let same = whole_payload payload rest c.args.self.now.connection.requests c.in-Whole.length stands.whole stands.small whole in
+    c.process_frame.ensures.stays asked xid ready up now (subst (λ (p : List ℕ). IsReadAs asked xid p) same stands.read) (subst (λ (p : List ℕ). IsFit asked p) same stands.fit) answerable

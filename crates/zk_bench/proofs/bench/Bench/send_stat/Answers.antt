@@ -13,6 +13,8 @@ use Rattle.zk_bench.specs.Serving.{Sends}
 use Rattle.zk_bench.specs.Stepping.{zxid_of}
 use Rattle.zk_bench.proofs.Fields.{bench_of}
 use Rattle.zk_bench.proofs.Answered.{numbers_of}
+use Rattle.zk_jute.specs.Spelling.{Fits}
+use Rattle.zk_bench.proofs.Staying.{handed_on, stat_fits}
 use Rattle.zk_bench.proofs.bench.Bench.send_stat.Goals as goal
 
 pub returns-clause-sends : goal.returns-clause-sends
@@ -37,3 +39,9 @@ returns-clause-sends g c = λ ready all is.
       told = counted;
       sends = subst (λ (s : Served). Sends (c.args.xid, (pos (zxid_of old), pos 0)) stat value s.connection.output output) c.self.view_is sends;
     }
+
+pub returns-in_err-send_result-clause-stays : goal.returns-in_err-send_result-clause-stays
+returns-in_err-send_result-clause-stays g c =
+    let fits : Fits stat (numbers_of c.in-Some.stat) = search rules in
+    handed_on c.from_residual-in_err-send_result.result _ _ c.from_residual-in_err-send_result.ensures.1
+    (λ over. c.in_err-send_result.ensures.stays (stat_fits (numbers_of c.in-Some.stat) fits) (cc))

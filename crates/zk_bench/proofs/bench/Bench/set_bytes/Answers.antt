@@ -1,12 +1,14 @@
 use Rattle.std.proofs.Common.{rules, ◌≡◌, sym, subst, ℤ, ℕ, List, Option, to_z, of_z, w32}
 use Rattle.zk_nodes.specs.Path.{Text, path_of}
-use Rattle.zk_nodes.specs.History.{Sets}
+use Rattle.zk_nodes.specs.History.{Sets, Tree}
 use Rattle.zk_conversation.specs.Calls.{SetData}
 use Rattle.zk_laws.specs.Messages.{Ask}
 use Rattle.zk_bench.specs.Stepping.{Declines, HasWritten, SendsStat, LeavesUnsent}
 use Rattle.zk_bench.proofs.Answered.{errs_so}
 use Rattle.zk_bench.proofs.Stepped.{ok_so, err_so}
 use Rattle.zk_bench.proofs.Processed.{takes_then, ends_then, stops_by, declines_then, declines_unmade, unmade_same, declines_unsent, set_so}
+use Rattle.zk_history.specs.HistoryView.{IsAccepted, newest_tree}
+use Rattle.zk_bench.proofs.Staying.{handed_on}
 use Rattle.zk_bench.proofs.bench.Bench.set_bytes.Goals as goal
 
 pub returns-in-Err-clause-declines : goal.returns-in-Err-clause-declines
@@ -63,3 +65,12 @@ returns-clause-declines g c = λ has is.
     let took = takes_then old mid late has more (c.in_default.ensures.takes has) (c.in_ok-write.ensures.takes more) in
     err_so c.send_stat.result (LeavesUnsent late new) (Declines (Ask (SetData c.args.text.now c.args.bytes c.args.version)) c.args.xid old new) c.send_stat.ensures.unsent
     (λ refusal unsent. declines_unsent c.args.text.now c.args.bytes c.args.version c.args.xid old late new refusal has (c.write.ensures.has more) took c.send_stat.ensures.only unsent)
+
+pub returns-in_err-write-clause-stays : goal.returns-in_err-write-clause-stays
+returns-in_err-write-clause-stays g c = λ small.
+    let tree = newest_tree c.catch_up.new.self.history in
+    let allowed : IsAccepted (Sets (path_of c.args.text.now) c.args.bytes) tree =
+    subst (λ (t : Tree). IsAccepted (Sets (path_of c.args.text.now) c.args.bytes) t) c.newest.ensures.seen (c.in-Ok.ensures.allowed c.args.bytes small) in
+    let made = subst (λ (t : Text). IsAccepted (Sets (path_of t) c.args.bytes) tree) (sym c.in-Ok.ensures.path) allowed in
+    handed_on c.from_residual.result _ _ c.from_residual.ensures.1
+    (λ over. c.in_err-write.ensures.stays (subst (λ (bytes : Option (List ℕ)). IsAccepted (Sets (path_of c.in-Ok.path) bytes) tree) (sym c.into_inner.ensures) made) (cc))

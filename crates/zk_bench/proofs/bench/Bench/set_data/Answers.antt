@@ -7,7 +7,7 @@ use Rattle.zk_conversation.specs.Calls.{SetData}
 use Rattle.zk_laws.specs.Messages.{Request, Ask}
 use Rattle.zk_records.specs.declared.request.Request.TheVariants as requests
 use Rattle.zk_bench.specs.Asking.{Asks}
-use Rattle.zk_bench.specs.Stepping.{ProcessesOne, Declines, shown_of}
+use Rattle.zk_bench.specs.Stepping.{AnswersOne, Declines, shown_of}
 use Rattle.zk_bench.proofs.Called.{sets_asked}
 use Rattle.zk_bench.proofs.bench.Bench.set_data.Goals as goal
 
@@ -27,7 +27,7 @@ as_asked g c P asked asks made =
 
 pub returns-clause-answers : goal.returns-clause-answers
 returns-clause-answers g c = λ asked has asks.
-    as_asked g c (λ one xid. OnOk c.set_bytes-outcome.result (ProcessesOne one xid (shown_of c.args.self.now) (shown_of c.set_bytes-outcome.new.self))) asked asks (c.set_bytes-outcome.ensures.answers has)
+    as_asked g c (λ one xid. OnOk c.set_bytes-outcome.result (AnswersOne one xid (shown_of c.args.self.now) (shown_of c.set_bytes-outcome.new.self))) asked asks (c.set_bytes-outcome.ensures.answers has)
 
 pub returns-clause-declines : goal.returns-clause-declines
 returns-clause-declines g c = λ asked has asks.

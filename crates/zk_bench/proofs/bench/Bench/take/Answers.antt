@@ -37,3 +37,10 @@ returns-clause-apart g c = λ shut.
     let stays = c.take_next-outcome.ensures.apart shut in
     let same = gives c.take_next-outcome.result (c.settle.new.self ≡ mid) stays.1 c.settle.ensures.ok in
     on_ok c.settle.result (c.settle.new.self.connection ≡ c.args.self.now.connection) (ap (λ (b : Served). b.connection) same ∙ stays.0)
+
+pub returns-clause-stays : goal.returns-clause-stays
+returns-clause-stays g c =
+    let mid = c.take_next-outcome.new.self in
+    let done = c.take_next-outcome.ensures in
+    settled_so (λ (new : Served). new.connection.phase ≡ c.args.self.now.connection.phase) c.take_next-outcome.result c.settle.result mid c.settle.new.self c.settle.ensures.ok c.settle.ensures.ended c.settle.ensures.gives_up
+    (on_ok c.take_next-outcome.result _ done.phase) (λ over. absurd (done.stays over))

@@ -11,6 +11,8 @@ use Rattle.zk_bench.proofs.Fields.{bench_of}
 use Rattle.zk_bench.proofs.Answered.{errs_so}
 use Rattle.zk_bench.proofs.Stepped.{continues_so}
 use Rattle.zk_bench.proofs.Processed.{client_later, takes_later, leaves_append, wrote_so}
+use Rattle.zk_history.specs.HistoryView.{IsAccepted, newest_tree}
+use Rattle.zk_bench.proofs.Staying.{handed_on, taken_write}
 use Rattle.zk_bench.proofs.bench.Bench.write.Goals as goal
 
 pub returns-in_err-append_write-clause-refuses : goal.returns-in_err-append_write-clause-refuses
@@ -53,3 +55,8 @@ returns-clause-all g c = λ has.
 pub returns-clause-has : goal.returns-clause-has
 returns-clause-has g c = λ has.
     c.catch_up.ensures.has (client_later (bench_of c.self.inside) c.args.self.now c.append_write.new.history c.self.view_is c.append_write.ensures.goes_on has)
+
+pub returns-in_err-append_write-clause-stays : goal.returns-in_err-append_write-clause-stays
+returns-in_err-append_write-clause-stays g c = λ accepted.
+    handed_on c.from_residual.result _ _ c.from_residual.ensures.1
+    (taken_write c.self.inside.history c.self.inside.time (change_of c.args.change) _ c.in_err-append_write.ensures.told (subst (λ (s : Served). IsAccepted (change_of c.args.change) (newest_tree s.history)) (sym c.self.view_is) accepted))
