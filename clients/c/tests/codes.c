@@ -65,7 +65,7 @@ static void expect_closed_session(dw_client *none)
     expect_untouched(room, sizeof room);
 }
 
-/* The look-ups of a path answer this code and write nothing, but for the count of a name. */
+/* The look-ups of a path answer this code and write nothing, but for the counts of bytes. */
 static void expect_no_look_up(dw_client *client, int32_t code, const uint8_t *path, size_t length)
 {
     uint8_t room[ROOM];
@@ -78,6 +78,9 @@ static void expect_no_look_up(dw_client *client, int32_t code, const uint8_t *pa
     EXPECT_NUMBER(code, dw_peek_data(client, path, length, &data, room, sizeof room));
     EXPECT_NUMBER(code, dw_peek_children(client, path, length, &names));
     EXPECT_NUMBER(code, dw_peek_name(client, path, length, 0, room, sizeof room, &count));
+    EXPECT_NUMBER(0, count);
+    count = 1;
+    EXPECT_NUMBER(code, dw_peek_names(client, path, length, room, sizeof room, &count));
     EXPECT_NUMBER(0, count);
     expect_untouched(room, sizeof room);
     expect_untouched(&data, sizeof data);

@@ -6,6 +6,7 @@
 #include "dirwolleu.h"
 #include "expect.h"
 #include "frames.h"
+#include "lines.h"
 
 #include <string.h>
 
@@ -42,11 +43,6 @@ static void read_text(struct session *s, size_t length)
     room[ROOM] = GUARD;
     EXPECT_NUMBER(left, dw_copy(&s->client, from, room, ROOM));
     EXPECT_NUMBER(GUARD, room[ROOM]);
-}
-
-static uint32_t read_int(const uint8_t *at)
-{
-    return (uint32_t)at[0] << 24 | (uint32_t)at[1] << 16 | (uint32_t)at[2] << 8 | at[3];
 }
 
 /* A frame has its own length in its first four bytes; a request of a call its xid, above 0, and its type behind them. */
@@ -201,18 +197,29 @@ static void hand_in(struct session *s)
     }
 }
 
+/* Behind the last name there is none, and all names have their lengths. Little room is enough. */
+static void look_up_names(struct session *s, const uint8_t *path, size_t length)
+{
+    uint8_t room[ROOM + 1];
+    dw_kept_names names;
+    size_t count;
+    room[ROOM] = GUARD;
+    EXPECT_NUMBER(DW_OK, dw_peek_children(&s->client, path, length, &names));
+    EXPECT_NUMBER(DW_OK, dw_peek_name(&s->client, path, length, names.count, room, ROOM, &count));
+    EXPECT_NUMBER(0, count);
+    EXPECT_NUMBER(DW_OK, dw_peek_names(&s->client, path, length, room, ROOM, &count));
+    EXPECT(names.count == 0 ? count == 0 : count >= 4 * names.count);
+    EXPECT_NUMBER(GUARD, room[ROOM]);
+}
+
 static void look_up(struct session *s)
 {
     const uint8_t path[] = {'/', (uint8_t)('a' + draw(s, 4))};
     uint8_t room[ROOM];
     dw_kept_data data;
-    dw_kept_names names;
-    size_t count;
     EXPECT_NUMBER(DW_OK, dw_peek_data(&s->client, path, sizeof path, &data, room, sizeof room));
     EXPECT((data.kind == DW_NOTHING) == (data.mark == 0) && data.kind <= DW_FULL && data.mark <= DW_STALE);
-    EXPECT_NUMBER(DW_OK, dw_peek_children(&s->client, path, sizeof path, &names));
-    EXPECT_NUMBER(DW_OK, dw_peek_name(&s->client, path, sizeof path, names.count, room, sizeof room, &count));
-    EXPECT_NUMBER(0, count);
+    look_up_names(s, path, sizeof path);
     EXPECT(dw_last_zxid(&s->client) >= 0 && dw_timeout_ms(&s->client) > 0);
 }
 

@@ -8,6 +8,11 @@
 /* The most bytes of a text in a test. */
 enum { ROOM = 512 };
 
+uint32_t read_int(const uint8_t *at)
+{
+    return (uint32_t)at[0] << 24 | (uint32_t)at[1] << 16 | (uint32_t)at[2] << 8 | at[3];
+}
+
 static void add_list(struct lines *lines, const char *format, va_list values)
 {
     size_t room = sizeof lines->at - lines->length;
@@ -145,21 +150,48 @@ int32_t add_kept_data(struct lines *lines, dw_client *client, const char *path)
     return DW_OK;
 }
 
+/* The name of this index that is kept of a path is this one. */
+static int32_t expect_kept_name(dw_client *client, const char *path, size_t index, const uint8_t *name, size_t length)
+{
+    uint8_t room[ROOM];
+    size_t count;
+    int32_t code = dw_peek_name(client, (const uint8_t *)path, strlen(path), index, room, sizeof room, &count);
+    if (code == DW_OK) {
+        EXPECT_NUMBER(length, count);
+        EXPECT(memcmp(name, room, length) == 0);
+    }
+    return code;
+}
+
+/* Adds so many names that are kept of a path, each of which stands behind its length and is that of its index. */
+static int32_t add_all_names(struct lines *lines, dw_client *client, const char *path, size_t names)
+{
+    uint8_t spelled[ROOM];
+    size_t count, at = 0;
+    int32_t code = dw_peek_names(client, (const uint8_t *)path, strlen(path), spelled, sizeof spelled, &count);
+    EXPECT(count <= sizeof spelled);
+    for (size_t i = 0; i < names && code == DW_OK; i++) {
+        const uint8_t *name = spelled + at + 4;
+        size_t length = read_int(spelled + at);
+        at += 4 + length;
+        EXPECT(at <= count);
+        add(lines, " \"%.*s\"", (int)length, name);
+        code = expect_kept_name(client, path, i, name, length);
+    }
+    EXPECT(code != DW_OK || at == count);
+    return code;
+}
+
 int32_t add_kept_names(struct lines *lines, dw_client *client, const char *path)
 {
-    char name[ROOM];
     dw_kept_names kept;
-    size_t length, before = lines->length;
+    size_t before = lines->length;
     int32_t code = dw_peek_children(client, (const uint8_t *)path, strlen(path), &kept);
     if (code != DW_OK) {
         return code;
     }
     add(lines, "names %" PRId32 " %" PRId64, kept.mark, kept.pzxid);
-    for (size_t i = 0; i < kept.count && code == DW_OK; i++) {
-        code = dw_peek_name(client, (const uint8_t *)path, strlen(path), i, (uint8_t *)name, sizeof name, &length);
-        EXPECT(code != DW_OK || length <= sizeof name);
-        add(lines, " \"%.*s\"", code == DW_OK ? (int)length : 0, name);
-    }
+    code = add_all_names(lines, client, path, kept.count);
     add(lines, "\n");
     lines->length = code == DW_OK ? lines->length : before;
     return code;

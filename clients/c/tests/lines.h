@@ -9,6 +9,9 @@ struct lines {
     size_t length;
 };
 
+/* The number of four bytes, the highest first. */
+uint32_t read_int(const uint8_t *at);
+
 /* Adds to the lines, as printf does. */
 void add_line(struct lines *lines, const char *format, ...);
 

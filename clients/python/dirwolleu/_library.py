@@ -13,7 +13,7 @@ import pathlib
 from ctypes import POINTER, Structure, byref, string_at
 from ctypes import c_bool, c_char, c_char_p, c_int32, c_int64, c_size_t, c_uint32, c_uint64, c_void_p
 from operator import attrgetter
-from typing import Any, Callable, NamedTuple, Optional, Union
+from typing import Any, Callable, Iterator, NamedTuple, Optional, Union
 
 from dirwolleu.types import DataStat, Stat
 
@@ -99,7 +99,7 @@ _FUNCTIONS: dict[str, tuple[Any, tuple[Any, ...]]] = {
     "dw_saved": (c_int32, (_HANDLE, *_ROOM, POINTER(c_size_t))),
     "dw_peek_data": (c_int32, (_HANDLE, *_BYTES, POINTER(_KeptData), *_ROOM)),
     "dw_peek_children": (c_int32, (_HANDLE, *_BYTES, POINTER(_KeptNames))),
-    "dw_peek_name": (c_int32, (_HANDLE, *_BYTES, c_size_t, *_ROOM, POINTER(c_size_t))),
+    "dw_peek_names": (c_int32, (_HANDLE, *_BYTES, *_ROOM, POINTER(c_size_t))),
     "dw_forget": (c_int32, (_HANDLE,)),
 }
 
@@ -210,6 +210,15 @@ def _checked(code: int) -> None:
     )
 
 
+def _texts_in(spelled: bytes) -> Iterator[str]:
+    """The texts that stand behind each other, each behind its length in four bytes."""
+    end = 0
+    while end < len(spelled):
+        begin = end + 4
+        end = begin + int.from_bytes(spelled[end:begin], "big")
+        yield spelled[begin:end].decode()
+
+
 _fields_of_stat, _fields_of_data_stat = attrgetter(*Stat._fields), attrgetter(*DataStat._fields)
 
 
@@ -314,8 +323,8 @@ class Machine:
     def peek_children(self, path: str) -> KeptNames:
         spelled, kept = path.encode(), _KeptNames()
         _checked(_library.dw_peek_children(self._handle, spelled, len(spelled), byref(kept)))
-        names = tuple(self._peek_name(spelled, index) for index in range(kept.count))
-        return KeptNames(kept.mark, names, kept.pzxid)
+        names = self._counted(lambda *room: _library.dw_peek_names(self._handle, spelled, len(spelled), *room))
+        return KeptNames(kept.mark, tuple(_texts_in(names)), kept.pzxid)
 
     def forget(self) -> None:
         """Forgets all stale answers."""
@@ -367,9 +376,6 @@ class Machine:
 
     def _words(self) -> str:
         return self._counted(lambda *room: _library.dw_words(self._handle, *room)).decode(errors="replace")
-
-    def _peek_name(self, path: bytes, index: int) -> str:
-        return self._counted(lambda *room: _library.dw_peek_name(self._handle, path, len(path), index, *room)).decode()
 
     def _counted(self, call: Callable[..., int]) -> bytes:
         """What a call writes into a room, of which it is told how much there is, and counts."""

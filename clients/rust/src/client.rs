@@ -30,6 +30,17 @@ pub(crate) fn whole_text(bytes: Vec<u8>) -> String {
     String::from_utf8(bytes).expect("the library gives UTF-8")
 }
 
+/// So many texts, which stand behind each other, each behind its length in four bytes.
+fn texts_in(count: usize, mut spelled: &[u8]) -> Vec<String> {
+    let mut texts = Vec::with_capacity(count);
+    while let [a, b, c, d, rest @ ..] = spelled {
+        let (text, rest) = rest.split_at(u32::from_be_bytes([*a, *b, *c, *d]) as usize);
+        texts.push(whole_text(text.to_vec()));
+        spelled = rest;
+    }
+    texts
+}
+
 /// The state of a session, as its client knows it.
 #[derive(Clone, Copy, Debug, PartialEq, Eq, Hash)]
 pub enum State {
@@ -245,19 +256,15 @@ impl Client {
         Ok(Mark::of(self.handle.peek_data(path, &mut [])?.mark))
     }
 
-    /// What is kept about the children of a path that were read with a watch, and none where nothing is. The names are copied: each
-    /// costs a walk over those before it, so the time grows with the square of their number. It fails as
-    /// [`peek_data`](Client::peek_data).
+    /// What is kept about the children of a path that were read with a watch, and none where nothing is. The names are copied. It fails
+    /// as [`peek_data`](Client::peek_data).
     pub fn peek_children(&self, path: &str) -> Result<Option<Kept<Children>>, Fault> {
         let kept = self.handle.peek_children(path)?;
         let Some(mark) = Mark::of(kept.mark) else {
             return Ok(None);
         };
-        let name_at = |index| whole(|room| self.handle.peek_name(path, index, room));
-        let names: Result<Vec<String>, Fault> = (0..kept.count)
-            .map(|index| name_at(index).map(whole_text))
-            .collect();
-        let (names, pzxid) = (names?, kept.pzxid);
+        let spelled = whole(|room| self.handle.peek_names(path, room))?;
+        let (names, pzxid) = (texts_in(kept.count, &spelled), kept.pzxid);
         Ok(Some(Kept {
             answer: Children { names, pzxid },
             mark,

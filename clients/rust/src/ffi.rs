@@ -87,7 +87,7 @@ extern "C" {
     fn dw_saved(handle: *mut Raw, out: *mut u8, room: usize, count: *mut usize) -> i32;
     fn dw_peek_data(handle: *mut Raw, path: *const u8, path_length: usize, kept: *mut KeptData, out: *mut u8, room: usize) -> i32;
     fn dw_peek_children(handle: *mut Raw, path: *const u8, path_length: usize, kept: *mut KeptNames) -> i32;
-    fn dw_peek_name(handle: *mut Raw, path: *const u8, path_length: usize, index: usize, out: *mut u8, room: usize, count: *mut usize) -> i32;
+    fn dw_peek_names(handle: *mut Raw, path: *const u8, path_length: usize, out: *mut u8, room: usize, count: *mut usize) -> i32;
     fn dw_forget(handle: *mut Raw) -> i32;
 }
 
@@ -336,28 +336,13 @@ impl Handle {
         Ok(kept)
     }
 
-    /// Copies a name of those that are kept of a path, and tells how many bytes it has.
-    pub(crate) fn peek_name(
-        &self,
-        path: &str,
-        index: usize,
-        room: &mut [u8],
-    ) -> Result<usize, Fault> {
+    /// Copies the names that are kept of a path, each behind its length in four bytes, and tells how many bytes there are.
+    pub(crate) fn peek_names(&self, path: &str, room: &mut [u8]) -> Result<usize, Fault> {
         let mut count = 0;
         let (path, path_length) = (path.as_ptr(), path.len());
         let (out, room) = (room.as_mut_ptr(), room.len());
         // SAFETY: as `Handle` says.
-        done(unsafe {
-            dw_peek_name(
-                self.raw.get(),
-                path,
-                path_length,
-                index,
-                out,
-                room,
-                &mut count,
-            )
-        })?;
+        done(unsafe { dw_peek_names(self.raw.get(), path, path_length, out, room, &mut count) })?;
         Ok(count)
     }
 

@@ -286,16 +286,16 @@ fn names_of_each_length_are_kept_in_byte_order() {
     let long = "n".repeat(1_000);
     let _ = client.get_children(START, 1, "/a", Watch::Yes).unwrap();
     let reply = Record::reply(1, 5, 0)
-        .texts(&["z", &long, "b"])
+        .texts(&["z", &long, "", "b"])
         .stat(5, 0, 0, 3);
     let mut outputs = client.bytes(START, &reply.framed()).unwrap();
     let reply = reply_to(1, &mut outputs);
     let Ok(Brought::Names { names, .. }) = reply.result else {
         panic!("no names");
     };
-    assert_eq!(names.iter().collect::<Vec<_>>(), ["z", &long, "b"]);
+    assert_eq!(names.iter().collect::<Vec<_>>(), ["z", &long, "", "b"]);
     let kept = client.peek_children("/a").unwrap().unwrap();
-    assert_eq!(kept.answer.names, ["b", &long, "z"]);
+    assert_eq!(kept.answer.names, ["", "b", &long, "z"]);
     assert_eq!((kept.answer.pzxid, kept.mark), (5, Mark::Good));
     assert_eq!(client.children_mark("/a").unwrap(), Some(Mark::Good));
     assert_eq!(client.peek_children("/b").unwrap(), None);

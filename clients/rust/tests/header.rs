@@ -1,7 +1,10 @@
-//! The declarations of `src/ffi.rs` and `src/node.rs` are those of `include/dirwolleu.h`: the same functions with the same parameters,
-//! and structs with the same fields, each in the same order.
+//! The declarations of `src/ffi.rs` and `src/node.rs` are those of `include/dirwolleu.h`: the same functions but for one, with the same
+//! parameters, and structs with the same fields, each in the same order.
 
 use std::fs;
+
+/// The function that this crate does not call: it asks for all names at once.
+const UNCALLED: &str = "fn dw_peek_name(";
 
 /// A file below the folder of the crate.
 fn file(path: &str) -> String {
@@ -106,7 +109,9 @@ fn functions_are_declared_as_in_the_header() {
     let prototypes = code
         .split(';')
         .filter(|part| part.contains("(dw_client *handle"));
-    let awaited: Vec<String> = prototypes.filter_map(rust_function).collect();
+    let (uncalled, awaited): (Vec<String>, Vec<String>) = prototypes
+        .filter_map(rust_function)
+        .partition(|function| function.starts_with(UNCALLED));
     let ffi = file("src/ffi.rs");
     let (code, _) = between(&ffi, "extern \"C\" {", "\n}").expect("declarations");
     let declared: Vec<&str> = code
@@ -114,7 +119,8 @@ fn functions_are_declared_as_in_the_header() {
         .map(str::trim)
         .filter(|line| !line.is_empty())
         .collect();
-    assert_eq!(awaited.len(), header.matches("(dw_client *handle").count());
+    let functions = header.matches("(dw_client *handle").count();
+    assert_eq!((uncalled.len(), awaited.len()), (1, functions - 1));
     for (awaited, declared) in awaited.iter().zip(&declared) {
         assert_eq!(awaited, declared);
     }

@@ -54,12 +54,16 @@ pub static EXPIRES: [Event; 27] = [
 ];
 
 /// A session that is put away, taken up again, and closed.
-pub static CLOSES: [Event; 7] = [
+pub static CLOSES: [Event; 11] = [
     Event::Opens,
     Event::Creates("/a", Some("one"), 0),
     Event::Resumes,
     Event::Opens,
     Event::Reads("/a"),
+    Event::Creates("/a/bc", None, 0),
+    Event::Creates("/a/b", None, 0),
+    Event::Lists("/a"),
+    Event::Peeks("/a"),
     Event::Closes,
     Event::Reads("/a"),
 ];

@@ -82,7 +82,16 @@ pub fn tell(alloc: Global, device: &mut Device, told: &mut String) -> Result<Vec
     Ok(frames)
 }
 
-/// Tells what is kept of a path: of its data the kind, the mark, and the bytes; of its names the mark and how many.
+/// Tells the names that are kept of a path, as the bytes that spell them.
+fn tell_names(alloc: Global, device: &Device, path: &str, told: &mut String) -> Result<()> {
+    let mut room = [0; ROOM];
+    match device.peek_names(alloc, path.as_bytes(), &mut room) {
+        Ok(0) | Err(_) => Ok(()),
+        Ok(count) => Ok(writeln!(told, "  {:?}", &room[..count.min(ROOM)])?),
+    }
+}
+
+/// Tells what is kept of a path: of its data the kind, the mark, and the bytes; of its names the mark, how many, and the bytes.
 pub fn tell_kept(alloc: Global, device: &Device, path: &str, told: &mut String) -> Result<()> {
     let mut room = [0; ROOM];
     if let Ok(kept) = device.peek_data(alloc, path.as_bytes(), &mut room) {
@@ -102,5 +111,5 @@ pub fn tell_kept(alloc: Global, device: &Device, path: &str, told: &mut String) 
             kept.mark, kept.count, kept.pzxid
         )?;
     }
-    Ok(())
+    tell_names(alloc, device, path, told)
 }

@@ -5,7 +5,7 @@ use Rattle.zk_cache.specs.Kept.{Answer}
 use Rattle.zk_cache.specs.declared.held.Kept.{Kept}
 use Rattle.zk_device.specs.declared.kept.KeptData.{KeptData}
 use Rattle.zk_device.specs.declared.kept.KeptNames.{KeptNames}
-use Rattle.zk_device.specs.Kept.{TellsNames, WritesName, data_flat, data_text}
+use Rattle.zk_device.specs.Kept.{TellsNames, data_flat, data_text}
 
 -- Of the data: 0 where they are told and copied, and any other number where nothing is written, for a reason that it has.
 abbrev pub FindsData : (Refuses : ℤ → Type 0) → Option (Kept Answer) → (code : ℤ) (before after : KeptData) (room written : List ℕ) → Type 0
@@ -17,7 +17,7 @@ abbrev pub FindsNames : (Refuses : ℤ → Type 0) → Option (Kept cache.Names)
 FindsNames Refuses kept (pos zero) before after = TellsNames kept after
 FindsNames Refuses kept code before after = Refuses code × (after ≡ before)
 
--- the same of the name of an index, with 0 for its count where nothing is written
-abbrev pub FindsName : (Refuses : ℤ → Type 0) (index : ℕ) → Option (Kept cache.Names) → (code : ℤ) (room written : List ℕ) (count : ℕ) → Type 0
-FindsName Refuses index kept (pos zero) room written count = WritesName index kept room written count
-FindsName Refuses index kept code room written count = Refuses code × (written ≡ room) × (count ≡ 0)
+-- the same of a text of names, with 0 for its count where nothing is written
+abbrev pub FindsText : (Refuses : ℤ → Type 0) (Writes : (room written : List ℕ) (count : ℕ) → Type 0) → (code : ℤ) (room written : List ℕ) (count : ℕ) → Type 0
+FindsText Refuses Writes (pos zero) room written count = Writes room written count
+FindsText Refuses Writes code room written count = Refuses code × (written ≡ room) × (count ≡ 0)

@@ -3,9 +3,10 @@
 ghost use Rattle.std.specs.Prelude.{◌≡◌, None, Some, negsuc};
 ghost use Rattle.zk_client.specs.Clients.{view_of};
 ghost use Rattle.zk_device.specs.declared.device.Device.{Device};
+ghost use Rattle.zk_device.specs.Kept.{WritesName, WritesNames};
 ghost use Rattle.zk_device.specs.Refused.{RefusesPath};
 ghost use Rattle.zk_c.specs.Held.{Forgets, Holds, IsClosed};
-ghost use Rattle.zk_c.specs.Kept.{FindsData, FindsName, FindsNames};
+ghost use Rattle.zk_c.specs.Kept.{FindsData, FindsNames, FindsText};
 
 use crate::handle::DwClient;
 use crate::taking::{CLOSED, take};
@@ -77,7 +78,7 @@ pub extern "C" fn dw_peek_name(
     count: &mut usize,
 ) -> i32
     ensures closed { handle.old.slot.held ≡ None → result ≡ negsuc 2 }
-    ensures finds { (d : Device) → handle.old.slot.held ≡ Some d → FindsName (RefusesPath path.now) index ((view_of d.client).cache.children path.now) result out.old out.new count.new }
+    ensures finds { (d : Device) → handle.old.slot.held ≡ Some d → FindsText (RefusesPath path.now) (WritesName index ((view_of d.client).cache.children path.now)) result out.old out.new count.new }
     ensures same { handle.new.slot.held ≡ handle.old.slot.held }
 {
     *count = 0;
@@ -89,6 +90,35 @@ pub extern "C" fn dw_peek_name(
     match found {
         Ok(found) => {
             *count = found;
+            0
+        }
+        Err(refusal) => refusal.code(),
+    }
+}
+
+/// Copies all names that are kept of a path, in byte order and each behind its length in four bytes, as many bytes of them as there is
+/// room for, and writes how many there are.
+#[unsafe(no_mangle)]
+pub extern "C" fn dw_peek_names(
+    alloc: Global,
+    handle: &mut DwClient,
+    path: &[u8],
+    out: &mut [u8],
+    count: &mut usize,
+) -> i32
+    ensures closed { handle.old.slot.held ≡ None → result ≡ negsuc 2 }
+    ensures finds { (d : Device) → handle.old.slot.held ≡ Some d → FindsText (RefusesPath path.now) (WritesNames ((view_of d.client).cache.children path.now)) result out.old out.new count.new }
+    ensures same { handle.new.slot.held ≡ handle.old.slot.held }
+{
+    *count = 0;
+    let Some(device) = take(alloc, handle) else {
+        return CLOSED;
+    };
+    let found = device.peek_names(alloc, path, out);
+    *handle = DwClient::of(device);
+    match found {
+        Ok(length) => {
+            *count = length;
             0
         }
         Err(refusal) => refusal.code(),

@@ -3,16 +3,18 @@ use Rattle.std.proofs.Common.{◌≡◌, Bor, ℕ, List, [], ◌∷◌, map, Opt
 use Rattle.std.proofs.lemmas.List.{length-map}
 use Rattle.std.proofs.lemmas.Option.{slice_get-map}
 use Rattle.std.specs.BTreeSet.{BTreeSet, IsOrdered, btree_set_len}
-use Rattle.std.specs.List.{AllByRecursion}
+use Rattle.std.specs.List.{AllByRecursion, flat_map}
 use Rattle.std.specs.List.Sorted.{IsStrictlySortedBy}
 use Rattle.std.specs.String.{string_cmp}
 use Rattle.std.specs.declared.cmp.Ordering.TheVariants.{Less}
+use Rattle.zk_jute.specs.Layout.{ustring}
+use Rattle.zk_jute.specs.Spelling.{Fits, spelling}
 use Rattle.zk_nodes.specs.Names.{names_of, name_cmp}
 use Rattle.zk_nodes.specs.declared.names.Names.{Names}
 use Rattle.zk_cache.specs.Contents.{names_in}
 use Rattle.zk_cache.specs.declared.held.Mark.{Mark}
 use Rattle.zk_device.specs.declared.kept.KeptNames.{KeptNames}
-use Rattle.zk_device.specs.Kept.{IsKeptName, IsListing, TellsNames, mark_number, text_or_none}
+use Rattle.zk_device.specs.Kept.{AreSpelled, IsKeptName, IsListing, TellsNames, mark_number, text_or_none}
 use Rattle.zk_device.specs.Outputs.{name_if}
 
 module _ {A : Type 0} where
@@ -48,3 +50,8 @@ module _ {A : Type 0} where
   is_name kept names mark index name some ordered is =
       subst (λ kept. IsKeptName index (option_map (λ kept. record { answer = names_in kept.0.now; mark = kept.1 }) kept) name) (sym some)
       (record { listed = map string_bytes names.now.names.keys; listing = lists names.now.names ordered; is = is ∙ text_at (slice_get names.now.names.keys index) ∙ ap text_or_none (sym (slice_get-map string_bytes names.now.names.keys index)) })
+
+  -- what spells the texts of the keys spells the names
+  pub are_spelled : (kept : BTreeSet (String A)) (text : List ℕ) → IsOrdered string_cmp kept → AllByRecursion (λ name. Fits ustring (Some name)) (map string_bytes kept.keys)
+      → text ≡ flat_map (λ name. spelling ustring (Some name)) (map string_bytes kept.keys) → AreSpelled (names_of kept) text
+  are_spelled kept text ordered fits is = record { listed = map string_bytes kept.keys; listing = lists kept ordered; fits = fits; is = is }

@@ -1,8 +1,10 @@
 -- What is kept of a path, as numbers and texts.
 use Rattle.std.specs.Prelude.{◌≡◌, ◌++◌, ℕ, ℤ, pos, true, false, List, [], drop, length, take, Option, Some, None}
-use Rattle.std.specs.List.{slice_get}
+use Rattle.std.specs.List.{slice_get, flat_map, AllByRecursion}
 use Rattle.std.specs.List.Sorted.{IsStrictlySortedBy}
 use Rattle.std.specs.FinSet as set
+use Rattle.zk_jute.specs.Layout.{ustring}
+use Rattle.zk_jute.specs.Spelling.{Fits, spelling}
 use Rattle.zk_nodes.specs.declared.data_stat.DataStat.{DataStat}
 use Rattle.zk_nodes.specs.Names.{Names, name_cmp}
 use Rattle.zk_cache.specs.Kept as cache
@@ -89,9 +91,29 @@ abbrev pub IsKeptName : (index : ℕ) → Option (Kept cache.Names) → List ℕ
 IsKeptName index None name = name ≡ []
 IsKeptName index (Some kept) name = IsNameAt index kept.answer.names name
 
--- A name that is kept is written, as much of it as there is room for.
-pub record WritesName (index : ℕ) (kept : Option (Kept cache.Names)) (room written : List ℕ) (count : ℕ) : Type 0 where
-  pub name : List ℕ
-  pub kept_name : IsKeptName index kept name
-  pub count_is : count ≡ length name
-  pub copied : written ≡ take (length room) name ++ drop (length name) room
+-- names in byte order, each as zookeeper.jute spells a ustring: behind its length
+pub record AreSpelled (names : Names) (text : List ℕ) : Type 0 where
+  pub listed : List (List ℕ)
+  pub listing : IsListing names listed
+  pub fits : AllByRecursion (λ name. Fits ustring (Some name)) listed
+  pub is : text ≡ flat_map (λ name. spelling ustring (Some name)) listed
+
+-- the same of what is kept, and nothing where nothing is
+abbrev pub AreKeptNames : Option (Kept cache.Names) → List ℕ → Type 0
+AreKeptNames None text = text ≡ []
+AreKeptNames (Some kept) text = AreSpelled kept.answer.names text
+
+-- A text of which this is so is written, as much of it as there is room for.
+pub record WritesText (Is : List ℕ → Type 0) (room written : List ℕ) (count : ℕ) : Type 0 where
+  pub text : List ℕ
+  pub is : Is text
+  pub count_is : count ≡ length text
+  pub copied : written ≡ take (length room) text ++ drop (length text) room
+
+-- one name that is kept
+abbrev pub WritesName : (index : ℕ) → Option (Kept cache.Names) → (room written : List ℕ) (count : ℕ) → Type 0
+WritesName index kept = WritesText (IsKeptName index kept)
+
+-- all names that are kept
+abbrev pub WritesNames : Option (Kept cache.Names) → (room written : List ℕ) (count : ℕ) → Type 0
+WritesNames kept = WritesText (AreKeptNames kept)

@@ -5,8 +5,9 @@ ghost use Rattle.std.specs.BTreeSet.{IsOrdered, btree_set_len};
 ghost use Rattle.std.specs.String.{string_cmp};
 ghost use Rattle.zk_cache.specs.Contents.{answer_of, names_in};
 ghost use Rattle.zk_client.specs.Clients.{view_of};
+ghost use Rattle.zk_nodes.specs.Names.{names_of};
 ghost use Rattle.zk_device.specs.Codes.{refusal_code};
-ghost use Rattle.zk_device.specs.Kept.{data_flat, data_stat_flat, data_text, mark_number, IsKeptName, TellsNames, WritesName};
+ghost use Rattle.zk_device.specs.Kept.{data_flat, data_stat_flat, data_text, mark_number, AreKeptNames, AreSpelled, IsKeptName, TellsNames, WritesName, WritesNames};
 ghost use Rattle.zk_device.specs.Outputs.{name_if};
 ghost use Rattle.zk_device.specs.Refused.{RefusesPath};
 ghost use Rattle.zk_turns.specs.Rule.{forgotten};
@@ -15,8 +16,9 @@ use crate::copying::copy_into;
 use crate::device::Device;
 use crate::paths::path_of;
 use crate::refusal::Refusal;
-use std::alloc::Global;
+use std::alloc::{AllocError, Global};
 use zk_client::{DataAnswer, DataStat, Mark, Names};
+use zk_jute::Record;
 
 /// What is kept of the fields of a node that change only where a data watch fires.
 #[repr(C)]
@@ -178,6 +180,29 @@ fn name_at(kept: Option<(&Names<Global>, Mark)>, index: usize) -> &[u8]
     }
 }
 
+// The names in byte order, each behind its length. An error is want of memory: a name that came in a frame is never too long.
+fn spelled_names(alloc: Global, names: &Names<Global>) -> Result<Vec<u8>, AllocError>
+    ensures { IfOk result (λ text. AreSpelled (names_of names.now.names) text.items) }
+{
+    let mut text = Vec::new(alloc);
+    for name in &names.names {
+        let Ok(()) = name.as_str().write(&mut text) else {
+            return Err(AllocError);
+        };
+    }
+    Ok(text)
+}
+
+// The same of what is kept.
+fn names_text(alloc: Global, kept: Option<(&Names<Global>, Mark)>) -> Result<Vec<u8>, AllocError>
+    ensures { IfOk result (λ text. AreKeptNames (option_map (λ kept. record { answer = names_in kept.0.now; mark = kept.1 }) kept.entry) text.items) }
+{
+    match kept {
+        Some((names, _)) => spelled_names(alloc, names),
+        None => Ok(Vec::new(alloc)),
+    }
+}
+
 impl Device {
     /// What is kept about the data of a path. The data are copied, as much of them as there is room for. A refusal is `NotText`,
     /// else `NotPath`, else `Memory`.
@@ -223,6 +248,18 @@ impl Device {
         let path = path_of(alloc, path)?;
         let kept = self.client.peek_children(&path);
         Ok(copy_into(name_at(kept, index), room))
+    }
+
+    /// Copies all names that are kept of a path, in byte order and each behind its length in four bytes, as many bytes of them as
+    /// there is room for, and tells how many there are. A refusal is as of [`peek_data`](Device::peek_data).
+    pub fn peek_names(&self, alloc: Global, path: &[u8], room: &mut [u8]) -> Result<usize, Refusal>
+        ensures written { IfOk result (WritesNames ((view_of self.now.client).cache.children path.now) room.old room.new) }
+        ensures refused { IfErr result (λ refusal. RefusesPath path.now (refusal_code refusal)) }
+        ensures same { OnErr result (room.new ≡ room.old) }
+    {
+        let path = path_of(alloc, path)?;
+        let text = names_text(alloc, self.client.peek_children(&path))?;
+        Ok(copy_into(text.as_slice(), room))
     }
 
     /// Takes the stale answers out.
