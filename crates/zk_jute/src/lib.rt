@@ -23,6 +23,7 @@ mod nothing;
 mod number;
 mod record;
 mod text;
+mod then;
 
 pub use buffer::Buffer;
 pub use cursor::Cursor;
@@ -32,3 +33,4 @@ pub use list::{List, ListRef};
 pub use nothing::Nothing;
 pub use record::{Readable, Record, take};
 pub use text::Text;
+pub use then::Then;

@@ -4,7 +4,7 @@ ghost use Rattle.std.specs.Prelude.{false};
 ghost use Rattle.zk_nodes.specs.StatLayout.{stat};
 
 use std::alloc::Allocator;
-use zk_jute::{Cursor, PutError, Readable, Record, TakeError};
+use zk_jute::{Cursor, PutError, Readable, Record, TakeError, Then};
 
 /// What is known of a node beside its data.
 #[derive(Clone, Copy, Debug, PartialEq, Eq)]
@@ -28,18 +28,14 @@ impl<A: Allocator + Copy> Record<A> for Stat {
     ghost view = { λ s. (s.czxid, (s.mzxid, (s.ctime, (s.mtime, (s.version, (s.cversion, (s.aversion, (s.ephemeral_owner, (s.data_length, (s.num_children, s.pzxid)))))))))) };
 
     fn write(&self, out: &mut Vec<u8, A>) -> Result<(), PutError> {
-        self.czxid.write(out)?;
-        self.mzxid.write(out)?;
-        self.ctime.write(out)?;
-        self.mtime.write(out)?;
-        self.version.write(out)?;
-        self.cversion.write(out)?;
-        self.aversion.write(out)?;
-        self.ephemeral_owner.write(out)?;
-        self.data_length.write(out)?;
-        self.num_children.write(out)?;
-        self.pzxid.write(out)?;
-        Ok(())
+        let last = Then(self.data_length, Then(self.num_children, self.pzxid));
+        let owner = Then(self.ephemeral_owner, last);
+        let versions = Then(
+            self.version,
+            Then(self.cversion, Then(self.aversion, owner)),
+        );
+        let times = Then(self.ctime, Then(self.mtime, versions));
+        Then(self.czxid, Then(self.mzxid, times)).write(out)
     }
 }
 
@@ -47,18 +43,21 @@ impl<'a, A: Allocator + Copy> Readable<'a, A> for Stat {
     ghost takes_memory = { false };
 
     fn read(alloc: A, at: &mut Cursor<'a>) -> Result<Stat, TakeError> {
+        let Then(czxid, Then(mzxid, Then(ctime, Then(mtime, versions)))) = Then::read(alloc, at)?;
+        let Then(version, Then(cversion, Then(aversion, Then(ephemeral_owner, last)))) = versions;
+        let Then(data_length, Then(num_children, pzxid)) = last;
         Ok(Stat {
-            czxid: i64::read(alloc, at)?,
-            mzxid: i64::read(alloc, at)?,
-            ctime: i64::read(alloc, at)?,
-            mtime: i64::read(alloc, at)?,
-            version: i32::read(alloc, at)?,
-            cversion: i32::read(alloc, at)?,
-            aversion: i32::read(alloc, at)?,
-            ephemeral_owner: i64::read(alloc, at)?,
-            data_length: i32::read(alloc, at)?,
-            num_children: i32::read(alloc, at)?,
-            pzxid: i64::read(alloc, at)?,
+            czxid,
+            mzxid,
+            ctime,
+            mtime,
+            version,
+            cversion,
+            aversion,
+            ephemeral_owner,
+            data_length,
+            num_children,
+            pzxid,
         })
     }
 }
