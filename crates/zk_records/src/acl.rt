@@ -5,7 +5,7 @@ ghost use Rattle.zk_records.specs.Layouts.{acl};
 ghost use Rattle.zk_records.specs.Layouts as layouts;
 
 use std::alloc::Allocator;
-use zk_jute::{Cursor, PutError, Readable, Record, TakeError, Text};
+use zk_jute::{Cursor, PutError, Readable, Record, TakeError, Text, Then};
 
 /// Who may do something: an Id of the ZooKeeper Programmer's Guide.
 #[derive(Drop)]
@@ -21,9 +21,7 @@ impl<A: Allocator + Copy> Record<A> for Id<A> {
     ghost view = { λ i. (i.scheme, i.id) };
 
     fn write(&self, out: &mut Vec<u8, A>) -> Result<(), PutError> {
-        self.scheme.write(out)?;
-        self.id.write(out)?;
-        Ok(())
+        Then(&self.scheme, &self.id).write(out)
     }
 }
 
@@ -31,10 +29,8 @@ impl<'a, A: Allocator + Copy> Readable<'a, A> for Id<A> {
     ghost takes_memory = { true };
 
     fn read(alloc: A, at: &mut Cursor<'a>) -> Result<Id<A>, TakeError> {
-        Ok(Id {
-            scheme: Text::read(alloc, at)?,
-            id: Text::read(alloc, at)?,
-        })
+        let Then(scheme, id) = Then::read(alloc, at)?;
+        Ok(Id { scheme, id })
     }
 }
 
@@ -53,9 +49,7 @@ impl<A: Allocator + Copy> Record<A> for Acl<A> {
     ghost view = { λ a. (a.perms, (a.id.scheme, a.id.id)) };
 
     fn write(&self, out: &mut Vec<u8, A>) -> Result<(), PutError> {
-        self.perms.write(out)?;
-        self.id.write(out)?;
-        Ok(())
+        Then(self.perms, &self.id).write(out)
     }
 }
 
@@ -63,9 +57,7 @@ impl<'a, A: Allocator + Copy> Readable<'a, A> for Acl<A> {
     ghost takes_memory = { true };
 
     fn read(alloc: A, at: &mut Cursor<'a>) -> Result<Acl<A>, TakeError> {
-        Ok(Acl {
-            perms: i32::read(alloc, at)?,
-            id: Id::read(alloc, at)?,
-        })
+        let Then(perms, id) = Then::read(alloc, at)?;
+        Ok(Acl { perms, id })
     }
 }

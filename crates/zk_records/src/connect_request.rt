@@ -4,9 +4,8 @@ ghost use Rattle.std.specs.Prelude.{◌≡◌, true};
 ghost use Rattle.zk_records.specs.Layouts.{connect_request};
 ghost use Rattle.zk_records.specs.Views.{request_of};
 
-use crate::then::Then;
 use std::alloc::Allocator;
-use zk_jute::{Buffer, Cursor, PutError, Readable, Record, TakeError};
+use zk_jute::{Buffer, Cursor, PutError, Readable, Record, TakeError, Then};
 
 /// What a client asks for as a connection begins. It is the first message, and has no header.
 #[derive(Drop)]
@@ -32,13 +31,9 @@ impl<A: Allocator + Copy> Record<A> for ConnectRequest<A> {
     ghost view = { request_of };
 
     fn write(&self, out: &mut Vec<u8, A>) -> Result<(), PutError> {
-        self.protocol_version.write(out)?;
-        self.last_zxid_seen.write(out)?;
-        self.time_out.write(out)?;
-        self.session_id.write(out)?;
-        self.passwd.write(out)?;
-        self.read_only.write(out)?;
-        Ok(())
+        let after = Then(self.session_id, Then(&self.passwd, self.read_only));
+        let last = Then(self.last_zxid_seen, Then(self.time_out, after));
+        Then(self.protocol_version, last).write(out)
     }
 }
 

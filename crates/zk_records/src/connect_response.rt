@@ -8,7 +8,7 @@ ghost use Rattle.zk_records.specs.Views.{response_of, lent_response_of};
 
 use crate::whole::whole_or_none;
 use std::alloc::Allocator;
-use zk_jute::{Buffer, BytesRef, Cursor, PutError, Readable, Record, TakeError};
+use zk_jute::{Buffer, BytesRef, Cursor, PutError, Readable, Record, TakeError, Then};
 
 /// What a server answers as a connection begins.
 ///
@@ -91,12 +91,15 @@ impl<A: Allocator + Copy> ConnectResponse<A> {
         ensures len { payload_len at.new ≡ payload_len at.old }
         ensures gives { Gives response_of result (bytes_left at.new) (response_at (payload_len at.old) (bytes_left at.old)) }
     {
+        let Then(protocol_version, Then(time_out, after)) = Then::read(alloc, at)?;
+        let Then(session_id, passwd) = after;
+        let read_only = read_flag(alloc, at)?;
         Ok(ConnectResponse {
-            protocol_version: i32::read(alloc, at)?,
-            time_out: i32::read(alloc, at)?,
-            session_id: i64::read(alloc, at)?,
-            passwd: Buffer::read(alloc, at)?,
-            read_only: read_flag(alloc, at)?,
+            protocol_version,
+            time_out,
+            session_id,
+            passwd,
+            read_only,
         })
     }
 }
@@ -168,12 +171,15 @@ impl<'a> ConnectResponseRef<'a> {
         ensures gives { Gives lent_response_of result (bytes_left at.new) (response_at (payload_len at.old) (bytes_left at.old)) }
         ensures memory { result ≢ Err TakeError.Memory }
     {
+        let Then(protocol_version, Then(time_out, after)) = Then::read(alloc, at)?;
+        let Then(session_id, passwd) = after;
+        let read_only = read_flag(alloc, at)?;
         Ok(ConnectResponseRef {
-            protocol_version: i32::read(alloc, at)?,
-            time_out: i32::read(alloc, at)?,
-            session_id: i64::read(alloc, at)?,
-            passwd: BytesRef::read(alloc, at)?,
-            read_only: read_flag(alloc, at)?,
+            protocol_version,
+            time_out,
+            session_id,
+            passwd,
+            read_only,
         })
     }
 }

@@ -7,9 +7,8 @@ ghost use Rattle.zk_records.specs.OpenAcl.{open_acl};
 
 use crate::acl::Acl;
 use crate::open_acl::OpenAcl;
-use crate::then::Then;
 use std::alloc::Allocator;
-use zk_jute::{Buffer, BytesRef, Cursor, List, PutError, Readable, Record, TakeError, Text};
+use zk_jute::{Buffer, BytesRef, Cursor, List, PutError, Readable, Record, TakeError, Text, Then};
 
 /// The request that makes a node.
 #[derive(Drop)]
@@ -28,11 +27,8 @@ impl<A: Allocator + Copy> Record<A> for CreateRequest<A> {
     ghost view = { λ r. (r.path, (r.bytes, (⟦<List<Acl<A>, A> as Record<A>>⟧.view r.acl, r.flags))) };
 
     fn write(&self, out: &mut Vec<u8, A>) -> Result<(), PutError> {
-        self.path.write(out)?;
-        self.bytes.write(out)?;
-        self.acl.write(out)?;
-        self.flags.write(out)?;
-        Ok(())
+        let after = Then(&self.acl, self.flags);
+        Then(&self.path, Then(&self.bytes, after)).write(out)
     }
 }
 
@@ -65,10 +61,7 @@ impl<'a, A: Allocator + Copy> Record<A> for CreateRequestRef<'a> {
     ghost view = { λ r. (Some r.path.now, (option_map (λ s. s.now) r.bytes.bytes, (open_acl, r.flags))) };
 
     fn write(&self, out: &mut Vec<u8, A>) -> Result<(), PutError> {
-        self.path.write(out)?;
-        self.bytes.write(out)?;
-        OpenAcl.write(out)?;
-        self.flags.write(out)?;
-        Ok(())
+        let after = Then(OpenAcl, self.flags);
+        Then(self.path, Then(self.bytes, after)).write(out)
     }
 }

@@ -19,8 +19,7 @@ impl<A: Allocator + Copy> Record<A> for CreateResponse<A> {
     ghost view = { λ r. r.path };
 
     fn write(&self, out: &mut Vec<u8, A>) -> Result<(), PutError> {
-        self.path.write(out)?;
-        Ok(())
+        self.path.write(out)
     }
 }
 
@@ -45,8 +44,7 @@ impl<'a, A: Allocator + Copy> Record<A> for CreateRef<'a> {
     ghost view = { λ r. ⟦<TextRef<'a> as Record<A>>⟧.view r.path };
 
     fn write(&self, out: &mut Vec<u8, A>) -> Result<(), PutError> {
-        self.path.write(out)?;
-        Ok(())
+        self.path.write(out)
     }
 }
 

@@ -4,7 +4,7 @@ ghost use Rattle.std.specs.Prelude.{◌≡◌, true, Some};
 ghost use Rattle.zk_records.specs.Layouts.{delete_request};
 
 use std::alloc::Allocator;
-use zk_jute::{Cursor, PutError, Readable, Record, TakeError, Text};
+use zk_jute::{Cursor, PutError, Readable, Record, TakeError, Text, Then};
 
 /// The request that deletes a node.
 #[derive(Drop)]
@@ -21,9 +21,7 @@ impl<A: Allocator + Copy> Record<A> for DeleteRequest<A> {
     ghost view = { λ r. (r.path, r.version) };
 
     fn write(&self, out: &mut Vec<u8, A>) -> Result<(), PutError> {
-        self.path.write(out)?;
-        self.version.write(out)?;
-        Ok(())
+        Then(&self.path, self.version).write(out)
     }
 }
 
@@ -31,10 +29,8 @@ impl<'a, A: Allocator + Copy> Readable<'a, A> for DeleteRequest<A> {
     ghost takes_memory = { true };
 
     fn read(alloc: A, at: &mut Cursor<'a>) -> Result<DeleteRequest<A>, TakeError> {
-        Ok(DeleteRequest {
-            path: Text::read(alloc, at)?,
-            version: i32::read(alloc, at)?,
-        })
+        let Then(path, version) = Then::read(alloc, at)?;
+        Ok(DeleteRequest { path, version })
     }
 }
 
@@ -52,8 +48,6 @@ impl<'a, A: Allocator + Copy> Record<A> for DeleteRef<'a> {
     ghost view = { λ r. (Some r.path.now, r.version) };
 
     fn write(&self, out: &mut Vec<u8, A>) -> Result<(), PutError> {
-        self.path.write(out)?;
-        self.version.write(out)?;
-        Ok(())
+        Then(self.path, self.version).write(out)
     }
 }

@@ -4,7 +4,7 @@ ghost use Rattle.std.specs.Prelude.{◌≡◌, true};
 ghost use Rattle.zk_records.specs.Layouts.{get_children2_response};
 
 use std::alloc::Allocator;
-use zk_jute::{Cursor, List, PutError, Readable, Record, TakeError, Text, TextRef};
+use zk_jute::{Cursor, List, PutError, Readable, Record, TakeError, Text, TextRef, Then};
 use zk_nodes::Stat;
 
 /// The names below a node, in no order, and what is known of it.
@@ -21,9 +21,7 @@ impl<A: Allocator + Copy> Record<A> for GetChildren2Response<A> {
     ghost view = { λ r. (⟦<List<Text<A>, A> as Record<A>>⟧.view r.children, ⟦<Stat as Record<A>>⟧.view r.stat) };
 
     fn write(&self, out: &mut Vec<u8, A>) -> Result<(), PutError> {
-        self.children.write(out)?;
-        self.stat.write(out)?;
-        Ok(())
+        Then(&self.children, self.stat).write(out)
     }
 }
 
@@ -31,10 +29,8 @@ impl<'a, A: Allocator + Copy> Readable<'a, A> for GetChildren2Response<A> {
     ghost takes_memory = { true };
 
     fn read(alloc: A, at: &mut Cursor<'a>) -> Result<GetChildren2Response<A>, TakeError> {
-        Ok(GetChildren2Response {
-            children: List::read(alloc, at)?,
-            stat: Stat::read(alloc, at)?,
-        })
+        let Then(children, stat) = Then::read(alloc, at)?;
+        Ok(GetChildren2Response { children, stat })
     }
 }
 
@@ -52,9 +48,7 @@ impl<'a, A: Allocator + Copy> Record<A> for GetChildren2Ref<'a, A> {
     ghost view = { λ r. (⟦<List<TextRef<'a>, A> as Record<A>>⟧.view r.children, ⟦<Stat as Record<A>>⟧.view r.stat) };
 
     fn write(&self, out: &mut Vec<u8, A>) -> Result<(), PutError> {
-        self.children.write(out)?;
-        self.stat.write(out)?;
-        Ok(())
+        Then(&self.children, self.stat).write(out)
     }
 }
 

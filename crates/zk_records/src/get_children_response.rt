@@ -19,8 +19,7 @@ impl<A: Allocator + Copy> Record<A> for GetChildrenResponse<A> {
     ghost view = { λ r. ⟦<List<Text<A>, A> as Record<A>>⟧.view r.children };
 
     fn write(&self, out: &mut Vec<u8, A>) -> Result<(), PutError> {
-        self.children.write(out)?;
-        Ok(())
+        self.children.write(out)
     }
 }
 

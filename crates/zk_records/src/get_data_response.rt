@@ -4,7 +4,7 @@ ghost use Rattle.std.specs.Prelude.{◌≡◌, true, false};
 ghost use Rattle.zk_records.specs.Layouts.{get_data_response};
 
 use std::alloc::Allocator;
-use zk_jute::{Buffer, BytesRef, Cursor, PutError, Readable, Record, TakeError};
+use zk_jute::{Buffer, BytesRef, Cursor, PutError, Readable, Record, TakeError, Then};
 use zk_nodes::Stat;
 
 /// The data of a node, which may be null, and what is known of it.
@@ -21,9 +21,7 @@ impl<A: Allocator + Copy> Record<A> for GetDataResponse<A> {
     ghost view = { λ r. (r.bytes, ⟦<Stat as Record<A>>⟧.view r.stat) };
 
     fn write(&self, out: &mut Vec<u8, A>) -> Result<(), PutError> {
-        self.bytes.write(out)?;
-        self.stat.write(out)?;
-        Ok(())
+        Then(&self.bytes, self.stat).write(out)
     }
 }
 
@@ -31,10 +29,8 @@ impl<'a, A: Allocator + Copy> Readable<'a, A> for GetDataResponse<A> {
     ghost takes_memory = { true };
 
     fn read(alloc: A, at: &mut Cursor<'a>) -> Result<GetDataResponse<A>, TakeError> {
-        Ok(GetDataResponse {
-            bytes: Buffer::read(alloc, at)?,
-            stat: Stat::read(alloc, at)?,
-        })
+        let Then(bytes, stat) = Then::read(alloc, at)?;
+        Ok(GetDataResponse { bytes, stat })
     }
 }
 
@@ -51,9 +47,7 @@ impl<'a, A: Allocator + Copy> Record<A> for GetDataRef<'a> {
     ghost view = { λ r. (⟦<BytesRef<'a> as Record<A>>⟧.view r.bytes, ⟦<Stat as Record<A>>⟧.view r.stat) };
 
     fn write(&self, out: &mut Vec<u8, A>) -> Result<(), PutError> {
-        self.bytes.write(out)?;
-        self.stat.write(out)?;
-        Ok(())
+        Then(self.bytes, self.stat).write(out)
     }
 }
 
@@ -61,9 +55,7 @@ impl<'a, A: Allocator + Copy> Readable<'a, A> for GetDataRef<'a> {
     ghost takes_memory = { false };
 
     fn read(alloc: A, at: &mut Cursor<'a>) -> Result<GetDataRef<'a>, TakeError> {
-        Ok(GetDataRef {
-            bytes: BytesRef::read(alloc, at)?,
-            stat: Stat::read(alloc, at)?,
-        })
+        let Then(bytes, stat) = Then::read(alloc, at)?;
+        Ok(GetDataRef { bytes, stat })
     }
 }

@@ -36,7 +36,6 @@ mod request_header;
 mod request_payload;
 mod set_data_request;
 mod set_watches;
-mod then;
 mod watcher_event;
 mod whole;
 

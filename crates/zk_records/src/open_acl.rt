@@ -6,7 +6,7 @@ ghost use Rattle.zk_records.specs.Layouts.{acl};
 ghost use Rattle.zk_records.specs.OpenAcl.{open_acl};
 
 use std::alloc::Allocator;
-use zk_jute::{PutError, Record};
+use zk_jute::{PutError, Record, Then};
 
 /// The access list that leaves a node open: the one entry with perms 31 (read, write, create, delete and admin), scheme
 /// `world` and id `anyone`. It is `OPEN_ACL_UNSAFE` of the ZooKeeper Programmer's Guide.
@@ -20,10 +20,7 @@ impl<A: Allocator + Copy> Record<A> for OpenAcl {
 
     #[tactic(auto, unfolding(zk_jute::specs::Spelling::counted_bytes))]
     fn write(&self, out: &mut Vec<u8, A>) -> Result<(), PutError> {
-        1i32.write(out)?;
-        31i32.write(out)?;
-        "world".write(out)?;
-        "anyone".write(out)?;
-        Ok(())
+        let entry = Then(31i32, Then("world", "anyone"));
+        Then(1i32, entry).write(out)
     }
 }

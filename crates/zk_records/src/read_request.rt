@@ -4,7 +4,7 @@ ghost use Rattle.std.specs.Prelude.{◌≡◌, true, Some};
 ghost use Rattle.zk_records.specs.Layouts.{read_request};
 
 use std::alloc::Allocator;
-use zk_jute::{Cursor, PutError, Readable, Record, TakeError, Text};
+use zk_jute::{Cursor, PutError, Readable, Record, TakeError, Text, Then};
 
 /// What is asked of a node, its data, or the names below it: ExistsRequest, GetDataRequest, GetChildrenRequest and
 /// GetChildren2Request, which have the same fields.
@@ -22,9 +22,7 @@ impl<A: Allocator + Copy> Record<A> for ReadRequest<A> {
     ghost view = { λ r. (r.path, r.watch) };
 
     fn write(&self, out: &mut Vec<u8, A>) -> Result<(), PutError> {
-        self.path.write(out)?;
-        self.watch.write(out)?;
-        Ok(())
+        Then(&self.path, self.watch).write(out)
     }
 }
 
@@ -32,10 +30,8 @@ impl<'a, A: Allocator + Copy> Readable<'a, A> for ReadRequest<A> {
     ghost takes_memory = { true };
 
     fn read(alloc: A, at: &mut Cursor<'a>) -> Result<ReadRequest<A>, TakeError> {
-        Ok(ReadRequest {
-            path: Text::read(alloc, at)?,
-            watch: bool::read(alloc, at)?,
-        })
+        let Then(path, watch) = Then::read(alloc, at)?;
+        Ok(ReadRequest { path, watch })
     }
 }
 
@@ -52,8 +48,6 @@ impl<'a, A: Allocator + Copy> Record<A> for ReadRequestRef<'a> {
     ghost view = { λ r. (Some r.path.now, r.watch) };
 
     fn write(&self, out: &mut Vec<u8, A>) -> Result<(), PutError> {
-        self.path.write(out)?;
-        self.watch.write(out)?;
-        Ok(())
+        Then(self.path, self.watch).write(out)
     }
 }

@@ -4,7 +4,7 @@ ghost use Rattle.std.specs.Prelude.{◌≡◌, false};
 ghost use Rattle.zk_records.specs.Layouts.{reply_header};
 
 use std::alloc::Allocator;
-use zk_jute::{Cursor, PutError, Readable, Record, TakeError};
+use zk_jute::{Cursor, PutError, Readable, Record, TakeError, Then};
 
 /// What every reply and every notice begins with: ReplyHeader, 16 bytes.
 #[derive(Clone, Copy, Debug, PartialEq, Eq)]
@@ -23,10 +23,7 @@ impl<A: Allocator + Copy> Record<A> for ReplyHeader {
     ghost view = { λ r. (r.xid, (r.zxid, r.err)) };
 
     fn write(&self, out: &mut Vec<u8, A>) -> Result<(), PutError> {
-        self.xid.write(out)?;
-        self.zxid.write(out)?;
-        self.err.write(out)?;
-        Ok(())
+        Then(self.xid, Then(self.zxid, self.err)).write(out)
     }
 }
 
@@ -34,10 +31,7 @@ impl<'a, A: Allocator + Copy> Readable<'a, A> for ReplyHeader {
     ghost takes_memory = { false };
 
     fn read(alloc: A, at: &mut Cursor<'a>) -> Result<ReplyHeader, TakeError> {
-        Ok(ReplyHeader {
-            xid: i32::read(alloc, at)?,
-            zxid: i64::read(alloc, at)?,
-            err: i32::read(alloc, at)?,
-        })
+        let Then(xid, Then(zxid, err)) = Then::read(alloc, at)?;
+        Ok(ReplyHeader { xid, zxid, err })
     }
 }

@@ -4,7 +4,7 @@ ghost use Rattle.std.specs.Prelude.{◌≡◌, false};
 ghost use Rattle.zk_records.specs.Layouts.{request_header};
 
 use std::alloc::Allocator;
-use zk_jute::{Cursor, PutError, Readable, Record, TakeError};
+use zk_jute::{Cursor, PutError, Readable, Record, TakeError, Then};
 
 /// What every request begins with: RequestHeader, 8 bytes.
 #[derive(Clone, Copy, Debug, PartialEq, Eq)]
@@ -21,9 +21,7 @@ impl<A: Allocator + Copy> Record<A> for RequestHeader {
     ghost view = { λ r. (r.xid, r.operation) };
 
     fn write(&self, out: &mut Vec<u8, A>) -> Result<(), PutError> {
-        self.xid.write(out)?;
-        self.operation.write(out)?;
-        Ok(())
+        Then(self.xid, self.operation).write(out)
     }
 }
 
@@ -31,9 +29,7 @@ impl<'a, A: Allocator + Copy> Readable<'a, A> for RequestHeader {
     ghost takes_memory = { false };
 
     fn read(alloc: A, at: &mut Cursor<'a>) -> Result<RequestHeader, TakeError> {
-        Ok(RequestHeader {
-            xid: i32::read(alloc, at)?,
-            operation: i32::read(alloc, at)?,
-        })
+        let Then(xid, operation) = Then::read(alloc, at)?;
+        Ok(RequestHeader { xid, operation })
     }
 }

@@ -5,7 +5,7 @@ ghost use Rattle.zk_jute.specs.Layout.{int, ◌⨾◌};
 
 use crate::request_header::RequestHeader;
 use std::alloc::Allocator;
-use zk_jute::{PutError, Record};
+use zk_jute::{PutError, Record, Then};
 
 /// The payload of a request's frame: the header, and the record of its operation. `Nothing` is that of ping and
 /// closeSession.
@@ -21,8 +21,6 @@ impl<A: Allocator + Copy, R: Record<A>> Record<A> for RequestPayload<R> {
     ghost view = { λ p. (p.header.xid, (p.header.operation, R.view p.record)) };
 
     fn write(&self, out: &mut Vec<u8, A>) -> Result<(), PutError> {
-        self.header.write(out)?;
-        self.record.write(out)?;
-        Ok(())
+        Then(self.header.xid, Then(self.header.operation, &self.record)).write(out)
     }
 }

@@ -4,9 +4,8 @@ ghost use Rattle.std.specs.Prelude.{◌≡◌, true, Some};
 ghost use Rattle.zk_records.specs.Layouts.{set_data_request};
 ghost use Rattle.std.specs.Option.{option_map};
 
-use crate::then::Then;
 use std::alloc::Allocator;
-use zk_jute::{Buffer, BytesRef, Cursor, PutError, Readable, Record, TakeError, Text};
+use zk_jute::{Buffer, BytesRef, Cursor, PutError, Readable, Record, TakeError, Text, Then};
 
 /// The request that sets the data of a node.
 #[derive(Drop)]
@@ -24,10 +23,7 @@ impl<A: Allocator + Copy> Record<A> for SetDataRequest<A> {
     ghost view = { λ r. (r.path, (r.bytes, r.version)) };
 
     fn write(&self, out: &mut Vec<u8, A>) -> Result<(), PutError> {
-        self.path.write(out)?;
-        self.bytes.write(out)?;
-        self.version.write(out)?;
-        Ok(())
+        Then(&self.path, Then(&self.bytes, self.version)).write(out)
     }
 }
 
@@ -59,9 +55,6 @@ impl<'a, A: Allocator + Copy> Record<A> for SetDataRef<'a> {
     ghost view = { λ r. (Some r.path.now, (option_map (λ s. s.now) r.bytes.bytes, r.version)) };
 
     fn write(&self, out: &mut Vec<u8, A>) -> Result<(), PutError> {
-        self.path.write(out)?;
-        self.bytes.write(out)?;
-        self.version.write(out)?;
-        Ok(())
+        Then(self.path, Then(self.bytes, self.version)).write(out)
     }
 }

@@ -3,9 +3,8 @@
 ghost use Rattle.std.specs.Prelude.{◌≡◌, true, map, Some};
 ghost use Rattle.zk_records.specs.Layouts.{set_watches};
 
-use crate::then::Then;
 use std::alloc::Allocator;
-use zk_jute::{Cursor, List, ListRef, PutError, Readable, Record, TakeError, Text};
+use zk_jute::{Cursor, List, ListRef, PutError, Readable, Record, TakeError, Text, Then};
 
 /// The request that sets watches anew. The server compares each path with the relative zxid, and tells of what has
 /// happened since instead of setting the watch.
@@ -28,11 +27,8 @@ impl<A: Allocator + Copy> Record<A> for SetWatches<A> {
     ghost view = { λ r. (r.relative_zxid, (⟦<List<Text<A>, A> as Record<A>>⟧.view r.data_watches, (⟦<List<Text<A>, A> as Record<A>>⟧.view r.exist_watches, ⟦<List<Text<A>, A> as Record<A>>⟧.view r.child_watches))) };
 
     fn write(&self, out: &mut Vec<u8, A>) -> Result<(), PutError> {
-        self.relative_zxid.write(out)?;
-        self.data_watches.write(out)?;
-        self.exist_watches.write(out)?;
-        self.child_watches.write(out)?;
-        Ok(())
+        let after = Then(&self.exist_watches, &self.child_watches);
+        Then(self.relative_zxid, Then(&self.data_watches, after)).write(out)
     }
 }
 
@@ -67,7 +63,6 @@ impl<'a, A: Allocator + Copy> Record<A> for SetWatchesRef<'a> {
     ghost view = { λ r. (r.relative_zxid, (Some (map (λ s. Some s.now) r.data_watches.now), (Some (map (λ s. Some s.now) r.exist_watches.now), Some (map (λ s. Some s.now) r.child_watches.now)))) };
 
     fn write(&self, out: &mut Vec<u8, A>) -> Result<(), PutError> {
-        self.relative_zxid.write(out)?;
         let data = ListRef {
             elements: Some(self.data_watches),
         };
@@ -77,9 +72,6 @@ impl<'a, A: Allocator + Copy> Record<A> for SetWatchesRef<'a> {
         let child = ListRef {
             elements: Some(self.child_watches),
         };
-        data.write(out)?;
-        exist.write(out)?;
-        child.write(out)?;
-        Ok(())
+        Then(self.relative_zxid, Then(data, Then(exist, child))).write(out)
     }
 }

@@ -4,7 +4,7 @@ ghost use Rattle.std.specs.Prelude.{◌≡◌, false, true};
 ghost use Rattle.zk_records.specs.Layouts.{watcher_event};
 
 use std::alloc::Allocator;
-use zk_jute::{Cursor, PutError, Readable, Record, TakeError, Text, TextRef};
+use zk_jute::{Cursor, PutError, Readable, Record, TakeError, Text, TextRef, Then};
 
 /// What a server tells by itself of a node that is watched.
 #[derive(Clone, Copy, Debug, PartialEq, Eq)]
@@ -22,10 +22,7 @@ impl<'a, A: Allocator + Copy> Record<A> for WatcherEventRef<'a> {
     ghost view = { λ r. (r.kind, (r.state, ⟦<TextRef<'a> as Record<A>>⟧.view r.path)) };
 
     fn write(&self, out: &mut Vec<u8, A>) -> Result<(), PutError> {
-        self.kind.write(out)?;
-        self.state.write(out)?;
-        self.path.write(out)?;
-        Ok(())
+        Then(self.kind, Then(self.state, self.path)).write(out)
     }
 }
 
@@ -33,11 +30,8 @@ impl<'a, A: Allocator + Copy> Readable<'a, A> for WatcherEventRef<'a> {
     ghost takes_memory = { false };
 
     fn read(alloc: A, at: &mut Cursor<'a>) -> Result<WatcherEventRef<'a>, TakeError> {
-        Ok(WatcherEventRef {
-            kind: i32::read(alloc, at)?,
-            state: i32::read(alloc, at)?,
-            path: TextRef::read(alloc, at)?,
-        })
+        let Then(kind, Then(state, path)) = Then::read(alloc, at)?;
+        Ok(WatcherEventRef { kind, state, path })
     }
 }
 
@@ -58,10 +52,7 @@ impl<A: Allocator + Copy> Record<A> for WatcherEvent<A> {
     ghost view = { λ r. (r.kind, (r.state, r.path)) };
 
     fn write(&self, out: &mut Vec<u8, A>) -> Result<(), PutError> {
-        self.kind.write(out)?;
-        self.state.write(out)?;
-        self.path.write(out)?;
-        Ok(())
+        Then(self.kind, Then(self.state, &self.path)).write(out)
     }
 }
 
@@ -69,10 +60,7 @@ impl<'a, A: Allocator + Copy> Readable<'a, A> for WatcherEvent<A> {
     ghost takes_memory = { true };
 
     fn read(alloc: A, at: &mut Cursor<'a>) -> Result<WatcherEvent<A>, TakeError> {
-        Ok(WatcherEvent {
-            kind: i32::read(alloc, at)?,
-            state: i32::read(alloc, at)?,
-            path: Text::read(alloc, at)?,
-        })
+        let Then(kind, Then(state, path)) = Then::read(alloc, at)?;
+        Ok(WatcherEvent { kind, state, path })
     }
 }
