@@ -19,7 +19,7 @@ GATE = EDITS / "gate.txt"
 FIELDS = ("turns: ", "function: ", "file: ", "old: ", "new:")
 # the head of a function, and of what may stand between functions, each with its indentation
 HEAD = re.compile(r"^( *)(?:pub(?:\([\w ]+\))? )?(?:final |const |unsafe |extern \"C\" )*fn (\w+)", re.M)
-OTHER = re.compile(r"^( *)(?:#\[|pub(?:\([\w ]+\))? (?!const fn|unsafe|extern|fn)|impl\b|struct |enum |trait |static |const (?!fn)|type |use |mod |ghost |///)", re.M)
+OTHER = re.compile(r"^( *)(?:#\[|pub(?:\([\w ]+\))? (?!const fn|unsafe|extern|fn)|(?:unsafe )?impl\b|struct |enum |trait |static |const (?!fn)|type |use |mod |ghost |///)", re.M)
 
 
 @dataclass(frozen=True)
@@ -185,14 +185,16 @@ def home_of(crate: str, kind: str, file: str) -> list[str]:
 
 def owner_of(text: str, start: int, indent: int) -> tuple[str, bool]:
     """The name of the impl or trait around a function, as a check spells it, and whether a trait is in it."""
-    heads = list(re.finditer(r"^(impl\b|(?:pub(?:\([\w ]+\))? )?trait )(.*)", text[:start], re.M))
+    heads = list(re.finditer(r"^(?:unsafe )?(impl\b|(?:pub(?:\([\w ]+\))? )?trait )([^{]*)", text[:start], re.M))
     if not heads:
         return "", False
-    kind, rest = heads[-1][1], heads[-1][2].partition(" where ")[0].removesuffix("{").strip()
+    kind, rest = heads[-1][1], re.split(r"\swhere\s", heads[-1][2])[0].strip()
     if kind.endswith("trait "):
         return re.match(r"\w+", rest)[0], True
     given, rest = split_generics(rest)
     trait, _, kind_of = rest.rpartition(" for ")
+    # (a check gives `drop` the name of a method of the type)
+    trait = "" if trait == "Drop" else trait
     return spelled(kind_of, given) + (spelled(trait, given) if trait else ""), bool(trait)
 
 
