@@ -21,8 +21,6 @@ The last line is `N seen, M unseen`, and the exit status is 1 where an edit is u
   --jobs N                                so many edits side by side (2)
 """
 import argparse
-import importlib.machinery
-import importlib.util
 import os
 import queue
 import re
@@ -34,6 +32,9 @@ import tempfile
 from collections import Counter
 from concurrent.futures import ThreadPoolExecutor
 from pathlib import Path
+
+sys.dont_write_bytecode = True
+from edits import crates_listed  # noqa: E402
 
 TOP = Path(__file__).resolve().parent.parent
 TURNS, LAWS = "zk_turns", "zk_laws"
@@ -52,13 +53,25 @@ EXCEPTIONS = {
 }
 
 
-def program(name):
-    """The module of a program of this folder."""
-    sys.dont_write_bytecode = True
-    loader = importlib.machinery.SourceFileLoader(name, str(TOP / "scripts" / name))
-    module = importlib.util.module_from_spec(importlib.util.spec_from_loader(name, loader))
-    loader.exec_module(module)
-    return module
+def crates_below():
+    """Each crate with the repository's libraries below it, lowest first."""
+    named, below = crates_listed(), {}
+    for name, uses in named.items():
+        found = {it for use in uses for it in (use, *below.get(use, []))}
+        below[name] = [it for it in named if it in found]
+    return below
+
+
+def copy_repository(copy, libraries):
+    """Copies what git has or would take, as it stands in the work tree, and what was kept of these libraries."""
+    listed = ["git", "ls-files", "-z", "--cached", "--others", "--exclude-standard"]
+    names = subprocess.run(listed, cwd=TOP, capture_output=True, text=True, check=True).stdout.split("\0")
+    for name in {name for name in names if (TOP / name).is_file()}:
+        (copy / name).parent.mkdir(parents=True, exist_ok=True)
+        shutil.copy2(TOP / name, copy / name)
+    for name in libraries:
+        if (TOP / "crates" / name / "out").is_dir():
+            subprocess.run(["cp", "-a", TOP / "crates" / name / "out", copy / "crates" / name], check=True)
 
 
 def listed_definitions():
@@ -185,11 +198,10 @@ def make_copies(folder, jobs, edits):
     """A copy for each job. The first is checked as it stands, and the others are copies of it."""
     lower = {edit.crate for edit in edits if edit.kind != "weaker"}
     chains = [crate for first in (TURNS, LAWS) if first in lower for crate in (first, *ABOVE[first])]
-    wrong_bodies = program("wrong_bodies")
-    below = wrong_bodies.crates_below()
+    below = crates_below()
     first = Copy(f"{folder}/0", chains)
     first.folder.mkdir(parents=True)
-    wrong_bodies.copy_repository(first.folder, sorted({it for crate in chains for it in (crate, *below[crate])}))
+    copy_repository(first.folder, sorted({it for crate in chains for it in (crate, *below[crate])}))
     first.keep()
     for job in range(1, jobs):
         subprocess.run(["cp", "-a", f"{folder}/0", f"{folder}/{job}"], check=True)

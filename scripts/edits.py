@@ -1,0 +1,220 @@
+"""The wrong bodies of the repository: what each turns, where it applies, and the function that it is within.
+
+`scripts/wrong_bodies` tries them, and `scripts/wrong_bodies_page` writes their page. An edit is a file of lines:
+
+  turns: what it turns, in words
+  function: the function that has to fail, as a check names it below its crate; only where the edit lies in none
+  file: src/lib.rt, or another file of the crate
+  old: a text that stands once in that file, as the pairs before leave it
+  new: what is put in its place
+"""
+import re
+from dataclasses import dataclass
+from functools import cache, cached_property
+from pathlib import Path
+
+TOP = Path(__file__).resolve().parent.parent
+CRATES, EDITS = TOP / "crates", TOP / "wrong_bodies"
+GATE = EDITS / "gate.txt"
+FIELDS = ("turns: ", "function: ", "file: ", "old: ", "new:")
+# the head of a function, and of what may stand between functions, each with its indentation
+HEAD = re.compile(r"^( *)(?:pub(?:\([\w ]+\))? )?(?:final |const |unsafe |extern \"C\" )*fn (\w+)", re.M)
+OTHER = re.compile(r"^( *)(?:#\[|pub(?:\([\w ]+\))? (?!const fn|unsafe|extern|fn)|(?:unsafe )?impl\b|struct |enum |trait |static |const (?!fn)|type |use |mod |ghost |///)", re.M)
+
+
+@dataclass(frozen=True)
+class Function:
+    """A function of the code: its name as a check prints it below the crate, and where its text and its body begin and end."""
+
+    name: str
+    file: str
+    start: int
+    body: int
+    end: int
+    text: str
+
+    @property
+    def last(self) -> str:
+        return self.name.rpartition("::")[2]
+
+    def calls(self, other: "Function") -> bool:
+        """Whether the text calls the other by a name that can only be meant for it; a check's output tells the rest."""
+        above = other.name.split("::")[-2:-1]
+        is_method = bool(above) and above[0][:1].isupper()
+        by = rf"(?:\bself\.|\bSelf::|\b{above[0]}::)" if is_method and self.name.split("::")[-2:-1] == above else r"\b\w+::" if is_method else r"(?<![.\w])"
+        return not (is_method and by == r"\b\w+::") and bool(re.search(rf"{by}{other.last}(?:::<[^()]*>)?\(", self.text[self.body - self.start :]))
+
+
+@dataclass(frozen=True)
+class Span:
+    """A part of a file, and what an edit puts in its place."""
+
+    start: int
+    end: int
+    new: str
+
+
+class Edit:
+    def __init__(self, crate: str, path: Path) -> None:
+        self.crate, self.path, self.name = crate, path, path.stem
+        lines = path.read_text(encoding="utf-8").splitlines()
+        self.fields = [(word.rstrip(": "), line[len(word) :]) for line in lines for word in FIELDS if line.startswith(word)]
+        self.turns = self.fields[0][1].strip() if self.fields[:1] and self.fields[0][0] == "turns" else ""
+        self.functions = [rest.strip() for word, rest in self.fields if word == "function"]
+        self.files = list(dict.fromkeys(rest.strip() for word, rest in self.fields if word == "file"))
+
+    @property
+    def in_gate(self) -> bool:
+        return f"{self.crate}/{self.name}" in gate_names()
+
+    def read(self) -> tuple[dict[str, str], str]:
+        """The files as the edit leaves them, and why it cannot be applied, if it cannot."""
+        file, old, texts, pairs = "", "", {}, 0
+        for word, rest in self.fields:
+            if word == "file":
+                file = rest.strip()
+                if not (CRATES / self.crate / file).is_file():
+                    return {}, f"there is no crates/{self.crate}/{file}"
+                texts.setdefault(file, text_of(self.crate, file))
+            elif word == "old":
+                old = rest
+            elif word == "new":
+                count = texts[file].count(old) if file and old else 0
+                if count != 1:
+                    return {}, f"an old text stands {count} times in crates/{self.crate}/{file}"
+                texts[file], old, pairs = texts[file].replace(old, rest.removeprefix(" ")), "", pairs + 1
+        if not pairs:
+            return {}, "it has no pair of an old and a new text"
+        same = [file for file, text in texts.items() if text == text_of(self.crate, file)]
+        return texts, f"it leaves {same[0]} as it was" if same else ""
+
+    @property
+    def fault(self) -> str:
+        """Why the edit cannot be applied, or does not say what it turns; nothing where all is well."""
+        return self.read()[1] if self.turns else "its first line does not say what it turns"
+
+    @cached_property
+    def spans(self) -> dict[str, Span]:
+        """The part of each file that the edit changes."""
+        return {file: changed_part(text_of(self.crate, file), text) for file, text in self.read()[0].items()}
+
+    @cached_property
+    def within(self) -> Function | None:
+        """The function whose body the edit changes, where it changes one body and nothing else."""
+        if len(self.spans) != 1 or self.functions:
+            return None
+        file, span = next(iter(self.spans.items()))
+        around = [it for it in functions_of(self.crate, file) if it.body <= span.start and span.end <= it.end]
+        return around[-1] if around else None
+
+    @cached_property
+    def holder(self) -> Function | None:
+        """The function with a clause that the edit changes, where it changes one function and nothing else."""
+        if len(self.spans) != 1 or self.functions:
+            return None
+        file, span = next(iter(self.spans.items()))
+        around = [it for it in functions_of(self.crate, file) if it.start <= span.start and span.end <= it.end]
+        return around[-1] if around else None
+
+
+def changed_part(old: str, new: str) -> Span:
+    """What lies between what two texts begin with and what they end with."""
+    most = min(len(old), len(new))
+    begin = next((at for at in range(most) if old[at] != new[at]), most)
+    behind = next((at for at in range(most - begin) if old[-1 - at] != new[-1 - at]), most - begin)
+    return Span(begin, len(old) - behind, new[begin : len(new) - behind])
+
+
+@cache
+def text_of(crate: str, file: str) -> str:
+    return (CRATES / crate / file).read_text(encoding="utf-8")
+
+
+@cache
+def gate_names() -> list[str]:
+    """The edits that the gate tries, each as CRATE/NAME."""
+    lines = GATE.read_text(encoding="utf-8").splitlines() if GATE.is_file() else []
+    return [line.strip() for line in lines if line.strip() and not line.startswith("#")]
+
+
+def crates_listed() -> dict[str, list[str]]:
+    """Each crate of crates.txt, lowest first, with all that stand in its line."""
+    lines = [line.split("#")[0] for line in (TOP / "crates.txt").read_text(encoding="utf-8").splitlines()]
+    return {line.split(":")[0].split()[0]: line.split(":")[1].split() for line in lines if line.strip()}
+
+
+def edits_of(crate: str) -> list[Edit]:
+    """The edits of a crate in the order of their names."""
+    paths = [*(CRATES / crate / "must-fail").glob("*.edit"), *(EDITS / crate).glob("*.edit")]
+    return [Edit(crate, path) for path in sorted(paths, key=lambda path: path.name)]
+
+
+@cache
+def functions_of(crate: str, file: str) -> list[Function]:
+    """The functions of a file of the code, by the layout that `rt fmt` keeps."""
+    text = text_of(crate, file)
+    if not file.endswith(".rt"):
+        return []
+    others = [(found.start(), len(found[1])) for found in OTHER.finditer(text)]
+    heads = list(HEAD.finditer(text))
+    stops = others + [(found.start(), len(found[1])) for found in heads]
+    found = []
+    for head in heads:
+        indent = len(head[1])
+        end = min((at for at, depth in stops if at > head.start() and depth <= indent), default=len(text))
+        opened = re.compile(rf"^ {{{indent}}}(?:[^ \n].*)?\{{\}}?$", re.M).search(text, head.start(), end)
+        owner, of_trait = owner_of(text, head.start(), indent) if indent else ("", False)
+        home = module_of(file) if of_trait or not owner else home_of(crate, owner, file)
+        name = "::".join([*home, *([owner] if owner else []), head[2]])
+        found.append(Function(name, file, head.start(), opened.end() - 1 if opened else end, end, text[head.start() : end]))
+    return found
+
+
+def module_of(file: str) -> list[str]:
+    parts = Path(file).with_suffix("").parts[1:]
+    return [] if parts in (("lib",), ("main",)) else list(parts)
+
+
+@cache
+def home_of(crate: str, kind: str, file: str) -> list[str]:
+    """The module that declares a type, whose methods are named after it wherever they are; else that of the file."""
+    declared = re.compile(rf"^(?:pub(?:\([\w ]+\))? )?(?:struct|enum) {kind}\b", re.M)
+    files = [str(path.relative_to(CRATES / crate)) for path in sorted((CRATES / crate / "src").rglob("*.rt"))]
+    return module_of(next((it for it in [file, *files] if declared.search(text_of(crate, it))), file))
+
+
+def owner_of(text: str, start: int, indent: int) -> tuple[str, bool]:
+    """The name of the impl or trait around a function, as a check spells it, and whether a trait is in it."""
+    heads = list(re.finditer(r"^(?:unsafe )?(impl\b|(?:pub(?:\([\w ]+\))? )?trait )([^{]*)", text[:start], re.M))
+    if not heads:
+        return "", False
+    kind, rest = heads[-1][1], re.split(r"\swhere\s", heads[-1][2])[0].strip()
+    if kind.endswith("trait "):
+        return re.match(r"\w+", rest)[0], True
+    given, rest = split_generics(rest)
+    trait, _, kind_of = rest.rpartition(" for ")
+    # (a check gives `drop` the name of a method of the type)
+    trait = "" if trait == "Drop" else trait
+    return spelled(kind_of, given) + (spelled(trait, given) if trait else ""), bool(trait)
+
+
+def split_generics(text: str) -> tuple[set[str], str]:
+    """The type parameters of an impl, and what stands after them."""
+    if not text.startswith("<"):
+        return set(), text.strip()
+    depth = 0
+    for at, letter in enumerate(text):
+        depth += (letter == "<") - (letter == ">" and text[at - 1] != "-")
+        if not depth:
+            return set(re.findall(r"(?:^|, )(\w+)", text[1:at])), text[at + 1 :].strip()
+    return set(), text
+
+
+def spelled(kind: str, given: set[str]) -> str:
+    """A type or trait as a part of a name: what is lent begins with Ref, and the types that it takes follow."""
+    kind = re.sub(r"'\w+,? ?|\bmut |\bdyn ", "", kind.strip())
+    lent, kind = ("Ref", kind[1:]) if kind.startswith("&") else ("", kind)
+    head, _, taken = kind.partition("<")
+    last = head.split("::")[-1].strip()
+    more = [it for it in re.findall(r"\w+", taken) if it not in given] if last in ("From", "TryFrom") else []
+    return lent + "".join(it[:1].upper() + it[1:] for it in [last, *more])
