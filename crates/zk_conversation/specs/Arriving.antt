@@ -63,7 +63,7 @@ oldest_arriving [] header end bytes = Err (NobodyAsked header.xid)
 oldest_arriving (oldest ∷ more) header end bytes =
     if int_eq oldest.xid header.xid then reply_arriving oldest.waiting header end bytes else Err (OtherXid oldest.xid header.xid)
 
--- behind the header: xid -1 is a notice, -2 a pong, -4 is skipped, and another is a reply
+-- after the header: xid -1 is a notice, -2 a pong, -4 is skipped, and another is a reply
 abbrev pub header_arriving : List Pending → ReplyHeader → (end : ℕ) → List ℕ → Reading Arrived TalkFault
 header_arriving pending header end bytes =
     if int_eq header.xid (negsuc 0) then notice_arriving (reading watcher_event end bytes)

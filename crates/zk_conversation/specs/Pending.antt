@@ -93,7 +93,7 @@ abbrev pub first_ticket : List Pending → Option ℕ
 first_ticket [] = None
 first_ticket (pending ∷ more) = or_else (ticket_of pending.waiting) (first_ticket more)
 
--- what is left behind the oldest call
+-- what is left after the oldest call
 abbrev pub after_ticket : List Pending → List Pending
 after_ticket [] = []
 after_ticket (pending ∷ more) = if is_some (ticket_of pending.waiting) then more else after_ticket more

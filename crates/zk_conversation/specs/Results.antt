@@ -42,7 +42,7 @@ stat_of v = record {
   pzxid = v.1.1.1.1.1.1.1.1.1.1;
 }
 
--- what stands behind the header of a reply with err 0, by its question
+-- what stands after the header of a reply with err 0, by its question
 abbrev pub result_layout : Question → Layout
 result_layout (Exists path watch) = stat
 result_layout (GetData path watch) = get_data_response

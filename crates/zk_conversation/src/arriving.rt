@@ -50,7 +50,7 @@ pub(crate) fn read_header<'a, A: Allocator + Copy>(
     }
 }
 
-/// Reads a notice behind its header. Its record is read whole before its type is looked at.
+/// Reads a notice after its header. Its record is read whole before its type is looked at.
 pub(crate) fn read_notice<'a, A: Allocator + Copy>(
     alloc: A,
     mut at: Cursor<'a>,
@@ -101,7 +101,7 @@ pub(crate) fn read_oldest<'a, A: Allocator + Copy>(
     }
 }
 
-// Reads what the reply to a request with this err brings, behind its header: nothing for a part of setWatches.
+// Reads what the reply to a request with this err brings, after its header: nothing for a part of setWatches.
 fn read_awaited<'a, A: Allocator + Copy>(
     alloc: A,
     waiting: &Waiting<A>,

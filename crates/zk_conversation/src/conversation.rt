@@ -53,7 +53,7 @@ fn next_xid(xid: u32) -> u32
     if xid == 2_147_483_647 { 1 } else { xid + 1 }
 }
 
-// Puts a request behind those that are pending.
+// Puts a request after those that are pending.
 fn push<A: Allocator>(
     pending: &mut VecDeque<Awaited<A>, A>,
     awaited: Awaited<A>,

@@ -35,7 +35,7 @@ pub enum ReplyResult<'a, A: Allocator> {
     Done,
 }
 
-/// Reads the result of a reply with this err, behind its header.
+/// Reads the result of a reply with this err, after its header.
 pub(crate) fn read_result<'a, A: Allocator + Copy>(
     alloc: A,
     question: &Question<A>,

@@ -23,7 +23,7 @@ pub fn put_frame<A: Allocator>(payload: &[u8], out: &mut Vec<u8, A>) -> Result<(
     Ok(())
 }
 
-/// Makes a frame of a payload that was written behind four bytes of room: these become its length. It is for a payload
+/// Makes a frame of a payload that was written after four bytes of room: these become its length. It is for a payload
 /// that is spelled where it is sent from, and admits any length that four bytes can say.
 pub fn seal_frame<A: Allocator>(out: &mut Vec<u8, A>)
     requires room { 4 ≤ vec_len out.old }
@@ -33,7 +33,7 @@ pub fn seal_frame<A: Allocator>(out: &mut Vec<u8, A>)
     set_length(out.as_mut_slice());
 }
 
-// Writes the length of what stands behind the first four bytes into these.
+// Writes the length of what stands after the first four bytes into these.
 fn set_length(bytes: &mut [u8])
     requires room { 4 ≤ length bytes.old }
     requires small { length bytes.old < 2 ^ 31 }

@@ -57,7 +57,7 @@ impl<A: Allocator> FrameReader<A> {
         self.fault = None;
     }
 
-    /// Takes the next piece of the stream, behind what is held. After a wrong length it takes none, and answers that
+    /// Takes the next piece of the stream, after what is held. After a wrong length it takes none, and answers that
     /// fault until it is reset. Where memory is refused, the same bytes are held.
     pub fn feed(&mut self, piece: &[u8]) -> Result<(), FrameFault>
         ensures ok { OnOk result (self.new ≡ reading (self.old.bytes ++ piece.now)) }

@@ -215,7 +215,7 @@ length_again end count rest small =
     ap (λ r. r >>= λ number. length_of place number.0 >>= λ found. Ok (found, number.1)) (int_again end (number_of count) rest (fits_from_count count small))
     ∙ ap (λ r. r >>= λ found. Ok (found, rest)) (length_of_again place count)
 
--- ---- what stands behind a length or a count
+-- ---- what stands after a length or a count
 
 -- what is known of the contents that a reader finds
 record ReadsContents {X : Type 0} (text : List X → List ℕ) (IsGood : List X → Type 0) (read : ℕ → List ℕ → Result (List X × List ℕ) TakeError) : Type 0 where

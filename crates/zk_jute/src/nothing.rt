@@ -8,7 +8,7 @@ use crate::fault::{PutError, TakeError};
 use crate::record::{Readable, Record};
 use std::alloc::Allocator;
 
-/// A record with no field, and so of no bytes: what stands behind the header of a ping, say.
+/// A record with no field, and so of no bytes: what stands after the header of a ping, say.
 #[derive(Clone, Copy, Debug, PartialEq, Eq)]
 pub struct Nothing;
 

@@ -70,7 +70,7 @@ pub trait Readable<'a, A: Allocator + Copy>: Record<A> {
         ensures memory { IsErrOf result TakeError.Memory → IsTrue takes_memory };
 }
 
-/// Reads the value whose spelling begins the bytes at the cursor, and moves past it. What stands behind is not
+/// Reads the value whose spelling begins the bytes at the cursor, and moves past it. What stands after is not
 /// looked at.
 ///
 /// # Errors

@@ -38,7 +38,7 @@ welcomed : IsResponse welcome_payload welcome []
 unfolding is_utf8 chars encode cut arriving connect_payload call_payload part_payload int_bytes long_bytes counted_bytes bytes_at int_at long_at boolean_at length_of length_at counted_at text_bytes_at elements_at flag_at response_at record_of
 welcomed = record { fits = (omega (arith, ints), (omega (arith, ints), (omega (arith, ints), omega arith))); whole = refl; ends = refl }
 
--- what stands behind the header of the reply
+-- what stands after the header of the reply
 abbrev reply_behind : List ℕ
 reply_behind = 0 ∷ 0 ∷ 0 ∷ 2 ∷ 104 ∷ 105 ∷ 0 ∷ 0 ∷ 0 ∷ 0 ∷ 0 ∷ 0 ∷ 0 ∷ 5 ∷ [] ++ reply_ends
 

@@ -131,7 +131,7 @@ module _ (h : History) (start : Start) (Was : List ℕ → Type 0) where
   asked_requests past wire s le =
       sym (map-append (λ s. s.request) (unread start past wire) (s ∷ [])) ∙ ap (λ l. map (λ s. s.request) l) (sym (unread_more wire.processed (requests start past) (s ∷ []) le))
 
-  -- what is in flight behind one request more, and what it asks waits
+  -- what is in flight after one request more, and what it asks waits
   request_more : (past now : Past) (wire : Wire) (link : Link) (ls : List Letter) (s : Sent) (mine : List Asking) (g : InFlight h start Was past wire link ls)
       → with_requests past wire ls (map (λ s. s.request) (unread start now wire)) ≡ Up (connection start now wire ls) → requests start past ++ s ∷ [] ≡ requests start now → held_of now ≡ held_of past
       → WaitsFor s.xid s.request mine → awaited now ≡ awaited past ++ mine → AreLater (messages ls) → InFlight h start Was now wire (with_requests past wire ls (map (λ s. s.request) (unread start past wire) ++ s.request ∷ [])) ls
@@ -197,7 +197,7 @@ module _ (h : History) (start : Start) (Was : List ℕ → Type 0) where
       (ap (λ b. cond b (record { log = Lost ∷ seen start past; link = Down }) (record { log = Took m ∷ seen start past; link = if ends m then Down else Up (connection start past wire ls) })) behind)
       (reach h (from_zero start.last) w (Goes (Takes m)) (up_reached past wire link (record { message = m; payload = p; xid = xid; asked = ps } ∷ ls) g r) (refl, inl talks))
 
-  -- what is in flight then: the letters behind the first
+  -- what is in flight then: the letters after the first
   behind_first : (past now : Past) (wire : Wire) (link : Link) (first : Letter) (ls : List Letter) (g : InFlight h start Was past wire link (first ∷ ls))
       → connection start past wire ls ≡ connection start now wire ls → requests start past ≡ requests start now → held_of now ≡ [] → awaited now ≡ answers ls ++ g.owed
       → wire.coming ≡ frames ls → AreLater (messages ls) → InFlight h start Was now wire (Up (connection start past wire ls)) ls

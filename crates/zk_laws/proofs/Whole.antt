@@ -46,7 +46,7 @@ sure_more h side path requests more place watches z None s = tt
 sure_more h side path requests more place watches z (Some a) (inl c) = inl c
 sure_more h side path requests more place watches z (Some a) (inr w) = inr (awaited_more side path a z requests more w)
 
--- more requests behind those in flight
+-- more requests after those in flight
 askable_more : (requests more : List Request) → AreAskable requests → AreAskable more → AreAskable (requests ++ more)
 askable_more [] more a b = b
 askable_more (Connect seen ∷ rest) more a b = askable_more rest more a b

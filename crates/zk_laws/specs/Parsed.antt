@@ -27,7 +27,7 @@ payloads_of start items = map (λ sent. sent.payload) (requests start (past_of s
 abbrev pub AreTold : List (List ℕ) → Type 0
 AreTold payloads = AllByRecursion (λ payload. length payload < 2 ^ 31) payloads
 
--- Bytes are cut into frames: behind the frames of these payloads stands less than a whole one.
+-- Bytes are cut into frames: after the frames of these payloads stands less than a whole one.
 pub record IsCutInto (payloads : List (List ℕ)) (rest bytes : List ℕ) : Type 0 where
   pub whole : bytes ≡ joined payloads ++ rest
   pub told : AreTold payloads

@@ -56,7 +56,7 @@ code_of NoNode = negsuc 100
 code_of (Refused code) = code
 code_of _ = pos 0
 
--- The payload is the message's: the spelling of its header and of its record, and behind it any bytes. A reply has the xid of
+-- The payload is the message's: the spelling of its header and of its record, and after it any bytes. A reply has the xid of
 -- its request; the zxid and the code of a notice or a pong may be any. An accepted response has a timeout above 0.
 abbrev pub IsPayload : ℤ → Message → List ℕ → Type 0
 IsPayload xid Accepted payload = (response : Response) × (ignored : List ℕ) × IsResponse payload response ignored × (int_lt (pos 0) (response_timeout response) ≡ true)

@@ -79,7 +79,7 @@ scan-names (b ∷ bs) name path e =
       | false ↦ longer bs b name path (λ n. scan-names bs n path e)
     ]
 
--- the pass begins behind the first slash
+-- the pass begins after the first slash
 pub scan-path_of : (text : List ℕ) → get_or text 0 0 ≡ 47 → (length text ≡ 1 → ⊥) → 0 < length text → scan 0 true false (take (length text - 1) (drop 1 text)) ≡ fault_of_names (path_of text)
 scan-path_of [] h n l = absurd (omega arith)
 scan-path_of (b ∷ []) h n l = absurd (n refl)

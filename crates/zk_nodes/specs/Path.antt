@@ -33,7 +33,7 @@ abbrev pub byte_more : NodePath → ℕ → NodePath
 byte_more [] byte = if byte == 47 then [] ∷ [] else (byte ∷ []) ∷ []
 byte_more (name ∷ path) byte = if byte == 47 then [] ∷ name ∷ path else (name ++ byte ∷ []) ∷ path
 
--- The path of a text that begins with a slash: the root's for the slash alone, else the names behind the slashes
+-- The path of a text that begins with a slash: the root's for the slash alone, else the names after the slashes
 -- ("The ZooKeeper Data Model"). It is used of such texts alone.
 abbrev pub path_of : Text → NodePath
 path_of [] = []

@@ -1,4 +1,4 @@
--- Where a step leads, and what stands next behind it.
+-- Where a step leads, and what stands next after it.
 use Rattle.std.proofs.Common.{◌^◌, ℕ, zero, suc, ◌≡◌, ◌≤◌, ◌<◌, ◌+◌, Bool, true, false, ◌||◌, List, [], ◌∷◌, ◌++◌, drop, length, map, flat_map, refl, ap, subst, inl, inr, arith}
 use Rattle.std.specs.Prelude.{◌≢◌, not}
 use Rattle.std.proofs.lemmas.Bool.{and_from}

@@ -70,7 +70,7 @@ module _ (h : History) (start : Start) (entries : List Entry) (seen : ℕ) (xid 
   refuses above =
       serves h start entries Waiting (Connect seen) xid (Refuses seen) ((response_spelling response ++ ignored) ∷ []) a (λ others. (a.reaches.there, refl, low)) (small, (response, ignored, response_so, above), tt)
 
--- ---- notices with any numbers, and any bytes behind
+-- ---- notices with any numbers, and any bytes after
 
 pub tells_of_changes : (h : History) (start : Start) (entries : List Entry) (stage : Stage) (sent : List Notice) (payloads : List (List ℕ)) → Reaches h start entries stage → stage ≢ Ended
     → (end_of h entries).place < length h.transactions → AreSent (fires_all (changes_next h (end_of h entries).place) (end_of h entries).watches) sent → AllTell sent payloads → CanTake h start entries (Advances sent) payloads

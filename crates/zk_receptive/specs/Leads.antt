@@ -1,4 +1,4 @@
--- Where a server stands behind a step, and what waits to be processed.
+-- Where a server stands after a step, and what waits to be processed.
 use Rattle.std.specs.Prelude.{ℕ, ◌≡◌, List, map}
 use Rattle.zk_nodes.specs.Path.{NodePath}
 use Rattle.zk_nodes.specs.History.{History}

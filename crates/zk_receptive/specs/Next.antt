@@ -34,7 +34,7 @@ pub record Awaits (h : History) (start : Start) (entries : List Entry) (stage : 
 abbrev pub CanTake : History → Start → List Entry → ServerStep → List (List ℕ) → Type 0
 CanTake h start entries step payloads = IsServing h start (Serves step payloads ∷ entries)
 
--- a header, with these bytes behind it
+-- a header, with these bytes after it
 abbrev pub headed : (xid zxid err : ℤ) → List ℕ → List ℕ
 headed xid zxid err behind = spelling reply_header (xid, (zxid, err)) ++ behind
 

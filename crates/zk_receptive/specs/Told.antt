@@ -53,7 +53,7 @@ IsSetAgain relative tree part Data path =
     (Among path part.data_watches × (node : Node) × (tree (path_of path) ≡ Some node) × (node.mzxid ≤ relative)) ⊎ (Among path part.exist_watches × (tree (path_of path) ≡ None))
 IsSetAgain relative tree part Child path = Among path part.child_watches × (node : Node) × (tree (path_of path) ≡ Some node) × (node.pzxid ≤ relative)
 
--- A payload that spells the notice: with any zxid, code and state, and any bytes behind.
+-- A payload that spells the notice: with any zxid, code and state, and any bytes after.
 pub record Tells (notice : Notice) (payload : List ℕ) : Type 0 where
   pub zxid : ℤ
   pub err : ℤ

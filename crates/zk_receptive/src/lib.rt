@@ -45,7 +45,7 @@ pub fn connections_begin()
         → ((wire_of h (Goes_on place (item_of Opening outputs) ∷ entries)).processed ≡ 0) × ((wire_of h (Goes_on place (item_of Opening outputs) ∷ entries)).coming ≡ []) }
 {}
 
-/// What waits may be received in any pieces: any beginning of it, behind which the rest waits. Without a connection any bytes may come.
+/// What waits may be received in any pieces: any beginning of it, after which the rest waits. Without a connection any bytes may come.
 #[tactic(auto, using(crate::proofs::Client::receives, crate::proofs::Client::received_rest, crate::proofs::Client::strays))]
 pub fn bytes_come()
     ensures receives { (h : History) (start : Start) (entries : List Entry) (place : ℕ) (bytes rest : List ℕ) (outputs : List Output) → IsServing h start entries → (wire_of h entries).coming ≡ bytes ++ rest
@@ -66,14 +66,14 @@ pub fn clients_go_on()
     ensures halts { (h : History) (start : Start) (entries : List Entry) (place : ℕ) → IsServing h start entries → IsServing h start (Goes_on place Halts ∷ entries) }
 {}
 
-/// A server that serves may answer the ping that stands next, with any zxid and code, and any bytes behind.
+/// A server that serves may answer the ping that stands next, with any zxid and code, and any bytes after.
 #[tactic(auto, using(crate::proofs::Taking::pongs))]
 pub fn pings()
     ensures pongs { (h : History) (start : Start) (entries : List Entry) (xid zxid err : ℤ) (behind : List ℕ) → Awaits h start entries Serving Ping xid → IsSendable ping_xid zxid err behind
         → CanTake h start entries Pongs (headed ping_xid zxid err behind ∷ []) }
 {}
 
-/// Each transaction behind the place of a server can be taken, before the client is admitted and while it is served, with notices
+/// Each transaction after the place of a server can be taken, before the client is admitted and while it is served, with notices
 /// in each order in which they may be sent, each with any zxid and code.
 #[tactic(auto, using(crate::proofs::Taking::advances))]
 pub fn transactions()
@@ -220,7 +220,7 @@ pub fn steps_lead_on()
     ensures ponged { (h : History) (entries : List Entry) (payloads : List (List ℕ)) → IsBehind (end_of h entries).place (end_of h entries).watches (end_of h entries).stage (end_of h (Serves Pongs payloads ∷ entries)) }
 {}
 
-/// What a step sends comes behind what was on its way. Behind a transaction the same request stands next, behind each other step the one
+/// What a step sends comes after what was on its way. After a transaction the same request stands next, after each other step the one
 /// after it.
 #[tactic(auto, using(crate::proofs::Leading::comes_behind, crate::proofs::Leading::still_next, crate::proofs::Leading::next_done))]
 pub fn requests_are_processed()
@@ -272,7 +272,7 @@ pub fn absent_writes()
         → IsSendable xid (zxid_of h entries) (negsuc 100) behind → CanTake h start entries (Answers (Delete path version) NoNode) (headed xid (zxid_of h entries) (negsuc 100) behind ∷ []) }
 {}
 
-/// Each notice may come with a zxid, a code and a state of its own, and with any bytes behind it.
+/// Each notice may come with a zxid, a code and a state of its own, and with any bytes after it.
 #[tactic(auto, using(crate::proofs::Taking::tells_of_changes, crate::proofs::Taking::tells_of_parts))]
 pub fn any_notices()
     ensures tells_of_changes { (h : History) (start : Start) (entries : List Entry) (stage : Stage) (sent : List Notice) (payloads : List (List ℕ)) → Reaches h start entries stage → stage ≢ Ended

@@ -72,7 +72,7 @@ fine x = Ok x
 fine_is : {A : Type 0} (x y : A) → fine x ≡ fine y → x ≡ y
 fine_is x y e = cc
 
--- what the bytes spell, and what stands behind it
+-- what the bytes spell, and what stands after it
 abbrev pub IsAsked : List ℕ → Asked × List ℕ → Type 0
 IsAsked bytes found = Fits (request_layout found.0.operation) (asked_value found.0) × (bytes ≡ spelling (request_layout found.0.operation) (asked_value found.0) ++ found.1)
 

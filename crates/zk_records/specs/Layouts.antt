@@ -6,7 +6,7 @@ use Rattle.zk_nodes.specs.StatLayout.{stat}
 abbrev pub connect_request : Layout
 connect_request = int ⨾ (long ⨾ (int ⨾ (long ⨾ (buffer ⨾ boolean))))
 
--- protocolVersion, timeOut, sessionId, passwd; behind them stands readOnly or nothing
+-- protocolVersion, timeOut, sessionId, passwd; after them stands readOnly or nothing
 abbrev pub connect_response_front : Layout
 connect_response_front = int ⨾ (int ⨾ (long ⨾ buffer))
 

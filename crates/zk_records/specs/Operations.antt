@@ -1,4 +1,4 @@
--- The operations, their numbers, and what stands behind the header of each.
+-- The operations, their numbers, and what stands after the header of each.
 use Rattle.std.specs.Prelude.{ℤ, pos, negsuc, Option, Some, None, ◌==◌, if◌then◌else◌}
 use Rattle.zk_jute.specs.Layout.{Layout, nothing, int, ◌⨾◌}
 use Rattle.zk_records.specs.declared.operation.Operation.{Operation}

@@ -1,4 +1,4 @@
--- A reply: its header, and, with err 0, what stands behind it. What follows the header of another reply is ignored.
+-- A reply: its header, and, with err 0, what stands after it. What follows the header of another reply is ignored.
 use Rattle.std.specs.Prelude.{ℕ, zero, suc, ℤ, pos, negsuc, Bool, true, false, List, [], ◌++◌, Option, Some, None, Result, Ok}
 use Rattle.std.specs.Option.{option_map}
 use Rattle.zk_jute.specs.declared.fault.TakeError.{TakeError}

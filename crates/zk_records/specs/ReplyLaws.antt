@@ -1,4 +1,4 @@
--- What is read of a reply is spelled so, and what is spelled so is read, whatever layout stands behind the header.
+-- What is read of a reply is spelled so, and what is spelled so is read, whatever layout stands after the header.
 use Rattle.std.proofs.Common.{◌≡◌, ℕ, zero, suc, ℤ, pos, negsuc, List, ◌++◌, Option, Some, None, Result, Ok, refl, sym, ap, subst, ◌∙◌, append_assoc}
 use Rattle.zk_jute.specs.declared.fault.TakeError.{TakeError}
 use Rattle.zk_jute.specs.Layout.{Layout, Value}

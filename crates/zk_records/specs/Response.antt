@@ -22,7 +22,7 @@ response_spelling r = spelling connect_response_front r.front ++ flag_spelling r
 abbrev pub ResponseFits : Response → Type 0
 ResponseFits r = Fits connect_response_front r.front
 
--- a whole payload spells r, and the ignored bytes stand behind it: there are none where readOnly is missing
+-- a whole payload spells r, and the ignored bytes stand after it: there are none where readOnly is missing
 abbrev pub EndsPayload : Option Bool → List ℕ → Type 0
 EndsPayload None ignored = ignored ≡ []
 EndsPayload (Some flag) ignored = Unit {0}

@@ -62,8 +62,8 @@ impl<R> Reply<R> {
     }
 }
 
-/// Reads the reply that the bytes at the cursor begin with, and moves past it. What stands behind it is not looked at:
-/// where err is not 0, that is all behind the header.
+/// Reads the reply that the bytes at the cursor begin with, and moves past it. What stands after it is not looked at:
+/// where err is not 0, that is all after the header.
 ///
 /// # Errors
 ///
@@ -108,7 +108,7 @@ fn read_reply<'a, A: Allocator + Copy, R: Readable<'a, A>>(
     Ok(Reply { header, result })
 }
 
-/// Reads the result behind a header with this err.
+/// Reads the result after a header with this err.
 #[tactic(auto, unfolding(crate::specs::Reply::result_at))]
 fn read_result<'a, A: Allocator + Copy, R: Readable<'a, A>>(
     alloc: A,

@@ -90,7 +90,7 @@ impl<A: Allocator + Copy> Request<A> {
         Ok(())
     }
 
-    /// Writes the record behind the header. An `Err` may leave a part of it.
+    /// Writes the record after the header. An `Err` may leave a part of it.
     fn write_body(&self, out: &mut Vec<u8, A>) -> Result<(), PutError>
         ensures ok { OnOk result (out.new.items ≡ out.old.items ++ spelling (body_layout (operation_of self.now)) (body_of self.now)) }
         ensures fits { OnOk result (Fits (body_layout (operation_of self.now)) (body_of self.now)) }

@@ -24,7 +24,7 @@ use zk_jute::{Cursor, Readable, TakeError};
 
 impl<A: Allocator + Copy> Request<A> {
     /// Reads the request whose spelling begins the bytes at the cursor, with its xid, and moves past it. What stands
-    /// behind it is not looked at.
+    /// after it is not looked at.
     ///
     /// # Errors
     ///
@@ -72,7 +72,7 @@ fn read_request<A: Allocator + Copy>(
     }
 }
 
-/// Reads the record behind a header of this operation. After an `Err` the cursor may stand anywhere.
+/// Reads the record after a header of this operation. After an `Err` the cursor may stand anywhere.
 fn read_body<A: Allocator + Copy>(
     alloc: A,
     operation: Operation,

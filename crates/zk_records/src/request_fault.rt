@@ -14,7 +14,7 @@ use zk_jute::TakeError;
 pub enum RequestFault {
     /// The header is whole, and its type is none of the ten operations' numbers.
     Unknown(i32),
-    /// The header or the record behind it could not be read.
+    /// The header or the record after it could not be read.
     Unread(TakeError),
 }
 

@@ -5,7 +5,7 @@ ghost use Rattle.std.specs.Prelude.{◌≡◌, take, OnOk, OnErr};
 use std::alloc::Allocator;
 use zk_jute::PutError;
 
-/// Takes away what was written behind this length, where the writing failed.
+/// Takes away what was written after this length, where the writing failed.
 pub(crate) fn whole_or_none<A: Allocator>(
     out: &mut Vec<u8, A>,
     start: usize,

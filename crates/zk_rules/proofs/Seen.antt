@@ -1,4 +1,4 @@
--- No reply is ahead of what is seen behind its turn.
+-- No reply is ahead of what is seen after its turn.
 use Rattle.std.proofs.Common.{◌≡◌, ℕ, ℤ, pos, length, Bool, true, false, cond, List, [], ◌∷◌, ◌++◌, map, Option, Some, None, refl, sym, ap, subst, ◌∙◌, inl, inr, ◌⊎◌, arith}
 use Rattle.std.specs.Prelude.{◌≤ℤ◌, nat_le, nat_lt}
 use Rattle.std.specs.List.{flat_map}

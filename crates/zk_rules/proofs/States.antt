@@ -49,7 +49,7 @@ told view (Took (Replies ticket _ zxid result)) = refl
 told view (Took _) = refl
 told view _ = refl
 
--- one behind the other
+-- one after the other
 pub all_told : (view : View) (happenings : List Happening) → states_in (says_all view happenings) ≡ flat_map brings happenings
 all_told view [] = refl
 all_told view (happening ∷ more) =

@@ -47,7 +47,7 @@ brings (Dropped fault) = Idle ∷ []
 brings Lost = Idle ∷ []
 brings _ = []
 
--- the state behind one that brings these
+-- the state after one that brings these
 abbrev pub brought : List State → State → State
 brought [] before = before
 brought (state ∷ more) before = state

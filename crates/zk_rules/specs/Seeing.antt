@@ -22,7 +22,7 @@ EarlierLeaves = (ticket : ℕ) (question : Question) (zxid : ℤ) (result : Resu
 abbrev pub TurnsRaise : Type 0
 TurnsRaise = (view after : View) (turn : Turn) → Rule view turn after → view.saved.last ≤ℤ after.saved.last
 
--- No reply that a turn tells a caller is ahead of what the client has seen behind the turn.
+-- No reply that a turn tells a caller is ahead of what the client has seen after the turn.
 abbrev pub RepliesAreSeen : Type 0
 RepliesAreSeen = (ticket : ℕ) (zxid : ℤ) (result : Result) (view after : View) (turn : Turn) → Rule view turn after
     → Among (Answer ticket (Replied zxid result)) turn.outputs → zxid ≤ℤ after.saved.last

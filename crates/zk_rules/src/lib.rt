@@ -18,7 +18,7 @@ ghost use Rattle.zk_turns.specs.Rule.{next, says, says_all};
 ghost use Rattle.zk_rules.specs.Rules.{states_in, brings, brought, IsStaleSince, as_stale};
 
 /// Each reply to a call moves the last seen zxid to its own where that is later (`moves`), whatever was asked, and leaves it where it is
-/// not (`leaves`). No turn lowers it (`rises`), and behind a turn it is at least that of each reply that the turn told (`seen`).
+/// not (`leaves`). No turn lowers it (`rises`), and after a turn it is at least that of each reply that the turn told (`seen`).
 pub fn replies_count()
     ensures moves { LaterMoves }
     ensures leaves { EarlierLeaves }

@@ -33,7 +33,7 @@ IsNoConnect request = ⊤
 abbrev IsLater : Sent → Type 0
 IsLater sent = IsNoConnect sent.request
 
--- those behind the first
+-- those after the first
 abbrev AreLater : List Sent → Type 0
 AreLater [] = ⊤
 AreLater (first ∷ more) = AllByRecursion IsLater more

@@ -1,4 +1,4 @@
--- Steps, one list behind another, and as entries of a schedule.
+-- Steps, one list after another, and as entries of a schedule.
 use Rattle.std.proofs.Common.{ℕ, zero, suc, ℤ, ◌≡◌, ◌≤◌, ◌+◌, true, List, [], ◌∷◌, ◌++◌, map, drop, length, refl, ap, sym, ◌∙◌, subst, arith, append_assoc}
 use Rattle.std.proofs.lemmas.List.{append-nil}
 use Rattle.std.specs.Bool.{⊤}
@@ -23,7 +23,7 @@ drop_twice zero b xs = let same : b ≡ 0 + b = omega arith in ap (λ n. drop n 
 drop_twice (suc a) b [] = drop_none b ∙ sym (drop_none (suc a + b))
 drop_twice (suc a) b (x ∷ xs) = let same : suc (a + b) ≡ suc a + b = omega arith in drop_twice a b xs ∙ ap (λ n. drop n (x ∷ xs)) same
 
--- ---- one list of steps behind another
+-- ---- one list of steps after another
 
 pub ended_more : (h : History) (first second : List Step) (server : ServerEnd) → ended_by h (first ++ second) server ≡ ended_by h second (ended_by h first server)
 ended_more h [] second server = refl
@@ -140,7 +140,7 @@ told_waits h xid asked waiting (Restores is_last relative part sent) server payl
     subst (λ x. ArePayloads x (messages_by h (Restores is_last relative part sent) server.place) payloads) (sym (xid_waits xid _ asked waiting w m.1)) a
 told_waits h xid asked waiting Pongs server payloads w m a = subst (λ x. ArePayloads x (messages_by h Pongs server.place) payloads) (sym (xid_waits xid _ asked waiting w m.1)) a
 
--- behind a step that has processed it the one request is gone
+-- after a step that has processed it the one request is gone
 gone : (xid : ℤ) (asked : List Request) (waiting later : List Sent) → Waits xid asked waiting → Waits xid (drop 1 asked) later
 gone xid [] waiting later w = tt
 gone xid (one ∷ []) waiting later w = tt
@@ -218,7 +218,7 @@ idle_stays h xid [] server m = refl
 idle_stays h xid (one ∷ rest) server m =
     idle_stays h xid rest (end_after h one.step server) (idle_rest h xid one rest (end_after h one.step server) m.2) ∙ idle_stage h one.step server m.0
 
--- ---- one step behind others
+-- ---- one step after others
 
 pub last_moves : (h : History) (xid : ℤ) (asked : List Request) (first : List Step) (last : Step) (server : ServerEnd) → Moves h xid asked first server
     → MayDo h last.step (ended_by h first server) (drop (processed_by first) asked) → ArePayloads xid (messages_by h last.step (ended_by h first server).place) last.payloads → Moves h xid asked (first ++ last ∷ []) server

@@ -247,7 +247,7 @@ module _ (start : Start) where
   signal_on Halt past n = dropped_on Halted past (halted_over past)
   signal_on signal past n = cond_on (has_halted past) [] (caused (view_at start past) signal) past (still past) (caused_on signal past n)
 
-  -- What comes behind each other without a new connection keeps it on.
+  -- What comes after each other without a new connection keeps it on.
   pub signals_on : (signals : List Signal) (past : Past) → AllByRecursion NotOpens signals → KeepsOn past (past_after start past signals) (due_signals start past signals)
   signals_on [] past n = still past
   signals_on (signal ∷ more) past n =
@@ -270,7 +270,7 @@ module _ (start : Start) where
     nothing = nothing_more first second silent.nothing b.nothing;
   }
 
-  -- with nothing behind it
+  -- with nothing after it
   alone : (after : Past) (outputs : List Output) → Begins after outputs → Begins after (outputs ++ [])
   alone after outputs b = subst (λ t. Begins after t) (sym (append-nil outputs)) b
 

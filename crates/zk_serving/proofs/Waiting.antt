@@ -146,7 +146,7 @@ first_stands start entries view shown first more from timed typed paths s shows 
 
 -- ---- the bytes that were sent
 
--- the first frames and those behind them
+-- the first frames and those after them
 cut_at : (n : ℕ) (sent : List Sent) → joined (map (λ s. s.payload) (take n sent)) ++ framed (drop n sent) ≡ framed sent
 cut_at n sent = sym (framed_more (take n sent) (drop n sent)) ∙ ap framed (take-append-drop n sent)
 

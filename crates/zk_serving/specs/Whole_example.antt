@@ -1,6 +1,6 @@
--- One schedule, in bytes, with all that can befall a watch, behind the beginning of the small one: a node is read with a watch, and a
+-- One schedule, in bytes, with all that can befall a watch, after the beginning of the small one: a node is read with a watch, and a
 -- path too long to share a part is found absent. The connection is cut in the middle of a notice. The next one is to a server that is
--- behind; the watches are set again in two parts, and the first tells of the change that was missed. A ping is answered; a write is
+-- after; the watches are set again in two parts, and the first tells of the change that was missed. A ping is answered; a write is
 -- taken and answered; then the session expires over a third connection.
 use Rattle.std.specs.Prelude.{ℕ, pos, negsuc, true, false, List, [], ◌∷◌, ◌++◌, replicate, Some}
 use Rattle.zk_nodes.specs.declared.stat.Stat.{Stat}

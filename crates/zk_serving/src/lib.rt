@@ -37,7 +37,7 @@ pub fn history_goes_on()
     ensures served { (h later : History) (start : Start) (items : List Client_item) → GoesOn h later → Served h start items → Served later start items }
 {}
 
-/// Steps may be taken behind others: then they end where the later ones do, and send and process what both do.
+/// Steps may be taken after others: then they end where the later ones do, and send and process what both do.
 #[tactic(auto, using(crate::proofs::Stepping::moves_more, crate::proofs::Stepping::ended_more, crate::proofs::Stepping::sent_more, crate::proofs::Stepping::processed_more))]
 pub fn joined_steps()
     ensures moves { (h : History) (xid : ℤ) (asked : List Request) (first second : List Step) (server : ServerEnd) → Moves h xid asked first server
@@ -47,7 +47,7 @@ pub fn joined_steps()
     ensures processed { (first second : List Step) → processed_by (first ++ second) ≡ processed_by first + processed_by second }
 {}
 
-/// One step more, behind others.
+/// One step more, after others.
 #[tactic(auto, using(crate::proofs::Stepping::last_moves, crate::proofs::Stepping::last_ended, crate::proofs::Stepping::last_sent, crate::proofs::Stepping::last_processed))]
 pub fn one_more_step()
     ensures moves { (h : History) (xid : ℤ) (asked : List Request) (first : List Step) (last : Step) (server : ServerEnd) → Moves h xid asked first server
@@ -58,7 +58,7 @@ pub fn one_more_step()
     ensures processed { (first : List Step) (last : Step) → processed_by (first ++ last ∷ []) ≡ processed_by first + used_by last.step }
 {}
 
-/// Steps with no request to process may be taken whatever is asked, and a step that processes the request behind them. They
+/// Steps with no request to process may be taken whatever is asked, and a step that processes the request after them. They
 /// process none, and leave the stage of the connection.
 #[tactic(auto, using(crate::proofs::Stepping::idle_moves, crate::proofs::Stepping::answer_moves, crate::proofs::Stepping::idle_processes, crate::proofs::Stepping::idle_stays))]
 pub fn steps_without_request()
@@ -115,7 +115,7 @@ pub fn client_goes_on()
     ensures halts { (start : Start) (items : List Client_item) (old new : Shown) → IsServedBy start items old → new.history ≡ old.history → IsServedBy start (Halts ∷ items) new }
 {}
 
-/// The servers hear outputs one after the other: the bytes of one that sends come behind those that wait, one that neither sends nor
+/// The servers hear outputs one after the other: the bytes of one that sends come after those that wait, one that neither sends nor
 /// ends the connection leaves all as it is, and with one that ends it nothing is meant but that the history stays.
 pub fn hearing()
     ensures nothing { (shown : Shown) → Hears [] shown shown }
@@ -136,7 +136,7 @@ pub fn servers_go_on()
         → (is_going (past_of start items) ≡ true → (new.phase ≡ Over) × (new.output ≡ old.output)) → IsServedBy start items new }
 {}
 
-/// A frame that stands in front of some bytes: its length, its payload, and what stands behind it.
+/// A frame that stands in front of some bytes: its length, its payload, and what stands after it.
 #[tactic(auto, using(crate::proofs::Fronts::front_there, crate::proofs::Fronts::front_field, crate::proofs::Fronts::front_behind, crate::proofs::Fronts::front_payload))]
 pub fn first_frame()
     ensures there { (payload rest bytes : List ℕ) → bytes ≡ frame payload ++ rest → 4 + length_of payload ≤ length_of bytes }
@@ -157,7 +157,7 @@ pub fn what_waits()
         → is_going (past_of start items) ≡ true → shown.phase ≡ Open → (processed : ℕ) × IsCutAt items processed shown.requests }
 {}
 
-/// The same by the view of the client alone: one that begins in range, with a timeout above 0, was served; so it is behind each
+/// The same by the view of the client alone: one that begins in range, with a timeout above 0, was served; so it is after each
 /// turn by the rule, where callers ask about paths with values of their types; and what the servers do keeps it so: over a history
 /// the server has to process a ConnectRequest alone where it has accepted nobody, and any other alone where it has. Then its good
 /// answers are those of the history at its last seen zxid.

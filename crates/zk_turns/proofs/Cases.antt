@@ -19,7 +19,7 @@ pub by_cond : {A : Type 0} (P : A → Type 0) (b : Bool) (x y : A) → P x → P
 by_cond P true x y p q = p
 by_cond P false x y p q = q
 
--- what is read behind a header
+-- what is read after a header
 pub by_header : (P : Reading Arrived TalkFault → Type 0) (ps : List Pending) (header : ReplyHeader) (end : ℕ) (bytes : List ℕ)
     → P (notice_arriving (reading watcher_event end bytes)) → P (Ok Pong) → P (Ok Skipped) → P (oldest_arriving ps header end bytes) → P (header_arriving ps header end bytes)
 by_header P ps header end bytes notice pong skipped oldest =

@@ -61,7 +61,7 @@ module _ (view : View) (call : Call) where
     | inr t ↦ inr (λ f. t.0 (let s : side ≡ f.0 = let e = f.1 in cc in subst (λ x. MOST_PATHS ≤ count_of view.lists x + watches_pending x view.pending) (sym s) f.2), t.1)
   ]
 
-  -- the tests of a connected client, one behind the other
+  -- the tests of a connected client, one after the other
   large : (why : Option Outcome) → why ≡ cond (nat_lt LONGEST_OUTGOING (length (call_payload (pos view.xid) call))) (Some TooLarge) None → IsFirstOf (TooLarge ∷ []) view call why
   large why e = elim (lt_or LONGEST_OUTGOING (length (call_payload (pos view.xid) call))) [
     | inl t ↦ inl (t.0, e ∙ ap (λ b. cond b (Some TooLarge) None) t.1)

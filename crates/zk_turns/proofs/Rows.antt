@@ -29,7 +29,7 @@ use Rattle.zk_turns.specs.Rule.{says_signals, after_signals}
 use Rattle.zk_cache.specs.Kept.{Absent, Full, good, stale}
 use Rattle.zk_watches.specs.Lists.{no_lists}
 
--- the bytes of a text of hex digits, two digits a byte; one digit alone behind them is left out
+-- the bytes of a text of hex digits, two digits a byte; one digit alone after them is left out
 abbrev bytes_of : List ℕ → List ℕ
 bytes_of (high ∷ low ∷ digits) = (16 * digit_value high + digit_value low) ∷ bytes_of digits
 bytes_of digits = []
@@ -70,7 +70,7 @@ hello_again = hex "0000002d000000000000000000000005000075300000000000000abc00000
 abbrev welcome : List ℕ
 welcome = hex "0000002400000000000075300000000000000abc00000010000102030405060708090a0b0c0d0e0f"
 
--- the response where the session has expired, and the notice behind it
+-- the response where the session has expired, and the notice after it
 abbrev expiry_and_notice : List ℕ
 expiry_and_notice = hex "00000024000000000000000000000000000000000000001000000000000000000000000000000000" ++ cut_to 30 noticed
 
@@ -106,7 +106,7 @@ done = hex "0000001000000001000000000000000800000000"
 abbrev reply_and_notice : List ℕ
 reply_and_notice = reply ++ cut_to 30 noticed
 
--- notices: /a was deleted; /a was changed, with zxid 6; /b was, with the reply to setWatches behind it
+-- notices: /a was deleted; /a was changed, with zxid 6; /b was, with the reply to setWatches after it
 abbrev deletion : List ℕ
 deletion = hex "0000001effffffffffffffffffffffff000000000000000200000003000000022f61"
 

@@ -75,7 +75,7 @@ answers_closing t _ = refl
 
 -- ---- what waits when something happens
 
--- nothing waits behind a close
+-- nothing waits after a close
 abbrev ClosesLast : List Pending → Type 0
 ClosesLast [] = Unit {0}
 ClosesLast (p ∷ []) = Unit {0}

@@ -281,7 +281,7 @@ pub record HaltsAs (view after : View) : Type 0 where
   pub lists : after.lists ≡ no_lists
   pub cache : after.cache ≡ empty_cache
 
--- what a halt at a moment, or at the input behind it, leaves of a view: the turn of the moment may have been
+-- what a halt at a moment, or at the input after it, leaves of a view: the turn of the moment may have been
 abbrev pub HaltsAt : (moment : ℕ) → (view after : View) → Type 0
 HaltsAt moment view after =
     HaltsAs view after ⊎ ((first : List Output) × (between : View) × Rule view (record { input = Now moment; outputs = first }) between × HaltsAs between after)

@@ -1,4 +1,4 @@
--- What a payload spells: a header or a record by its layout, and behind it any bytes.
+-- What a payload spells: a header or a record by its layout, and after it any bytes.
 use Rattle.std.specs.Prelude.{◌≡◌, ℕ, ℤ, List, ◌++◌, ⊤}
 use Rattle.zk_jute.specs.Layout.{Layout, Value}
 use Rattle.zk_jute.specs.Spelling.{spelling, Fits}
@@ -21,7 +21,7 @@ pub record HasRecord (layout : Layout) (value : Value layout) (bytes : List ℕ)
 abbrev pub BeginsWith : Question → Result → List ℕ → Type 0
 BeginsWith question result bytes = (value : Value (result_layout question)) × HasRecord (result_layout question) value bytes × (result_from question value ≡ result)
 
--- what stands behind the header of a reply: with err 0 the record of its question, with another any bytes
+-- what stands after the header of a reply: with err 0 the record of its question, with another any bytes
 abbrev pub HasResult : Question → Result → List ℕ → Type 0
 HasResult question NoNode behind = ⊤
 HasResult question (Refused code) behind = ⊤
