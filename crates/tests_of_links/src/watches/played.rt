@@ -109,26 +109,56 @@ fn without_zxids(global: Global, text: &[u8]) -> Result<Vec<u8>> {
 fn printed(global: Global, row: &Row, piece: usize) -> Result<Vec<u8>> {
     let mut out = Fails::after(Vec::new(global), u32::MAX);
     let _ = watched(global, global, row, piece, &mut out)?;
-    Ok(Vec::from_slice(global, out.bytes())?)
+    Ok(out.into_bytes())
+}
+
+/// The lines that are printed with pieces of this size, without zxids.
+fn lines_in_pieces(global: Global, row: &Row, piece: usize) -> Result<Vec<u8>> {
+    let text = printed(global, row, piece)?;
+    let lines = without_zxids(global, text.as_slice());
+    drop(text);
+    lines
+}
+
+/// With how many sizes of pieces, of those below the most, these lines are printed.
+fn count_same(global: Global, row: &Row, most: usize, whole: &[u8]) -> Result<u32> {
+    let mut same = 0u32;
+    for piece in 1..most {
+        let lines = lines_in_pieces(global, row, piece)?;
+        same = same.saturating_add(u32::from(lines.as_slice() == whole));
+    }
+    Ok(same)
 }
 
 /// Plays a row with each size of pieces, and counts those with which the same is printed, but for the zxids.
 pub fn play_cut<W: Write>(global: Global, row: &Row, most: usize, out: &mut W) -> Result<()> {
-    let whole = without_zxids(global, printed(global, row, usize::MAX)?.as_slice())?;
-    let mut same = 0u32;
-    for piece in 1..most {
-        let lines = without_zxids(global, printed(global, row, piece)?.as_slice())?;
-        if lines.as_slice() == whole.as_slice() {
-            same = same.saturating_add(1);
+    let whole = lines_in_pieces(global, row, usize::MAX)?;
+    let counted = count_same(global, row, most, whole.as_slice());
+    drop(whole);
+    let (name, same, sizes) = (row.name, counted?, most.saturating_sub(1));
+    Ok(writeln!(
+        out,
+        "{name}: {same} of {sizes} sizes of pieces print the same"
+    )?)
+}
+
+/// What is refused from one on, or once.
+#[derive(Clone, Copy)]
+enum Refused {
+    /// Writes and flushes, from one on.
+    Output,
+    /// One request for memory.
+    Memory,
+}
+
+impl Refused {
+    /// How a run is told that does not end well.
+    fn word(self) -> &'static str {
+        match self {
+            Refused::Output => "failed",
+            Refused::Memory => "memory",
         }
     }
-    writeln!(
-        out,
-        "{}: {same} of {} sizes of pieces print the same",
-        row.name,
-        most.saturating_sub(1)
-    )?;
-    Ok(())
 }
 
 /// Whether what is printed is a beginning of this, where each write and flush from the one of this number on fails, and the reason said.
@@ -140,27 +170,6 @@ fn fails_well(global: Global, row: &Row, whole: &[u8], passed: u32) -> Result<Op
         End::Over => None,
         end => Some(end == End::Stream && whole.starts_with(out.bytes())),
     })
-}
-
-/// Plays a row with an output that fails, at each write and flush in turn.
-pub fn play_failing<W: Write>(global: Global, row: &Row, out: &mut W) -> Result<()> {
-    let whole = printed(global, row, usize::MAX)?;
-    let mut well = 0u32;
-    for passed in 0..u32::MAX {
-        match fails_well(global, row, whole.as_slice(), passed)? {
-            Some(true) => well = well.saturating_add(1),
-            Some(false) => writeln!(out, "{}: failed at {passed}", row.name)?,
-            None => {
-                writeln!(
-                    out,
-                    "{}: {well} of {passed} writes and flushes fail well",
-                    row.name
-                )?;
-                return Ok(());
-            }
-        }
-    }
-    Ok(())
 }
 
 /// Whether what is printed is a beginning of this where the request for memory behind so many is refused, and the reason said. None where
@@ -176,20 +185,56 @@ fn refuses_well(global: Global, row: &Row, whole: &[u8], passed: u32) -> Result<
     Ok(Some(is_told && whole.starts_with(out.bytes())))
 }
 
-/// Plays a row with memory that is refused, at each request in turn.
-pub fn play_refusing<W: Write>(global: Global, row: &Row, out: &mut W) -> Result<()> {
-    let whole = printed(global, row, usize::MAX)?;
+/// How often a run in which something is refused ends well, and the number behind which nothing is refused any more. A run that does not
+/// end well is told.
+fn count_well<W: Write>(
+    global: Global,
+    row: &Row,
+    whole: &[u8],
+    refused: Refused,
+    out: &mut W,
+) -> Result<(u32, u32)> {
     let mut well = 0u32;
     for passed in 0..u32::MAX {
-        match refuses_well(global, row, whole.as_slice(), passed)? {
+        let is_well = match refused {
+            Refused::Output => fails_well(global, row, whole, passed)?,
+            Refused::Memory => refuses_well(global, row, whole, passed)?,
+        };
+        match is_well {
             Some(true) => well = well.saturating_add(1),
-            Some(false) => writeln!(out, "{}: memory at {passed}", row.name)?,
-            None => {
-                let is_each = well == passed;
-                writeln!(out, "{}: each refusal ends it well: {is_each}", row.name)?;
-                return Ok(());
-            }
+            Some(false) => writeln!(out, "{}: {} at {passed}", row.name, refused.word())?,
+            None => return Ok((well, passed)),
         }
     }
-    Ok(())
+    Ok((well, u32::MAX))
+}
+
+/// Counts so over what is printed where nothing is refused.
+fn count_over_whole<W: Write>(
+    global: Global,
+    row: &Row,
+    refused: Refused,
+    out: &mut W,
+) -> Result<(u32, u32)> {
+    let whole = printed(global, row, usize::MAX)?;
+    let counted = count_well(global, row, whole.as_slice(), refused, out);
+    drop(whole);
+    counted
+}
+
+/// Plays a row with an output that fails, at each write and flush in turn.
+pub fn play_failing<W: Write>(global: Global, row: &Row, out: &mut W) -> Result<()> {
+    let (well, passed) = count_over_whole(global, row, Refused::Output, out)?;
+    let name = row.name;
+    Ok(writeln!(
+        out,
+        "{name}: {well} of {passed} writes and flushes fail well"
+    )?)
+}
+
+/// Plays a row with memory that is refused, at each request in turn.
+pub fn play_refusing<W: Write>(global: Global, row: &Row, out: &mut W) -> Result<()> {
+    let (well, passed) = count_over_whole(global, row, Refused::Memory, out)?;
+    let (name, is_each) = (row.name, well == passed);
+    Ok(writeln!(out, "{name}: each refusal ends it well: {is_each}")?)
 }

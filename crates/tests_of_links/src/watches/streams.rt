@@ -20,6 +20,11 @@ impl Fails {
         self.bytes.as_slice()
     }
 
+    /// What was written, taken.
+    pub fn into_bytes(self) -> Vec<u8> {
+        self.bytes
+    }
+
     /// Whether this one still passes.
     fn passes(&mut self) -> bool {
         if self.left == 0 {

@@ -63,16 +63,25 @@ static TRANSACTIONS: [(i64, &str, &str, bool); 3] = [
     (7, "/late", "new", true),
 ];
 
-/// A history in which nodes are there, and others come.
-fn history(alloc: Global) -> Result<History<Global>> {
-    let mut history = History::new(alloc);
-    node(alloc, "/config", "one", &mut history)?;
-    node(alloc, "/a", "", &mut history)?;
-    node(alloc, "/a/x", "", &mut history)?;
+/// The nodes of the first tree, and their data.
+static NODES: [(&str, &str); 3] = [("/config", "one"), ("/a", ""), ("/a/x", "")];
+
+/// Nodes are there, and others come.
+fn fill(alloc: Global, history: &mut History<Global>) -> Result<()> {
+    for (path, data) in &NODES {
+        node(alloc, path, data, history)?;
+    }
     for (zxid, path, data, is_new) in &TRANSACTIONS {
         history.begin(*zxid, zxid.saturating_mul(1_000))?;
         history.change(change(alloc, path, data, *is_new)?)?;
     }
+    Ok(())
+}
+
+/// A history that is filled so.
+fn history(alloc: Global) -> Result<History<Global>> {
+    let mut history = History::new(alloc);
+    fill(alloc, &mut history)?;
     Ok(history)
 }
 
