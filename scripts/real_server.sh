@@ -1,9 +1,9 @@
 #!/usr/bin/env bash
-# Runs `zk_shell live`, `zk_shell watch` and the examples `config_follower`, `config_snapshot` and `lock_holder` against real ZooKeeper
-# servers: one alone, and ensembles of three of which one stops. What is printed is checked line by line. All traffic stays on 127.0.0.1;
-# servers and folders are gone at the end, however it ends.
+# Runs `zk_shell live`, `zk_shell watch` and the examples `config_follower` and `conclusions_example` against real ZooKeeper servers: one
+# alone, and ensembles of three of which one stops. What is printed is checked line by line. All traffic stays on 127.0.0.1; servers and
+# folders are gone at the end, however it ends.
 #
-# usage: scripts/real_server.sh [ZK_SHELL CONFIG_FOLLOWER CONFIG_SNAPSHOT LOCK_HOLDER]     the programs; without them, they are built first.
+# usage: scripts/real_server.sh [ZK_SHELL CONFIG_FOLLOWER CONCLUSIONS_EXAMPLE]     the programs; without them, they are built first.
 # The last line is `passed`, or `skipped: ..` where there is no server to be had. Else the exit status is 1.
 set -euo pipefail
 top=$(cd "$(dirname "$0")/.." && pwd)
@@ -13,14 +13,13 @@ declare -A known=() seen=()
 build() {
     local example
     (cd "$top/crates/zk_shell" && rt run -- --help) >"$folder/build.log" 2>&1 || fail "zk_shell is not built"
-    for example in config_follower config_snapshot lock_holder; do
+    for example in config_follower conclusions_example; do
         (cd "$top/crates/$example" && rt run) >"$folder/build.log" 2>&1 || true
         [[ -x $top/crates/$example/out/$example ]] || fail "$example is not built"
     done
     program=$top/crates/zk_shell/out/zk_shell
     follower=$top/crates/config_follower/out/config_follower
-    snapshot=$top/crates/config_snapshot/out/config_snapshot
-    lock=$top/crates/lock_holder/out/lock_holder
+    conclusions=$top/crates/conclusions_example/out/conclusions_example
 }
 
 # A listener that holds the one connection that comes, until the file NAME.go is there, and then is gone. Its port is in NAME.port;
@@ -506,7 +505,7 @@ EOF
 # and later than the line before.
 run_snapshot() {
     set_together "$1" 0 0
-    begin together "$snapshot" 60 /together/a /together/b /together/c "127.0.0.1:$1"
+    begin together "$conclusions" snapshot 60 /together/a /together/b /together/c "127.0.0.1:$1"
     sees together <<<'at @together 0 0 0'
     set_together "$1" 1 500
     within 20 grep -q '^at .* 500 500 500$' "$folder/together.out" || fail "the last change is not told"
@@ -525,9 +524,9 @@ run_snapshot() {
 run_lock() {
     local at=127.0.0.1:$1
     outside "$1" create /lock x
-    begin first "$lock" first /lock 90 "$at"
+    begin first "$conclusions" lock first /lock 90 "$at"
     sees first <<<'first holds @token-1'
-    begin second "$lock" second /lock 35 "$at"
+    begin second "$conclusions" lock second /lock 35 "$at"
     sees second <<<'second waits'
     kill -STOP "${begun[first]}"
     sees second <<<'second holds @token-2'
@@ -695,8 +694,8 @@ install_server || {
     echo "skipped: the package zookeeper cannot be had"
     exit 0
 }
-program=${1-} follower=${2-} snapshot=${3-} lock=${4-}
-[[ -n $program && -n $follower && -n $snapshot && -n $lock ]] || build
+program=${1-} follower=${2-} conclusions=${3-}
+[[ -n $program && -n $follower && -n $conclusions ]] || build
 run_alone
 run_ensemble follower
 run_ensemble leader

@@ -1,5 +1,6 @@
-//! Tries the layers below the client, sessions, watches, kept answers and conversations, by rows and by refused memory,
-//! and what the faults of these layers and of those below say.
+//! Tries what no contract of the words, the messages, the frames and the layers below the client says: the protocol's own
+//! rows, read and written again byte for byte, bounds as the specification has them, what faults say, and each request for
+//! memory refused in turn. It holds tests alone, so that the crates below are proved once.
 #![tactic(auto)]
 
 #[cfg(test)]

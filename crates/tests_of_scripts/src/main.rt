@@ -2,7 +2,7 @@
 //! a new row of a test is a case in each of the two files.
 //!
 //! [`case`] cuts a case into its parts, [`expanded`] writes out its script, and [`play`] runs its command. Each kind of case has a function
-//! that gives what is printed, in [`rows`], [`refused`], [`failing`], [`parts`], [`addresses`], [`held`] and [`loopback`]; the head of
+//! that gives what is printed, in [`rows`], [`refused`], [`failing`], [`parts`], [`addresses`], [`held`], [`served`] and [`loopback`]; the head of
 //! `stdin` tells the kinds.
 #![tactic(auto)]
 
@@ -17,6 +17,7 @@ mod parts;
 mod play;
 mod refused;
 mod rows;
+mod served;
 mod streams;
 mod texts;
 
@@ -39,6 +40,7 @@ fn printed<R: Net>(net: &R, alloc: Global, case: &Case) -> Vec<u8> {
         "ends" => parts::ends(alloc, case),
         "addresses" => addresses::addresses(alloc, case.script),
         "held" => held::held(alloc, case),
+        "served" => served::served(alloc, case),
         "loopback" => loopback::loopback(net, alloc),
         _ => Vec::new(alloc),
     }

@@ -1,0 +1,23 @@
+//! Calls what a program over the client calls, and prints what it gets: a device by numbers, each value by its name, and much of
+//! everything. What is to be printed stands in the file `stdout`.
+#![tactic(auto)]
+
+mod devices;
+mod sizes;
+mod values;
+
+use anyhow::Result;
+use devices::play_devices;
+use sizes::try_sizes;
+use std::io::{self, Write};
+use values::tell_values;
+
+fn main(rt: HostRuntime) -> Result<()> {
+    let mut out = io::writer(&rt);
+    writeln!(out, "# devices")?;
+    play_devices(rt.alloc(), &mut out)?;
+    writeln!(out, "# values")?;
+    tell_values(rt.alloc(), &mut out)?;
+    writeln!(out, "# sizes")?;
+    try_sizes(rt.alloc(), &mut out)
+}

@@ -1,0 +1,62 @@
+//! Watches against servers in memory: what they print.
+
+mod played;
+mod streams;
+mod world;
+
+use anyhow::Result;
+use played::{Row, play, play_cut, play_failing, play_refusing};
+use std::alloc::Global;
+use std::io::Write;
+use world::Event;
+use zk_client::Side;
+
+/// The next transaction changes what is watched.
+static CHANGE: [Event; 1] = [Event::Takes];
+
+/// The last of two transactions does.
+static CHANGES: [Event; 2] = [Event::Takes, Event::Takes];
+
+/// The last of three does.
+static ALL: [Event; 3] = [Event::Takes, Event::Takes, Event::Takes];
+
+/// The connection is cut, and what is watched changes meanwhile.
+static CUT: [Event; 2] = [Event::Cuts, Event::Takes];
+
+/// The same with the end of the session.
+static EXPIRY: [Event; 3] = [Event::Expires, Event::Cuts, Event::Takes];
+
+/// The rows.
+fn rows() -> [Row; 6] {
+    let later = "names below a node that comes later";
+    [
+        Row::new("a change", Side::Data, "/config", &CHANGE),
+        Row::new("a node that comes later", Side::Data, "/late", &ALL),
+        Row::new("names", Side::Child, "/a", &CHANGES),
+        Row::new(later, Side::Child, "/late", &ALL),
+        Row::new("a cut, and a change meanwhile", Side::Data, "/config", &CUT),
+        Row::new(
+            "an expiry, and a change meanwhile",
+            Side::Data,
+            "/config",
+            &EXPIRY,
+        ),
+    ]
+}
+
+/// The greatest message of the rows has fewer bytes.
+const MOST: usize = 120;
+
+/// Plays each row: whole, cut, and with an output and memory that fail.
+pub fn play_watches<W: Write>(alloc: Global, out: &mut W) -> Result<()> {
+    let rows = rows();
+    for row in &rows {
+        play(alloc, row, out)?;
+    }
+    for row in &rows {
+        play_cut(alloc, row, MOST, out)?;
+        play_failing(alloc, row, out)?;
+        play_refusing(alloc, row, out)?;
+    }
+    Ok(())
+}

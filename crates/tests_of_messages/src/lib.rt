@@ -1,7 +1,0 @@
-//! Tries what no contract of the words, the messages and the frames says: the protocol's own rows, read and written
-//! again byte for byte, bounds as the specification has them, and each request for memory refused in turn. It holds
-//! tests alone, so that the crates below are proved once.
-#![tactic(auto)]
-
-#[cfg(test)]
-mod tests;
