@@ -19,7 +19,6 @@ pub enum Change<A: Allocator> {
 
 // Changes under one zxid.
 #[derive(Drop)]
-#[derive_where(Debug)]
 pub(crate) struct Transaction<A: Allocator> {
     pub(crate) zxid: u64,
     pub(crate) time: i64,

@@ -7,7 +7,7 @@ ghost use Rattle.zk_nodes.specs.History.{size_of};
 use crate::version::Entry;
 
 // A node as it was found in a history, with its data lent.
-#[derive(Clone, Copy, Debug)]
+#[derive(Clone, Copy)]
 pub(crate) struct Found<'a> {
     pub(crate) bytes: Option<&'a [u8]>,
     pub(crate) entry: Entry,

@@ -106,23 +106,25 @@ impl<A: Allocator + Copy> History<A> {
         ensures refused { IfErr result (NodeRefused self.old (path_of path) (option_map (λ v. v.items) bytes)) }
         ensures err { OnErr result (self.new ≡ self.old) }
     {
+        let change = Change::Create(path, bytes, 0);
         if !self.transactions.is_empty() {
+            drop(change);
             return Err(HistoryFault::Place);
         }
-        if !self.takes_create(&path, &bytes) {
+        if !self.takes(&change) {
+            drop(change);
             return Err(HistoryFault::Illegal);
         }
-        let change = Change::Create(path, bytes, 0);
         let origin = Origin::First(self.nodes.len());
         let zxid = 0;
-        note(
-            self.alloc,
-            &mut self.versions,
-            Spot { zxid, time, origin },
-            &change,
-        )?;
+        let spot = Spot { zxid, time, origin };
+        if note(self.alloc, &mut self.versions, spot, &change).is_err() {
+            drop(change);
+            return Err(HistoryFault::Memory);
+        }
         if let Err(failed) = push_node(self.alloc, &mut self.nodes, time, change) {
             forget(&mut self.versions, &failed.value);
+            drop(failed);
             return Err(HistoryFault::Memory);
         }
         Ok(())
@@ -155,15 +157,21 @@ impl<A: Allocator + Copy> History<A> {
         ensures err { OnErr result (self.new ≡ self.old) }
     {
         if self.transactions.is_empty() {
+            drop(change);
             return Err(HistoryFault::Place);
         }
         if !self.takes(&change) {
+            drop(change);
             return Err(HistoryFault::Illegal);
         }
         let spot = next_spot(self.transactions.as_slice());
-        note(self.alloc, &mut self.versions, spot, &change)?;
+        if note(self.alloc, &mut self.versions, spot, &change).is_err() {
+            drop(change);
+            return Err(HistoryFault::Memory);
+        }
         if let Err(failed) = push_change(&mut self.transactions, change) {
             forget(&mut self.versions, &failed.value);
+            drop(failed);
             return Err(HistoryFault::Memory);
         }
         Ok(())

@@ -1,7 +1,7 @@
 //! The versions of a node, each with where its data stand.
 
 // Where a change stands in a history.
-#[derive(Clone, Copy, Debug)]
+#[derive(Clone, Copy)]
 pub(crate) enum Origin {
     // In none: the root was there before.
     Root,
@@ -12,7 +12,7 @@ pub(crate) enum Origin {
 }
 
 // A node, with the change that wrote its data in their place.
-#[derive(Clone, Copy, Debug)]
+#[derive(Clone, Copy)]
 pub(crate) struct Entry {
     pub(crate) origin: Origin,
     pub(crate) czxid: u64,
@@ -25,7 +25,7 @@ pub(crate) struct Entry {
 }
 
 // What one change made of a path: its node, or none, and how many children it has. It holds until the next version.
-#[derive(Clone, Copy, Debug)]
+#[derive(Clone, Copy)]
 pub(crate) struct Version {
     pub(crate) zxid: u64,
     pub(crate) origin: Origin,
@@ -34,7 +34,7 @@ pub(crate) struct Version {
 }
 
 // Where a change stands, with the zxid and the time of its transaction.
-#[derive(Clone, Copy, Debug)]
+#[derive(Clone, Copy)]
 pub(crate) struct Spot {
     pub(crate) zxid: u64,
     pub(crate) time: i64,

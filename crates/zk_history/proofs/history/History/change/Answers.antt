@@ -1,12 +1,12 @@
 use Rattle.std.proofs.Common.{◌≡◌, List, map, refl, sym, ap, ◌∙◌, subst, arith, length}
 use Rattle.std.proofs.lemmas.Bool.Decides.{nat_tests}
-use Rattle.std.proofs.lemmas.Result.{err_from_is_err_and}
 use Rattle.zk_nodes.specs.History as model
 use Rattle.zk_history.specs.declared.change.Transaction.{Transaction}
 use Rattle.zk_history.specs.Made.{change_of, transaction_of}
 use Rattle.zk_history.specs.HistoryView.{HistoryView, IsSound, newest_tree, IsAccepted}
 use Rattle.zk_history.proofs.ViewLemmas.{refused_by, accepted_by, IsSound-change, was_some}
 use Rattle.zk_history.specs.Versions.{versions_of, versions_after, versions_before, last_transaction, next_origin, IsIndexed}
+use Rattle.zk_history.proofs.VersionsLemmas.{on_err_is, on_ok_is}
 use Rattle.zk_history.proofs.IndexLemmas.{can_be_noted, IsIndexed-change, IsIndexed-same, noted_forgotten}
 use Rattle.zk_history.proofs.history.History.change.Goals as goal
 
@@ -28,15 +28,14 @@ note-requires g c =
     record { fits = can_be_noted kept (versions_of c.self.inside.versions) (change_of c.args.change) c.self.invariant.0 c.self.invariant.1 here }
 
 pub invariant_of-self : goal.invariant_of-self
-invariant_of-self g c = (c.self.invariant.0, IsIndexed-same _ (versions_of c.self.inside.versions) (versions_of c.note.new.versions) (λ text is. c.in_err-note.ensures.err text) c.self.invariant.1)
+invariant_of-self g c = (c.self.invariant.0, IsIndexed-same _ (versions_of c.self.inside.versions) (versions_of c.note.new.versions) (λ text is. on_err_is c.note.result c.is_err.result c.is_err.ensures.value c.if-is_err.true c.note.ensures.err text) c.self.invariant.1)
 
-pub returns-in_err-note-clause-refused : goal.returns-in_err-note-clause-refused
-returns-in_err-note-clause-refused g c =
+pub returns-then-is_err-clause-refused : goal.returns-then-is_err-clause-refused
+returns-then-is_err-clause-refused g c =
     let l : length c.self.inside.transactions.items ≡ 0 → ⊥ = λ e. grind (arith, nat_tests, e) in
     let some = was_some transaction_of c.self.inside.transactions.items (map transaction_of c.self.inside.nodes.items) c.args.self.now c.self.view_is l in
     let accepted = accepted_by c.args.self.now (change_of c.args.change) c.takes.result (subst IsSound c.self.view_is c.self.invariant.0) c.takes.ensures c.if-not-takes.false in
-    let p = err_from_is_err_and c.from_residual.result c.from_residual.ensures.1 in
-    rw (p.1, p.2) (some, accepted)
+    (some, accepted)
 
 pub invariant_of-self-in-Err : goal.invariant_of-self-in-Err
 invariant_of-self-in-Err g c =
@@ -47,7 +46,7 @@ invariant_of-self-in-Err g c =
     × IsIndexed (record { nodes = map transaction_of c.self.inside.nodes.items; transactions = ts }) (versions_of c.forget.new.versions) in
     let same = IsIndexed-same kept (versions_of c.self.inside.versions) (versions_of c.forget.new.versions)
     (λ text is. noted_forgotten s.zxid s.time s.origin text (change_of c.args.change) (versions_of c.self.inside.versions text) (versions_of c.note.new.versions text) (versions_of c.forget.new.versions text)
-    (c.in_ok-note.ensures.ok text is) (c.forget.ensures text is ∙ ap (λ change. versions_before text (change_of change) (versions_of c.note.new.versions text)) c.in-Err.ensures.back))
+    (on_ok_is c.note.result c.is_err.result c.is_err.ensures.value c.if-is_err.false c.note.ensures.ok text is) (c.forget.ensures text is ∙ ap (λ change. versions_before text (change_of change) (versions_of c.note.new.versions text)) c.in-Err.ensures.back))
     c.self.invariant.1 in
     subst P (sym c.in-Err.ensures.err) (c.self.invariant.0, same)
 
@@ -76,7 +75,7 @@ invariant_of-self-in_default g c =
     IsSound (record { nodes = map transaction_of c.self.inside.nodes.items; transactions = ts })
     × IsIndexed (record { nodes = map transaction_of c.self.inside.nodes.items; transactions = ts }) (versions_of c.note.new.versions) in
     let indexed = IsIndexed-change kept change old (versions_of c.note.new.versions) some
-    (λ text is. c.in_ok-note.ensures.ok text is
+    (λ text is. on_ok_is c.note.result c.is_err.result c.is_err.ensures.value c.if-is_err.false c.note.ensures.ok text is
     ∙ ap (λ z. versions_after z s.time s.origin text change (old text)) zxid
     ∙ ap (λ t. versions_after last.zxid t s.origin text change (old text)) time
     ∙ ap (λ o. versions_after last.zxid last.time o text change (old text)) origin)
