@@ -10,7 +10,7 @@ use follower::{Follower, TIMEOUT_MS, nodes_of};
 use std::io::Write;
 use std::process::ExitCode;
 use zk_client::Client;
-use zk_link::{Link, SystemClock, Tcp};
+use zk_link::{Clock, Link, SystemClock, Tcp};
 
 /// How many bytes a read brings at most, over servers in memory: as many as there are, and then few.
 static PIECES: [usize; 2] = [usize::MAX, 7];
@@ -28,8 +28,9 @@ fn run<W: Write>(
 ) -> Result<()> {
     let (nodes, readings) = nodes_of(rt.alloc(), &nodes)?;
     let client = Client::new(rt.alloc(), TIMEOUT_MS);
-    let (dial, clock) = (Tcp::new(rt), SystemClock::new(rt));
-    let link = Link::new(rt.alloc(), client, dial, clock, addresses);
+    let (dial, mut clock) = (Tcp::new(rt), SystemClock::new(rt));
+    let seed = clock.now();
+    let link = Link::new(rt.alloc(), client, dial, clock, addresses, seed);
     let mut follower = Follower::new(rt.alloc(), link, nodes, readings);
     let until = follower.now().saturating_add(seconds.saturating_mul(1_000));
     let followed = follower.follow(until, out);

@@ -121,6 +121,7 @@ pub fn run<W: Write>(alloc: Global, piece: usize, out: &mut W) -> Result<()> {
         dial,
         clock,
         &ADDRESSES,
+        1,
     );
     let mut follower = Follower::new(alloc, link, nodes, readings);
     let played = play(&mut follower, &world, out);

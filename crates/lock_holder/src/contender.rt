@@ -63,14 +63,15 @@ impl<'a, D: Dial + Drop, C: Clock + Drop> Contender<'a, D, C> {
         name: &'a str,
         directory: Path,
         dial: D,
-        clock: C,
+        mut clock: C,
         addresses: &'a [&'a str],
     ) -> Contender<'a, D, C> {
         let client = Client::new(alloc, TIMEOUT_MS);
+        let seed = clock.now();
         Contender {
             alloc,
             name,
-            link: Link::new(alloc, client, dial, clock, addresses),
+            link: Link::new(alloc, client, dial, clock, addresses, seed),
             directory,
             own: None,
             is_asked: false,
