@@ -1,11 +1,12 @@
 //! The link.
 
-ghost use Rattle.std.specs.Prelude.{◌≡◌, ◌≤◌, ◌⊎◌, true, false, if◌then◌else◌, is_some, drop, map, IfErr, OnOk};
+ghost use Rattle.std.specs.Prelude.{◌≡◌, ◌≤◌, ◌⊎◌, true, false, if◌then◌else◌, is_some, drop, map, pos, ◌<ℤ◌, [], IfErr, OnErr, OnOk};
 ghost use Rattle.std.specs.List.{list_any};
 ghost use Rattle.zk_conversation.specs.Views.{call_view};
 ghost use Rattle.zk_turns.specs.Turns.{Call as Calls};
 ghost use Rattle.zk_turns.specs.Past.{is_final};
-ghost use Rattle.zk_client.specs.Clients.{view_of};
+ghost use Rattle.zk_turns.specs.View.{view_at};
+ghost use Rattle.zk_client.specs.Clients.{renewed_start, view_of};
 ghost use Rattle.zk_link.specs.Trails.{bare_of, trail_of, Asks, Comes, Stops};
 ghost use Rattle.zk_client.specs.Views.{output_view};
 ghost use Rattle.zk_link.specs.Waits.{ends_row, is_reply, is_settled, row_ended, HasCome};
@@ -80,14 +81,18 @@ impl<'a, A: Allocator + Copy, D: Dial + Drop, C: Clock + Drop> Link<'a, A, D, C>
         }
     }
 
-    /// Goes on with another client, as where the session has expired. The connection that is there is let go; the next one is dialled at
-    /// the moment, and at the address, that were next.
-    pub fn renew(&mut self, client: Client<A>)
-        ensures client { view_of self.new.joint.client ≡ view_of client }
-        ensures closed { is_some self.new.joint.stream ≡ false }
+    /// Goes on with a client of a new session, which asks for this timeout in milliseconds, as where the session has expired. It keeps the
+    /// last seen zxid, so that no server which is behind it admits the session, and nothing else. The connection that is there is let go;
+    /// the next one is dialled at the moment, and at the address, that were next. An error is want of memory, and nothing has happened
+    /// then.
+    pub fn renew(&mut self, timeout_ms: i32) -> Result<(), AllocError>
+        requires { pos 0 <ℤ timeout_ms }
+        ensures client { OnOk result (view_of self.new.joint.client ≡ view_at (renewed_start timeout_ms (view_of self.old.joint.client)) []) }
+        ensures closed { OnOk result (is_some self.new.joint.stream ≡ false) }
         ensures latest { self.new.joint.latest ≡ self.old.joint.latest }
+        ensures same { OnErr result (self.new.joint ≡ self.old.joint) }
     {
-        self.joint.renew(client);
+        self.joint.renew(timeout_ms)
     }
 
     /// The client.
