@@ -140,6 +140,12 @@ int32_t dw_open(dw_client *handle, int32_t timeout_ms);
 /* The same, of the session that dw_saved put away, maybe in another process. Also DW_NOT_SAVED. */
 int32_t dw_resume(dw_client *handle, int32_t timeout_ms, const uint8_t *saved, size_t saved_length);
 
+/* Begins a new session with the client of a handle, which asks for this timeout in milliseconds: after DW_EXPIRED, DW_SESSION_CLOSED and
+ * DW_HALTED. It keeps the greatest zxid seen, so that no server which is behind it admits the session, and nothing else: nothing is kept or
+ * watched, and no output is left. Close the connection of the old session before. DW_OK, DW_BAD_TIMEOUT, DW_NO_MEMORY, DW_CLOSED; where it
+ * is not DW_OK, the handle is as it was. */
+int32_t dw_renew(dw_client *handle, int32_t timeout_ms);
+
 /* Frees the client of a handle, if it has one. It ends no session: dw_close_session does. */
 void dw_close(dw_client *handle);
 
@@ -210,8 +216,7 @@ int32_t dw_deadline(dw_client *handle, uint64_t *first_ms);
 
 /* Writes the bytes from which dw_resume takes the session up, as many as there is room for, and how many there are: 20 and those
  * of the password, mostly 36. They are a secret: a long, the number of the session; a buffer, its password; a long, the greatest zxid
- * seen; in the spelling of zookeeper.jute. With 0 and 16 bytes of 0 in place of the first two they are no session: dw_resume then begins
- * a new one, at servers that are not behind that zxid. DW_OK, DW_NO_MEMORY, DW_CLOSED; but for DW_OK the count is 0. */
+ * seen; in the spelling of zookeeper.jute. DW_OK, DW_NO_MEMORY, DW_CLOSED; but for DW_OK the count is 0. */
 int32_t dw_saved(dw_client *handle, uint8_t *out, size_t room, size_t *count);
 
 /* What is kept of a path that was read with a watch. It is good until a change is told, and then stale until it is read again. A

@@ -76,6 +76,7 @@ _STEP, _PATH_STEP = (_HANDLE, c_uint64), (_HANDLE, c_uint64, c_uint64, *_BYTES)
 _FUNCTIONS: dict[str, tuple[Any, tuple[Any, ...]]] = {
     "dw_open": (c_int32, (_HANDLE, c_int32)),
     "dw_resume": (c_int32, (_HANDLE, c_int32, *_BYTES)),
+    "dw_renew": (c_int32, (_HANDLE, c_int32)),
     "dw_close": (None, (_HANDLE,)),
     "dw_opened": (c_int32, _STEP),
     "dw_cut": (c_int32, _STEP),

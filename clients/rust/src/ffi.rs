@@ -64,6 +64,7 @@ pub(crate) const OK: i32 = 0;
 extern "C" {
     fn dw_open(handle: *mut Raw, timeout_ms: i32) -> i32;
     fn dw_resume(handle: *mut Raw, timeout_ms: i32, saved: *const u8, saved_length: usize) -> i32;
+    fn dw_renew(handle: *mut Raw, timeout_ms: i32) -> i32;
     fn dw_close(handle: *mut Raw);
     fn dw_opened(handle: *mut Raw, now_ms: u64) -> i32;
     fn dw_cut(handle: *mut Raw, now_ms: u64) -> i32;

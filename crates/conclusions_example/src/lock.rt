@@ -72,14 +72,15 @@ impl<'a, D: Dial + Drop, C: Clock + Drop> Contender<'a, D, C> {
         name: &'a str,
         directory: Path,
         dial: D,
-        clock: C,
+        mut clock: C,
         addresses: &'a [&'a str],
     ) -> Contender<'a, D, C> {
         let client = Client::new(alloc, TIMEOUT_MS);
+        let seed = clock.now();
         Contender {
             alloc,
             name,
-            link: Link::new(alloc, client, dial, clock, addresses),
+            link: Link::new(alloc, client, dial, clock, addresses, seed),
             directory,
             own: None,
             is_asked: false,
@@ -201,7 +202,7 @@ impl<'a, D: Dial + Drop, C: Clock + Drop> Contender<'a, D, C> {
         match outcome {
             Outcome::Replied { result: reply, .. } => self.take_in(ticket, reply),
             Outcome::ConnectionLoss if ticket == MAKE => {
-                self.begin_anew();
+                self.begin_anew()?;
                 Ok(())
             }
             _ => Ok(()),
@@ -224,15 +225,15 @@ impl<'a, D: Dial + Drop, C: Clock + Drop> Contender<'a, D, C> {
     }
 
     /// A session with no node yet.
-    fn begin_anew(&mut self) {
+    fn begin_anew(&mut self) -> Result<()> {
         self.own = None;
         self.is_asked = false;
-        self.link.renew(Client::new(self.alloc, TIMEOUT_MS));
+        Ok(self.link.renew(TIMEOUT_MS)?)
     }
 
     /// The session has expired, and with it the lock is lost.
     fn lose<W: Write>(&mut self, out: &mut W) -> Result<()> {
-        self.begin_anew();
+        self.begin_anew()?;
         self.tell(Told::Expired, out)
     }
 

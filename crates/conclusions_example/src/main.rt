@@ -11,7 +11,7 @@ use snapshot::{Follower, TIMEOUT_MS, nodes_of};
 use std::io::Write;
 use std::process::ExitCode;
 use zk_client::{Client, Path};
-use zk_link::{Link, SystemClock, Tcp};
+use zk_link::{Clock, Link, SystemClock, Tcp};
 
 /// What the words are to be.
 const USAGE: &str =
@@ -27,8 +27,9 @@ fn run_snapshot<W: Write>(rt: &HostRuntime, words: &[&str], out: &mut W) -> Resu
     };
     let (nodes, readings) = nodes_of(rt.alloc(), &[*first, *second, *third])?;
     let client = Client::new(rt.alloc(), TIMEOUT_MS);
-    let (dial, clock) = (Tcp::new(rt), SystemClock::new(rt));
-    let link = Link::new(rt.alloc(), client, dial, clock, addresses);
+    let (dial, mut clock) = (Tcp::new(rt), SystemClock::new(rt));
+    let seed = clock.now();
+    let link = Link::new(rt.alloc(), client, dial, clock, addresses, seed);
     let mut follower = Follower::new(rt.alloc(), link, nodes, readings);
     let until = follower.now().saturating_add(seconds.saturating_mul(1_000));
     let followed = follower.follow(until, out);

@@ -115,7 +115,7 @@ impl<'a, D: Dial + Drop, C: Clock + Drop> Follower<'a, D, C> {
     /// Goes on until this moment, and tells each snapshot that differs from the one before it.
     pub fn follow<W: Write>(&mut self, until: u64, out: &mut W) -> Result<()> {
         for _ in 0..u64::MAX {
-            self.renew();
+            self.renew()?;
             self.ask()?;
             self.tell(out)?;
             if until <= self.link.now() {
@@ -128,11 +128,12 @@ impl<'a, D: Dial + Drop, C: Clock + Drop> Follower<'a, D, C> {
         Ok(())
     }
 
-    /// A session that has expired is begun anew.
-    fn renew(&mut self) {
+    /// A session that has expired is begun anew. What is told next is never older: the new one keeps the last seen zxid.
+    fn renew(&mut self) -> Result<()> {
         if self.link.client().state() == State::Expired {
-            self.link.renew(Client::new(self.alloc, TIMEOUT_MS));
+            self.link.renew(TIMEOUT_MS)?;
         }
+        Ok(())
     }
 
     /// Reads each node of which nothing good is kept, with a watch.

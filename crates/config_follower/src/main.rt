@@ -8,7 +8,7 @@ use follower::follow;
 use std::alloc::Global;
 use std::process::ExitCode;
 use zk_client::{Client, Path};
-use zk_link::{Link, SystemClock, Tcp};
+use zk_link::{Clock, Link, SystemClock, Tcp};
 
 /// A link over TCP and the system's clock.
 type Live<'a> = Link<'a, Global, Tcp<'a, HostRuntime>, SystemClock<'a, HostRuntime>>;
@@ -19,8 +19,9 @@ const TIMEOUT_MS: i32 = 10_000;
 /// Follows a node, over servers that are dialled in turn.
 fn run(rt: &HostRuntime, node: &Path, addresses: &[&str]) -> Result<()> {
     let client = Client::new(rt.alloc(), TIMEOUT_MS);
-    let (dial, clock) = (Tcp::new(rt), SystemClock::new(rt));
-    let mut link = Link::new(rt.alloc(), client, dial, clock, addresses);
+    let (dial, mut clock) = (Tcp::new(rt), SystemClock::new(rt));
+    let seed = clock.now();
+    let mut link = Link::new(rt.alloc(), client, dial, clock, addresses, seed);
     let followed = follow(rt.alloc(), &mut link, node, &mut rt.stdout());
     drop(link);
     followed

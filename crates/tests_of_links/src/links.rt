@@ -14,7 +14,7 @@ use swept::{close_at_each_byte, dial_nobody, refuse_each_request};
 use world::{Flaw, Plan, STEADY};
 
 /// The rows: what a partner does, and until which moment a link goes on.
-static ROWS: [Row; 12] = [
+static ROWS: [Row; 14] = [
     Row {
         name: "answers",
         plan: STEADY,
@@ -102,6 +102,23 @@ static ROWS: [Row; 12] = [
             ..STEADY
         },
         until: 1_000,
+    },
+    Row {
+        name: "is away for nine tenths of the timeout",
+        plan: Plan {
+            away: (3_000, 11_100),
+            ..STEADY
+        },
+        until: 13_000,
+    },
+    Row {
+        name: "admits and closes, again and again",
+        plan: Plan {
+            passes: 90,
+            passes_again: true,
+            ..STEADY
+        },
+        until: 2_000,
     },
 ];
 

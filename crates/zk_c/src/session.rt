@@ -1,4 +1,4 @@
-//! What a client shows of its session, and the session put away and taken up.
+//! What a client shows of its session, the session put away and taken up, and a new one after it.
 
 ghost use Rattle.std.specs.Prelude.{◌≡◌, ◌≢◌, ◌<ℤ◌, ◌++◌, pos, negsuc, Some, None, Ok, Err, drop, length, take};
 ghost use Rattle.zk_client.specs.Clients.{view_of};
@@ -7,12 +7,12 @@ ghost use Rattle.zk_client.specs.declared.saved_fault.SavedFault.{SavedFault};
 ghost use Rattle.zk_client.specs.declared.saved_fault.SavedFault.TheVariants as saved_faults;
 ghost use Rattle.zk_device.specs.declared.device.Device.{Device};
 ghost use Rattle.zk_device.specs.Refused.{RefusesTimeout};
-ghost use Rattle.zk_device.specs.Sessions.{FirstDue, put_of, put_start, state_number};
-ghost use Rattle.zk_c.specs.Held.{IsClosed, Makes, Writes};
+ghost use Rattle.zk_device.specs.Sessions.{FirstDue, Renews, put_of, put_start, state_number};
+ghost use Rattle.zk_c.specs.Held.{Holds, IsClosed, Makes, Writes};
 
 use crate::handle::DwClient;
 use crate::making::hold;
-use crate::taking::{CLOSED, NONE, take};
+use crate::taking::{CLOSED, NONE, drive, take};
 use std::alloc::Global;
 use zk_device::{Device, Refusal, copy_into};
 
@@ -32,6 +32,15 @@ pub extern "C" fn dw_resume(
         Ok(device) => hold(alloc, handle, device),
         Err(refusal) => refusal.code(),
     }
+}
+
+/// Begins a new session with the client of a handle, which asks for this timeout in milliseconds and keeps the last seen zxid.
+#[unsafe(no_mangle)]
+pub extern "C" fn dw_renew(alloc: Global, handle: &mut DwClient, timeout_ms: i32) -> i32
+    ensures closed { handle.old.slot.held ≡ None → IsClosed result handle.new.slot.held }
+    ensures renews { (d : Device) → handle.old.slot.held ≡ Some d → Holds handle.new.slot.held (Renews timeout_ms d result) }
+{
+    drive(alloc, handle, |device| device.renew(alloc, timeout_ms))
 }
 
 /// Where the client stands: 0 idle, 1 connecting, 2 connected, 3 expired, 4 closed.

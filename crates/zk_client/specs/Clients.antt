@@ -2,7 +2,7 @@
 use Rattle.std.specs.Prelude.{◌≡◌, ℤ, unsigned_abs}
 use Rattle.zk_session.specs.SessionView.{Saved as Kept_saved}
 use Rattle.zk_session.specs.declared.fields.Saved.{Saved}
-use Rattle.zk_turns.specs.Turns.{Start}
+use Rattle.zk_turns.specs.Turns.{Start, new_start}
 use Rattle.zk_turns.specs.View.{View}
 use Rattle.zk_client.specs.declared.client.Client.{Client}
 use Rattle.zk_client.specs.Seen.{view_with}
@@ -14,6 +14,10 @@ view_of client = view_with client.reader.bytes client.core
 -- a saved session to begin with
 abbrev pub saved_start : (timeout : ℤ) → Saved → Start
 saved_start timeout saved = record { timeout = unsigned_abs timeout; session = saved.session; password = saved.password.now; last = saved.last_zxid }
+
+-- What a client begins with that goes on after this one: no session, as a new client, and the last seen zxid.
+abbrev pub renewed_start : (timeout : ℤ) → View → Start
+renewed_start timeout before = record (new_start (unsigned_abs timeout)) { last = before.saved.last }
 
 -- what is told of a saved session
 pub record Tells (kept : Kept_saved) (saved : Saved) : Type 0 where

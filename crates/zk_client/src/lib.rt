@@ -25,6 +25,7 @@ mod output;
 mod outside;
 mod recorded;
 mod recording;
+mod renewal;
 mod replies;
 mod running;
 mod saved_fault;

@@ -1,4 +1,4 @@
-//! What a device shows of its session, and the session put away and taken up.
+//! What a device shows of its session, the session put away and taken up, and a new one after it.
 
 ghost use Rattle.std.specs.Prelude.{◌≡◌, ◌≢◌, ◌<ℤ◌, pos, IfOk, MatchResult, OnOk, Ok, Err};
 ghost use Rattle.zk_client.specs.Clients.{view_of};
@@ -7,7 +7,8 @@ ghost use Rattle.zk_client.specs.declared.saved_fault.SavedFault.{SavedFault};
 ghost use Rattle.zk_client.specs.declared.saved_fault.SavedFault.TheVariants as saved_faults;
 ghost use Rattle.zk_device.specs.declared.refusal.Refusal.TheVariants as refusals;
 ghost use Rattle.zk_device.specs.Refused.{RefusesTimeout};
-ghost use Rattle.zk_device.specs.Sessions.{Begins, put_of, put_start, state_number};
+ghost use Rattle.zk_device.specs.Codes.{code_of};
+ghost use Rattle.zk_device.specs.Sessions.{Begins, Renews, put_of, put_start, state_number};
 
 use crate::device::Device;
 use crate::refusal::Refusal;
@@ -47,6 +48,19 @@ impl Device {
             Ok(client) => Ok(Device::of(alloc, client)),
             Err(_) => Err(Refusal::Memory),
         }
+    }
+
+    /// Begins a new session, which asks for this timeout in milliseconds. The last seen zxid is kept, and nothing else. A refusal is
+    /// `BadTimeout`, else `Memory`.
+    pub fn renew(&mut self, alloc: Global, timeout_ms: i32) -> Result<(), Refusal>
+        ensures { Renews timeout_ms self.old (code_of result) self.new }
+    {
+        if timeout_ms <= 0 {
+            return Err(Refusal::BadTimeout);
+        }
+        let client = self.client.renewed(alloc, timeout_ms)?;
+        *self = Device::of(alloc, client);
+        Ok(())
     }
 
     /// The bytes from which the session can be taken up. An error is want of memory.

@@ -1,12 +1,13 @@
 //! A client and the connection that it has: one input at a time.
 
-ghost use Rattle.std.specs.Prelude.{◌≡◌, ◌≢◌, ◌≤◌, ◌<◌, ◌+◌, ◌++◌, [], ℕ, false, true, is_some, IfErr, OnOk};
+ghost use Rattle.std.specs.Prelude.{◌≡◌, ◌≢◌, ◌≤◌, ◌<◌, ◌+◌, ◌++◌, [], ℕ, false, true, is_some, pos, ◌<ℤ◌, IfErr, OnErr, OnOk};
 ghost use Rattle.std.specs.List.{filter};
 ghost use Rattle.zk_conversation.specs.Views.{call_view};
 ghost use Rattle.zk_turns.specs.Turns.{Call as Calls, Cut};
 ghost use Rattle.zk_turns.specs.Past.{is_final};
 ghost use Rattle.zk_turns.specs.Taken.{NothingIsDue};
-ghost use Rattle.zk_client.specs.Clients.{view_of};
+ghost use Rattle.zk_turns.specs.View.{view_at};
+ghost use Rattle.zk_client.specs.Clients.{renewed_start, view_of};
 ghost use Rattle.zk_client.specs.Views.{input_view, said};
 ghost use Rattle.zk_link.specs.declared.stop.Stop.TheVariants.{Memory};
 ghost use Rattle.zk_link.specs.Frames.{frames, IsLeftOf};
@@ -69,14 +70,19 @@ impl<A: Allocator + Copy, S: Stream> Joint<A, S> {
         }
     }
 
-    /// Another client, with no connection yet. No moment that it is told is below those that were told before.
-    pub(crate) fn renew(&mut self, client: Client<A>)
-        ensures client { view_of self.new.client ≡ view_of client }
-        ensures closed { is_some self.new.stream ≡ false }
+    /// A client of a new session, with no connection yet, which keeps the last seen zxid. No moment that it is told is below those that
+    /// were told before. An error is want of memory, and nothing has happened then.
+    pub(crate) fn renew(&mut self, timeout_ms: i32) -> Result<(), AllocError>
+        requires { pos 0 <ℤ timeout_ms }
+        ensures client { OnOk result (view_of self.new.client ≡ view_at (renewed_start timeout_ms (view_of self.old.client)) []) }
+        ensures closed { OnOk result (is_some self.new.stream ≡ false) }
         ensures latest { self.new.latest ≡ self.old.latest }
+        ensures same { OnErr result (self.new ≡ self.old) }
     {
-        self.stream = None;
+        let client = self.client.renewed(self.alloc, timeout_ms)?;
+        drop(self.stream.take());
         drop(mem::replace(&mut self.client, client));
+        Ok(())
     }
 
     /// Whether there is a connection.

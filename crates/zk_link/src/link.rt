@@ -1,26 +1,50 @@
 //! The link.
 
-ghost use Rattle.std.specs.Prelude.{◌≡◌, ◌≤◌, ◌⊎◌, true, false, is_some, IfErr, IfOk, IsTrue, ◌↔◌, OnOk};
+ghost use Rattle.std.specs.Prelude.{◌≡◌, ◌≤◌, ◌⊎◌, true, false, if◌then◌else◌, is_some, drop, map, pos, ◌<ℤ◌, [], IfErr, OnErr, OnOk};
+ghost use Rattle.std.specs.List.{list_any};
 ghost use Rattle.zk_conversation.specs.Views.{call_view};
 ghost use Rattle.zk_turns.specs.Turns.{Call as Calls};
 ghost use Rattle.zk_turns.specs.Past.{is_final};
-ghost use Rattle.zk_client.specs.Clients.{view_of};
+ghost use Rattle.zk_turns.specs.View.{view_at};
+ghost use Rattle.zk_client.specs.Clients.{renewed_start, view_of};
 ghost use Rattle.zk_link.specs.Trails.{bare_of, trail_of, Asks, Comes, Stops};
-ghost use Rattle.zk_link.specs.Waits.{HasCome};
+ghost use Rattle.zk_client.specs.Views.{output_view};
+ghost use Rattle.zk_link.specs.Waits.{ends_row, is_reply, is_settled, row_ended, HasCome};
 
 use crate::bring::Brought;
 use crate::clock::Clock;
 use crate::dial::{Dial, Ring};
 use crate::joint::Joint;
-use crate::pause::pause_after;
+use crate::pause::Backoff;
 use crate::stop::Stop;
 use std::alloc::{AllocError, Allocator};
-use zk_client::{Call, Client, Output, State};
+use zk_client::{Call, Client, Outcome, Output, State};
 
 /// A connection to the next address, and none where none is made in time.
 fn dial_next<D: Dial>(dial: &mut D, ring: &mut Ring<'_>, within_ms: u64) -> Option<D::Stream> {
     let address = ring.turn()?;
     dial.dial(address, within_ms).ok()
+}
+
+/// The shortest time that an attempt to connect has, in milliseconds, whatever the timeout.
+const SHORTEST_DIAL_MS: u64 = 1_000;
+
+/// Whether one of the outputs from this place on is the reply to a call.
+fn has_reply<A: Allocator>(outputs: &[Output<A>], from: usize) -> bool
+    ensures { result ≡ list_any (λ output. is_reply (output_view output)) (drop from outputs.now) }
+{
+    let Some(later) = outputs.get(from..) else {
+        return false;
+    };
+    later.iter().any(|output| {
+        matches!(
+            output,
+            Output::Answer {
+                outcome: Outcome::Replied { .. },
+                ..
+            }
+        )
+    })
 }
 
 /// A client, the connection that it has, and what it takes to have the next one.
@@ -30,18 +54,19 @@ pub struct Link<'a, A: Allocator + Copy, D: Dial + Drop, C: Clock + Drop> {
     dial: D,
     clock: C,
     ring: Ring<'a>,
-    failures: u32,
-    dial_at: u64,
+    backoff: Backoff,
 }
 
 impl<'a, A: Allocator + Copy, D: Dial + Drop, C: Clock + Drop> Link<'a, A, D, C> {
-    /// A client with no connection yet, and the addresses that are dialled in turn.
+    /// A client with no connection yet, and the addresses that are dialled in turn. The seed is of the chance in the pauses, so that
+    /// the clients of a server that was lost do not come back at one moment: the clock's moment serves.
     pub fn new(
         alloc: A,
         client: Client<A>,
         dial: D,
         clock: C,
         addresses: &'a [&'a str],
+        seed: u64,
     ) -> Link<'a, A, D, C>
         ensures client { view_of result.joint.client ≡ view_of client }
         ensures closed { is_some result.joint.stream ≡ false }
@@ -52,19 +77,22 @@ impl<'a, A: Allocator + Copy, D: Dial + Drop, C: Clock + Drop> Link<'a, A, D, C>
             dial,
             clock,
             ring: Ring::new(addresses),
-            failures: 0,
-            dial_at: 0,
+            backoff: Backoff::new(seed),
         }
     }
 
-    /// Goes on with another client, as where the session has expired. The connection that is there is let go; the next one is dialled at
-    /// the moment, and at the address, that were next.
-    pub fn renew(&mut self, client: Client<A>)
-        ensures client { view_of self.new.joint.client ≡ view_of client }
-        ensures closed { is_some self.new.joint.stream ≡ false }
+    /// Goes on with a client of a new session, which asks for this timeout in milliseconds, as where the session has expired. It keeps the
+    /// last seen zxid, so that no server which is behind it admits the session, and nothing else. The connection that is there is let go;
+    /// the next one is dialled at the moment, and at the address, that were next. An error is want of memory, and nothing has happened
+    /// then.
+    pub fn renew(&mut self, timeout_ms: i32) -> Result<(), AllocError>
+        requires { pos 0 <ℤ timeout_ms }
+        ensures client { OnOk result (view_of self.new.joint.client ≡ view_at (renewed_start timeout_ms (view_of self.old.joint.client)) []) }
+        ensures closed { OnOk result (is_some self.new.joint.stream ≡ false) }
         ensures latest { self.new.joint.latest ≡ self.old.joint.latest }
+        ensures same { OnErr result (self.new.joint ≡ self.old.joint) }
     {
-        self.joint.renew(client);
+        self.joint.renew(timeout_ms)
     }
 
     /// The client.
@@ -149,16 +177,43 @@ impl<'a, A: Allocator + Copy, D: Dial + Drop, C: Clock + Drop> Link<'a, A, D, C>
     {
         let gone = self.clock.now().saturating_sub(self.joint.latest);
         let wait = self.joint.longest_wait(until).saturating_sub(gone);
-        self.joint.exchange(wait.max(1))
+        let brought = self.joint.exchange(wait.max(1));
+        self.note_connected();
+        brought
     }
 
-    /// A client that is connected has reached its server: no attempt has failed since.
-    fn note(&mut self)
+    /// Where the client is connected, it was so up to now.
+    fn note_connected(&mut self)
         ensures { self.new.joint ≡ self.old.joint }
     {
         if matches!(self.joint.client.state(), State::Connected) {
-            self.failures = 0;
-            self.dial_at = 0;
+            let now = self.clock.now().max(self.joint.latest);
+            self.backoff.connect(now);
+        }
+    }
+
+    /// Whether the connection has lived for a third of the timeout, or a server has told that the session has expired.
+    fn is_settled(&self) -> bool
+        ensures { result ≡ is_settled (view_of self.now.joint.client).standing.state (view_of self.now.joint.client).saved.session.timeout self.now.backoff.ended self.now.joint.latest }
+    {
+        let client = &self.joint.client;
+        match client.state() {
+            State::Connected => self
+                .backoff
+                .has_lived(client.timeout_ms(), self.joint.latest),
+            State::Expired => true,
+            _ => false,
+        }
+    }
+
+    /// A row of attempts that failed ends with a reply, with a connection that has lived for a third of the timeout, and with an expiry.
+    /// That a server has admitted the session ends none. What was said stands from this place on.
+    fn note(&mut self, outputs: &[Output<A>], from: usize)
+        ensures joint { self.new.joint ≡ self.old.joint }
+        ensures row { self.new.backoff ≡ (if ends_row (map output_view (drop from outputs.now)) (view_of self.old.joint.client).standing.state (view_of self.old.joint.client).saved.session.timeout self.old.backoff.ended self.old.joint.latest then row_ended self.old.backoff else self.old.backoff) }
+    {
+        if has_reply(outputs, from) || self.is_settled() {
+            self.backoff.end_row();
         }
     }
 
@@ -183,23 +238,27 @@ impl<'a, A: Allocator + Copy, D: Dial + Drop, C: Clock + Drop> Link<'a, A, D, C>
         let Ok(brought) = self.next_brought(until) else {
             return Err(Stop::Memory);
         };
+        let before = outputs.len();
         let outcome = self.hand(brought, outputs);
-        self.note();
+        self.note(outputs.as_slice(), before);
         outcome
     }
 
-    /// Dials the next address, for so many milliseconds and a third of the timeout at most. An attempt counts as one that failed until the
-    /// client is connected.
-    fn attempt(&mut self, most: u64, outputs: &mut Vec<Output<A>, A>) -> Result<(), Stop>
+    /// Dials the next address, for so many milliseconds at most: for a third of the timeout, and for a second where that is less.
+    fn attempt(
+        &mut self,
+        began: u64,
+        most: u64,
+        outputs: &mut Vec<Output<A>, A>,
+    ) -> Result<(), Stop>
         ensures ok { OnOk result (Comes (trail_of self.old.joint outputs.old.items) (trail_of self.new.joint outputs.new.items)) }
         ensures err { IfErr result (λ stop. Stops stop (trail_of self.old.joint outputs.old.items) (trail_of self.new.joint outputs.new.items)) }
     {
-        let third = u64::from(self.joint.client.timeout_ms() / 3);
-        let within = third.min(most).max(1);
-        let stream = dial_next(&mut self.dial, &mut self.ring, within);
-        let now = self.clock.now().max(self.joint.latest);
-        self.failures = self.failures.saturating_add(1);
-        self.dial_at = now.saturating_add(pause_after(self.failures));
+        let timeout = self.joint.client.timeout_ms();
+        let third = u64::from(timeout / 3).max(SHORTEST_DIAL_MS);
+        let stream = dial_next(&mut self.dial, &mut self.ring, third.min(most).max(1));
+        let now = self.clock.now().max(began);
+        self.backoff.attempt(timeout, began, now);
         match stream {
             Some(stream) => self.joint.open_at(now, stream, outputs),
             None => self.joint.tell(now, outputs),
@@ -212,11 +271,11 @@ impl<'a, A: Allocator + Copy, D: Dial + Drop, C: Clock + Drop> Link<'a, A, D, C>
         ensures err { IfErr result (λ stop. Stops stop (trail_of self.old.joint outputs.old.items) (trail_of self.new.joint outputs.new.items)) }
     {
         let now = self.clock.now().max(self.joint.latest);
-        if now < self.dial_at || until <= now {
-            self.clock
-                .pause(self.dial_at.min(until).saturating_sub(now));
+        let moment = self.backoff.moment;
+        if now < moment || until <= now {
+            self.clock.pause(moment.min(until).saturating_sub(now));
             return self.joint.tell(self.clock.now(), outputs);
         }
-        self.attempt(until.saturating_sub(now), outputs)
+        self.attempt(now, until.saturating_sub(now), outputs)
     }
 }

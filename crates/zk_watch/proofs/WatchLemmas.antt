@@ -1,5 +1,5 @@
 -- What is printed, one piece behind another.
-use Rattle.std.proofs.Common.{◌≡◌, ◌<◌, ◌⊎◌, inl, inr, ℕ, length, Bool, true, false, List, [], ◌∷◌, ◌++◌, refl, sym, ap, subst, ◌∙◌, append_assoc}
+use Rattle.std.proofs.Common.{◌≡◌, ◌<◌, ◌⊎◌, inl, inr, ℕ, ℤ, length, Bool, true, false, List, [], ◌∷◌, ◌++◌, refl, sym, ap, subst, ◌∙◌, append_assoc}
 use Rattle.std.specs.Prelude.{Option, Result, Ok, Err, OnOk, codes}
 use Rattle.std.specs.Io.KnownBytes.{Appends}
 use Rattle.std.proofs.KnownBytes.{Appends-nil, Appends-trans}
@@ -13,6 +13,7 @@ use Rattle.zk_turns.specs.Turns.{Input, Output, Send, Answer, Report, Enters, Dr
 use Rattle.zk_turns.specs.View.{View, view_at}
 use Rattle.zk_turns.specs.Rule.{Rule, Stands}
 use Rattle.zk_turns.proofs.Stepped.{one_turn}
+use Rattle.zk_client.specs.Clients.{renewed_start}
 use Rattle.zk_replay.specs.Shown.{TellsOutput}
 use Rattle.zk_link.specs.Trails.{is_given, Trail, Takes, Goes, Comes, Asks}
 use Rattle.zk_watch.specs.declared.plan.Subject.{Subject}
@@ -99,9 +100,9 @@ pub among : {A : Type 0} (subjects : List (Subject A)) (index : ℕ) (subject : 
 among subjects index subject below is = (index, simp length-map below, get_or-map aim_of subjects index subject ∙ ap aim_of (sym is))
 
 -- a new client
-fresh : (timeout : ℕ) → Stood (view_at (new_start timeout) [])
-fresh timeout = record {
-  start = new_start timeout;
+fresh : (start : Start) → Stood (view_at start [])
+fresh start = record {
+  start = start;
   items = [];
   stands = record { standing = refl; saved = refl; lists = refl; cache = refl; going = λ _. refl; said = tt; asked = tt };
 }
@@ -145,7 +146,7 @@ module _ (aims : List (Side × Text)) where
       (asks.between, asks.takes, takes_of asks.rest.turns asks.between new asks.rest.goes))
 
   -- another session
-  pub begins_print : (timeout : ℕ) (old new : View) → old.standing.state ≡ Expired → new ≡ view_at (new_start timeout) [] → Prints aims old (codes "session new\n") new
+  pub begins_print : (timeout : ℤ) (old new : View) → old.standing.state ≡ Expired → new ≡ view_at (renewed_start timeout old) [] → Prints aims old (codes "session new\n") new
   begins_print timeout old new expired is = one (Begins timeout) old (codes "session new\n") new (expired, is, refl)
 
   -- what is kept of a subject
@@ -179,7 +180,7 @@ module _ (aims : List (Side × Text)) where
   ask_add old mid input new before after told asks empty tells is joined =
       (told, subst (λ (v : View). Prints aims old.view told v) (sym is) (asks_print old mid input told asks empty tells), joined)
 
-  pub begin_add : (timeout : ℕ) (old new : View) (before after : List ℕ) → old.standing.state ≡ Expired → new ≡ view_at (new_start timeout) []
+  pub begin_add : (timeout : ℤ) (old new : View) (before after : List ℕ) → old.standing.state ≡ Expired → new ≡ view_at (renewed_start timeout old) []
       → after ≡ before ++ codes "session new\n" → Adds aims old before new after
   begin_add timeout old new before after expired is joined = (codes "session new\n", begins_print timeout old new expired is, joined)
 
@@ -223,7 +224,7 @@ module _ (aims : List (Side × Text)) where
   stood_by : (move : Move) (old : View) (text : List ℕ) (new : View) → Does aims move old text new → Stood old → Stood new
   stood_by (Turns turns) old text new does s = stood_on turns old new does.0 s.start s.items s.stands
   stood_by (Shows view side path) old text new does s = rw does.1 s
-  stood_by (Begins timeout) old text new does s = rw does.1 (fresh timeout)
+  stood_by (Begins timeout) old text new does s = rw does.1 (fresh (renewed_start timeout old))
 
   all_stood : (moves : List Move) (old : View) (text : List ℕ) (new : View) → Runs aims moves old text new → Stood old → AllStood moves
   all_stood [] old text new runs s = tt

@@ -7,6 +7,7 @@ use Rattle.zk_session.specs.declared.states.State.TheVariants.{Expired}
 use Rattle.zk_turns.specs.Turns.{Output, Answer, Enters, Drop, Turn, Start, Item, new_start}
 use Rattle.zk_turns.specs.View.{View, view_at}
 use Rattle.zk_turns.specs.Rule.{Rule, Stands}
+use Rattle.zk_client.specs.Clients.{renewed_start}
 use Rattle.zk_script.specs.Lines.{TellsInOrder}
 use Rattle.zk_script.specs.Values.{spaced}
 use Rattle.zk_script.specs.Words.{text_word}
@@ -51,22 +52,24 @@ pub record TellsSubject (side : Side) (path : Text) (view : View) (text : List �
   pub kept : DoesClient (PeekLine side path) view view (words ++ 10 ∷ [])
   pub line : text ≡ subject_line path words view.saved.last
 
--- What happens in a watch: a client goes through turns, what one keeps of a subject is shown, or another session begins with a timeout.
+-- What happens in a watch: a client goes through turns, what one keeps of a subject is shown, or another session begins, which asks for a
+-- timeout.
 pub data Move : Type 0 where
   Turns : List Turn → Move
   Shows : View → Side → Text → Move
-  Begins : ℕ → Move
+  Begins : ℤ → Move
 
 -- what turns said
 abbrev pub outputs_in : List Turn → List Output
 outputs_in turns = flat_map (λ turn. turn.outputs) turns
 
--- What a move makes of a client, and what it prints. Turns are by the rule, and another session begins behind an expiry alone.
+-- What a move makes of a client, and what it prints. Turns are by the rule. Another session begins after an expiry alone,
+-- and with the last seen zxid.
 abbrev pub Does : List (Side × Text) → Move → View → List ℕ → View → Type 0
 Does aims (Turns turns) old text new = FoldsTo Rule old turns new × TellsEach (outputs_in turns) text
 Does aims (Shows view side path) old text new = (view ≡ old) × (new ≡ old) × Contains aims (side, path) × TellsSubject side path old text
 Does aims (Begins timeout) old text new =
-    (old.standing.state ≡ Expired) × (new ≡ view_at (new_start timeout) []) × (text ≡ codes "session new\n")
+    (old.standing.state ≡ Expired) × (new ≡ view_at (renewed_start timeout old) []) × (text ≡ codes "session new\n")
 
 -- What moves make of a client, and what they print, in order.
 abbrev pub Runs : List (Side × Text) → List Move → View → List ℕ → View → Type 0

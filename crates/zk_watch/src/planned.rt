@@ -25,7 +25,7 @@ use zk_link::{Clock, Dial, Link};
 pub fn watch<A: Allocator + Copy, D: Dial + Drop, C: Clock + Drop, O: Write>(
     alloc: A,
     dial: D,
-    clock: C,
+    mut clock: C,
     plan: Plan<'_, A>,
     out: &mut O,
 ) -> End
@@ -41,10 +41,11 @@ pub fn watch<A: Allocator + Copy, D: Dial + Drop, C: Clock + Drop, O: Write>(
     } = plan;
     let timeout_ms = timeout_ms.max(1);
     let client = Client::new(alloc, timeout_ms);
+    let seed = clock.now();
     let mut watcher = Watcher {
         alloc,
         timeout_ms,
-        link: Link::new(alloc, client, dial, clock, addresses),
+        link: Link::new(alloc, client, dial, clock, addresses, seed),
         notes: Vec::new(alloc),
     };
     let end = watcher.watch_for(subjects.as_slice(), for_ms, out);

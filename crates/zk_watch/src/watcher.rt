@@ -1,9 +1,8 @@
 //! A link, and what was printed of subjects.
 
-ghost use Rattle.std.specs.Prelude.{◌≡◌, ◌≢◌, ◌++◌, true, IfErr, List, [], ℕ, OnOk, string_bytes};
+ghost use Rattle.std.specs.Prelude.{◌≡◌, ◌≢◌, ◌++◌, true, IfErr, List, [], ℕ, ℤ, OnOk, string_bytes};
 ghost use Rattle.std.specs.Io.KnownBytes.{Appends};
-ghost use Rattle.zk_client.specs.Clients.{view_of};
-ghost use Rattle.zk_turns.specs.Turns.{new_start};
+ghost use Rattle.zk_client.specs.Clients.{renewed_start, view_of};
 ghost use Rattle.zk_turns.specs.View.{View, view_at};
 ghost use Rattle.zk_client.specs.Views.{said};
 ghost use Rattle.zk_watch.specs.Watching.{aims_of, Adds, Prints, TellsEach};
@@ -15,7 +14,7 @@ use crate::plan::Subject;
 use crate::told::heard_text;
 use std::alloc::{AllocError, Allocator};
 use std::io::Write;
-use zk_client::{Call, Client, Output, Path, Side, State};
+use zk_client::{Call, Output, Path, Side, State};
 use zk_link::{Clock, Dial, Link};
 
 /// The ticket of the call that ends the session. Those of reads begin at 1.
@@ -122,11 +121,10 @@ impl<'a, A: Allocator + Copy, D: Dial + Drop, C: Clock + Drop> Watcher<'a, A, D,
     }
 
     /// Goes on with a client of a new session.
-    fn renew(&mut self)
-        ensures { (timeout : ℕ) × (view_of self.new.link.joint.client ≡ view_at (new_start timeout) []) }
+    fn renew(&mut self) -> Result<(), AllocError>
+        ensures { OnOk result ((timeout : ℤ) × (view_of self.new.link.joint.client ≡ view_at (renewed_start timeout (view_of self.old.link.joint.client)) [])) }
     {
-        self.link
-            .renew(Client::new(self.alloc, self.timeout_ms.max(1)));
+        self.link.renew(self.timeout_ms.max(1))
     }
 
     /// Begins another session where this one has expired, and says so.
@@ -134,7 +132,7 @@ impl<'a, A: Allocator + Copy, D: Dial + Drop, C: Clock + Drop> Watcher<'a, A, D,
         ensures { OnOk result (Adds (aims_of subjects.now) (view_of self.old.link.joint.client) (string_bytes text.old) (view_of self.new.link.joint.client) (string_bytes text.new)) }
     {
         if self.is_expired() {
-            self.renew();
+            self.renew()?;
             text.push_str("session new\n")?;
         }
         Ok(())

@@ -124,6 +124,7 @@ fn run<W: Write>(alloc: Global, piece: usize, out: &mut W) -> Result<()> {
         dial,
         clock,
         &ADDRESSES,
+        1,
     );
     let mut follower = Follower::new(alloc, link, nodes, readings);
     let played = play(&mut follower, &world, out);

@@ -12,6 +12,9 @@ use zk_link::Link;
 /// The most times that a link goes on.
 const MOST: u32 = 30;
 
+/// The seed of each link.
+pub const SEED: u64 = 1;
+
 /// What is dialled, in turn.
 static ADDRESSES: [&str; 2] = ["a", "b"];
 
@@ -67,7 +70,14 @@ impl<'a, 'b, W: Write> Player<'a, 'b, W> {
             alloc,
             world,
             moments,
-            link: Link::new(alloc, Client::new(alloc, 9_000), dial, clock, &ADDRESSES),
+            link: Link::new(
+                alloc,
+                Client::new(alloc, 9_000),
+                dial,
+                clock,
+                &ADDRESSES,
+                SEED,
+            ),
             out,
         }
     }

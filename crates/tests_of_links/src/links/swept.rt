@@ -1,6 +1,6 @@
 //! Links that are played many times, with one thing different each time, and printed in a line.
 
-use crate::links::played::{Played, is_connected};
+use crate::links::played::{Played, SEED, is_connected};
 use crate::links::world::{Plan, STEADY, World};
 use anyhow::Result;
 use example_world::{Moments, Shared};
@@ -94,7 +94,8 @@ fn play<A: Allocator + Copy>(
 ) -> Result<Result<bool, Stop>> {
     let (world, moments) = (RefCell::new(World::new(heap, plan)?), Moments::new());
     let (dial, clock) = (Shared::new(&world, &moments), Shared::new(&world, &moments));
-    let mut link = Link::new(alloc, Client::new(alloc, 9_000), dial, clock, addresses);
+    let client = Client::new(alloc, 9_000);
+    let mut link = Link::new(alloc, client, dial, clock, addresses, SEED);
     let served = is_served(alloc, &mut link);
     drop(link);
     Ok(served)

@@ -26,17 +26,19 @@ pub enum Flaw {
 }
 
 /// What happens to connections: how many are refused at first, whether only once the attempt has lasted as long as it may, how many then
-/// are silent, how many bytes pass on the next one, how many bytes a read brings and a write takes at most, and what the first one does
-/// wrong.
+/// are silent, how many bytes pass on the next one, and whether on each later one too, how many bytes a read brings and a write takes at
+/// most, what the first one does wrong, and between which moments nobody is there.
 #[derive(Clone, Copy)]
 pub struct Plan {
     pub refusals: u32,
     pub is_late: bool,
     pub silences: u32,
     pub passes: usize,
+    pub passes_again: bool,
     pub piece: usize,
     pub takes: usize,
     pub flaw: Flaw,
+    pub away: (u64, u64),
 }
 
 /// Connections that do as they should.
@@ -45,9 +47,11 @@ pub const STEADY: Plan = Plan {
     is_late: false,
     silences: 0,
     passes: usize::MAX,
+    passes_again: false,
     piece: usize::MAX,
     takes: usize::MAX,
     flaw: Flaw::Nothing,
+    away: (0, 0),
 };
 
 /// A server that answers each request as it comes, and the connection to it.
@@ -110,6 +114,12 @@ impl World {
         self.dials == 1 && self.plan.flaw == flaw
     }
 
+    /// Whether nobody is there.
+    fn is_away(&self, moments: &Moments) -> bool {
+        let (first, end) = self.plan.away;
+        first <= moments.now() && moments.now() < end
+    }
+
     /// The first of these bytes go, as many as pass.
     fn pass(&mut self, bytes: &[u8]) -> io::Result<usize> {
         let count = bytes.len().min(self.left).min(self.plan.takes);
@@ -131,11 +141,15 @@ impl Server for World {
     fn dial(&mut self, within_ms: u64, moments: &Moments) -> io::Result<Rc<u32, Global>> {
         self.dials = self.dials.saturating_add(1);
         let quiet = self.plan.refusals.saturating_add(self.plan.silences);
-        self.left = if self.dials == quiet.saturating_add(1) {
+        let first = quiet.saturating_add(1);
+        self.left = if self.dials == first || self.plan.passes_again && self.dials > first {
             self.plan.passes
         } else {
             usize::MAX
         };
+        if self.is_away(moments) {
+            return Err(ErrorKind::ConnectionRefused.into());
+        }
         if self.dials <= self.plan.refusals {
             moments.pass(if self.plan.is_late { within_ms } else { 0 });
             return Err(ErrorKind::ConnectionRefused.into());
@@ -149,7 +163,7 @@ impl Server for World {
     }
 
     fn read(&mut self, most: usize, moments: &Moments) -> io::Result<Option<Vec<u8>>> {
-        if self.left == 0 {
+        if self.left == 0 || self.is_away(moments) {
             return Ok(None);
         }
         if self.has(Flaw::Interrupted) {

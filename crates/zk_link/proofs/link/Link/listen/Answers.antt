@@ -9,7 +9,7 @@ brought : (g : _) (c : goal.After-note g) → trail_of c.next_brought.new.self.j
 brought g c = ap (λ (t : Trail). record t { given = said c.args.outputs.now.items }) c.next_brought.ensures
 
 noted : (g : _) (c : goal.After-note g) → trail_of c.note.new.self.joint c.hand-outcome.new.outputs.items ≡ trail_of c.hand-outcome.new.self.joint c.hand-outcome.new.outputs.items
-noted g c = rw c.note.ensures
+noted g c = rw c.note.ensures.joint
 
 pub returns-clause-ok : goal.returns-clause-ok
 returns-clause-ok g c = to_same c.hand-outcome.result _ _ _ (noted g c) (from_same c.hand-outcome.result _ _ _ (brought g c) c.hand-outcome.ensures.ok)
