@@ -5,11 +5,12 @@ use std::io::{self, ErrorKind, Read, Write};
 use std::rc::Rc;
 use zk_link::{Dial, Stream};
 
-/// What the client is to send, and what it is answered then.
+/// What the client is to send, what it is answered then, and after how many milliseconds.
 #[derive(Drop)]
 pub struct Turn {
     due: Vec<u8>,
     answer: Vec<u8>,
+    after_ms: u64,
 }
 
 /// The address that is to be dialled, whether a partner is there, and its turns.
@@ -31,11 +32,16 @@ fn bytes_of(alloc: Global, word: &str) -> io::Result<Vec<u8>> {
     }
 }
 
-/// A turn of what is due and of its answer, in hex.
-fn turn_of(alloc: Global, due: &str, answer: &str) -> io::Result<Turn> {
+/// A turn of what is due and of its answer, in hex. Behind the answer may stand after how many milliseconds it comes.
+fn turn_of(alloc: Global, due: &str, words: &str) -> io::Result<Turn> {
+    let (answer, after) = words.split_once(' ').unwrap_or((words, "0"));
     let due = bytes_of(alloc, due)?;
     let answer = bytes_of(alloc, answer)?;
-    Ok(Turn { due, answer })
+    Ok(Turn {
+        due,
+        answer,
+        after_ms: after.parse().unwrap_or(0),
+    })
 }
 
 /// Adds what a line says: `dial ADDRESS` where a partner is there, `down ADDRESS` where none is, or a turn of the last partner.
@@ -63,7 +69,7 @@ pub fn dialled_of<'a>(alloc: Global, lines: &'a str) -> io::Result<Vec<Dialled<'
 }
 
 /// A partner that has come so far: how many frames came whole, how many bytes of the next, how many bytes of the answer to the
-/// last were read, and how many bytes still pass.
+/// last were read, how many bytes still pass, and how long a read may wait.
 #[derive(Drop)]
 pub struct Partner<'a> {
     _held: Rc<usize, Global>,
@@ -72,6 +78,7 @@ pub struct Partner<'a> {
     came: usize,
     taken: usize,
     left: usize,
+    wait_ms: u64,
 }
 
 impl<'a> Partner<'a> {
@@ -83,6 +90,18 @@ impl<'a> Partner<'a> {
         match self.turns.get(last) {
             Some(turn) => turn.answer.as_slice().get(self.taken..).unwrap_or(&[]),
             None => &[],
+        }
+    }
+
+    /// Whether a read may wait until the answer to the last frame that came whole is there.
+    fn is_patient(&self) -> bool {
+        let last = self
+            .whole
+            .checked_sub(1)
+            .and_then(|last| self.turns.get(last));
+        match last {
+            Some(turn) => turn.after_ms <= self.wait_ms,
+            None => true,
         }
     }
 
@@ -110,6 +129,9 @@ impl<'a> Read for Partner<'a> {
     fn read(&mut self, buf: &mut [u8]) -> io::Result<usize> {
         if self.left == 0 {
             return Err(ErrorKind::ConnectionReset.into());
+        }
+        if !self.is_patient() {
+            return Err(ErrorKind::WouldBlock.into());
         }
         let most = self.left.min(buf.len());
         let mut answer = self.answer();
@@ -142,8 +164,9 @@ impl<'a> Write for Partner<'a> {
 }
 
 impl<'a> Stream for Partner<'a> {
-    /// A read waits for nothing.
-    fn wait_at_most(&mut self, _ms: u64) -> io::Result<()> {
+    /// A read waits for an answer that comes later, and for nothing else.
+    fn wait_at_most(&mut self, ms: u64) -> io::Result<()> {
+        self.wait_ms = ms;
         Ok(())
     }
 }
@@ -208,6 +231,7 @@ impl<'a> Dial for Partners<'a> {
             came: 0,
             taken: 0,
             left,
+            wait_ms: 0,
         })
     }
 }

@@ -1,6 +1,6 @@
 //! A client and the connection that it has.
 
-ghost use Rattle.std.specs.Prelude.{◌≡◌, [], ◌∷◌, false, IfErr, OnOk, string_bytes};
+ghost use Rattle.std.specs.Prelude.{◌≡◌, ◌≤◌, [], ◌∷◌, true, false, IfErr, OnOk, string_bytes};
 ghost use Rattle.zk_conversation.specs.Views.{call_view};
 ghost use Rattle.zk_client.specs.Clients.{view_of};
 ghost use Rattle.zk_client.specs.Views.{input_view};
@@ -18,6 +18,12 @@ use zk_session::State;
 
 /// The most pieces that are read for one line.
 const PIECES: u32 = 1_000_000;
+
+/// How many milliseconds a read waits at least while the client connects: the timeout that is asked for.
+const CONNECTING_MS: u64 = 30_000;
+
+/// The shortest time that an attempt to connect has, in milliseconds.
+const SHORTEST_DIAL_MS: u64 = 1_000;
 
 /// A client, and its connection, if it has one.
 #[derive(Drop)]
@@ -96,9 +102,23 @@ impl<A: Allocator + Copy, S: Stream> Link<A, S> {
         Ok(heard.outputs)
     }
 
-    /// How many milliseconds a read, and an attempt to connect, may wait: the session's timeout.
-    fn longest_wait(&self) -> u64 {
-        u64::from(self.joint.client.timeout_ms()).max(1)
+    /// How many milliseconds a read may wait: the session's timeout. While the client connects it is at least the one that is asked for,
+    /// since what a server granted before binds no other.
+    fn longest_wait(&self) -> u64
+        ensures least { 1 ≤ result }
+        ensures connecting { is_waiting (view_of self.now.joint.client).standing.state ≡ true → 30000 ≤ result }
+        ensures timeout { (view_of self.now.joint.client).saved.session.timeout ≤ result }
+    {
+        let timeout = u64::from(self.joint.client.timeout_ms()).max(1);
+        if self.is_connecting() {
+            return timeout.max(CONNECTING_MS);
+        }
+        timeout
+    }
+
+    /// How many milliseconds an attempt to connect may take: the session's timeout, and at least a second.
+    fn longest_dial(&self) -> u64 {
+        u64::from(self.joint.client.timeout_ms()).max(SHORTEST_DIAL_MS)
     }
 
     /// The next piece of the connection, and none where it has ended, or brings nothing in time.
@@ -210,7 +230,7 @@ impl<A: Allocator + Copy, S: Stream> Link<A, S> {
     {
         let is_open = self.joint.is_open();
         self.end_if(is_open, alloc, text)?;
-        let within = self.longest_wait();
+        let within = self.longest_dial();
         let Some(stream) = ring.connect(dial, within) else {
             text.push_str("down\n")?;
             return Ok(());
