@@ -267,7 +267,7 @@ int32_t dw_peek_name(dw_client *handle, const uint8_t *path, size_t path_length,
                      size_t *count);
 
 /* Copies all names that are kept of a path, in byte order, as many bytes as there is room for, and writes how many bytes there are. Each
- * name stands behind its length, which is four bytes, the highest first: so zookeeper.jute spells a ustring. It takes memory for them
+ * name stands after its length, which is four bytes, the highest first: so zookeeper.jute spells a ustring. It takes memory for them
  * too, within the call. It answers what dw_peek_data does; but for DW_OK the count is 0. */
 int32_t dw_peek_names(dw_client *handle, const uint8_t *path, size_t path_length, uint8_t *out, size_t room, size_t *count);
 

@@ -104,7 +104,7 @@ impl<'a, D: Dial + Drop, C: Clock + Drop> Contender<'a, D, C> {
         self.is_leaving = true;
     }
 
-    /// Goes on until this moment. Behind each thing that happens it writes to the store, where it shows that it holds.
+    /// Goes on until this moment. After each thing that happens it writes to the store, where it shows that it holds.
     pub fn act<W: Write>(&mut self, until: u64, store: &mut Store, out: &mut W) -> Result<()> {
         for _ in 0..u64::MAX {
             self.ask(out)?;

@@ -1,4 +1,4 @@
-//! Follows the data of one node of real servers, through reconnects: tells what it holds at first, and behind each change.
+//! Follows the data of one node of real servers, through reconnects: tells what it holds at first, and after each change.
 #![tactic(auto)]
 
 mod follower;

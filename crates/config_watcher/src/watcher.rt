@@ -1,4 +1,4 @@
-//! Watches a node: reads it behind each connection and each report, unless what is kept of it is good.
+//! Watches a node: reads it after each connection and each report, unless what is kept of it is good.
 use crate::world::World;
 use anyhow::Result;
 use zk_client::{Call, Client, DataAnswer, Input, Mark, Output, Path, State};

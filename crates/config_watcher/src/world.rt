@@ -15,7 +15,7 @@ enum Event {
     Ends,
 }
 
-/// What happens, and when, in milliseconds. While the connection is cut the node changes; behind the second connection a minute goes
+/// What happens, and when, in milliseconds. While the connection is cut the node changes; after the second connection a minute goes
 /// by in which nothing happens.
 static PLAN: [(u64, Event); 7] = [
     (0, Event::Opens),
@@ -27,7 +27,7 @@ static PLAN: [(u64, Event); 7] = [
     (82_000, Event::Ends),
 ];
 
-/// What the node holds at first, and behind each change.
+/// What the node holds at first, and after each change.
 static FIRST: &str = "one";
 
 static LATER: [&str; 3] = ["two", "three", "four"];

@@ -7,7 +7,7 @@ use std::alloc::{AllocError, Global};
 use std::io::{self, ErrorKind};
 use zk_bench::{Bench, Change, History};
 
-/// The most requests that are processed behind one write.
+/// The most requests that are processed after one write.
 const REQUESTS: usize = 16;
 
 /// A server that answers each request as it comes, and the connection to it.
@@ -46,7 +46,7 @@ impl World {
         self.bench.take(1)
     }
 
-    /// From now on the server takes a transaction behind each request, so that what is asked at once is answered from several trees.
+    /// From now on the server takes a transaction after each request, so that what is asked at once is answered from several trees.
     pub fn be_busy(&mut self) {
         self.is_busy = true;
     }
@@ -70,7 +70,7 @@ impl World {
         self.is_apart = false;
     }
 
-    /// The session expires, which the server says at the next connection. Behind that it begins new ones.
+    /// The session expires, which the server says at the next connection. After that it begins new ones.
     pub fn expire(&mut self) {
         self.is_expired = true;
     }

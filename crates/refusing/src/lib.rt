@@ -20,7 +20,7 @@ pub struct Refusing<B: Allocator> {
 }
 
 impl<B: Allocator> Refusing<B> {
-    /// Refuses the request that comes after `passed` others. Those behind it pass.
+    /// Refuses the request that comes after `passed` others. Those after it pass.
     pub fn after(passed: u32, inner: B) -> Refusing<B> {
         Refusing {
             inner,

@@ -32,7 +32,7 @@ fn kind_of(words: &str) -> (&str, usize, usize) {
     (kind, first, last)
 }
 
-/// The case of a header, and of what stands behind it: the script, or lines of what is found at addresses, a line `--`, and the
+/// The case of a header, and of what stands after it: the script, or lines of what is found at addresses, a line `--`, and the
 /// script. A header with no colon is a command line.
 pub fn case_of<'a>(alloc: Global, header: &'a str, body: &'a str) -> io::Result<Case<'a>> {
     let (kind, line) = header.split_once(": ").unwrap_or(("row", header));

@@ -26,7 +26,7 @@ fn cut_short(alloc: Global, printed: &[u8], before: usize) -> Vec<u8> {
 }
 
 /// What a case prints, which tells nothing and is done. Where the writer fails after each count of bytes, these bytes are to be written
-/// and no others, and where it fails behind the last, all.
+/// and no others, and where it fails after the last, all.
 pub fn broken(alloc: Global, case: &Case) -> Vec<u8> {
     let mut unlike = Vec::new(alloc);
     let whole = whole_of(alloc, case);

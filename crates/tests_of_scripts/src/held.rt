@@ -31,7 +31,7 @@ fn add_held(text: &mut Vec<u8>, printed: &String, dial: &Partners<'_>) {
     );
 }
 
-/// Connects a link and hands it a call. Adds what each of these prints, and whether the connection is held behind it.
+/// Connects a link and hands it a call. Adds what each of these prints, and whether the connection is held after it.
 fn add_steps<'a>(
     alloc: Global,
     case: &'a Case<'a>,
@@ -51,7 +51,7 @@ fn add_steps<'a>(
 }
 
 /// What a link prints that is connected to the case's addresses, and then asked for the data of `/a`, and whether the connection is held
-/// behind each.
+/// after each.
 pub fn held<'a>(alloc: Global, case: &'a Case<'a>) -> Vec<u8> {
     let mut text = Vec::new(alloc);
     let mut link = Link::new(alloc, Client::new(alloc, 30_000));

@@ -32,7 +32,7 @@ fn bytes_of(alloc: Global, word: &str) -> io::Result<Vec<u8>> {
     }
 }
 
-/// A turn of what is due and of its answer, in hex. Behind the answer may stand after how many milliseconds it comes.
+/// A turn of what is due and of its answer, in hex. After the answer may stand after how many milliseconds it comes.
 fn turn_of(alloc: Global, due: &str, words: &str) -> io::Result<Turn> {
     let (answer, after) = words.split_once(' ').unwrap_or((words, "0"));
     let due = bytes_of(alloc, due)?;

@@ -18,7 +18,7 @@ pub fn add_length(text: &mut Vec<u8>, number: usize) {
     let _ = write!(text, "{number:08x}");
 }
 
-/// Adds what came where something else is due, behind a line with its place.
+/// Adds what came where something else is due, after a line with its place.
 pub fn add_unlike(text: &mut Vec<u8>, place: &str, number: usize, got: &[u8]) {
     add(text, b"unlike ");
     add(text, place.as_bytes());
@@ -35,7 +35,7 @@ pub fn compare(text: &mut Vec<u8>, place: &str, number: usize, want: &[u8], got:
     }
 }
 
-/// What a case prints: this line, and behind it what came where something else is due.
+/// What a case prints: this line, and after it what came where something else is due.
 pub fn with_unlike(line: Vec<u8>, unlike: Vec<u8>) -> Vec<u8> {
     let mut text = line;
     add(&mut text, b"\n");

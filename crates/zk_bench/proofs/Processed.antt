@@ -362,7 +362,7 @@ has_caught b old new place has rest low =
       accepted = accepted;
     }
 
--- the connection ends behind transactions that were taken
+-- the connection ends after transactions that were taken
 pub takes_ended : (old mid : Served) → TakesSome (shown_of old) (shown_of mid) → TakesSome (shown_of old) (shown_of (ended mid))
 takes_ended old mid a = record {
   steps = a.steps;
@@ -574,7 +574,7 @@ created_so text content number xid old mid new at owner has took made wrote s on
     (answers_made (call.Create text content number) (Made at) xid old mid new.connection.output (spelling reply_header (xid, (pos (zxid_of mid), pos 0)) ++ behind) tt has took (owner, made, wrote) s.small
     (behind, record { fits = s.header_fits; whole = refl }, (Some at, record { ignored = []; fits = s.value_fits; whole = twice behind }, refl)) s.output)
 
--- so is the Stat behind a write
+-- so is the Stat after a write
 pub set_so : (text : Text) (content : Option (List ℕ)) (version xid : ℤ) (old mid new : Served) → HasClient mid → TakesSome (shown_of old) (shown_of mid) → HasWritten (Sets (path_of text) content) mid → SendsStat xid text mid new
     → IsSending mid new → AnswersOne (Ask (call.SetData text content version)) xid (shown_of old) (shown_of new)
 set_so text content version xid old mid new has took wrote s only =
@@ -593,7 +593,7 @@ deleted_so text version xid old mid new has took wrote s only =
     (answers_made (call.Delete text version) Done xid old mid new.connection.output payload tt has took wrote s.small
     ([], record { fits = s.fits; whole = twice payload }, (tt, record { ignored = []; fits = tt; whole = refl }, refl)) s.output)
 
--- where the Stat behind a write is not sent
+-- where the Stat after a write is not sent
 pub declines_unsent : (text : Text) (content : Option (List ℕ)) (version xid : ℤ) (old mid new : Served) (refusal : Refusal) → HasClient old → HasClient mid → TakesSome (shown_of old) (shown_of mid) → IsSending mid new → LeavesUnsent mid new refusal
     → Declines (Ask (call.SetData text content version)) xid old new refusal
 declines_unsent text content version xid old mid new (refusals.Code code) has more took only unsent =

@@ -271,7 +271,7 @@ part_told since tree part old one two new d e c =
     tells_both (told_of Data since tree part.data_watches ++ told_of Exist since tree part.exist_watches) (told_of Child since tree part.child_watches) old two new
     (tells_both (told_of Data since tree part.data_watches) (told_of Exist since tree part.exist_watches) old one two d e) c
 
--- the reply behind them
+-- the reply after them
 pub part_restored : {A : Type 0} (tree : Tree) (zxid : ℕ) (xid : ℤ) (since : ℕ) (part : Lists) (old new : Connection A) (mid : List ℕ)
     → Tells (part_tells since tree part) old.output.items mid → SendsHeader (xid, (pos zxid, pos 0)) mid new.output.items
     → watched new.watches ≡ both (watched old.watches) (part_sets since tree part) → new ≡ record old { watches = new.watches; output = new.output }

@@ -23,7 +23,7 @@ use Rattle.zk_bench.specs.Writing.{WriteRefused}
 use Rattle.zk_bench.specs.Serving.{CanBeSent, CanBeTold}
 use Rattle.zk_bench.specs.Answerable.{DataFit}
 
--- what was written behind nothing, and is lent
+-- what was written after nothing, and is lent
 pub lent-length : (lent payload begun written : List ℕ) → lent ≡ payload → payload ≡ begun ++ written → begun ≡ [] → length lent ≡ length written
 lent-length lent payload begun written a b none = ap length (a ∙ b ∙ ap (λ (bs : List ℕ). bs ++ written) none)
 

@@ -283,7 +283,7 @@ moved_none event [] change w (inr m) p = subst (λ (c : Change). (fires c w ≡ 
 
 -- The next of a list
 
--- what is left of a list, behind its next element
+-- what is left of a list, after its next element
 pub drop-next : {X : Type 0} (xs : List X) (i : ℕ) (x : X) → i < length xs → x ≡ get_or xs i x → drop i xs ≡ x ∷ drop (i + 1) xs
 drop-next xs i x low e =
     let one : suc i ≡ i + 1 = omega arith in

@@ -15,16 +15,16 @@ use Rattle.zk_bench.specs.Served.{Served}
 use Rattle.zk_bench.specs.Serving.{FitsReply}
 use Rattle.zk_bench.specs.Stepping.{zxid_of}
 
--- The data of a node, if there is one, fit a reply: behind their length of four bytes, and with a Stat of 68.
+-- The data of a node, if there is one, fit a reply: after their length of four bytes, and with a Stat of 68.
 abbrev pub DataFit : Option Node → Type 0
 DataFit None = ⊤
 DataFit (Some node) = FitsReply (4 + size_of node.content + 68)
 
--- the bytes of names, each behind its length
+-- the bytes of names, each after its length
 abbrev pub size_of_names : Names → ℕ
 size_of_names names = sum_by (λ name. 4 + length name) (set.items names)
 
--- So do the names of its children: behind their count, and with a Stat.
+-- So do the names of its children: after their count, and with a Stat.
 abbrev pub NamesFit : Tree → NodePath → Option Node → Type 0
 NamesFit tree path None = ⊤
 NamesFit tree path (Some node) = (names : Names) × HasChildren tree path names × FitsReply (4 + size_of_names names + 68)

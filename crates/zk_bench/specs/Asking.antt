@@ -14,7 +14,7 @@ use Rattle.zk_laws.specs.Messages as wanted
 use Rattle.zk_bench.specs.Answering.{IsRead}
 use Rattle.zk_bench.specs.Restoring.{ArePaths}
 
--- The record behind the header of an operation is that of this call: of a path, and with a mode from 0 to 3.
+-- The record after the header of an operation is that of this call: of a path, and with a mode from 0 to 3.
 abbrev pub IsBodyOf : (named : Operation) → Value (body_layout named) → Call → Type 0
 IsBodyOf operation.Exists body (call.Exists text watch) = IsPath text × (body.0 ≡ Some text) × (body.1 ≡ watch)
 IsBodyOf operation.GetData body (call.GetData text watch) = IsPath text × (body.0 ≡ Some text) × (body.1 ≡ watch)

@@ -4,7 +4,7 @@ use Rattle.zk_frames.specs.Frame.{length_field, IsNegative}
 use Rattle.zk_bench.specs.declared.frames.Front.{Front}
 use Rattle.zk_bench.specs.declared.frames.Front.TheVariants.{Unfinished, Negative, Whole}
 
--- less than a length, or fewer bytes behind it than it says
+-- less than a length, or fewer bytes after it than it says
 pub record IsShort (bytes : List ℕ) : Type 0 where
   pub positive : 4 ≤ length bytes → length_field bytes < 2 ^ 31
   pub short : 4 ≤ length bytes → length bytes < 4 + length_field bytes

@@ -74,7 +74,7 @@ advanced_by (Some one) taken server = slice_set taken server (slice_index taken 
 abbrev pub advanced : Served → ℕ → List ℕ
 advanced served server = advanced_by (slice_get served.history.transactions (slice_index served.taken server)) served.taken server
 
--- The history goes on: the same first tree, and transactions behind those that were there.
+-- The history goes on: the same first tree, and transactions after those that were there.
 pub record Continues (old new : HistoryView) : Type 0 where
   pub nodes : new.nodes ≡ old.nodes
   pub more : List Transaction

@@ -210,7 +210,7 @@ impl<A: Allocator + Copy> Bench<A> {
 
     /// The connected server processes the next whole request, if there is one.
     ///
-    /// The first is a ConnectRequest: a server that is behind its zxid ends the connection without an answer. Reads and
+    /// The first is a ConnectRequest: a server that is after its zxid ends the connection without an answer. Reads and
     /// setWatches are answered at the server's place in the history. A write first takes all transactions that are left;
     /// one that is accepted is appended to the history, and taken before the reply. A frame that is none of these
     /// requests ends the connection without an answer, and so do a create with flags other than 0 to 3 and a reply of
@@ -623,7 +623,7 @@ impl<A: Allocator + Copy> Bench<A> {
         send_result(self.alloc, xid, zxid, record, &mut self.connection.output)
     }
 
-    // Answers a setData: the codes of the specification in their order, or the Stat behind the write.
+    // Answers a setData: the codes of the specification in their order, or the Stat after the write.
     #[tactic(auto, using(crate::proofs::Continuing::same_goes_on))]
     fn set_data(&mut self, xid: i32, request: SetDataRequest<A>) -> Result<(), Refusal>
         ensures answers { (asked : Wanted) → HasClient self.old → Asks (requests.SetData request) asked → OnOk result (AnswersOne asked xid (shown_of self.old) (shown_of self.new)) }

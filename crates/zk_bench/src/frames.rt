@@ -1,4 +1,4 @@
-//! Frames: a payload behind its length, which `byteorder` reads and writes.
+//! Frames: a payload after its length, which `byteorder` reads and writes.
 
 ghost use Rattle.std.specs.Prelude.{◌≡◌, ◌≤◌, ◌<◌, ◌^◌, drop, take as first, length as bytes_of, vec_len, ◌-◌, OnOk, IsErrOf, ◌++◌};
 ghost use Rattle.zk_frames.specs.Frame.{frame};

@@ -295,7 +295,7 @@ pub(crate) fn deleted_path<A: Allocator + Copy>(
 }
 
 /// Appends a change as a transaction of its own, one zxid above the last. `Order` where the zxid or the time would be past 2^63 - 1, and
-/// then the history is as it was. Behind another fault a transaction with no change may have been appended.
+/// then the history is as it was. After another fault a transaction with no change may have been appended.
 #[tactic(auto, using(crate::proofs::Continuing::same_goes_on, crate::proofs::Continuing::begun_goes_on, crate::proofs::Continuing::changed_goes_on))]
 pub(crate) fn append<A: Allocator + Copy>(
     history: &mut History<A>,

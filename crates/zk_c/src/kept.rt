@@ -96,7 +96,7 @@ pub extern "C" fn dw_peek_name(
     }
 }
 
-/// Copies all names that are kept of a path, in byte order and each behind its length in four bytes, as many bytes of them as there is
+/// Copies all names that are kept of a path, in byte order and each after its length in four bytes, as many bytes of them as there is
 /// room for, and writes how many there are.
 #[unsafe(no_mangle)]
 pub extern "C" fn dw_peek_names(

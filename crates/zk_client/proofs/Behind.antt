@@ -1,4 +1,4 @@
--- Turns one behind the other, in one call.
+-- Turns one after the other, in one call.
 use Rattle.std.proofs.Common.{◌≡◌, ℕ, ◌*◌, ◌-◌, Bool, true, false, List, [], ◌∷◌, ◌++◌, refl, sym, ap, subst, ◌∙◌, max, inr}
 use Rattle.std.specs.Prelude.{nat_le, ◌&&◌, if◌then◌else◌}
 use Rattle.zk_turns.specs.Turns.{Start, Item, Turned, Input, Now, Output, Silent, Ticks}
@@ -50,7 +50,7 @@ goes_on view moment e =
     ∙ still (next view (Ticked moment)) (is_open view.standing.state) (nat_le (2 * timeout_of view) (3 * (now - view.moments.heard))) (is_talking view.standing.state && nat_le (timeout_of view) (3 * (now - view.moments.sent)))
     ∙ e
 
--- where nothing comes of both, nothing comes of the input behind the moment
+-- where nothing comes of both, nothing comes of the input after the moment
 pub quiet_behind : (moment : ℕ) (input : Input) (view between : View) (before first : List Output) → IsQuietAt view moment input → Adds view (Now moment) before first between → IsQuiet between input
 quiet_behind moment input view between before first quiet tells =
     subst (λ v. IsQuiet v input) (sym tells.rule.next) (goes_on view moment quiet.0, quiet.2)

@@ -53,7 +53,7 @@ taken-over Talking pending xid e = absurd cc
 pub taken-is : (talk : Talk) → talk.phase ≡ Closed → IsTaken talk
 taken-is talk e = taken-over talk.phase talk.pending talk.xid e
 
--- A ticket was taken: what is answered to it and to the calls behind it.
+-- A ticket was taken: what is answered to it and to the calls after it.
 pub record TakesOne (old new : Talk) (ticket : ℕ) : Type 0 where
   pub phase : new.phase ≡ Closed
   pub xid : new.xid ≡ old.xid

@@ -60,7 +60,7 @@ abbrev pub fields_read : Value saved_layout → Result PutAway SavedFault
 fields_read (session, (Some password, last)) = put_away session password last
 fields_read (session, (None, last)) = Err NoPassword
 
--- a record, and the bytes behind it
+-- a record, and the bytes after it
 abbrev pub record_read : Result (Value saved_layout × List ℕ) TakeError → Result PutAway SavedFault
 record_read (Ok (fields, [])) = fields_read fields
 record_read (Ok (fields, b ∷ rest)) = Err (BytesBehind (length (b ∷ rest)))

@@ -43,7 +43,7 @@ ComesToNothing view (Asks ticket asked) = ⊥
 abbrev pub IsQuiet : View → Input → Type 0
 IsQuiet view input = (view.standing.halted ≡ false) × ComesToNothing view input
 
--- The same of a moment and an input behind it: nothing is due at the moment, and nothing comes of the input then.
+-- The same of a moment and an input after it: nothing is due at the moment, and nothing comes of the input then.
 abbrev pub IsQuietAt : View → (moment : ℕ) → Input → Type 0
 IsQuietAt view moment input =
     (view.standing.halted ≡ false) × NothingIsDue view moment × ComesToNothing (after_signals view (Ticks moment ∷ [])) input

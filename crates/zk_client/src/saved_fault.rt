@@ -18,7 +18,7 @@ pub enum SavedFault {
     NotHex { place: usize },
     /// The bytes begin with no record of a saved session. It is never for want of memory.
     Unread(TakeError),
-    /// There are bytes behind the record: how many.
+    /// There are bytes after the record: how many.
     BytesBehind { count: usize },
     /// The password is null. One of no bytes is a password.
     NoPassword,

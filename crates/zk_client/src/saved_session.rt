@@ -70,7 +70,7 @@ impl<A: Allocator + Copy> SavedSession<A> {
         })
     }
 
-    /// The session whose record these bytes are, with nothing behind it.
+    /// The session whose record these bytes are, with nothing after it.
     ///
     /// # Errors
     ///

@@ -10,7 +10,7 @@ use Rattle.zk_commands.specs.Fields.{field_word, fields_lines}
 abbrev pub line_of : {A : Type 0} → Bor (List ℕ) × Field A → List ℕ
 line_of f = line f.0.now (field_word f.1)
 
--- with nothing behind the last line, these are the lines one after another
+-- with nothing after the last line, these are the lines one after another
 pub one_by_one : {A : Type 0} (fields : List (Bor (List ℕ) × Field A)) → fields_lines fields ≡ flat_map line_of fields
 one_by_one [] = refl
 one_by_one (f ∷ []) = sym (append-nil (line_of f))

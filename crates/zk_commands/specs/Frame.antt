@@ -7,7 +7,7 @@ use Rattle.zk_commands.specs.declared.fault.ShowFault.{ShowFault}
 use Rattle.zk_commands.specs.declared.fault.ShowFault.TheVariants.{Incomplete, Negative, TooLong, BytesAfter}
 use Rattle.zk_limits.specs.declared.limits.TheConstants.{LONGEST_INCOMING}
 
--- the bytes behind a length, which are to be as many as it says
+-- the bytes after a length, which are to be as many as it says
 abbrev pub payload_behind : ℤ → List ℕ → Result (List ℕ) ShowFault
 payload_behind (negsuc n) bytes = Err Negative
 payload_behind (pos n) bytes =

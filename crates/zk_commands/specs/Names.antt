@@ -40,7 +40,7 @@ read_request_names = one (codes "path") & one (codes "watch")
 abbrev pub acl_names : Names
 acl_names = one (codes "perms") & (one (codes "scheme") & one (codes "id"))
 
--- the names of what stands behind the header of each request
+-- the names of what stands after the header of each request
 abbrev pub body_names : Operation → Names
 body_names Create = one (codes "path") & (one (codes "data") & (each (codes "acl") acl_names & one (codes "flags")))
 body_names Delete = one (codes "path") & one (codes "version")

@@ -21,7 +21,7 @@ abbrev pub count_line : {X : Type 0} → List ℕ → Option (List X) → List �
 count_line name None = line name (codes "\\0")
 count_line name (Some values) = line name (decimal (length values))
 
--- a line for each text, with its number behind a dot
+-- a line for each text, with its number after a dot
 abbrev pub numbered_lines : List ℕ → ℕ → List (Option (List ℕ)) → List ℕ
 numbered_lines name k [] = []
 numbered_lines name k (text ∷ texts) = line (name ++ 46 ∷ decimal k) (text_word text) ++ numbered_lines name (k + 1) texts
@@ -50,6 +50,6 @@ lines_of layout names value = []
 abbrev pub frame_of : List ℕ → List ℕ
 frame_of payload = int_bytes (pos (length payload)) ++ payload
 
--- the lines of a record, how many bytes stood behind it, and the frame of the record alone
+-- the lines of a record, how many bytes stood after it, and the frame of the record alone
 abbrev pub print_of : List ℕ → List ℕ → List ℕ → List ℕ
 print_of lines spelled ignored = lines ++ (line (codes "ignored") (decimal (length ignored)) ++ line (codes "frame") (encode_lower (frame_of spelled)))

@@ -52,7 +52,7 @@ pub data IsFaulty (words : List Text) (input : Option (List ℕ)) (text told : L
 abbrev pub IsRefusal : List Text → List ℕ → Type 0
 IsRefusal words told = (fault : LineFault) × IsDue words fault × IsRefusalText fault told
 
--- No line's print is cut. The line of a halt stands behind them where a step of the client halted.
+-- No line's print is cut. The line of a halt stands after them where a step of the client halted.
 pub data IsWhole (words : List Text) (input : Option (List ℕ)) (text : List ℕ) : Type 0 where
   nothing : text ≡ [] → IsWhole words input text
   begins : (command : Command) (script printed told : List ℕ) (end : End) → AsksFor words command → IsInput input script

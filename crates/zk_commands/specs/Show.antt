@@ -30,7 +30,7 @@ use Rattle.zk_commands.specs.Names.{connect_names, reply_header_names, stat_name
 use Rattle.zk_commands.specs.Print.{Names, lines_of, frame_of, print_of}
 
 -- The text is the print of a value whose spelling begins the payload: IsValue says which lines and which spelling a value of
--- the kind has, and which bytes may stand behind it.
+-- the kind has, and which bytes may stand after it.
 pub record Prints (IsValue : List ℕ → List ℕ → List ℕ → Type 0) (payload text : List ℕ) : Type 0 where
   pub lines : List ℕ
   pub spelled : List ℕ
@@ -55,7 +55,7 @@ response_lines r =
     line (codes "protocolVersion") (signed_decimal r.front.0) ++ (line (codes "timeOut") (signed_decimal r.front.1.0) ++ (line (codes "sessionId") (signed_decimal r.front.1.1.0)
     ++ (line (codes "passwd") (bytes_word r.front.1.1.1) ++ line (codes "readOnly") (optional_boolean_word r.read_only))))
 
--- a response that the whole payload spells: where readOnly is missing, nothing stands behind it
+-- a response that the whole payload spells: where readOnly is missing, nothing stands after it
 abbrev pub IsResponse : (payload lines spelled ignored : List ℕ) → Type 0
 IsResponse payload lines spelled ignored = IsShown (λ response. IsPayload payload response ignored) response_spelling response_lines lines spelled
 

@@ -1,4 +1,4 @@
--- What is written behind what the lines of a script print, by how they ended.
+-- What is written after what the lines of a script print, by how they ended.
 use Rattle.std.specs.Prelude.{◌≡◌, ◌⊎◌, ℕ, List, [], codes}
 use Rattle.zk_script.specs.declared.input.InputFault.{InputFault}
 use Rattle.zk_script.specs.declared.input.InputFault.TheVariants as faults

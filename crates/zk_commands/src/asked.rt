@@ -18,7 +18,7 @@ use zk_jute::{Cursor, PutError, TakeError};
 use zk_records::{Request, RequestFault};
 use zk_script::lines::push_shown;
 
-/// Adds the lines of what stands behind a request's header.
+/// Adds the lines of what stands after a request's header.
 fn push_body<A: Allocator + Copy>(
     text: &mut String<A>,
     alloc: A,
@@ -71,7 +71,7 @@ fn request_spelling_of<A: Allocator + Copy>(
     }
 }
 
-/// What is printed of a request that has a spelling, with this many bytes behind it.
+/// What is printed of a request that has a spelling, with this many bytes after it.
 fn print_asked<A: Allocator + Copy>(
     alloc: A,
     xid: &i32,

@@ -116,7 +116,7 @@ pub fn push_optional_boolean<A: Allocator>(
     }
 }
 
-/// A name with a number behind a dot.
+/// A name with a number after a dot.
 fn numbered<A: Allocator + Copy>(
     alloc: A,
     name: &str,
@@ -131,7 +131,7 @@ fn numbered<A: Allocator + Copy>(
     Ok(word)
 }
 
-/// Adds a line for each text, with its number behind a dot.
+/// Adds a line for each text, with its number after a dot.
 fn push_numbered<A: Allocator + Copy>(
     text: &mut String<A>,
     alloc: A,

@@ -10,7 +10,7 @@ use std::alloc::Allocator;
 use zk_jute::{Cursor, take};
 use zk_limits::LONGEST_INCOMING;
 
-/// The bytes behind a length, which are to be as many as it says.
+/// The bytes after a length, which are to be as many as it says.
 fn checked(len: i32, bytes: &[u8]) -> Result<&[u8], ShowFault>
     ensures gives { MatchResult result (λ payload. payload_behind len bytes.now ≡ Ok payload.now) (λ fault. payload_behind len bytes.now ≡ Err fault) }
     ensures longest { IfOk result (λ payload. length payload.now ≤ LONGEST_INCOMING) }

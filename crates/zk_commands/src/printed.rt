@@ -28,7 +28,7 @@ fn framed<A: Allocator + Copy>(alloc: A, payload: &[u8]) -> Result<Vec<u8, A>, A
     Ok(frame)
 }
 
-/// Adds how many bytes stood behind a record, and the frame of the record alone.
+/// Adds how many bytes stood after a record, and the frame of the record alone.
 pub fn push_end<A: Allocator + Copy>(
     text: &mut String<A>,
     alloc: A,

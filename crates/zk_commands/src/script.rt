@@ -31,7 +31,7 @@ pub trait Plays<A: Allocator + Copy>: Drop {
 }
 
 /// Plays the script on `input`, which is read whole before anything else is done, and prints what its lines print. A line that is
-/// refused is told to `errors` with its number; what stands before it is printed. `Memory` where memory ran out, behind what whole
+/// refused is told to `errors` with its number; what stands before it is printed. `Memory` where memory ran out, after what whole
 /// lines printed, with `halt` where that was in a step of a client; `Stream` where a read of the script or a write of what is
 /// printed failed, or the end of the input did not come by the last read. A connection that fails is no fault.
 pub fn script_over<P: Plays<A>, A: Allocator + Copy, I: Read, O: Write, E: Write>(
@@ -48,7 +48,7 @@ pub fn script_over<P: Plays<A>, A: Allocator + Copy, I: Read, O: Write, E: Write
     ensures fault { result ≡ Status.Fault → (script text : List ℕ) × (number : ℕ) × (why : Why) × IsInput (I.remaining input.old) script
         × P.prints (lines_of script) text (ends.Refused number why) × Appends (O.contents out.old) (O.contents out.new) text
         × Appends (E.contents errors.old) (E.contents errors.new) (refusal_text number why) }
-    // What is written is what the first lines print: of no line a part. The line of a halt stands behind it where a step halted.
+    // What is written is what the first lines print: of no line a part. The line of a halt stands after it where a step halted.
     ensures memory { result ≡ Status.Memory → (script text told : List ℕ) × (end : End) × IsInput (I.remaining input.old) script
         × P.prints (lines_of script) text end × RunsOut end told × Appends (O.contents out.old) (O.contents out.new) (text ++ told) }
     ensures silent { (result ≡ Status.Done) ⊎ (result ≡ Status.Memory) → errors.new ≡ errors.old }

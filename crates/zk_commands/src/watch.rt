@@ -13,7 +13,7 @@ use zk_link::{Clock, Dial};
 use zk_watch::{End, Plan, watch};
 
 /// Watches what a plan names over connections, and prints a line at each change that the client learns, until the plan's time is over.
-/// `Memory` where memory ran out, with the line `halt` behind the others where that was in a step of the client; `Stream` where a
+/// `Memory` where memory ran out, with the line `halt` after the others where that was in a step of the client; `Stream` where a
 /// write of what is printed failed. A connection that fails is no fault.
 pub fn watch_over<A: Allocator + Copy, D: Dial + Drop, C: Clock + Drop, O: Write>(
     alloc: A,
@@ -23,7 +23,7 @@ pub fn watch_over<A: Allocator + Copy, D: Dial + Drop, C: Clock + Drop, O: Write
     out: &mut O,
 ) -> Status
     ensures done { result ≡ Status.Done → (text : List ℕ) × IsPrinted (aims_of plan.entry.subjects.items) text × Appends (O.contents out.old) (O.contents out.new) text }
-    // The line of a halt stands behind what is printed where a step halted.
+    // The line of a halt stands after what is printed where a step halted.
     ensures memory { result ≡ Status.Memory → (text told : List ℕ) × IsPrinted (aims_of plan.entry.subjects.items) text × IsHalt told
         × Appends (O.contents out.old) (O.contents out.new) (text ++ told) }
     ensures fault { result ≢ Status.Fault }

@@ -33,7 +33,7 @@ impl<'a, A: Allocator + Copy> Snapshot<'a, A> {
     ghost use Rattle.zk_conclusions.specs.Seen.{IsServedFrom, tree_seen};
 
     /// What the client shows of the nodes of the first paths, and of the names below the second ones: `Some` exactly where each of
-    /// these answers is kept and good. So to have one, read them all with a watch, and ask again behind each step.
+    /// these answers is kept and good. So to have one, read them all with a watch, and ask again after each step.
     pub fn of(
         client: &'a Client<A>,
         nodes: &'a [Path<A>],

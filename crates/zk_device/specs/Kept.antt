@@ -91,7 +91,7 @@ abbrev pub IsKeptName : (index : ℕ) → Option (Kept cache.Names) → List ℕ
 IsKeptName index None name = name ≡ []
 IsKeptName index (Some kept) name = IsNameAt index kept.answer.names name
 
--- names in byte order, each as zookeeper.jute spells a ustring: behind its length
+-- names in byte order, each as zookeeper.jute spells a ustring: after its length
 pub record AreSpelled (names : Names) (text : List ℕ) : Type 0 where
   pub listed : List (List ℕ)
   pub listing : IsListing names listed

@@ -31,7 +31,7 @@ pub struct Flat {
     /// 1 send, 2 answer, 3 report, 4 state, 5 drop.
     pub kind: i32,
     /// Of an answer 0 for a reply, and 1 to 7 for K1 to K7; of a report the event, 1 to 4; of a state 0 to 4; of a drop 1 frame,
-    /// 2 payload, 3 silence, 4 behind, 5 setWatches.
+    /// 2 payload, 3 silence, 4 after, 5 setWatches.
     pub detail: i32,
     /// Of a reply 1 code, 2 stat, 3 data, 4 names, 5 created, 6 done; of a report 1 for the data and 2 for the children.
     pub result: i32,
@@ -39,7 +39,7 @@ pub struct Flat {
     pub code: i32,
     /// The ticket of an answer.
     pub ticket: u64,
-    /// The zxid of a reply, and the one that came behind.
+    /// The zxid of a reply, and the one that came after.
     pub zxid: i64,
     /// How many bytes its text has.
     pub length: usize,

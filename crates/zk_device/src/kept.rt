@@ -180,7 +180,7 @@ fn name_at(kept: Option<(&Names<Global>, Mark)>, index: usize) -> &[u8]
     }
 }
 
-// The names in byte order, each behind its length. An error is want of memory: a name that came in a frame is never too long.
+// The names in byte order, each after its length. An error is want of memory: a name that came in a frame is never too long.
 fn spelled_names(alloc: Global, names: &Names<Global>) -> Result<Vec<u8>, AllocError>
     ensures { IfOk result (λ text. AreSpelled (names_of names.now.names) text.items) }
 {
@@ -250,7 +250,7 @@ impl Device {
         Ok(copy_into(name_at(kept, index), room))
     }
 
-    /// Copies all names that are kept of a path, in byte order and each behind its length in four bytes, as many bytes of them as
+    /// Copies all names that are kept of a path, in byte order and each after its length in four bytes, as many bytes of them as
     /// there is room for, and tells how many there are. A refusal is as of [`peek_data`](Device::peek_data).
     pub fn peek_names(&self, alloc: Global, path: &[u8], room: &mut [u8]) -> Result<usize, Refusal>
         ensures written { IfOk result (WritesNames ((view_of self.now.client).cache.children path.now) room.old room.new) }

@@ -6,7 +6,7 @@ use Rattle.zk_history.specs.HistoryView.{HistoryView, IsAccepted, newest_tree}
 use Rattle.zk_history.specs.declared.history_fault.HistoryFault.{HistoryFault}
 use Rattle.zk_history.specs.declared.history_fault.HistoryFault.TheVariants.{Place, Order, Illegal, Memory}
 
--- a change stands only behind the beginning of a transaction
+-- a change stands only after the beginning of a transaction
 abbrev pub ChangeRefused : HistoryView → Change → HistoryFault → Type 0
 ChangeRefused kept change Place = kept.transactions ≡ []
 ChangeRefused kept change Order = ⊥

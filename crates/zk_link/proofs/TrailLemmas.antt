@@ -1,4 +1,4 @@
--- Turns, one behind the other.
+-- Turns, one after the other.
 use Rattle.std.proofs.Common.{◌≡◌, ◌≤◌, ◌<◌, length, inl, inr, ℕ, false, true, List, [], ◌∷◌, ◌++◌, refl, sym, subst, ◌∙◌, ◌⊎◌}
 use Rattle.std.specs.Prelude.{Result, Ok, Err, OnOk, IfErr}
 use Rattle.std.specs.List.{FoldsTo}
@@ -48,7 +48,7 @@ come turns old new goes = record { turns = turns; goes = goes; stands = stands_o
 pub nothing : (here : Trail) → Comes here here
 nothing here = come [] here here refl
 
--- what comes first, and what comes behind it
+-- what comes first, and what comes after it
 pub behind : (old between new : Trail) → Comes old between → Comes between new → Comes old new
 behind old between new first second =
     come (first.turns ++ second.turns) old new (folds_behind Goes first.turns second.turns old between new first.goes second.goes)
@@ -65,7 +65,7 @@ halts stop turns old between new takes fails = record { turns = turns; between =
 pub at_once : (stop : Stop) (old new : Trail) → Fails stop old new → Stops stop old new
 at_once stop old new fails = halts stop [] old old new refl fails
 
--- behind turns
+-- after turns
 pub stops_behind : (stop : Stop) (old between new : Trail) → Comes old between → Stops stop between new → Stops stop old new
 stops_behind stop old between new comes stops =
     halts stop (comes.turns ++ stops.turns) old stops.between new
@@ -139,7 +139,7 @@ module _ (old : Trail) (bytes : List ℕ) (new : Trail) (may : old.is_open ≡ t
   pub brings_stops : (stop : Stop) → FailsThen stop old (Bytes bytes) new → Stops stop old new
   brings_stops stop = stops_then old old new (Bytes bytes) (bytes_take old bytes may) stop refl refl
 
--- a call, behind a moment
+-- a call, after a moment
 module _ (old before : Trail) (ticket : ℕ) (asked : call.Call) (new : Trail) (first : Comes old before) where
   pub asks : HearsThen before (Call ticket asked) new → Asks old (Call ticket asked) new
   asks h =
@@ -179,7 +179,7 @@ pub stops_to_same : {X : Type 0} (result : Result X Stop) (old new same : Trail)
 stops_to_same result old new same e =
     if_err (λ stop. Stops stop old new) (λ stop. Stops stop old same) result (λ stop. subst (λ (t : Trail). Stops stop old t) (sym e))
 
--- behind turns that came
+-- after turns that came
 module _ {X : Type 0} (result : Result X Stop) (old between new : Trail) (first : Comes old between) where
   pub ok_behind : OnOk result (Comes between new) → OnOk result (Comes old new)
   ok_behind = on_ok (Comes between new) (Comes old new) result (behind old between new first)

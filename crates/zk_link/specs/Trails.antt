@@ -31,17 +31,17 @@ bare_of joint = record { view = view_of joint.client; is_open = is_some joint.st
 abbrev pub trail_of : {A S : Type 0} → Joint A S → List (Made A) → Trail
 trail_of joint outputs = record { view = view_of joint.client; is_open = is_some joint.stream; latest = joint.latest; given = said outputs }
 
--- whether a connection is there behind an input, where nothing that is said ends it
+-- whether a connection is there after an input, where nothing that is said ends it
 abbrev pub opened : Input → Bool → Bool
 opened Opened is_open = true
 opened Cut is_open = false
 opened _ is_open = is_open
 
--- and behind what is said
+-- and after what is said
 abbrev pub kept : List Output → Bool → Bool
 kept outputs is_open = if list_any ends_connection outputs then false else is_open
 
--- the latest moment behind an input
+-- the latest moment after an input
 abbrev pub latest_after : Input → ℕ → ℕ
 latest_after (Now moment) latest = moment
 latest_after _ latest = latest
@@ -69,18 +69,18 @@ IsOwn _ = ⊤
 abbrev pub Goes : Trail → Turn → Trail → Type 0
 Goes old turn new = IsOwn turn.input × Takes old turn new
 
--- these turns, the oldest first, behind these items
+-- these turns, the oldest first, after these items
 abbrev pub onto : List Turn → List Item → List Item
 onto [] items = items
 onto (turn ∷ turns) items = onto turns (Turned turn ∷ items)
 
--- Turns of the link's own making, the oldest first. Who stood before them stands behind them.
+-- Turns of the link's own making, the oldest first. Who stood before them stands after them.
 pub record Comes (old new : Trail) : Type 0 where
   pub turns : List Turn
   pub goes : FoldsTo Goes old turns new
   pub stands : (start : Start) (items : List Item) → Stands start items old.view → Stands start (onto turns items) new.view
 
--- A call is handed in once: turns of the link's own making stand before it and behind it.
+-- A call is handed in once: turns of the link's own making stand before it and after it.
 pub record Asks (old : Trail) (input : Input) (new : Trail) : Type 0 where
   pub before : Trail
   pub first : Comes old before

@@ -21,7 +21,7 @@ pub trait Dial {
     fn dial(&mut self, address: &str, within_ms: u64) -> io::Result<Self::Stream>;
 }
 
-/// Addresses whose turn comes one after the other, from the first on, and behind the last the first again.
+/// Addresses whose turn comes one after the other, from the first on, and after the last the first again.
 #[derive(Drop)]
 pub struct Ring<'a> {
     addresses: &'a [&'a str],

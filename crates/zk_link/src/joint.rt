@@ -132,7 +132,7 @@ impl<A: Allocator + Copy, S: Stream> Joint<A, S> {
     }
 
     /// What the connection brings within so many milliseconds, at least 1, and a tenth longer and 2 where it takes nothing of what is left
-    /// to be written. Where there is none, it is over. Of what is left to be written the first bytes alone may be gone behind it.
+    /// to be written. Where there is none, it is over. Of what is left to be written the first bytes alone may be gone after it.
     pub fn read(&mut self, ms: u64) -> Result<Brought<A>, AllocError>
         ensures trail { bare_of self.new ≡ bare_of self.old }
         ensures unsent { IsLeftOf self.old.unsent.items self.new.unsent.items }
@@ -150,7 +150,7 @@ impl<A: Allocator + Copy, S: Stream> Joint<A, S> {
         self.exchange(left.max(1))
     }
 
-    /// Puts what goes to the server behind what is left to be written, where there is a connection, and writes as much as it takes for now.
+    /// Puts what goes to the server after what is left to be written, where there is a connection, and writes as much as it takes for now.
     /// Whether the connection has not failed.
     fn write(&mut self, outputs: &[Output<A>]) -> Result<bool, AllocError>
         ensures client { self.new.client ≡ self.old.client }
@@ -203,7 +203,7 @@ impl<A: Allocator + Copy, S: Stream> Joint<A, S> {
     }
 
     /// Hands the client one input, and does what it says: what goes to the server is written, the connection that is over with an output
-    /// is let go, and the rest is given, behind what `outputs` has. Whether the connection has not failed: where it has, it is over, and
+    /// is let go, and the rest is given, after what `outputs` has. Whether the connection has not failed: where it has, it is over, and
     /// [`cut`](Joint::cut) is due. What it does not take for now is written before the next reads. What a moment makes due is heard by
     /// [`Input::Now`].
     ///
@@ -232,7 +232,7 @@ impl<A: Allocator + Copy, S: Stream> Joint<A, S> {
         Ok(())
     }
 
-    /// Hands the client one input. Where the connection has failed, it is over behind it.
+    /// Hands the client one input. Where the connection has failed, it is over after it.
     fn take(&mut self, input: Input<A>, outputs: &mut Vec<Output<A>, A>) -> Result<(), Stop>
         ensures ok { OnOk result (HearsThen (trail_of self.old outputs.old.items) (input_view input) (trail_of self.new outputs.new.items)) }
         ensures latest { self.new.latest ≡ self.old.latest }

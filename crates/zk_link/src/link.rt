@@ -128,7 +128,7 @@ impl<'a, A: Allocator + Copy, D: Dial + Drop, C: Clock + Drop> Link<'a, A, D, C>
     ///
     /// No read and no attempt to connect waits past this moment, but for 1 millisecond: an attempt that is to succeed needs a moment that is
     /// far enough. A write waits for room for 16 milliseconds at most, and what the connection does not take is written later; a server that
-    /// takes nothing answers nothing, and is left as a silent one. Behind a session that is over it returns at once.
+    /// takes nothing answers nothing, and is left as a silent one. After a session that is over it returns at once.
     #[tactic(auto, using(crate::proofs::TrailLemmas::more_given))]
     pub fn go_on(&mut self, until: u64, outputs: &mut Vec<Output<A>, A>) -> Result<(), Stop>
         ensures ok { OnOk result (Comes (trail_of self.old.joint outputs.old.items) (trail_of self.new.joint outputs.new.items)) }

@@ -15,7 +15,7 @@ const PIECE: usize = 262_144;
 /// The most writes that are made at once.
 const WRITES: u32 = 16;
 
-/// Puts the frame, where the output is one, behind what is left of those before.
+/// Puts the frame, where the output is one, after what is left of those before.
 fn queue_one<A: Allocator>(output: &Output<A>, unsent: &mut Vec<u8, A>) -> Result<(), AllocError>
     ensures { OnOk result (unsent.new.items ≡ unsent.old.items ++ frame_in (output_view output.now)) }
 {
@@ -25,7 +25,7 @@ fn queue_one<A: Allocator>(output: &Output<A>, unsent: &mut Vec<u8, A>) -> Resul
     }
 }
 
-/// Puts the frames that go to the server behind what is left of those before.
+/// Puts the frames that go to the server after what is left of those before.
 pub(crate) fn queue<A: Allocator>(
     outputs: &[Output<A>],
     unsent: &mut Vec<u8, A>,

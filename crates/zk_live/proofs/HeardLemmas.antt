@@ -1,4 +1,4 @@
--- What a connection brings, one piece behind another.
+-- What a connection brings, one piece after another.
 use Rattle.std.proofs.Common.{◌≡◌, inl, inr, ℕ, Bool, false, List, [], ◌∷◌, ◌++◌, refl, subst, ap, ◌∙◌}
 use Rattle.std.specs.List.{filter, FoldsTo}
 use Rattle.zk_turns.specs.Turns.{Input, Opened, Bytes, Cut, Cuts, Output, Send, Answer, Report, Enters, Drop}
@@ -66,7 +66,7 @@ both_heard : (first second : List Input) (old between new : Tape) → FoldsTo He
 both_heard [] second old between new same rest = rw same rest
 both_heard (input ∷ first) second old between new heard rest = (heard.0, heard.1, both_heard first second heard.0 between new heard.2 rest)
 
--- what comes first, and what comes behind it
+-- what comes first, and what comes after it
 pub behind : (old between new : Tape) → Brings old between → Brings between new → Brings old new
 behind old between new first second = record {
   inputs = first.inputs ++ second.inputs;
@@ -109,7 +109,7 @@ pub fails : (old : Tape) (view : View) (before after : List ℕ) → MayEnd old 
     → Connects old (tape view after)
 fails old view before after ends are = record { between = tape view before; ends = ends; begins = inr (ap (tape view) are) }
 
--- the end, behind what came
+-- the end, after what came
 pub ended : (old between new : Tape) → Brings old between → Hears between Cut new → Brings old new
 ended old between new brings hears = behind old between new brings (one between new Cut tt hears)
 
@@ -141,7 +141,7 @@ if_halted a b (stops.Refused fault) to h = tt
 if_halted a b stops.Halted to h = to h
 if_halted a b stops.Memory to h = tt
 
--- a halt at a piece, or where the connection ends behind it
+-- a halt at a piece, or where the connection ends after it
 pub halts_piece : (old new : Tape) (bytes : List ℕ) (stop : Stop) → IfHalted (HaltsAmong old (Bytes bytes ∷ Cut ∷ []) new) stop → IfHalted (HaltsBrought old new) stop
 halts_piece old new bytes stop =
     if_halted (HaltsAmong old (Bytes bytes ∷ Cut ∷ []) new) (HaltsBrought old new) stop
@@ -164,11 +164,11 @@ brought_behind old between new brings halts = record {
   halts = among_behind brings.inputs halts.inputs old between new brings.heard halts.halts;
 }
 
--- a halt behind what came
+-- a halt after what came
 pub halts_behind : (old between new : Tape) (stop : Stop) → Brings old between → IfHalted (HaltsBrought between new) stop → IfHalted (HaltsBrought old new) stop
 halts_behind old between new stop brings = if_halted (HaltsBrought between new) (HaltsBrought old new) stop (brought_behind old between new brings)
 
--- a halt at the end, behind what came
+-- a halt at the end, after what came
 pub halts_ended : (old between new : Tape) (stop : Stop) → Brings old between → IfHalted (Halts between Cut new) stop → IfHalted (HaltsBrought old new) stop
 halts_ended old between new stop brings halts = halts_behind old between new stop brings (halts_cut between new stop halts)
 

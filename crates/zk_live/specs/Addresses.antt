@@ -4,7 +4,7 @@ use Rattle.std.specs.List.{position_or_len, before_first, after_first}
 use Rattle.zk_nodes.specs.Path.{Text}
 use Rattle.zk_script.specs.Numbers.{natural_of}
 
--- what stands before the first byte of this value, and what stands behind it
+-- what stands before the first byte of this value, and what stands after it
 abbrev pub parted : ℕ → Text → Option (Text × Text)
 parted separator text =
     if nat_lt (position_or_len (λ b. b == separator) text) (length text)
@@ -22,7 +22,7 @@ is_some_port None = false
 abbrev pub is_port : Text → Bool
 is_port word = is_some_port (natural_of 65535 word)
 
--- the one before a separator and the other behind it
+-- the one before a separator and the other after it
 abbrev pub both : (Text → Bool) → (Text → Bool) → Option (Text × Text) → Bool
 both one other (Some parts) = one parts.0 && other parts.1
 both one other None = false

@@ -13,7 +13,7 @@ pub data Begun : Type 0 where
   Begins : BeginValue → Begun
   Spoilt : ℕ → ScriptFault → Begun
 
--- by a line and its number, and the lines behind it
+-- by a line and its number, and the lines after it
 abbrev pub decided : ℕ → Result (Option BeginValue) ScriptFault → Begun → Begun
 decided number (Ok None) behind = behind
 decided number (Ok (Some value)) behind = Begins value

@@ -27,7 +27,7 @@ pub record Tape : Type 0 where
 abbrev pub tape : View → List ℕ → Tape
 tape view printed = record { view = view; printed = printed }
 
--- A client takes an input by the rule, and what is printed of its outputs stands behind what was printed.
+-- A client takes an input by the rule, and what is printed of its outputs stands after what was printed.
 pub record Hears (old : Tape) (input : Input) (new : Tape) : Type 0 where
   pub outputs : List Output
   pub told : List ℕ
@@ -105,7 +105,7 @@ pub record HaltsBrought (old new : Tape) : Type 0 where
   pub brought : AllBrought inputs
   pub halts : HaltsAmong old inputs new
 
--- It halts at an input, or at one that comes from the connection behind it.
+-- It halts at an input, or at one that comes from the connection after it.
 pub record HaltsAwaiting (old : Tape) (input : Input) (new : Tape) : Type 0 where
   pub inputs : List Input
   pub brought : AllBrought inputs

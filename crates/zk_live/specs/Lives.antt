@@ -53,7 +53,7 @@ position view begun = record { view = view; begun = begun }
 abbrev pub position_of : {A D S : Type 0} → Session A D S → Position
 position_of session = position (view_of session.link.joint.client) session.is_begun
 
--- What a line makes of where a script stands, and what it prints. Behind the first that says something, lines have begun.
+-- What a line makes of where a script stands, and what it prints. After the first that says something, lines have begun.
 abbrev pub Does : LiveValue → Position → Position → List ℕ → Type 0
 Does value old new text = DoesLive value old.view new.view text × (new.begun ≡ true)
 

@@ -56,7 +56,7 @@ pub enum LiveLine<A: Allocator> {
     Client(ClientLine<A>),
 }
 
-/// The session that the words behind `resume` take up: its number, its password and the last seen zxid.
+/// The session that the words after `resume` take up: its number, its password and the last seen zxid.
 fn parse_resume<A: Allocator + Copy>(alloc: A, words: &[&[u8]]) -> Result<BeginLine<A>, ScriptFault>
     ensures value { Reads begin_value_of result (resume_at (map (λ w. w.now) words.now)) }
     ensures can { IfOk result (λ line. CanBegin (begin_value_of line)) }
@@ -68,7 +68,7 @@ fn parse_resume<A: Allocator + Copy>(alloc: A, words: &[&[u8]]) -> Result<BeginL
     parse_begin_line(alloc, BeginKeyword::Resume, words.as_slice())
 }
 
-/// The line of a keyword and the words behind it. A session is taken up by the first line alone.
+/// The line of a keyword and the words after it. A session is taken up by the first line alone.
 #[tactic(auto, using(zk_script::proofs::ReadLemmas::alone_reads))]
 fn parse_placed<A: Allocator + Copy>(
     alloc: A,

@@ -11,7 +11,7 @@ use Rattle.zk_bench.specs.Stepping.{IsReady, phase_of, shown_of}
 use Rattle.zk_bench.proofs.Stepped.{ready_disconnected}
 use Rattle.zk_rehearse.specs.Heard.{heard, heard_all}
 
--- where bytes are sent, the connected server has them behind those that wait
+-- where bytes are sent, the connected server has them after those that wait
 sent_shown : (bench : Served) (bytes : List ℕ) (phase : Phase)
     → shown_of (if is_open phase then with_requests bench bytes else bench) ≡ record (shown_of bench) { requests = more_requests (phase_of phase) bench.connection.requests bytes }
 sent_shown bench bytes Apart = refl

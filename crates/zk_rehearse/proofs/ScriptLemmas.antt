@@ -10,7 +10,7 @@ use Rattle.zk_rehearse.specs.Scripts.{rules, IsAt}
 use Rattle.zk_rehearse.proofs.Agreeing.{line_agrees}
 use Rattle.zk_rehearse.proofs.Serving.{line_served}
 
--- where servers of the laws have served the client, a line says so of it, and they have served it behind the line too
+-- where servers of the laws have served the client, a line says so of it, and they have served it after the line too
 pub moved : {A Y : Type 0} (line : Text) (old before : Position) (after : Rehearsal A) (r : Result (String Y) Stop) → IfOk r (λ text. TakesLine line before (position_of after) (string_bytes text))
     → before ≡ old → IsServedAt old → IfOk r (λ text. (new : Position) × rules.Takes line old new (string_bytes text) × IsAt after new)
 moved line old before after (Ok text) takes is served =

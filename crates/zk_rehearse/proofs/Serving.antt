@@ -284,7 +284,7 @@ module _ (old new : Scene) (s : IsServed old) where
       at true open_now = opened open_now (is_up old.view) refl
       at false shut = stays (p.idle shut)
 
-  -- a line behind the one that makes the client
+  -- a line after the one that makes the client
   pub bench_line_served : (value : BenchValue) (text : List ℕ) → DoesBench value old new text → IsServed new
   bench_line_served (OpenLine server) text does = open_served (server - 1) text does
   bench_line_served (TakeLine server) text does = take_served (server - 1) does.0 does.1

@@ -1,4 +1,4 @@
--- The lines behind the one that makes the client.
+-- The lines after the one that makes the client.
 use Rattle.std.specs.Prelude.{ℕ, ◌==◌, nat_le, if◌then◌else◌, List, [], ◌∷◌, codes, Option, Some, None, Result, Ok, Err}
 use Rattle.std.specs.List.{list_all}
 use Rattle.zk_nodes.specs.Path.{Text}
@@ -65,7 +65,7 @@ deliver_at (most ∷ []) = do
   Ok (DeliverLine number)
 deliver_at words = Err Words
 
--- what the words behind a keyword say
+-- what the words after a keyword say
 abbrev pub bench_words_at : BenchKeyword → List Text → Result BenchValue ScriptFault
 bench_words_at keyword.Open words = open_at words
 bench_words_at keyword.Take words = take_at words

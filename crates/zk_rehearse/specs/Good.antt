@@ -101,7 +101,7 @@ agreeing side (Some kept) path = if_good kept.mark (verdict_line side path true)
 abbrev pub agreeing_path : View → Text → List ℕ
 agreeing_path client path = agreeing Data (client.cache.nodes path) path ++ agreeing Child (client.cache.children path) path
 
--- the same of paths, one behind the other
+-- the same of paths, one after the other
 abbrev pub agreeing_paths : View → List Text → List ℕ
 agreeing_paths client [] = []
 agreeing_paths client (path ∷ paths) = agreeing_path client path ++ agreeing_paths client paths

@@ -30,7 +30,7 @@ or_other (Some history) word = Some keyword.History
 abbrev pub keyword_of : Text → Option Keyword
 keyword_of word = or_other (history_keyword_of word) word
 
--- A line of the history; the one that makes the client, with its timeout; or one behind it.
+-- A line of the history; the one that makes the client, with its timeout; or one after it.
 pub data RehearseValue : Type 0 where
   HistoryLine : RehearseValue
   BeginLine : ℤ → RehearseValue
@@ -54,7 +54,7 @@ begin_words_at words = Err Words
 abbrev pub begin_at : List Text → Result ℤ ScriptFault
 begin_at words = if list_all is_printed words then begin_words_at words else Err Words
 
--- the history is made before the client, and the client is driven behind it
+-- the history is made before the client, and the client is driven after it
 abbrev pub placed_at : Keyword → (begun : Bool) → List Text → Result RehearseValue ScriptFault
 placed_at keyword.History false words = Ok HistoryLine
 placed_at keyword.Begin false words = begin_at words >>= λ timeout. Ok (BeginLine timeout)
@@ -66,7 +66,7 @@ known_at None begun words = Err Unknown
 known_at (Some word) begun words = placed_at word begun words
 
 -- What the words of a line say, and nothing where there are none and for a remark; or the first fault of the words: no such
--- line, a line that may not stand here, a fault of the words behind the first. The words of a line of the history are not looked
+-- line, a line that may not stand here, a fault of the words after the first. The words of a line of the history are not looked
 -- at here.
 abbrev pub says_at : List Text → (begun : Bool) → Result (Option RehearseValue) ScriptFault
 says_at words begun = says_by (λ first behind. known_at (keyword_of first) begun behind) words

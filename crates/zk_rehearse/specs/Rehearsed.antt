@@ -66,7 +66,7 @@ abbrev pub Agrees : Text → Position → List ℕ → Type 0
 Agrees line (Told told) text = ⊤
 Agrees line (Staged scene) text = says_at (words_of line) true ≡ Ok (Some (BenchValueLine GoodLine)) → TellsAgreeing scene text
 
--- The client halts at what a line says that is one behind the line that makes it.
+-- The client halts at what a line says that is one after the line that makes it.
 abbrev pub HaltsBenchLine : BenchValue → Position → Position → Type 0
 HaltsBenchLine value (Staged old) (Staged new) = HaltsBench value old new
 HaltsBenchLine value old new = ⊥

@@ -1,4 +1,4 @@
--- What the lines behind the one that makes the client make of it and of the servers, and what they print.
+-- What the lines after the one that makes the client make of it and of the servers, and what they print.
 use Rattle.std.specs.Prelude.{◌≡◌, ◌≢◌, ◌-◌, ◌+◌, unsigned_abs, ℕ, ℤ, true, false, List, [], ◌∷◌, take, drop, Option, Some, None}
 use Rattle.std.specs.FinSet as set
 use Rattle.zk_frames.specs.Frame.{IsNegative}

@@ -1,4 +1,4 @@
-//! The lines behind the one that makes the client.
+//! The lines after the one that makes the client.
 
 ghost use Rattle.std.specs.Prelude.{◌≡◌, map};
 ghost use Rattle.zk_script.specs.Reads.{Reads};
@@ -52,7 +52,7 @@ impl BenchKeyword {
     }
 }
 
-/// A line behind the one that makes the client.
+/// A line after the one that makes the client.
 #[derive(Drop)]
 pub enum BenchLine<A: Allocator> {
     /// A connection to a server begins.
@@ -86,7 +86,7 @@ fn parse_deliver<A: Allocator + Copy>(words: &[&[u8]]) -> Result<BenchLine<A>, S
     }
 }
 
-/// The line of a keyword and the words behind it.
+/// The line of a keyword and the words after it.
 #[tactic(auto, using(zk_script::proofs::ReadLemmas::alone_reads))]
 pub fn parse_bench_line<A: Allocator + Copy>(
     alloc: A,

@@ -57,7 +57,7 @@ impl<A: Allocator + Copy> Rehearsal<A> {
         drop(mem::replace(&mut self.rig, Some(rig)));
     }
 
-    /// Does what a line behind the one that makes the client says.
+    /// Does what a line after the one that makes the client says.
     fn perform(&mut self, alloc: A, line: BenchLine<A>) -> Result<String<A>, Stop>
         requires { is_begun (position_of self.old) ≡ true }
         ensures ok { IfOk result (λ text. DoesBenchLine (bench_value_of line) (position_of self.old) (position_of self.new) (string_bytes text)) }

@@ -19,7 +19,7 @@ pub enum Said<A: Allocator> {
     History,
     /// The client is made, with this timeout in milliseconds.
     Begin(i32),
-    /// A line behind that.
+    /// A line after that.
     Bench(BenchLine<A>),
 }
 

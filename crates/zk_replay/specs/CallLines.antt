@@ -72,7 +72,7 @@ abbrev pub numbered_at : Text → List Text → Result Asked ScriptFault
 numbered_at ticket [] = Err Words
 numbered_at ticket (kind ∷ words) = kind_read kind >>= λ k. kind_at k ticket words
 
--- the words behind `call`: the number, the kind, and what the kind asks for
+-- the words after `call`: the number, the kind, and what the kind asks for
 abbrev pub call_at : List Text → Result Asked ScriptFault
 call_at [] = Err Words
 call_at (ticket ∷ words) = numbered_at ticket words

@@ -45,7 +45,7 @@ peek_at (side ∷ path ∷ []) = do
   Ok (PeekLine which place)
 peek_at words = Err Words
 
--- what the words behind a keyword say
+-- what the words after a keyword say
 abbrev pub client_words_at : ClientKeyword → List Text → Result ClientValue ScriptFault
 client_words_at keyword.Cut words = alone CutLine words
 client_words_at keyword.Now words = now_at words

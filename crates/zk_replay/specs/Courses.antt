@@ -41,7 +41,7 @@ AddsClient value old new text = DoesBy AddsTurn (λ course. view_at course.start
 abbrev pub AddsDrive : DriveValue → Course → Course → List ℕ → Type 0
 AddsDrive value old new text = DrivesBy AddsTurn AddsClient value old new text
 
--- the line that makes the client begins the course, and each behind it goes on with one that had begun
+-- the line that makes the client begins the course, and each after it goes on with one that had begun
 abbrev pub Adds : ReplayValue → Option Course → Option Course → List ℕ → Type 0
 Adds (Begins value) old new text = (old ≡ None) × (new ≡ Some (record { start = start_of value; items = [] })) × (text ≡ [])
 Adds (Drives value) old new text = GoesOn (AddsDrive value) old new text

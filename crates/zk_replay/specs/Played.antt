@@ -47,7 +47,7 @@ DoesBy Turns seen forgets ForgetLine old new text = (new ≡ forgets old) × (te
 abbrev pub DoesClient : ClientValue → View → View → List ℕ → Type 0
 DoesClient value old new text = DoesBy TakesTurn (λ view. view) (λ view. record view { cache = forgotten view.cache }) value old new text
 
--- What a line behind the first does: a connection begins or bytes come, which is a turn, or what lines do at any other end.
+-- What a line after the first does: a connection begins or bytes come, which is a turn, or what lines do at any other end.
 abbrev pub DrivesBy : {S : Type 0} → (Input → S → S → List ℕ → Type 0) → (ClientValue → S → S → List ℕ → Type 0) → DriveValue → S → S → List ℕ → Type 0
 DrivesBy Turns Does OpenedLine old new text = Turns Opened old new text
 DrivesBy Turns Does (BytesLine bytes) old new text = Turns (Bytes bytes) old new text

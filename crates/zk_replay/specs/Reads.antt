@@ -50,7 +50,7 @@ unfoldable pub bytes_at : List ℕ → Result (List ℕ) ScriptFault
 bytes_at word = data_at word >>= λ bytes. ok_or bytes Hex
 
 -- A password of more bytes than a server can bring is none of the words allowed, which is told before a number that is none. A
--- word that is no hex is told behind it.
+-- word that is no hex is told after it.
 abbrev pub password_read : Result (List ℕ) ScriptFault → Result (Option (List ℕ)) ScriptFault
 password_read (Ok bytes) = if nat_le (length bytes) LONGEST_PASSWORD then Ok (Some bytes) else Err Words
 password_read (Err fault) = Ok None

@@ -55,7 +55,7 @@ abbrev pub CanBegin : BeginValue → Type 0
 CanBegin (TimeoutLine timeout) = pos 0 <ℤ timeout
 CanBegin (ResumeLine timeout session password last) = (pos 0 <ℤ timeout) × (pos 0 ≤ℤ last) × (length password ≤ LONGEST_PASSWORD)
 
--- A line behind it
+-- A line after it
 
 abbrev pub drive_keyword_of : Text → Option DriveKeyword
 drive_keyword_of word = keyword_or_client ((codes "opened", drive_keyword.Opened) ∷ (codes "bytes", drive_keyword.Bytes) ∷ []) drive_keyword.Client word
@@ -102,6 +102,6 @@ known_at None begun words = Err Unknown
 known_at (Some word) begun words = placed_at word begun words
 
 -- What the words of a line say, and nothing where there are none and for a remark; or the first fault of the words: no such
--- line, a line that may not stand here, a fault of the words behind the first.
+-- line, a line that may not stand here, a fault of the words after the first.
 abbrev pub says_at : List Text → (begun : Bool) → Result (Option ReplayValue) ScriptFault
 says_at words begun = says_by (λ first behind. known_at (keyword_of first) begun behind) words

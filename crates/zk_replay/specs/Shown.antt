@@ -24,7 +24,7 @@ use Rattle.zk_script.specs.Lines.{line, TellsInOrder}
 use Rattle.zk_script.specs.Words.{bytes_word, text_word}
 use Rattle.zk_replay.specs.FaultTexts.{fault_values}
 
--- the six numbers of a Stat behind the first five, in wire order
+-- the six numbers of a Stat after the first five, in wire order
 unfoldable pub back_words : Stat → List ℕ
 back_words s =
     spaced (signed_decimal s.cversion) ++ (spaced (signed_decimal s.aversion) ++ (spaced (signed_decimal s.ephemeral_owner)

@@ -90,7 +90,7 @@ fn parse_resume<A: Allocator + Copy>(alloc: A, words: &[&[u8]]) -> Result<BeginL
     parse_saved(alloc, timeout, session, password, last)
 }
 
-/// The line of a keyword and the words behind it.
+/// The line of a keyword and the words after it.
 pub fn parse_begin_line<A: Allocator + Copy>(
     alloc: A,
     keyword: BeginKeyword,

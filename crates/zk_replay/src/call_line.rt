@@ -167,7 +167,7 @@ fn parse_kind<A: Allocator + Copy>(
     }
 }
 
-/// The call that its number and the words behind it ask for.
+/// The call that its number and the words after it ask for.
 fn parse_numbered<A: Allocator + Copy>(
     alloc: A,
     ticket: &[u8],
@@ -182,7 +182,7 @@ fn parse_numbered<A: Allocator + Copy>(
     parse_kind(alloc, kind, ticket, words)
 }
 
-/// The call that the words behind `call` ask for: its number, its kind, and what the kind asks for.
+/// The call that the words after `call` ask for: its number, its kind, and what the kind asks for.
 pub(crate) fn parse_call<A: Allocator + Copy>(
     alloc: A,
     words: &[&[u8]],

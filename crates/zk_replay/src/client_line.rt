@@ -87,7 +87,7 @@ fn parse_peek<A: Allocator + Copy>(alloc: A, words: &[&[u8]]) -> Result<ClientLi
     Ok(ClientLine::Peek(side, path))
 }
 
-/// The line of a keyword and the words behind it.
+/// The line of a keyword and the words after it.
 #[tactic(auto, using(zk_script::proofs::ReadLemmas::alone_reads))]
 pub fn parse_client_line<A: Allocator + Copy>(
     alloc: A,

@@ -1,4 +1,4 @@
-//! The lines behind the one that makes the client.
+//! The lines after the one that makes the client.
 
 ghost use Rattle.std.specs.Prelude.{◌≡◌, map};
 ghost use Rattle.zk_script.specs.Reads.{Reads};
@@ -37,7 +37,7 @@ impl DriveKeyword {
     }
 }
 
-/// A line behind the one that makes the client.
+/// A line after the one that makes the client.
 #[derive(Drop)]
 pub enum DriveLine<A: Allocator> {
     /// A connection begins.
@@ -67,7 +67,7 @@ fn parse_printed_piece<A: Allocator + Copy>(
     parse_piece(alloc, words)
 }
 
-/// The line of a keyword and the words behind it.
+/// The line of a keyword and the words after it.
 #[tactic(auto, using(zk_script::proofs::ReadLemmas::alone_reads))]
 pub fn parse_drive_line<A: Allocator + Copy>(
     alloc: A,

@@ -83,7 +83,7 @@ impl<A: Allocator + Copy> Player<A> {
         replayed(alloc, client, line)
     }
 
-    /// Does what the words behind a keyword say.
+    /// Does what the words after a keyword say.
     fn take(&mut self, alloc: A, keyword: Keyword, words: &[&[u8]]) -> Result<String<A>, Stop>
         ensures ok { IfOk result (λ text. DoesSaid (placed_at keyword (is_some (view_of_player self.old)) (map (λ w. w.now) words.now)) (view_of_player self.old) (view_of_player self.new) (string_bytes text)) }
         ensures err { IfErr result (IsDueBy (placed_at keyword (is_some (view_of_player self.old)) (map (λ w. w.now) words.now))) }

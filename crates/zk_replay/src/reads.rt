@@ -140,7 +140,7 @@ pub(crate) fn parse_bytes<A: Allocator + Copy>(
     }
 }
 
-/// The password that a word stands for, and none where the word is no hex: that is told behind a number that is none. A
+/// The password that a word stands for, and none where the word is no hex: that is told after a number that is none. A
 /// password of more bytes than a server can bring is none of the words allowed.
 #[tactic(auto, unfolding(crate::specs::Reads::password_at))]
 pub(crate) fn parse_password<A: Allocator + Copy>(

@@ -18,7 +18,7 @@ use zk_script::values::{
     push_data_word, push_front, push_name, push_numbers, push_value, push_word,
 };
 
-/// Adds the six numbers of a Stat behind the first five, a space before each.
+/// Adds the six numbers of a Stat after the first five, a space before each.
 #[tactic(auto, unfolding(crate::specs::Shown::back_words))]
 fn push_back<A: Allocator + Copy>(
     text: &mut String<A>,

@@ -27,7 +27,7 @@ pub all_taken : {S : Type 0} (rules : Rules S) (here : Progress S) (lines : List
     → FoldsTo (Goes rules) here (texts (take at lines)) (progress end text) → Prints rules here (texts lines) text
 all_taken rules here lines at end text past taken = record { end = end; taken = rw take_all at taken }
 
--- the lines before one, that one, and those behind it
+-- the lines before one, that one, and those after it
 parted : (lines : List (Bor Text)) (at : ℕ) (none : Bor Text) → at < length lines
     → texts lines ≡ texts (take at lines) ++ (get_or lines at none).now ∷ texts (drop (at + 1) lines)
 parted lines at none within =
@@ -36,7 +36,7 @@ parted lines at none within =
     ap (map (λ p. p.now)) (sym (take-append-drop at lines))
     ∙ (map-append (λ p. p.now) (take at lines) (drop at lines) ∙ ap (λ rest. map (λ p. p.now) (take at lines) ++ map (λ p. p.now) rest) left)
 
--- what stands when the line behind those is not done
+-- what stands when the line after those is not done
 pub stopped : {S : Type 0} (rules : Rules S) (here : Progress S) (lines : List (Bor Text)) (at : ℕ) (none : Bor Text) (end : S) (text : List ℕ) (stop : Stop)
     → at < length lines → FoldsTo (Goes rules) here (texts (take at lines)) (progress end text) → IsDue rules (get_or lines at none).now end stop
     → IsTranscript rules here (texts lines) text (end_at (at + 1) stop)

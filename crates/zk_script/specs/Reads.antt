@@ -30,7 +30,7 @@ abbrev pub only : List Text → Result Text ScriptFault
 only (word ∷ []) = Ok word
 only words = Err Words
 
--- what a keyword stands for behind which there are no words
+-- what a keyword stands for after which there are no words
 abbrev pub alone : {X : Type 0} → X → List Text → Result X ScriptFault
 alone value [] = Ok value
 alone value words = Err Words

@@ -12,7 +12,7 @@ abbrev pub something : {X : Type 0} → Result X ScriptFault → Result (Option 
 something (Ok value) = Ok (Some value)
 something (Err fault) = Err fault
 
--- the first word of a line and those behind it, unless there are none or it is a remark
+-- the first word of a line and those after it, unless there are none or it is a remark
 abbrev pub split_keyword : List Text → Option (Text × List Text)
 split_keyword [] = None
 split_keyword (first ∷ words) = if is_remark first then None else Some (first, words)
@@ -21,7 +21,7 @@ abbrev pub says_split : {X : Type 0} → (Text → List Text → Result X Script
 says_split reading None = Ok None
 says_split reading (Some line) = something (reading line.0 line.1)
 
--- What the words of a line say, by the first and those behind it: nothing where there are none and for a remark.
+-- What the words of a line say, by the first and those after it: nothing where there are none and for a remark.
 abbrev pub says_by : {X : Type 0} → (Text → List Text → Result X ScriptFault) → List Text → Result (Option X) ScriptFault
 says_by reading words = says_split reading (split_keyword words)
 

@@ -26,7 +26,7 @@ pub record Progress (S : Type 0) : Type 0 where
 abbrev pub progress : {S : Type 0} → S → List ℕ → Progress S
 progress position printed = record { position = position; printed = printed }
 
--- one line further: what it prints stands behind what was printed
+-- one line further: what it prints stands after what was printed
 abbrev pub Goes : {S : Type 0} → Rules S → Progress S → Text → Progress S → Type 0
 Goes rules old line new = (text : List ℕ) × rules.Takes line old.position new.position text × (new.printed ≡ old.printed ++ text)
 

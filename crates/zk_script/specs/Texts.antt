@@ -11,7 +11,7 @@ digit_of b =
     else (if nat_le 97 b && nat_le b 102 then Some (b - 97 + 10)
     else (if nat_le 65 b && nat_le b 70 then Some (b - 65 + 10) else None))
 
--- where the reader stands behind one more byte, and the byte of the text that this ends
+-- where the reader stands after one more byte, and the byte of the text that this ends
 abbrev pub step : Place → ℕ → Option (Place × Option ℕ)
 step Plain b = if b == 92 then Some (Backslash, None) else Some (Plain, Some b)
 step Backslash b = if b == 120 then Some (Letter, None) else None

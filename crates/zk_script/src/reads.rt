@@ -35,7 +35,7 @@ pub fn only<'a>(words: &[&'a [u8]]) -> Result<&'a [u8], ScriptFault>
     }
 }
 
-/// What a keyword stands for behind which there are no words.
+/// What a keyword stands for after which there are no words.
 pub fn alone<X: Drop>(value: X, words: &[&[u8]]) -> Result<X, ScriptFault>
     ensures { result ≡ alone value (map (λ w. w.now) words.now) }
 {
@@ -178,7 +178,7 @@ fn is_remark(word: &[u8]) -> bool
     matches!(word, [b'#', ..])
 }
 
-/// The first word of a line and those behind it. An empty line and a remark, which begins with `#`, say nothing.
+/// The first word of a line and those after it. An empty line and a remark, which begins with `#`, say nothing.
 pub fn split_keyword<'a, 'b>(words: &'a [&'b [u8]]) -> Option<(&'b [u8], &'a [&'b [u8]])>
     ensures { option_map (λ line. (line.0.now, map (λ w. w.now) line.1.now)) result ≡ split_keyword (map (λ w. w.now) words.now) }
 {

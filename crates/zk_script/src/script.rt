@@ -30,7 +30,7 @@ pub struct Transcript<A: Allocator> {
 
 /// What the lines of a script drive: it does what a line says.
 pub trait LineReader<A: Allocator + Copy> {
-    /// Where it stands behind some lines.
+    /// Where it stands after some lines.
     ghost Position: { Type 0 };
 
     /// What its lines do, and why they are not done.

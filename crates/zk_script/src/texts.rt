@@ -12,11 +12,11 @@ use std::alloc::{AllocError, Allocator};
 enum Place {
     /// Before a byte or an escape.
     Plain,
-    /// Behind a backslash.
+    /// After a backslash.
     Backslash,
-    /// Behind a backslash and an `x`.
+    /// After a backslash and an `x`.
     Letter,
-    /// Behind the first digit of an escape.
+    /// After the first digit of an escape.
     Digit(u8),
 }
 
@@ -33,7 +33,7 @@ fn digit_of(byte: u8) -> Option<u8>
     }
 }
 
-/// Where the reader stands behind one more byte, and the byte of the text that this ends, if it ends one.
+/// Where the reader stands after one more byte, and the byte of the text that this ends, if it ends one.
 fn step(place: Place, byte: u8) -> Option<(Place, Option<u8>)>
     ensures { result ≡ step place byte }
 {

@@ -92,6 +92,6 @@ words_at keyword.Set words = set_at words
 words_at keyword.Delete words = delete_at words
 words_at keyword.Ask words = ask_at words
 
--- what the words behind a keyword say
+-- what the words after a keyword say
 abbrev pub line_at : Keyword → List Text → Result LineValue ScriptFault
 line_at word words = if list_all is_printed words then words_at word words else Err Words

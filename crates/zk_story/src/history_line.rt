@@ -150,7 +150,7 @@ fn parse_ask<A: Allocator + Copy>(alloc: A, words: &[&[u8]]) -> Result<HistoryLi
     parse_look_up(alloc, zxid, side, path)
 }
 
-/// The line of a keyword and the words behind it.
+/// The line of a keyword and the words after it.
 pub(crate) fn parse_line<A: Allocator + Copy>(
     alloc: A,
     keyword: Keyword,

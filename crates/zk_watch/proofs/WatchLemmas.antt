@@ -1,4 +1,4 @@
--- What is printed, one piece behind another.
+-- What is printed, one piece after another.
 use Rattle.std.proofs.Common.{◌≡◌, ◌<◌, ◌⊎◌, inl, inr, ℕ, ℤ, length, Bool, true, false, List, [], ◌∷◌, ◌++◌, refl, sym, ap, subst, ◌∙◌, append_assoc}
 use Rattle.std.specs.Prelude.{Option, Result, Ok, Err, OnOk, codes}
 use Rattle.std.specs.Io.KnownBytes.{Appends}

@@ -143,7 +143,7 @@ pub(crate) fn begin_read<A: Allocator>(
     }
 }
 
-/// The first moment behind this one at which a subject that was refused is read again, and the end where there is none before it.
+/// The first moment after this one at which a subject that was refused is read again, and the end where there is none before it.
 pub(crate) fn first_moment<A: Allocator>(notes: &[Note<A>], now: u64, end: u64) -> u64 {
     let mut first = end;
     for note in notes {

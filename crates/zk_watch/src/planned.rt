@@ -15,7 +15,7 @@ use zk_link::{Clock, Dial, Link};
 /// Watches the subjects of a plan, and prints to `out` what changes, until its time is over or a write fails. Then the session is ended,
 /// which is waited for, a third of the timeout at most.
 ///
-/// A line tells each state of the session, each connection that is given up, and each session that begins behind one that expired; and of
+/// A line tells each state of the session, each connection that is given up, and each session that begins after one that expired; and of
 /// a subject its path, what is kept of it now with its mark, and the last seen zxid, where that is not what was printed last but for the
 /// zxid. At first it is as if nothing that is kept had been printed. A read that a server refuses, other than for a node that is not
 /// there, is told once, as the answer to the ticket that is the place of its subject, counted from 1; it is read again a second later, or

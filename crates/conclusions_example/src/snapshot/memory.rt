@@ -15,7 +15,7 @@ static NODES: [&str; 3] = ["/config/host", "/config/port", "/config/mode"];
 /// What they hold at first.
 static FIRST: &str = "one";
 
-/// What they hold behind each transaction. The zxid of each is one above the one before.
+/// What they hold after each transaction. The zxid of each is one above the one before.
 static LATER: [&str; 6] = ["two", "three", "four", "five", "six", "seven"];
 
 /// The zxid before the first transaction.
@@ -132,7 +132,7 @@ fn run<W: Write>(alloc: Global, piece: usize, out: &mut W) -> Result<()> {
     played
 }
 
-/// The same over servers in memory, one behind the other.
+/// The same over servers in memory, one after the other.
 pub fn run_in_memory<W: Write>(alloc: Global, out: &mut W) -> Result<()> {
     for piece in &PIECES {
         run(alloc, *piece, out)?;

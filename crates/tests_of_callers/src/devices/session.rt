@@ -13,7 +13,7 @@ const TIMEOUT_MS: i32 = 9_000;
 /// How many milliseconds there are from one event to the next: no ping is due in the session.
 const APART: u64 = 100;
 
-/// More pieces than the server sends behind one event.
+/// More pieces than the server sends after one event.
 const PIECES: usize = 1_000;
 
 /// More requests than are sent at one event.

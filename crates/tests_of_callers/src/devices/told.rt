@@ -25,7 +25,7 @@ fn tell_text(alloc: Global, bytes: &[u8], told: &mut String) -> Result<()> {
     Ok(writeln!(told, "  {text}")?)
 }
 
-/// The frame that was told last, behind the others.
+/// The frame that was told last, after the others.
 fn take_frame(alloc: Global, length: usize, device: &Device, frames: &mut Vec<u8>) -> Result<()> {
     let mut frame = Vec::new(alloc);
     frame.resize(length, 0u8)?;

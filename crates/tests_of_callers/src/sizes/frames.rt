@@ -61,7 +61,7 @@ impl<A: Allocator> Spelled<A> {
         Ok(self)
     }
 
-    /// The frame: the bytes behind their length.
+    /// The frame: the bytes after their length.
     pub fn frame(mut self) -> Vec<u8, A> {
         let length = i32::try_from(self.bytes.len().saturating_sub(LENGTH)).unwrap_or(i32::MAX);
         if let Some(head) = self.bytes.as_mut_slice().get_mut(..LENGTH) {

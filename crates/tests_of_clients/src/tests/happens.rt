@@ -35,7 +35,7 @@ pub(crate) const REST: &[u8] = &[
     0, 3, 0, 0, 0, 2, 0x2f, 0x62,
 ];
 
-/// A reply behind its length and xid: how long it is, and its first bytes. Those behind them are 0.
+/// A reply behind its length and xid: how long it is, and its first bytes. Those after them are 0.
 type Reply = (u8, &'static [u8]);
 
 // Zxid 5: there is no such node.

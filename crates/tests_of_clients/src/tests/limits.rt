@@ -6,7 +6,7 @@ use std::alloc::Global;
 use std::process::Abort;
 use zk_client::Client;
 
-/// The first round and the one behind the last, what happens in each, and what is said first then.
+/// The first round and the one after the last, what happens in each, and what is said first then.
 type Rounds = (u32, u32, &'static [(Happens, &'static str)]);
 
 const CONNECTS: Rounds = (

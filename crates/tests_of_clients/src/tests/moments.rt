@@ -8,7 +8,7 @@ use zk_client::{Client, Fault, Halt, Input, Output};
 /// in milliseconds.
 type Row = (u64, Option<Happens>, bool, Option<u64>, u32);
 
-// A server of 40,000 is asked for, and grants 30,000. A third of it behind the last frame a ping is due, two thirds behind the last
+// A server of 40,000 is asked for, and grants 30,000. A third of it after the last frame a ping is due, two thirds after the last
 // byte the connection is given up.
 static HEALTHY: [Row; 7] = [
     (0, None, false, None, 40_000),

@@ -98,7 +98,7 @@ fn halts<A: Allocator + Copy>(
     halted
 }
 
-/// Whether a step of the course halts. The steps behind it halt too.
+/// Whether a step of the course halts. The steps after it halt too.
 fn comes_to_halt<A: Allocator + Copy>(
     rt: &impl Abort,
     client: &mut Client<A>,

@@ -3,7 +3,7 @@
 use Makes::{Create, Node, Set, Transaction};
 use Move::{Connect, Disconnect, Expire, Now, Send, Take};
 
-/// What is done with a bench. `Send` is a payload in hex, which is received behind its length and processed.
+/// What is done with a bench. `Send` is a payload in hex, which is received after its length and processed.
 #[derive(Clone, Copy)]
 pub(crate) enum Move {
     Connect(usize),

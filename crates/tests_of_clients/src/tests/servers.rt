@@ -58,7 +58,7 @@ fn give<A: Allocator + Copy>(bench: &mut Bench<A>, bytes: &[u8]) -> Result<(), A
     bench.process()
 }
 
-// Receives a payload behind its length, in two pieces, and processes it.
+// Receives a payload after its length, in two pieces, and processes it.
 fn send<A: Allocator + Copy>(
     alloc: Global,
     bench: &mut Bench<A>,

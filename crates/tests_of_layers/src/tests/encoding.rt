@@ -38,7 +38,7 @@ static FAULTS: [([u8; 9], TakeError); 4] = [
     ([0, 0, 0, 1, 0, 0, 0, 1, 0xff], TakeError::NotUtf8(8)),
 ];
 
-// The next value at the cursor, which is written behind `out`.
+// The next value at the cursor, which is written after `out`.
 fn next<'a, R: Readable<'a, Global>>(
     rt: &(impl Abort + AllocGlobal),
     at: &mut Cursor<'a>,
@@ -76,7 +76,7 @@ fn next_texts(rt: &(impl Abort + AllocGlobal), at: &mut Cursor, out: &mut Vec<u8
     count
 }
 
-// How many lent texts stand at the cursor, and the place behind them.
+// How many lent texts stand at the cursor, and the place after them.
 fn lent_texts(rt: &(impl Abort + AllocGlobal), mut at: Cursor) -> (usize, usize) {
     let lent: List<TextRef, _> = take(rt.alloc(), &mut at).expect(rt, "is read");
     let count = lent.or_empty().len();

@@ -13,10 +13,10 @@ static STREAM: [u8; 18] = [
     0, 0, 0, 2, b'h', b'i', 0, 0, 0, 0, 0, 0, 0, 3, b'a', b'b', b'c', 0,
 ];
 
-// Their payloads, with a bar behind each.
+// Their payloads, with a bar after each.
 static PAYLOADS: &[u8] = b"hi||abc|";
 
-// Copies the payload of each frame that is whole, with a bar behind it.
+// Copies the payload of each frame that is whole, with a bar after it.
 fn take_whole<A: Allocator>(
     reader: &mut FrameReader<A>,
     out: &mut Vec<u8>,
@@ -157,7 +157,7 @@ static LENGTHS: [([u8; 4], Result<(), FrameFault>); 5] = [
     ([0xff, 0xff, 0xff, 0xff], Err(FrameFault::Negative)),
 ];
 
-// What a reader that begins anew answers to a length, twice more behind it, and when it is asked for frames.
+// What a reader that begins anew answers to a length, twice more after it, and when it is asked for frames.
 fn answers(
     alloc: Global,
     reader: &mut FrameReader<Global>,

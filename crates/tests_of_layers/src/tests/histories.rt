@@ -125,7 +125,7 @@ static MADE_AND_DELETED_TOLD: [Row; 4] = [
     ),
 ];
 
-// Lines, one more that is refused behind them, and the code of its fault.
+// Lines, one more that is refused after them, and the code of its fault.
 static REFUSED: [(&[Line], Line, &str); 5] = [
     (&[Line::Tx(2, 5)], Line::Tx(2, 6), "H2"),
     (&[], Line::Tx(0, 6), "H2"),

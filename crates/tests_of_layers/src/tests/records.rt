@@ -18,7 +18,7 @@ const ACCEPTED: &str = "00000000000075300000000000000abc000000100001020304050607
 const ACCEPTED_WITH_READ_ONLY: &str =
     "00000000000075300000000000000abc00000010000102030405060708090a0b0c0d0e0f00";
 
-// A notice that the data of `/a` changed, behind its header.
+// A notice that the data of `/a` changed, after its header.
 const NOTICE: &str = "0000000300000003000000022f61";
 
 static CODES: [(i32, Code); 13] = [

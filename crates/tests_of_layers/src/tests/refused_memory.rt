@@ -11,7 +11,7 @@ pub(crate) trait Steps {
     fn come_right(alloc: Global, heap: &Refusing<Global>) -> bool;
 }
 
-// Does the steps with the request behind so many others refused, and tells whether there was such a request.
+// Does the steps with the request after so many others refused, and tells whether there was such a request.
 fn refuse<S: Steps>(rt: &(impl Abort + AllocGlobal), passed: u32) -> bool {
     let heap = Refusing::after(passed, rt.alloc());
     holds(rt, S::come_right(rt.alloc(), &heap), passed);
@@ -29,14 +29,14 @@ pub(crate) fn refuse_each<S: Steps>(rt: &(impl Abort + AllocGlobal)) -> u32 {
     rt.panic("no run without a refusal")
 }
 
-// Whether a request comes as it should: a refusal is told behind the one that was refused, and this one alone is refused.
+// Whether a request comes as it should: a refusal is told after the one that was refused, and this one alone is refused.
 fn is_as_told(heap: &Refusing<Global>, passed: u32, request: u32) -> bool {
     let is_told = heap.has_refused() == (passed < request);
     let is_refused = Vec::from_slice(heap, &[7u8, 8]).is_err();
     is_told && is_refused == (passed == request)
 }
 
-// Six requests, of which the one behind so many others is refused.
+// Six requests, of which the one after so many others is refused.
 fn refuses_one(rt: &(impl Abort + AllocGlobal), passed: u32) {
     let heap = Refusing::after(passed, rt.alloc());
     for request in 0..6u32 {

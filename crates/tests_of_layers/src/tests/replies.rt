@@ -26,7 +26,7 @@ const DATA_SET: &str =
 
 const ABSENT: &str = "000000010000000000000005ffffff9b";
 
-// The reply to getChildren whose count is the greatest, with nothing behind it.
+// The reply to getChildren whose count is the greatest, with nothing after it.
 const COUNT: &str = "000000010000000000000005000000007fffffff";
 
 impl<'a, R: Readable<'a, Global> + Drop> Pass<'a> for Reply<R> {

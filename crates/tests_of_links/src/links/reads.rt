@@ -76,7 +76,7 @@ fn read_once<W: Write>(moments: &Moments, joint: &mut Read<'_>, out: &mut W) -> 
     Ok(writeln!(out, "{now} ms: {words}, {left} left")?)
 }
 
-/// Reads once behind the beginning of a connection.
+/// Reads once after the beginning of a connection.
 fn read_row<W: Write>(alloc: Global, row: &Row, out: &mut W) -> Result<()> {
     writeln!(out, "== read: {}", row.name)?;
     let (world, moments) = (RefCell::new(World::new(alloc, row.plan)?), Moments::new());

@@ -110,7 +110,7 @@ fn plan(passes: usize) -> Plan {
     }
 }
 
-/// A first connection that is closed behind each number of bytes, written and read, in turn: the next one serves.
+/// A first connection that is closed after each number of bytes, written and read, in turn: the next one serves.
 pub fn close_at_each_byte<W: Write>(alloc: Global, out: &mut W) -> Result<()> {
     for passes in 0..BYTES {
         if !matches!(play(alloc, alloc, plan(passes), &ADDRESSES)?, Ok(true)) {

@@ -8,7 +8,7 @@ use std::rc::Rc;
 use zk_bench::{Bench, History};
 use zk_client::Path;
 
-/// The most requests that are processed behind one write.
+/// The most requests that are processed after one write.
 const REQUESTS: usize = 16;
 
 /// What the first connection does wrong.

@@ -172,7 +172,7 @@ fn fails_well(global: Global, row: &Row, whole: &[u8], passed: u32) -> Result<Op
     })
 }
 
-/// Whether what is printed is a beginning of this where the request for memory behind so many is refused, and the reason said. None where
+/// Whether what is printed is a beginning of this where the request for memory after so many is refused, and the reason said. None where
 /// none was refused.
 fn refuses_well(global: Global, row: &Row, whole: &[u8], passed: u32) -> Result<Option<bool>> {
     let alloc = Refusing::after(passed, global);
@@ -185,7 +185,7 @@ fn refuses_well(global: Global, row: &Row, whole: &[u8], passed: u32) -> Result<
     Ok(Some(is_told && whole.starts_with(out.bytes())))
 }
 
-/// How often a run in which something is refused ends well, and the number behind which nothing is refused any more. A run that does not
+/// How often a run in which something is refused ends well, and the number after which nothing is refused any more. A run that does not
 /// end well is told.
 fn count_well<W: Write>(
     global: Global,

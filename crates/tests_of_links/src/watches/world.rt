@@ -7,7 +7,7 @@ use std::io::{self, ErrorKind};
 use zk_bench::{Bench, Change, History};
 use zk_client::Path;
 
-/// The most requests that are processed behind one write.
+/// The most requests that are processed after one write.
 const REQUESTS: usize = 16;
 
 /// What happens by itself.

@@ -14,7 +14,7 @@ passed_on : (kind : Kind) (hex frame payload : List ℕ) (fault : ShowFault) →
 passed_on kind hex frame payload fault decoded whole (inl memory) = inl memory
 passed_on kind hex frame payload fault decoded whole (inr found) = inr (no_payload frame payload decoded whole found)
 
--- the frame of a payload with nothing behind what is spelled is the frame of what is spelled
+-- the frame of a payload with nothing after what is spelled is the frame of what is spelled
 printed_again : (frame payload spelled ignored : List ℕ) → frame ≡ frame_of payload → payload ≡ spelled ++ ignored → PrintsAgain frame spelled ignored
 printed_again frame payload spelled ignored whole begins = λ none.
     let same : payload ≡ spelled = begins ∙ ap (λ (x : List ℕ). spelled ++ x) none ∙ append-nil spelled in

@@ -4,7 +4,7 @@ use Rattle.zk_link.specs.Trails.{trail_of, Trail}
 use Rattle.zk_link.proofs.TrailLemmas.{from_same, lost_at_once, stops_from_same, stops_to_same, to_same}
 use Rattle.zk_link.proofs.link.Link.listen.Goals as goal
 
--- neither what came nor what is noted behind it is told by a trail
+-- neither what came nor what is noted after it is told by a trail
 brought : (g : _) (c : goal.After-note g) → trail_of c.next_brought.new.self.joint c.args.outputs.now.items ≡ trail_of c.args.self.now.joint c.args.outputs.now.items
 brought g c = ap (λ (t : Trail). record t { given = said c.args.outputs.now.items }) c.next_brought.ensures
 
