@@ -1,9 +1,7 @@
 -- How long a link waits, in milliseconds.
-use Rattle.std.specs.Prelude.{◌≡◌, ◌≤◌, ◌<◌, ◌⊎◌, ℕ, zero, suc, ◌+◌, ◌-◌, ◌*◌, ◌/◌, ◌%◌, ◌^◌, min, max, nat_le, nat_lt, Bool, true, false, ◌||◌, Option, Some, None, List, length}
-use Rattle.std.specs.List.{list_any}
+use Rattle.std.specs.Prelude.{◌≡◌, ◌≤◌, ◌<◌, ◌⊎◌, ℕ, zero, suc, ◌+◌, ◌-◌, ◌*◌, ◌/◌, ◌%◌, ◌^◌, min, max, nat_le, nat_lt, Bool, true, false, Option, Some, None, length}
 use Rattle.zk_session.specs.declared.states.State.{State}
 use Rattle.zk_session.specs.declared.states.State.TheVariants.{Connected, Expired}
-use Rattle.zk_turns.specs.Turns.{Output, Answer, Replied}
 use Rattle.zk_turns.specs.Past.{is_final}
 use Rattle.zk_link.specs.Trails.{Trail}
 use Rattle.zk_link.specs.declared.pause.Backoff.{Backoff}
@@ -60,14 +58,10 @@ is_settled Connected timeout ended now = has_lived timeout ended now
 is_settled Expired timeout ended now = true
 is_settled _ timeout ended now = false
 
--- whether an output is the reply to a call
-abbrev pub is_reply : Output → Bool
-is_reply (Answer ticket (Replied zxid result)) = true
-is_reply _ = false
-
--- whether a row of failures ends where these are said
-abbrev pub ends_row : List Output → State → (timeout ended now : ℕ) → Bool
-ends_row outputs state timeout ended now = list_any is_reply outputs || is_settled state timeout ended now
+-- whether a row of failures ends: also where a call has had its reply
+abbrev pub ends_row : (is_replied : Bool) → State → (timeout ended now : ℕ) → Bool
+ends_row true state timeout ended now = true
+ends_row false state timeout ended now = is_settled state timeout ended now
 
 -- It was told, something new is there for the caller, or the session is over.
 abbrev pub HasCome : (until : ℕ) → (old new : Trail) → Type 0

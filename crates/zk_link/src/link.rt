@@ -1,15 +1,13 @@
 //! The link.
 
-ghost use Rattle.std.specs.Prelude.{◌≡◌, ◌≤◌, ◌⊎◌, true, false, if◌then◌else◌, is_some, drop, map, pos, ◌<ℤ◌, [], IfErr, OnErr, OnOk};
-ghost use Rattle.std.specs.List.{list_any};
+ghost use Rattle.std.specs.Prelude.{◌≡◌, ◌≤◌, ◌⊎◌, true, false, if◌then◌else◌, is_some, pos, ◌<ℤ◌, [], IfErr, OnErr, OnOk};
 ghost use Rattle.zk_conversation.specs.Views.{call_view};
 ghost use Rattle.zk_turns.specs.Turns.{Call as Calls};
 ghost use Rattle.zk_turns.specs.Past.{is_final};
 ghost use Rattle.zk_turns.specs.View.{view_at};
 ghost use Rattle.zk_client.specs.Clients.{renewed_start, view_of};
 ghost use Rattle.zk_link.specs.Trails.{bare_of, trail_of, Asks, Comes, Stops};
-ghost use Rattle.zk_client.specs.Views.{output_view};
-ghost use Rattle.zk_link.specs.Waits.{ends_row, is_reply, is_settled, row_ended, HasCome};
+ghost use Rattle.zk_link.specs.Waits.{ends_row, is_settled, row_ended, HasCome};
 
 use crate::bring::Brought;
 use crate::clock::Clock;
@@ -30,9 +28,7 @@ fn dial_next<D: Dial>(dial: &mut D, ring: &mut Ring<'_>, within_ms: u64) -> Opti
 const SHORTEST_DIAL_MS: u64 = 1_000;
 
 /// Whether one of the outputs from this place on is the reply to a call.
-fn has_reply<A: Allocator>(outputs: &[Output<A>], from: usize) -> bool
-    ensures { result ≡ list_any (λ output. is_reply (output_view output)) (drop from outputs.now) }
-{
+fn has_reply<A: Allocator>(outputs: &[Output<A>], from: usize) -> bool {
     let Some(later) = outputs.get(from..) else {
         return false;
     };
@@ -206,13 +202,23 @@ impl<'a, A: Allocator + Copy, D: Dial + Drop, C: Clock + Drop> Link<'a, A, D, C>
         }
     }
 
-    /// A row of attempts that failed ends with a reply, with a connection that has lived for a third of the timeout, and with an expiry.
-    /// That a server has admitted the session ends none. What was said stands from this place on.
-    fn note(&mut self, outputs: &[Output<A>], from: usize)
-        ensures joint { self.new.joint ≡ self.old.joint }
-        ensures row { self.new.backoff ≡ (if ends_row (map output_view (drop from outputs.now)) (view_of self.old.joint.client).standing.state (view_of self.old.joint.client).saved.session.timeout self.old.backoff.ended self.old.joint.latest then row_ended self.old.backoff else self.old.backoff) }
+    /// Whether the row of attempts that failed ends here, where a call has had its reply or has not.
+    fn ends_row(&self, is_replied: bool) -> bool
+        ensures { result ≡ ends_row is_replied (view_of self.now.joint.client).standing.state (view_of self.now.joint.client).saved.session.timeout self.now.backoff.ended self.now.joint.latest }
     {
-        if has_reply(outputs, from) || self.is_settled() {
+        if is_replied {
+            return true;
+        }
+        self.is_settled()
+    }
+
+    /// A row of attempts that failed ends with the reply to a call, with a connection that has lived for a third of the timeout, and with an
+    /// expiry. That a server has admitted the session ends none.
+    fn note(&mut self, is_replied: bool)
+        ensures joint { self.new.joint ≡ self.old.joint }
+        ensures row { self.new.backoff ≡ (if ends_row is_replied (view_of self.old.joint.client).standing.state (view_of self.old.joint.client).saved.session.timeout self.old.backoff.ended self.old.joint.latest then row_ended self.old.backoff else self.old.backoff) }
+    {
+        if self.ends_row(is_replied) {
             self.backoff.end_row();
         }
     }
@@ -240,7 +246,7 @@ impl<'a, A: Allocator + Copy, D: Dial + Drop, C: Clock + Drop> Link<'a, A, D, C>
         };
         let before = outputs.len();
         let outcome = self.hand(brought, outputs);
-        self.note(outputs.as_slice(), before);
+        self.note(has_reply(outputs.as_slice(), before));
         outcome
     }
 
