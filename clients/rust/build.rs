@@ -1,5 +1,5 @@
-//! Finds the static library `libdirwolleu.a`: in the folder that `DIRWOLLEU_LIB_DIR` names, else in `clients/out` beside this crate,
-//! else by pkg-config.
+//! Finds the static library `libdirwolleu.a`: in the folder that `DIRWOLLEU_LIB_DIR` names, else in `clients/out` of a checkout, else
+//! the prebuilt one of this crate or of the checkout, else by pkg-config.
 
 use std::env;
 use std::path::{Path, PathBuf};
@@ -12,10 +12,18 @@ fn named() -> Option<PathBuf> {
     env::var_os("DIRWOLLEU_LIB_DIR").map(PathBuf::from)
 }
 
-/// The folder in which `scripts/client_libraries` makes the libraries of a checkout.
-fn made() -> Option<PathBuf> {
-    let folder = Path::new(&env::var_os("CARGO_MANIFEST_DIR")?).join("../out");
-    folder.join(LIBRARY).is_file().then_some(folder)
+/// The folder of a checkout, or of this crate where it was packed, that has the library: what `scripts/client_libraries` made there, else
+/// what comes with it.
+fn beside() -> Option<PathBuf> {
+    let here = PathBuf::from(env::var_os("CARGO_MANIFEST_DIR")?);
+    [
+        "../out",
+        "prebuilt/x86_64-linux",
+        "../../prebuilt/x86_64-linux",
+    ]
+    .iter()
+    .map(|place| here.join(place))
+    .find(|folder| folder.join(LIBRARY).is_file())
 }
 
 /// The folder into which the libraries were installed.
@@ -35,8 +43,17 @@ fn main() {
     println!("cargo:rerun-if-env-changed=PKG_CONFIG");
     println!("cargo:rerun-if-env-changed=PKG_CONFIG_PATH");
     println!("cargo:rerun-if-changed=../out/{LIBRARY}");
-    let Some(folder) = named().or_else(made).or_else(installed) else {
-        eprintln!("{LIBRARY} was not found: run `scripts/client_libraries`, or name its folder in DIRWOLLEU_LIB_DIR");
+    let target = |part: &str| env::var(format!("CARGO_CFG_TARGET_{part}")).unwrap_or_default();
+    if (target("ARCH").as_str(), target("OS").as_str()) != ("x86_64", "linux") {
+        eprintln!(
+            "dirwolleu runs on Linux on x86-64 alone, and this build is for {} on {}",
+            target("OS"),
+            target("ARCH")
+        );
+        exit(1);
+    }
+    let Some(folder) = named().or_else(beside).or_else(installed) else {
+        eprintln!("{LIBRARY} was not found: name its folder in DIRWOLLEU_LIB_DIR");
         exit(1);
     };
     let library = folder.join(LIBRARY);

@@ -10,6 +10,7 @@ import ctypes
 import ctypes.util
 import os
 import pathlib
+import platform
 from ctypes import POINTER, Structure, byref, string_at
 from ctypes import c_bool, c_char, c_char_p, c_int32, c_int64, c_size_t, c_uint32, c_uint64, c_void_p
 from operator import attrgetter
@@ -105,16 +106,29 @@ _FUNCTIONS: dict[str, tuple[Any, tuple[Any, ...]]] = {
 }
 
 
+_HERE = pathlib.Path(__file__).resolve().parent
+
+
 def _find() -> str:
-    """The file of the library: what the environment names, else what a checkout has built, else what the system has."""
+    """The file of the library: what the environment names, else what lies in the package, else what a checkout has built or
+    brings along, else what the system has."""
     named = os.environ.get("DIRWOLLEU_LIBRARY")
     if named:
         return named
-    built = pathlib.Path(__file__).resolve().parents[2] / "out" / "libdirwolleu.so"
-    found = str(built) if built.exists() else ctypes.util.find_library("dirwolleu")
+    checkout = _HERE.parents[2]
+    places = (_HERE, checkout / "clients" / "out", checkout / "prebuilt" / "x86_64-linux")
+    built = next((place for place in places if (place / "libdirwolleu.so").exists()), None)
+    found = str(built / "libdirwolleu.so") if built else ctypes.util.find_library("dirwolleu")
     if found is None:
-        raise ImportError("libdirwolleu.so is not found: run scripts/client_libraries, or name it by DIRWOLLEU_LIBRARY")
+        raise ImportError("libdirwolleu.so is not found: install the package anew, or name the file by DIRWOLLEU_LIBRARY")
     return found
+
+
+def _check_machine() -> None:
+    """Fails in words where the library can't run."""
+    machine, system = platform.machine(), platform.system()
+    if (machine.lower(), system) not in (("x86_64", "Linux"), ("amd64", "Linux")):
+        raise ImportError(f"dirwolleu runs on Linux on x86-64 alone, and this is {system} on {machine}")
 
 
 def _load(file: str) -> ctypes.CDLL:
@@ -125,6 +139,7 @@ def _load(file: str) -> ctypes.CDLL:
     return library
 
 
+_check_machine()
 _library = _load(_find())
 
 
