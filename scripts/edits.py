@@ -9,6 +9,7 @@
   new: what is put in its place
 """
 import re
+from collections.abc import Callable
 from dataclasses import dataclass
 from functools import cache, cached_property
 from pathlib import Path
@@ -17,7 +18,7 @@ TOP = Path(__file__).resolve().parent.parent
 CRATES, EDITS = TOP / "crates", TOP / "wrong_bodies"
 GATE = EDITS / "gate.txt"
 FIELDS = ("turns: ", "function: ", "file: ", "old: ", "new:")
-# the head of a function, and of what may stand between functions, each with its indentation
+# the head of a function, and of what may be between functions, each with its indentation
 HEAD = re.compile(r"^( *)(?:pub(?:\([\w ]+\))? )?(?:final |const |unsafe |extern \"C\" )*fn (\w+)", re.M)
 OTHER = re.compile(r"^( *)(?:#\[|pub(?:\([\w ]+\))? (?!const fn|unsafe|extern|fn)|(?:unsafe )?impl\b|struct |enum |trait |static |const (?!fn)|type |use |mod |ghost |///)", re.M)
 
@@ -37,12 +38,22 @@ class Function:
     def last(self) -> str:
         return self.name.rpartition("::")[2]
 
+    @property
+    def owner(self) -> str:
+        """The type or trait whose function it is, or nothing."""
+        above = self.name.split("::")[-2:-1]
+        return above[0] if above and above[0][0].isupper() else ""
+
+    @property
+    def code(self) -> str:
+        return self.text[self.body - self.start :]
+
     def calls(self, other: "Function") -> bool:
-        """Whether the text calls the other by a name that can only be meant for it; a check's output tells the rest."""
-        above = other.name.split("::")[-2:-1]
-        is_method = bool(above) and above[0][:1].isupper()
-        by = rf"(?:\bself\.|\bSelf::|\b{above[0]}::)" if is_method and self.name.split("::")[-2:-1] == above else r"\b\w+::" if is_method else r"(?<![.\w])"
-        return not (is_method and by == r"\b\w+::") and bool(re.search(rf"{by}{other.last}(?:::<[^()]*>)?\(", self.text[self.body - self.start :]))
+        """Whether the body calls the other by a name that can only be meant for it; a check's output tells the rest."""
+        if other.owner and other.owner != self.owner:
+            return False
+        by = rf"(?:\bself\.|\bSelf::|\b{other.owner}::)" if other.owner else r"(?<![.\w])"
+        return bool(re.search(rf"{by}{other.last}(?:::<[^()]*>)?\(", self.code))
 
 
 @dataclass(frozen=True)
@@ -101,19 +112,19 @@ class Edit:
     @cached_property
     def within(self) -> Function | None:
         """The function whose body the edit changes, where it changes one body and nothing else."""
-        if len(self.spans) != 1 or self.functions:
-            return None
-        file, span = next(iter(self.spans.items()))
-        around = [it for it in functions_of(self.crate, file) if it.body <= span.start and span.end <= it.end]
-        return around[-1] if around else None
+        return self.enclosing(lambda it: it.body)
 
     @cached_property
     def holder(self) -> Function | None:
-        """The function with a clause that the edit changes, where it changes one function and nothing else."""
+        """The function whose body or clauses the edit changes, where it changes one function and nothing else."""
+        return self.enclosing(lambda it: it.start)
+
+    def enclosing(self, begin: Callable[[Function], int]) -> Function | None:
+        """The innermost function that has all that the edit changes from this place of its own on."""
         if len(self.spans) != 1 or self.functions:
             return None
         file, span = next(iter(self.spans.items()))
-        around = [it for it in functions_of(self.crate, file) if it.start <= span.start and span.end <= it.end]
+        around = [it for it in functions_of(self.crate, file) if begin(it) <= span.start and span.end <= it.end]
         return around[-1] if around else None
 
 
