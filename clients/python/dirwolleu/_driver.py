@@ -8,7 +8,7 @@ import functools
 import itertools
 import logging
 import time
-from typing import Any, Optional, cast
+from typing import Any, Callable, Optional, cast
 
 from dirwolleu._engine import Engine
 from dirwolleu._pauses import BETWEEN_DIALS, Pauses
@@ -94,6 +94,7 @@ class Driver:
         self._expiries = engine.contact.expiries
         self._link: Optional[Link] = None
         self._dialing: Optional[asyncio.Future[Any]] = None
+        self._ended: Optional[asyncio.Future[None]] = None
         self._next: Optional[asyncio.Handle] = None
         self._timer: Optional[asyncio.TimerHandle] = None
         self._dialed_at = self._wakes_at = self._awake_at = 0
@@ -101,18 +102,20 @@ class Driver:
 
     def start(self) -> None:
         self._loop = asyncio.get_running_loop()
-        self._ended: asyncio.Future[None] = self._loop.create_future()
         self._engine.contact.heard_at = moment()
         self._next = self._loop.call_soon(self._dial)
 
     async def run(self) -> None:
         """Starts, and goes on until it is stopped or the session is closed."""
-        self.start()
-        await self._ended
+        if not self._is_stopped:
+            self._ended = asyncio.get_running_loop().create_future()
+            self.start()
+            await self._ended
 
-    def stop(self) -> None:
-        """Ends the connection and dials no more. It ends no session."""
+    def stop(self, end: Callable[[], None]) -> None:
+        """Does what ends the engine, ends the connection, and dials no more."""
         self._is_stopped = True
+        end()
         if self._link is not None:
             self._link.end()
         self._end()
@@ -231,5 +234,5 @@ class Driver:
             if handle is not None:
                 handle.cancel()
         self._next = self._timer = None
-        if not self._ended.done():
+        if self._ended is not None and not self._ended.done():
             self._ended.set_result(None)

@@ -88,16 +88,14 @@ class Client(Shown):
                     farewell = min(self._engine.timeout() / 3, LONGEST_FAREWELL)
                     await asyncio.wait_for(self._ask(requests.close_session()), farewell)
         finally:
-            self._end_driver()
-            self._engine.end()
+            self._end_driver(self._engine.end)
 
     async def close(self) -> None:
         """Frees what the client holds; it can't be started again.
 
         The session of a client that was not stopped lives on for its timeout, and `saved_session` can be taken up.
         """
-        self._end_driver()
-        self._engine.close()
+        self._end_driver(self._engine.close)
 
     async def exists(self, path: str, watch: Watch = None) -> Optional[Stat]:
         """What is known of a node, or None where there is none. A watch is left also where there is none."""
@@ -182,7 +180,9 @@ class Client(Shown):
             self._callbacks.add(callback)
             callback.add_done_callback(self._callbacks.discard)
 
-    def _end_driver(self) -> None:
+    def _end_driver(self, end: Callable[[], None]) -> None:
         driver, self._driver = self._driver, None
         if driver is not None:
-            driver.stop()
+            driver.stop(end)
+        else:
+            end()

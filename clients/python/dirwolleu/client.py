@@ -104,10 +104,11 @@ class _Loop(threading.Thread):
         """Lets the driver do what was asked."""
         self._soon(self._driver.act)
 
-    def stop(self) -> None:
+    def stop(self, end: Callable[[], None]) -> None:
+        """Does what ends the engine, and ends. Where the thread has ended already, `end` is not called."""
         if self.ident is None:
             return self._loop.close()
-        self._soon(self._driver.stop)
+        self._soon(lambda: self._driver.stop(end))
         self.join(LONGEST_END)
 
     def _soon(self, call: Callable[[], object]) -> None:
@@ -348,13 +349,13 @@ class Client(Shown):
             if self._running.setdefault("threads", threads) is threads:
                 threads.start()
             else:
-                threads.loop.stop()
+                threads.loop.stop(lambda: None)
 
     def _end_threads(self, end: Callable[[], None]) -> None:
-        """Ends the thread of the loop, then does what ends the engine, and then ends the thread of the callbacks."""
+        """Ends the engine and the threads. It may be called again, and by another thread, while it runs."""
         threads = self._threads()
         if threads is not None:
-            threads.loop.stop()
+            threads.loop.stop(end)
         end()
         if threads is not None:
             self._running.pop("threads", None)
