@@ -80,7 +80,8 @@ class Peer:
 
     def take(self) -> Asked:
         payload = self.take_payload()
-        return Asked(*struct.unpack(">ii", payload[:8]), payload[8:])
+        xid, kind = struct.unpack(">ii", payload[:8])
+        return Asked(xid, kind, payload[8:])
 
     def take_connect(self) -> Connected:
         _, last_zxid, timeout_ms, session = struct.unpack(">iqiq", self.take_payload()[:24])

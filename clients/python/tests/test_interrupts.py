@@ -16,7 +16,7 @@ import time
 import unittest
 from collections.abc import Iterator
 from types import FrameType
-from typing import Any, Optional
+from typing import Any, Callable, Optional
 from unittest import mock
 
 from support import CLOSE_SESSION, WAIT, PartnerCase, Peer, reply, within
@@ -140,7 +140,8 @@ class ForkTest(ClientCase):
 
     def try_in_child(self, client: Client) -> int:
         failures = 0
-        for call in (lambda: client.get("/"), lambda: next(client.follow("/")), client.start):
+        calls: list[Callable[[], object]] = [lambda: client.get("/"), lambda: next(client.follow("/")), client.start]
+        for call in calls:
             try:
                 call()
                 failures += 1
