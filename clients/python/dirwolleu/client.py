@@ -32,14 +32,34 @@ LONGEST_END = 5.0
 """How long `stop` waits for its own threads, in seconds: they end at once, unless the process is held up."""
 
 
-class _Waiter:
-    """Who waits for an answer. The thread that answers takes no lock that a waiting thread can hold.
+class _News:
+    """An event for one thread that waits. The thread that sets it waits for no lock.
 
-    So it does not matter where a thread that waits is interrupted, and its signal handlers may wait too.
+    So it does not matter where a thread that waits is interrupted, and its signal handlers may wait for other events.
     """
 
     def __init__(self) -> None:
-        self._answer: queue.SimpleQueue[tuple[Any, Optional[BaseException]]] = queue.SimpleQueue()
+        self._lack = threading.Lock()
+        self._lack.acquire()
+
+    def set(self) -> None:
+        with contextlib.suppress(RuntimeError):  # it is set already
+            self._lack.release()
+
+    def clear(self) -> None:
+        self._lack.acquire(blocking=False)
+
+    def wait(self, timeout: Optional[float]) -> bool:
+        """Waits until it is set, and clears it. Answers whether it was set in time."""
+        return self._lack.acquire(timeout=-1 if timeout is None else min(max(timeout, 0), threading.TIMEOUT_MAX))
+
+
+class _Waiter:
+    """Who waits for an answer, in one thread. What is said of `_News` holds here too."""
+
+    def __init__(self) -> None:
+        self._news = _News()
+        self._answer: Optional[tuple[Any, Optional[BaseException]]] = None
         self._is_given_up = False
 
     def cancel(self) -> None:
@@ -47,41 +67,24 @@ class _Waiter:
         self._is_given_up = True
 
     def done(self) -> bool:
-        return self._is_given_up or not self._answer.empty()
+        return self._is_given_up or self._answer is not None
 
     def set_result(self, result: Any) -> None:
-        self._answer.put((result, None))
+        self._answer = result, None
+        self._news.set()
 
     def set_exception(self, error: BaseException) -> None:
-        self._answer.put((None, error))
+        self._answer = None, error
+        self._news.set()
 
     def result(self, timeout: Optional[float]) -> Any:
-        result, error = self._answer.get(timeout=timeout)
+        self._news.wait(timeout)
+        if self._answer is None:
+            raise TimeoutError
+        result, error = self._answer
         if error is not None:
             raise error
         return result
-
-
-class _News:
-    """An event for one thread that waits. What is said of the locks of `_Waiter` holds here too."""
-
-    def __init__(self) -> None:
-        self._queue: queue.SimpleQueue[None] = queue.SimpleQueue()
-
-    def set(self) -> None:
-        if self._queue.empty():
-            self._queue.put(None)
-
-    def clear(self) -> None:
-        while self.wait(0):
-            pass
-
-    def wait(self, timeout: Optional[float]) -> bool:
-        """Waits for news, and takes them. Answers whether there were any in time."""
-        with contextlib.suppress(queue.Empty):
-            self._queue.get(timeout=timeout if timeout is None else max(timeout, 0))
-            return True
-        return False
 
 
 class _Loop(threading.Thread):
@@ -225,7 +228,7 @@ class Client(Shown):
         if not self._is_here() or self._threads() is None and not self._engine.is_running:
             return
         if self.state is State.CONNECTED:
-            with contextlib.suppress(ZookeeperError, queue.Empty):
+            with contextlib.suppress(ZookeeperError, TimeoutError):
                 self._ask(requests.close_session(), min(self._engine.timeout() / 3, LONGEST_FAREWELL))
         self._end_threads(self._engine.end)
 
