@@ -98,12 +98,14 @@ class Driver:
         self._next: Optional[asyncio.Handle] = None
         self._timer: Optional[asyncio.TimerHandle] = None
         self._dialed_at = self._wakes_at = self._awake_at = 0
-        self._is_to_act = self._is_stopped = False
+        self._is_to_act = self._is_started = self._is_stopped = False
 
     def start(self) -> None:
         self._loop = asyncio.get_running_loop()
+        self._is_started = True
         self._engine.contact.heard_at = moment()
         self._next = self._loop.call_soon(self._dial)
+        self.act()
 
     async def run(self) -> None:
         """Starts, and goes on until it is stopped or the session is closed."""
@@ -138,6 +140,8 @@ class Driver:
 
     def act(self) -> None:
         """Takes what was asked, does what came out of the engine, and sees to it that it is woken."""
+        if not self._is_started:
+            return
         self._is_to_act = False
         self._engine.take_handed(self._noticed())
         frames, is_over = self._engine.take_frames()
