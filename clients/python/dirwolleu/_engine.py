@@ -101,14 +101,15 @@ class Contact:
     """Whether the last session has, and no server has given another one yet."""
 
     lived: int = 0
-    """How long the last connection lasted from the moment that the server had accepted the session, 0 where none did."""
+    """How long the last connection lasted from the moment that the server accepted the session, 0 where none did."""
 
     heard_at: int = 0
     """The last moment at which a server that had accepted the session was heard, or at which dialling began."""
 
 
 def _renewed(machine: Machine, timeout_ms: int) -> Machine:
-    """A machine of no session yet, for the place of another one: it takes no server that is behind what that has seen."""
+    """A machine of no session yet for the place of another one: it takes no server that is behind what that has seen.
+    """
     return Machine(timeout_ms, struct.pack(">qi16xq", 0, 16, machine.last_zxid()))
 
 
@@ -117,7 +118,7 @@ class Engine:
 
     The steps, those of `take_handed` too, are for one thread, or for another one once that has ended. What only looks,
     and `ask`, any thread may call, and a signal handler: they take no lock. Moments are milliseconds of one clock that
-    does not go back. `tell` is handed a function and its argument: it calls the function later, and not within the call.
+    does not go back. `tell` is handed a function and its argument: it calls the function later, not within the call.
     """
 
     def __init__(self, timeout: float, saved: Optional[bytes], tell: Tell) -> None:
@@ -195,7 +196,8 @@ class Engine:
             self._line.popleft().fail(NotConnectedError(f"no server accepted the session in time{trouble}"))
 
     def received(self, now: int, data: bytes) -> None:
-        """Bytes came. Each frame is a step of its own, so that what is kept can be looked up as it was with this frame."""
+        """Bytes came. Each frame is a step of its own, so that what is kept can be looked up as it was with the frame.
+        """
         for piece, is_ping_answered in self._came.cut(data):
             self._step(now, lambda machine: machine.received(now, piece))
             if is_ping_answered and self._pinged:
@@ -289,7 +291,7 @@ class Engine:
 
     @contextlib.contextmanager
     def news(self, wake: Callable[[], None], path: Optional[str] = None) -> Iterator[collections.deque[Kept]]:
-        """Within it, `wake` is called at each change of the state, and at each answer and report of the data of the path.
+        """Within it, `wake` is called at each change of the state, and at each answer and report of a path's data.
 
         What it gives holds the last answer that was good and whole when it came, until somebody takes it.
         """

@@ -19,8 +19,7 @@ class Frames:
         self._head, self._count = b"", 0
 
     def cut(self, data: bytes) -> Iterator[tuple[bytes, bool]]:
-        """The pieces of the data, of which none goes past the end of a frame, and whether a ping's answer is whole with it.
-        """
+        """The pieces of the data, none past the end of a frame, and whether a ping's answer is whole with it."""
         begin = 0
         while begin < len(data):
             left = self._left((self._head + data[begin : begin + 4])[:4])

@@ -1,9 +1,9 @@
 """The shared library by ctypes, and `Machine`, which hides its pointers.
 
 A machine opens no socket and reads no clock. Each step is told the moment, in milliseconds of a clock that does not go
-back, and answers what comes out of it. One thread makes all steps of a machine; any thread may look up what it keeps. No
-call lets another thread run before it has returned, since the interpreter's lock is held: so calls do not overlap, and no
-thread that is interrupted leaves a lock behind.
+back, and answers what comes out of it. One thread makes all steps of a machine; any thread may look up what it keeps.
+No call lets another thread run before it has returned, since the interpreter's lock is held: so calls do not overlap,
+and no thread that is interrupted keeps a lock.
 """
 
 from __future__ import annotations

@@ -186,7 +186,7 @@ class Client(Shown):
         addresses(hosts)
         self._hosts = hosts
         super().__init__(Engine(timeout, saved, self._tell))
-        self._running: dict[str, _Threads] = {}  # its functions are single steps of the interpreter, and so no lock is needed
+        self._running: dict[str, _Threads] = {}  # a dict's functions are single steps of the interpreter: no lock
 
     def __enter__(self) -> Client:
         self.start()
@@ -281,8 +281,8 @@ class Client(Shown):
 
         Each answer was good when it came. Where the node changes more than once between two of them, the last one is
         told. Where there is no node, that is told too. A read that brought nothing good is tried again after a second.
-        It ends when the client is stopped or closed, and raises what `get` raises for other reasons than the connection,
-        the session and the load of a server.
+        It ends when the client is stopped or closed, and raises what `get` raises for other reasons than the
+        connection, the session and the load of a server.
         """
         news = _News()
         with contextlib.closing(Follower(self._engine, path, news, time.monotonic).steps()) as steps:
@@ -339,7 +339,7 @@ class Client(Shown):
 
     def _check_process(self) -> None:
         if not self._is_here():
-            raise ConnectionClosedError("the client was started in another process, before a fork: make one in this process")
+            raise ConnectionClosedError("the client was started in another process, before a fork: make one here")
 
     def _tell(self, function: Callable[[Any], object], argument: Any) -> None:
         threads = self._threads()

@@ -17,7 +17,7 @@ REFUSALS = (-4, -112, -118, -127, -101)
 
 
 class Refusing:
-    """A server that refuses to tell a node's data, though where that is for want of a node it says that there is one."""
+    """A server that refuses to tell a node's data, and says to `exists` that there is one."""
 
     def __init__(self, code: int) -> None:
         self.code = code
