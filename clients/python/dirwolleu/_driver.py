@@ -3,20 +3,25 @@
 from __future__ import annotations
 
 import asyncio
+import errno
+import functools
 import itertools
 import logging
-import random
 import time
-from typing import Optional, cast
+from typing import Any, Callable, Optional, cast
 
 from dirwolleu._engine import Engine
+from dirwolleu._pauses import BETWEEN_DIALS, Pauses
 
 logger = logging.getLogger("dirwolleu")
 
 Address = tuple[str, int]
 
 DEFAULT_PORT = 2181
-FIRST_PAUSE, LONGEST_PAUSE = 0.1, 10.0
+SHORTEST_DIAL = 1.0
+"""How long an attempt to connect has at least, in seconds, however short the timeout is."""
+SHORTEST_WAIT = 0.1
+_NO_DESCRIPTOR = (errno.EMFILE, errno.ENFILE)
 
 
 def moment() -> int:
@@ -44,133 +49,194 @@ def _address(text: str) -> Address:
 
 
 class Link(asyncio.Protocol):
-    """One connection to a server."""
+    """One connection to a server, from the moment that it is dialled."""
 
     def __init__(self, driver: Driver) -> None:
-        self.over = asyncio.get_running_loop().create_future()
         self.transport: Optional[asyncio.Transport] = None
         self._driver = driver
+        self._is_over = False
 
     def connection_made(self, transport: asyncio.BaseTransport) -> None:
         self.transport = cast(asyncio.Transport, transport)
-        if self.over.done():
+        if self._is_over:
             self.transport.abort()
         else:
-            self._driver.begin(self)
+            self._driver.begin()
 
     def data_received(self, data: bytes) -> None:
-        self._driver.bring(self, data)
+        if not self._is_over:
+            self._driver.bring(data)
 
     def connection_lost(self, _: Optional[Exception]) -> None:
         self.end()
 
     def end(self) -> None:
-        """Ends the connection at once. Whoever waits for its end goes on."""
+        """Ends the connection at once."""
         if self.transport is not None:
             self.transport.abort()
-        if not self.over.done():
-            self.over.set_result(None)
+        if not self._is_over:
+            self._is_over = True
+            self._driver.leave()
 
 
 class Driver:
-    """Keeps an engine connected to one of its servers. But for its making, all of it belongs to one event loop."""
+    """Keeps an engine connected to one of its servers, from `start` to `stop`. But for its making, all of it belongs to
+    one event loop.
+
+    It is made of the loop's callbacks, and not of a task: whoever cancels all tasks of a loop does not end it.
+    """
 
     def __init__(self, hosts: str, engine: Engine) -> None:
         self._addresses = itertools.cycle(addresses(hosts))
+        self._address = next(self._addresses)
         self._engine = engine
+        self._pauses = Pauses()
+        self._expiries = engine.contact.expiries
         self._link: Optional[Link] = None
+        self._dialing: Optional[asyncio.Future[Any]] = None
+        self._ended: Optional[asyncio.Future[None]] = None
+        self._next: Optional[asyncio.Handle] = None
         self._timer: Optional[asyncio.TimerHandle] = None
-        self._wakes_at = 0
-        self._is_to_act = False
-        self._admissions, self._next_pause = 0, FIRST_PAUSE
+        self._dialed_at = self._wakes_at = self._awake_at = 0
+        self._is_to_act = self._is_started = self._is_stopped = False
+
+    def start(self) -> None:
+        self._loop = asyncio.get_running_loop()
+        self._is_started = True
+        self._engine.contact.heard_at = moment()
+        self._next = self._loop.call_soon(self._dial)
+        self.act()
 
     async def run(self) -> None:
-        """Dials one address after the other, until the engine is at its end or this is cancelled."""
-        address = next(self._addresses)
-        try:
-            while self._engine.is_running:
-                had_session = self._engine.session_id() != 0
-                await self._visit(*address)
-                has_expired = had_session and self._engine.session_id() == 0
-                if not has_expired:  # the server that said so gives a new session
-                    address = next(self._addresses)
-                await asyncio.sleep(self._pause())
-        except Exception:
-            self._engine.end()
-            raise
-        finally:
-            self._stop_timer()
+        """Starts, and goes on until it is stopped or the session is closed."""
+        if not self._is_stopped:
+            self._ended = asyncio.get_running_loop().create_future()
+            self.start()
+            await self._ended
 
-    def begin(self, link: Link) -> None:
+    def stop(self, end: Callable[[], None]) -> None:
+        """Does what ends the engine, ends the connection, and dials no more."""
+        self._is_stopped = True
+        end()
+        if self._link is not None:
+            self._link.end()
+        self._end()
+
+    def begin(self) -> None:
         """A connection stands."""
-        self._link = link
         self._engine.opened(moment())
         self.act()
 
-    def bring(self, link: Link, data: bytes) -> None:
+    def bring(self, data: bytes) -> None:
         """Bytes came."""
-        if link is self._link:
-            self._engine.received(moment(), data)
-            self.act()
+        self._engine.received(self._noticed(), data)
+        self.act()
 
     def act_soon(self) -> None:
-        """Acts once behind all that is asked in this turn of the event loop."""
+        """Acts once after all that is asked in this turn of the event loop."""
         if not self._is_to_act:
             self._is_to_act = True
-            asyncio.get_running_loop().call_soon(self.act)
+            self._loop.call_soon(self.act)
 
     def act(self) -> None:
-        """Does what came out of the engine, and sees to it that it is woken."""
+        """Takes what was asked, does what came out of the engine, and sees to it that it is woken."""
+        if not self._is_started:
+            return
         self._is_to_act = False
+        self._engine.take_handed(self._noticed())
         frames, is_over = self._engine.take_frames()
         if self._link is not None and self._link.transport is not None:
             if frames:
                 self._link.transport.write(frames)
             if is_over:
                 self._link.end()
-        self._wake_by(self._engine.deadline())
+        if not self._is_stopped:
+            self._wake_by(self._engine.deadline())
 
-    async def _visit(self, host: str, port: int) -> None:
-        """Dials, for a third of the timeout at most, and stays for as long as the connection lasts."""
-        link = Link(self)
-        dialing = asyncio.ensure_future(asyncio.get_running_loop().create_connection(lambda: link, host, port))
-        try:
-            await asyncio.wait({dialing}, timeout=self._engine.timeout() / 3)
-            if dialing.done():
-                dialing.result()
-                await link.over
-        except OSError as error:
-            logger.info("no connection to %s:%d: %s", host, port, error)
-        finally:
-            dialing.cancel()
-            self._link = None
-            link.end()
-            self._engine.cut(moment())
-            self.act()
+    def leave(self) -> None:
+        """The connection is over, or none came to be. The next attempt comes after a pause."""
+        self._link = None
+        if self._dialing is not None:
+            self._dialing.cancel()
+        now = moment()
+        self._engine.cut(now)
+        self.act()
+        if self._is_stopped or not self._engine.is_running:
+            return self._end()
+        if self._engine.contact.expiries == self._expiries:  # else the server that said so gives a new session
+            self._address = next(self._addresses)
+        self._expiries = self._engine.contact.expiries
+        pause = self._pauses.after(self._engine.contact, self._engine.timeout(), self._engine.may_live(now))
+        apart = BETWEEN_DIALS - (now - self._dialed_at) / 1000
+        self._next = self._loop.call_later(max(pause, apart), self._dial)
 
-    def _pause(self) -> float:
-        """How long to wait before the next address: twice as long each time, until a server answers for the session.
+    def _dial(self) -> None:
+        """Begins an attempt to connect. It has a third of the timeout, and a second at least."""
+        self._next = None
+        self._dialed_at = moment()
+        host, port = self._address
+        link = self._link = Link(self)
+        dialing = self._dialing = self._loop.create_task(self._loop.create_connection(lambda: link, host, port))
+        limit = self._loop.call_later(max(self._engine.timeout() / 3, SHORTEST_DIAL), dialing.cancel)
+        dialing.add_done_callback(functools.partial(self._dialed, link, limit))
 
-        There is some chance in it, so that the clients of a server that was lost do not come back at one moment.
+    def _dialed(self, link: Link, limit: asyncio.Handle, dialing: asyncio.Future[Any]) -> None:
+        """An attempt to connect has ended."""
+        limit.cancel()
+        if link is self._link:
+            self._dialing = None
+        error = None if dialing.cancelled() else dialing.exception()
+        if error is None and not dialing.cancelled():
+            self._engine.trouble = ""
+            return
+        if link is self._link:
+            host, port = self._address
+            self._engine.trouble = f"{host}:{port}: {error or 'no connection in time'}"
+            is_ours = isinstance(error, OSError) and error.errno in _NO_DESCRIPTOR
+            logger.log(logging.WARNING if is_ours else logging.INFO, "no connection to %s", self._engine.trouble)
+        link.end()
+
+    def _noticed(self) -> int:
+        """The moment of what came: now, or where this process was held up, the last one before that.
+
+        What came may have come at any time since then.
         """
-        if self._engine.admissions != self._admissions:
-            self._admissions, self._next_pause = self._engine.admissions, FIRST_PAUSE
-        pause, self._next_pause = self._next_pause, min(2 * self._next_pause, LONGEST_PAUSE)
-        return pause * random.uniform(0.5, 1)
+        now = moment()
+        if self._timer is None or now <= self._wakes_at + self._longest_wait():
+            self._awake_at = now
+        return self._awake_at
+
+    def _longest_wait(self) -> int:
+        """A tenth of the timeout: so a driver that was held up knows how long, in milliseconds."""
+        return int(1000 * max(self._engine.timeout() / 10, SHORTEST_WAIT))
 
     def _wake_by(self, deadline: Optional[int]) -> None:
-        if deadline is None or self._timer is not None and self._wakes_at <= deadline:
+        if deadline is None:
             return
-        self._stop_timer()
-        self._wakes_at = deadline
-        self._timer = asyncio.get_running_loop().call_later(max(deadline - moment(), 0) / 1000, self._tick)
+        wakes_at = min(deadline, moment() + self._longest_wait())
+        if self._timer is None or wakes_at < self._wakes_at:
+            self._set_timer(wakes_at)
+
+    def _set_timer(self, wakes_at: int) -> None:
+        if self._timer is not None:
+            self._timer.cancel()
+        self._wakes_at = wakes_at
+        self._timer = self._loop.call_later(max(wakes_at - moment(), 0) / 1000, self._awake)
+
+    def _awake(self) -> None:
+        """Tells the moment, after the event loop has read what the socket has: a timer comes after it in each turn."""
+        self._noticed()
+        self._timer = self._loop.call_later(0, self._tick)
 
     def _tick(self) -> None:
         self._timer = None
         self._engine.tick(moment())
         self.act()
 
-    def _stop_timer(self) -> None:
-        if self._timer is not None:
-            self._timer.cancel()
-            self._timer = None
+    def _end(self) -> None:
+        for handle in (self._next, self._timer):
+            if handle is not None:
+                handle.cancel()
+        self._next = self._timer = None
+        if self._ended is not None and not self._ended.done():
+            self._ended.set_result(None)

@@ -4,17 +4,17 @@ from __future__ import annotations
 
 import collections
 import contextlib
-import enum
 import itertools
 import logging
 import struct
-import threading
-from collections.abc import Generator, Iterator
-from typing import Any, Callable, NamedTuple, Optional, Protocol, Union
+from collections.abc import Iterator
+from dataclasses import dataclass
+from typing import Any, Callable, NamedTuple, Optional, Protocol
 
 from dirwolleu import _library as library
 from dirwolleu import _requests as requests
-from dirwolleu._library import Answer, Drop, Halted, Machine, Output, Report, Send
+from dirwolleu._frames import Frames, is_ping
+from dirwolleu._library import Answer, Closed, Drop, Found, Halted, Machine, Output, Report, Send
 from dirwolleu._requests import Request, Watcher
 from dirwolleu.exceptions import (
     ConnectionClosedError,
@@ -37,12 +37,14 @@ _EVENTS = {
     library.DATA_CHANGED: EventType.CHANGED,
     library.CHILDREN_CHANGED: EventType.CHILD,
 }
+_ENDING = (SessionExpiredError.code, SessionMovedError.code)
 _LONGEST_TIMEOUT_MS = 2_147_483_647
 
 
 class Waiter(Protocol):
-    """Who waits for an answer: a future."""
+    """Who waits for an answer: a future. It is done also where it waits no longer."""
 
+    def cancel(self) -> object: ...
     def done(self) -> bool: ...
     def set_result(self, result: Any, /) -> None: ...
     def set_exception(self, exception: Any, /) -> None: ...
@@ -55,19 +57,14 @@ class News(Protocol):
     def clear(self) -> None: ...
 
 
-class Need(enum.Enum):
-    """What one who follows a node needs before it looks again."""
-
-    READ = enum.auto()
-    NEWS = enum.auto()
-
-
-class _Asked(NamedTuple):
+@dataclass
+class _Asked:
     """A request, who waits for its answer, and the moment at which it is given up if it could not be sent."""
 
     request: Request[Any]
     waiter: Waiter
     until: int
+    sent_at: int = 0
 
     def fail(self, error: BaseException) -> None:
         if not self.waiter.done():
@@ -82,177 +79,194 @@ class _Asked(NamedTuple):
             self.waiter.set_exception(error)
 
 
-def _session_behind(last_zxid: int) -> bytes:
-    """The saved session of a client that asks for a new session, of a server that is not behind this zxid."""
-    return struct.pack(">qi16xq", 0, 16, last_zxid)
+class _Listening(NamedTuple):
+    """Who is woken at news of the data of a path, or of none but of the state, and the last good answer for it."""
+
+    path: Optional[str]
+    wake: Callable[[], None]
+    found: collections.deque[Kept]
 
 
-def _differs(kept: Kept, told: Optional[Kept]) -> bool:
-    """Whether an answer is another one than that which was told last."""
-    return told is None or (kept.stat, kept.data) != (told.stat, told.data)
+@dataclass
+class Contact:
+    """What was heard of servers, for whoever decides when to dial again. Moments are milliseconds."""
+
+    answers: int = 0
+    """How many calls a server has answered, but for answers that end the connection."""
+
+    expiries: int = 0
+    """How many sessions have expired."""
+
+    has_expired: bool = False
+    """Whether the last session has, and no server has given another one yet."""
+
+    lived: int = 0
+    """How long the last connection lasted from the moment that the server accepted the session, 0 where none did."""
+
+    heard_at: int = 0
+    """The last moment at which a server that had accepted the session was heard, or at which dialling began."""
+
+
+def _renewed(machine: Machine, timeout_ms: int) -> Machine:
+    """A machine of no session yet for the place of another one: it takes no server that is behind what that has seen.
+    """
+    return Machine(timeout_ms, struct.pack(">qi16xq", 0, 16, machine.last_zxid()))
 
 
 class Engine:
-    """A machine with its callers. Each function may be called by any thread.
+    """A machine with its callers.
 
-    Moments are milliseconds of one clock that does not go back. `tell` is handed a function and its argument: it calls
-    the function later, and not within the call.
+    The steps, those of `take_handed` too, are for one thread, or for another one once that has ended. What only looks,
+    and `ask`, any thread may call, and a signal handler: they take no lock. Moments are milliseconds of one clock that
+    does not go back. `tell` is handed a function and its argument: it calls the function later, not within the call.
     """
 
     def __init__(self, timeout: float, saved: Optional[bytes], tell: Tell) -> None:
         self._timeout_ms = int(timeout * 1000)
         if not 0 < self._timeout_ms <= _LONGEST_TIMEOUT_MS:
             raise ValueError(f"a timeout is 0.001 to {_LONGEST_TIMEOUT_MS / 1000} seconds")
-        self._lock = threading.RLock()
         self._machine = Machine(self._timeout_ms, saved)
         self._tell = tell
         self._tickets = itertools.count(1)
-        self._sent: dict[int, _Asked] = {}
+        self._handed: collections.deque[_Asked] = collections.deque()
         self._line: collections.deque[_Asked] = collections.deque()
+        self._sent: dict[int, _Asked] = {}
         self._watchers: dict[tuple[str, int], dict[Watcher, None]] = {}
-        self._news: dict[object, tuple[Optional[str], Callable[[], None]]] = {}
+        self._listening: dict[object, _Listening] = {}
         self._listeners: list[Listener] = []
-        self._frames: list[bytes] = []
+        self._came, self._frames = Frames(), list[bytes]()
+        self._pinged: collections.deque[int] = collections.deque()
+        self._opened_at: Optional[int] = None
+        self._admitted_at: Optional[int] = None
+        self._now = 0
         self._is_over = False
         self._saved_at_close: Optional[bytes] = None
+        self.contact = Contact()
+        self.trouble = ""
+        """Why the last attempt to connect has failed, in words."""
         self.is_running = False
         self.state = State.LOST
-        self.admissions = 0
-        """How often a server has accepted the session."""
 
     # The life of a client.
 
     def begin(self) -> None:
-        with self._lock:
-            if self._saved_at_close is not None:
-                raise ConnectionClosedError("the client is closed")
+        if self._saved_at_close is not None:
+            raise ConnectionClosedError("the client is closed")
+        if not self.is_running:
+            self._refuse_handed(ConnectionClosedError("the client was not started"))
             self.is_running = True
 
     def end(self) -> None:
         """Takes no request any more and gives the session up, whether the servers know or not."""
-        with self._lock:
-            self.is_running = False
-            self._frames.clear()
-            self._begin_anew(ConnectionClosedError("the client was stopped"))
+        self.is_running = False
+        self._frames.clear()
+        self._begin_anew(ConnectionClosedError("the client was stopped"))
 
     def close(self) -> None:
         """Takes no request any more, and frees the machine. It ends no session."""
-        with self._lock:
-            if self._saved_at_close is not None:
-                return
-            self.is_running = False
-            self._saved_at_close = self._machine.saved()
-            self._forget_callers(ConnectionClosedError("the client was closed"), State.LOST)
-            self._machine.close()
+        if self._saved_at_close is not None:
+            return
+        self.is_running = False
+        self._forget_callers(ConnectionClosedError("the client was closed"), State.LOST)
+        self._saved_at_close = self._machine.saved()
+        self._machine.close()
 
     # What happens to the connection.
 
     def opened(self, now: int) -> None:
-        with self._lock:
-            self._frames.clear()
-            self._is_over = False
-            self._step(lambda machine: machine.tick(now))
-            self._step(lambda machine: machine.opened(now))
+        self._leave_connection()
+        self._is_over = False
+        self._opened_at = now
+        self._step(now, lambda machine: machine.tick(now))
+        self._step(now, lambda machine: machine.opened(now))
 
     def cut(self, now: int) -> None:
-        with self._lock:
-            self._step(lambda machine: machine.cut(now))
-            self._frames.clear()
+        self._step(now, lambda machine: machine.cut(now))
+        self.contact.lived = 0 if self._admitted_at is None else now - self._admitted_at
+        self._leave_connection()
 
     def tick(self, now: int) -> None:
-        with self._lock:
-            self._step(lambda machine: machine.tick(now))
-            while self._line and self._is_given_up(self._line[0], now):
-                self._line.popleft().fail(NotConnectedError("no server accepted the session in time"))
+        self._step(now, lambda machine: machine.tick(now))
+        ends = self._patience_ends()
+        if ends is not None and ends <= now and not self._is_over:
+            logger.warning("the connection is given up: an answer has taken more than two thirds of the timeout")
+            self._is_over = True
+        while self._line and self._is_given_up(self._line[0], now):
+            trouble = f": {self.trouble}" if self.trouble else ""
+            self._line.popleft().fail(NotConnectedError(f"no server accepted the session in time{trouble}"))
 
     def received(self, now: int, data: bytes) -> None:
-        with self._lock:
-            self._step(lambda machine: machine.received(now, data))
-            self._send_line(now)
+        """Bytes came. Each frame is a step of its own, so that what is kept can be looked up as it was with the frame.
+        """
+        for piece, is_ping_answered in self._came.cut(data):
+            self._step(now, lambda machine: machine.received(now, piece))
+            if is_ping_answered and self._pinged:
+                self._pinged.popleft()
+        if self.state is State.CONNECTED:
+            self.contact.heard_at = now
+        self._send_line(now)
 
     def take_frames(self) -> tuple[bytes, bool]:
         """What is to be written, and whether the connection is to be closed then."""
-        with self._lock:
-            frames, self._frames = b"".join(self._frames), []
-            is_over, self._is_over = self._is_over, False
-            return frames, is_over
+        frames, self._frames = b"".join(self._frames), []
+        is_over, self._is_over = self._is_over, False
+        return frames, is_over
 
     def deadline(self) -> Optional[int]:
         """The moment at which `tick` is wanted, at the latest."""
-        with self._lock:
-            if self._saved_at_close is not None:
-                return None
-            moments = [self._machine.deadline()]
-            if self._line and self.state is not State.CONNECTED:
-                moments.append(self._line[0].until)
-            return min((moment for moment in moments if moment is not None), default=None)
+        if self._saved_at_close is not None:
+            return None
+        moments = [self._machine.deadline(), self._patience_ends()]
+        if self._line and self.state is not State.CONNECTED:
+            moments.append(self._line[0].until)
+        return min((moment for moment in moments if moment is not None), default=None)
 
     # What a program asks.
 
     def ask(self, now: int, request: Request[Any], waiter: Waiter) -> None:
-        """Sends a request, or keeps it until it can be sent.
+        """Hands a request in. `take_handed` sends it, or keeps it until it can be sent.
 
         Where no server accepts the session, that is for its timeout at most.
         """
-        with self._lock:
-            if not self.is_running:
-                raise ConnectionClosedError("the client is not started")
-            self._line.append(_Asked(request, waiter, now + self._timeout_ms))
-            self._send_line(now)
+        self._handed.append(_Asked(request, waiter, now + self._timeout_ms))
+        if not self.is_running:
+            waiter.cancel()
+            raise ConnectionClosedError("the client is not started")
+
+    def take_handed(self, now: int) -> None:
+        """Takes the requests that were handed in."""
+        if not self.is_running:
+            self._refuse_handed(ConnectionClosedError("the client was stopped"))
+        while self._handed:
+            self._line.append(self._handed.popleft())
+        self._send_line(now)
 
     def kept(self, path: str) -> Optional[Kept]:
-        with self._lock:
-            if self._saved_at_close is not None:
-                return None
-            found = self._machine.peek_data(path)
-            if found.kind == library.NOTHING:
-                return None
-            has_data = found.kind == library.FULL
-            return Kept(path, Mark(found.mark), self._machine.last_zxid(), found.stat, found.data, has_data)
+        looked = self._look(lambda machine: machine.peek_data(path))
+        if looked is None or looked[0].kind == library.NOTHING:
+            return None
+        found, last_zxid = looked
+        return Kept(path, Mark(found.mark), last_zxid, found.stat, found.data, found.kind == library.FULL)
 
-    def follow(self, path: str, news: News) -> Generator[Union[Kept, Need], None, None]:
-        """Each answer that one who follows a node is to be told, and between them what is needed until the next one.
-
-        `news` is set at each news of the node, and is not set where that is needed.
-        """
-        if not self.is_running:
-            raise ConnectionClosedError("the client is not started")
-        told: Optional[Kept] = None
-        with self.news(news.set, path):
-            while self.is_running:
-                news.clear()
-                kept = self._settled(path)
-                if kept is not None and _differs(kept, told):
-                    told = kept
-                    yield kept
-                elif kept is None and self.state is State.CONNECTED:
-                    yield Need.READ
-                else:
-                    yield Need.NEWS
-
-    def _settled(self, path: str) -> Optional[Kept]:
+    def settled(self, path: str) -> Optional[Kept]:
         """What is kept of a path, where it is good and whole: its data, or that there is no node."""
         kept = self.kept(path)
         return kept if kept and kept.mark is Mark.GOOD and (kept.has_data or not kept.exists) else None
 
     def kept_children(self, path: str) -> Optional[KeptChildren]:
-        with self._lock:
-            if self._saved_at_close is not None:
-                return None
-            found = self._machine.peek_children(path)
-            if found.mark == 0:
-                return None
-            return KeptChildren(path, Mark(found.mark), self._machine.last_zxid(), found.names, found.pzxid)
+        looked = self._look(lambda machine: machine.peek_children(path))
+        if looked is None or looked[0].mark == 0:
+            return None
+        found, last_zxid = looked
+        return KeptChildren(path, Mark(found.mark), last_zxid, found.names, found.pzxid)
 
     def forget_stale(self) -> None:
-        with self._lock:
-            if self._saved_at_close is None:
-                self._machine.forget()
+        self._look(Machine.forget)
 
     def saved(self) -> bytes:
         """The session, as the library puts it away. It is a secret."""
-        with self._lock:
-            return self._machine.saved() if self._saved_at_close is None else self._saved_at_close
+        saved = self._look(Machine.saved)
+        return saved if saved is not None else self._saved_at_close or b""
 
     def session_id(self) -> int:
         """The number of the session, 0 where none was begun."""
@@ -263,44 +277,58 @@ class Engine:
 
     def timeout(self) -> float:
         """The timeout of the session in seconds: the one that a server granted last, or the one to ask for."""
-        with self._lock:
-            is_closed = self._saved_at_close is not None
-            return (self._timeout_ms if is_closed else self._machine.timeout_ms()) / 1000
+        return (self._look(Machine.timeout_ms) or self._timeout_ms) / 1000
+
+    def may_live(self, now: int) -> bool:
+        """Whether the session may live still: it has not expired, and a server was heard within its timeout."""
+        return not self.contact.has_expired and now - self.contact.heard_at <= self.timeout() * 1000
 
     def add_listener(self, listener: Listener) -> None:
-        with self._lock:
-            self._listeners.append(listener)
+        self._listeners.append(listener)
 
     def remove_listener(self, listener: Listener) -> None:
-        with self._lock:
-            self._listeners.remove(listener)
+        self._listeners.remove(listener)
 
     @contextlib.contextmanager
-    def news(self, wake: Callable[[], None], path: Optional[str] = None) -> Iterator[None]:
-        """Within it, `wake` is called at each change of the state, and at each report of the data of the path."""
-        key = object()
-        with self._lock:
-            self._news[key] = path, wake
+    def news(self, wake: Callable[[], None], path: Optional[str] = None) -> Iterator[collections.deque[Kept]]:
+        """Within it, `wake` is called at each change of the state, and at each answer and report of a path's data.
+
+        What it gives holds the last answer that was good and whole when it came, until somebody takes it.
+        """
+        key, found = object(), collections.deque[Kept](maxlen=1)
+        self._listening[key] = _Listening(path, wake, found)
         try:
-            yield
+            yield found
         finally:
-            with self._lock:
-                del self._news[key]
+            self._listening.pop(key, None)
 
-    # Steps. Whoever calls these holds the lock.
+    def _look(self, look: Callable[[Machine], Found]) -> Optional[Found]:
+        """What is found in the machine, once more where that was closed meanwhile; None where the client is closed."""
+        while self._saved_at_close is None:
+            with contextlib.suppress(Closed):
+                return look(self._machine)
+        return None
 
-    def _step(self, step: Callable[[Machine], list[Output]]) -> None:
+    # Steps.
+
+    def _step(self, now: int, step: Callable[[Machine], list[Output]]) -> None:
         if self._saved_at_close is not None:
             return
+        self._now = now
         try:
             self._take(step(self._machine))
         except Halted:
-            self._resume()
+            self._resume("the client ran out of memory")
+        except KeyboardInterrupt:  # within an event loop of the main thread
+            self._resume("the client was interrupted")
+            raise
 
     def _take(self, outputs: list[Output]) -> None:
         for output in outputs:
             if isinstance(output, Send):
                 self._frames.append(output.frame)
+                if is_ping(output.frame):
+                    self._pinged.append(self._now)
             elif isinstance(output, Answer):
                 self._answer(output)
             elif isinstance(output, Report):
@@ -311,23 +339,39 @@ class Engine:
             else:
                 self._change(output.state)
 
+    def _leave_connection(self) -> None:
+        """Forgets what was of one connection."""
+        self._frames.clear()
+        self._came = Frames()
+        self._pinged.clear()
+        self._opened_at = self._admitted_at = None
+
+    def _patience_ends(self) -> Optional[int]:
+        """When the server has had its time to accept the session, or to answer the oldest call or ping."""
+        if self._opened_at is not None:
+            return self._opened_at + 2 * self._timeout_ms // 3
+        waiting = [asked.sent_at for asked in itertools.islice(self._sent.values(), 1)] + list(self._pinged)[:1]
+        return min(waiting) + 2 * self._machine.timeout_ms() // 3 if waiting else None
+
     def _is_given_up(self, asked: _Asked, now: int) -> bool:
         return self.state is not State.CONNECTED and asked.until <= now
 
     def _send_line(self, now: int) -> None:
-        """Sends what waits to be sent, as far as the machine takes it."""
+        """Sends what waits to be sent, as far as the machine takes it, but for what nobody waits for any more."""
         while self._line and self.state is State.CONNECTED:
             asked = self._line.popleft()
-            self._send(asked, now)
+            if not asked.waiter.done():
+                self._send(asked, now)
             if self._line and self._line[0] is asked:
                 return
 
     def _send(self, asked: _Asked, now: int) -> None:
         """Sends a request. Where the machine does not take it yet, it is the first of the line again."""
         ticket = next(self._tickets)
+        asked.sent_at = now
         self._sent[ticket] = asked
         try:
-            self._step(lambda machine: asked.request.call(machine, now, ticket))
+            self._step(now, lambda machine: asked.request.call(machine, now, ticket))
         except (ValueError, MemoryError) as error:
             self._sent.pop(ticket, None)
             asked.fail(error)
@@ -339,12 +383,25 @@ class Engine:
         if answer.lack in (requests.NOT_CONNECTED, requests.TOO_MANY_PENDING):
             self._line.appendleft(asked)
             return
-        if answer.code in (SessionExpiredError.code, SessionMovedError.code):
+        if answer.code in _ENDING:
             self._is_over = True
+        elif answer.lack == 0:
+            self.contact.answers += 1
         watcher = asked.request.watcher
         if watcher is not None and asked.request.leaves_watch(answer):
             self._watchers.setdefault((watcher.path, watcher.side), {})[watcher] = None
         asked.answer(answer)
+        if asked.request.node is not None:
+            self._bring(asked.request.node)
+
+    def _bring(self, path: str) -> None:
+        """Hands an answer to those who follow the node, as long as it is good: the next frame may be a notice."""
+        following = [listening for listening in list(self._listening.values()) if listening.path == path]
+        kept = self.settled(path) if following else None
+        if kept is not None:
+            for listening in following:
+                listening.found.append(kept)
+                listening.wake()
 
     def _report(self, report: Report) -> None:
         event = WatchedEvent(_EVENTS[report.event], self.state, report.path)
@@ -355,10 +412,14 @@ class Engine:
 
     def _change(self, state: int) -> None:
         if state == library.CONNECTED:
-            self.admissions += 1
+            self._opened_at = None
+            self._admitted_at = self.contact.heard_at = self._now
+            self.contact.has_expired = False
             self._enter(State.CONNECTED)
         elif state == library.EXPIRED:
             self._is_over = True
+            self.contact.expiries += 1
+            self.contact.has_expired = True
             self._begin_anew(SessionExpiredError("the session has expired"))
         elif state == library.SESSION_CLOSED:
             self.is_running = False
@@ -368,41 +429,47 @@ class Engine:
             self._enter(State.SUSPENDED)
 
     def _begin_anew(self, error: ZookeeperError) -> None:
-        """Has a machine of no session yet, which takes no server that is behind what was seen."""
+        """Has a machine of no session yet, and leaves all callers of the session."""
         if self._saved_at_close is None:
-            old, self._machine = self._machine, Machine(self._timeout_ms, _session_behind(self._machine.last_zxid()))
-            old.close()
+            self._replace(_renewed(self._machine, self._timeout_ms))
         self._forget_callers(error, State.LOST)
 
-    def _resume(self) -> None:
-        """Has a machine of the same session, where the old one ran out of memory. It keeps nothing."""
-        old, self._machine = self._machine, Machine(self._timeout_ms, self._machine.saved())
-        old.close()
+    def _resume(self, why: str) -> None:
+        """Has a machine of the same session, which keeps nothing, where the old one is of no use any more."""
+        self._replace(Machine(self._timeout_ms, self._machine.saved()))
         self._is_over = True
-        self._forget_callers(ConnectionLoss("the client ran out of memory"), State.SUSPENDED)
+        self._forget_callers(ConnectionLoss(why), State.SUSPENDED)
+
+    def _replace(self, machine: Machine) -> None:
+        old, self._machine = self._machine, machine
+        old.close()
 
     def _forget_callers(self, error: ZookeeperError, state: State) -> None:
         """Fails all that waits for an answer, ends all watches, and enters a state."""
-        waiting = [*self._sent.values(), *self._line]
-        watchers = list(itertools.chain.from_iterable(self._watchers.values()))
+        self._refuse_handed(error)
+        for asked in [*self._sent.values(), *self._line]:
+            asked.fail(type(error)(*error.args))
         self._sent.clear()
         self._line.clear()
+        watchers = list(itertools.chain.from_iterable(self._watchers.values()))
         self._watchers.clear()
-        for asked in waiting:
-            asked.fail(type(error)(*error.args))
         for watcher in watchers:
             self._tell(watcher.function, WatchedEvent(EventType.NONE, state, watcher.path))
         self._enter(state)
 
+    def _refuse_handed(self, error: ZookeeperError) -> None:
+        while self._handed:
+            self._handed.popleft().fail(type(error)(*error.args))
+
     def _enter(self, state: State) -> None:
         if state is not self.state:
             self.state = state
-            for listener in self._listeners:
+            for listener in list(self._listeners):
                 self._tell(listener, state)
         self._wake(None)
 
     def _wake(self, path: Optional[str]) -> None:
         """Wakes those who wait for news of this path, or all."""
-        for awaited, wake in list(self._news.values()):
-            if path is None or awaited == path:
-                wake()
+        for listening in list(self._listening.values()):
+            if path is None or listening.path == path:
+                listening.wake()

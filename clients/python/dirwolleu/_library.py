@@ -1,7 +1,9 @@
 """The shared library by ctypes, and `Machine`, which hides its pointers.
 
 A machine opens no socket and reads no clock. Each step is told the moment, in milliseconds of a clock that does not go
-back, and answers what comes out of it. One thread at a time may use a machine.
+back, and answers what comes out of it. One thread makes all steps of a machine; any thread may look up what it keeps.
+No call lets another thread run before it has returned, since the interpreter's lock is held: so calls do not overlap,
+and no thread that is interrupted keeps a lock.
 """
 
 from __future__ import annotations
@@ -11,10 +13,11 @@ import ctypes.util
 import os
 import pathlib
 import platform
+import sys
 from ctypes import POINTER, Structure, byref, string_at
 from ctypes import c_bool, c_char, c_char_p, c_int32, c_int64, c_size_t, c_uint32, c_uint64, c_void_p
 from operator import attrgetter
-from typing import Any, Callable, Iterator, NamedTuple, Optional, Union
+from typing import Any, Callable, Iterator, NamedTuple, Optional, TypeVar, Union
 
 from dirwolleu.types import DataStat, Stat
 
@@ -129,10 +132,12 @@ def _check_machine() -> None:
     machine, system = platform.machine(), platform.system()
     if (machine.lower(), system) not in (("x86_64", "Linux"), ("amd64", "Linux")):
         raise ImportError(f"dirwolleu runs on Linux on x86-64 alone, and this is {system} on {machine}")
+    if not getattr(sys, "_is_gil_enabled", lambda: True)():
+        raise ImportError("dirwolleu wants an interpreter with its global lock (GIL)")
 
 
-def _load(file: str) -> ctypes.CDLL:
-    library = ctypes.CDLL(file)
+def _load(file: str) -> ctypes.PyDLL:
+    library = ctypes.PyDLL(file)
     for name, (result, parameters) in _FUNCTIONS.items():
         function = getattr(library, name)
         function.restype, function.argtypes = result, parameters
@@ -206,6 +211,10 @@ class Halted(MemoryError):
     """The machine ran out of memory within a step. It has no use from then on, but its session can still be taken."""
 
 
+class Closed(RuntimeError):
+    """The machine is closed."""
+
+
 def _checked(code: int) -> None:
     """Raises what a code below 0 says."""
     if code >= OK:
@@ -215,7 +224,7 @@ def _checked(code: int) -> None:
     if code == NO_MEMORY:
         raise MemoryError
     if code == CLOSED:
-        raise RuntimeError("the machine is closed")
+        raise Closed("the machine is closed")
     raise ValueError(
         {
             NOT_TEXT: "the path is no UTF-8",
@@ -235,6 +244,42 @@ def _texts_in(spelled: bytes) -> Iterator[str]:
         yield spelled[begin:end].decode()
 
 
+class _Room:
+    """Where the library writes bytes. It grows."""
+
+    def __init__(self) -> None:
+        self.bytes = ctypes.create_string_buffer(4096)
+
+    def widen(self, length: int) -> bool:
+        """Makes room for so many bytes. Answers whether there was too little."""
+        is_short = length > len(self.bytes)
+        if is_short:
+            self.bytes = ctypes.create_string_buffer(length)
+        return is_short
+
+    def filled(self, call: Callable[..., int]) -> bytes:
+        """What a call writes into the room, of which it is told how much there is, and counts."""
+        count, is_whole = c_size_t(), False
+        while not is_whole:
+            _checked(call(self.bytes, len(self.bytes), byref(count)))
+            is_whole = not self.widen(count.value)
+        return string_at(self.bytes, count.value)
+
+
+Found = TypeVar("Found")
+Stamp = TypeVar("Stamp")
+
+
+def _steady(look: Callable[[], Found], stamp: Callable[[], Stamp]) -> tuple[Found, Stamp]:
+    """What a look finds between two equal stamps: no step that counts was made meanwhile."""
+    before = stamp()
+    while True:
+        found, after = look(), stamp()
+        if before == after:
+            return found, after
+        before = after
+
+
 _fields_of_stat, _fields_of_data_stat = attrgetter(*Stat._fields), attrgetter(*DataStat._fields)
 
 
@@ -242,16 +287,17 @@ class Machine:
     """One session, as a machine. It holds memory of the library's until `close`."""
 
     def __init__(self, timeout_ms: int, saved: Optional[bytes] = None) -> None:
-        self._handle, self._output = _Handle(), _Output()
-        self._room = ctypes.create_string_buffer(4096)
+        self._handle, self._output, self._room = _Handle(), _Output(), _Room()
+        self._process = os.getpid()
         if saved is None:
             _checked(_library.dw_open(self._handle, timeout_ms))
         else:
             _checked(_library.dw_resume(self._handle, timeout_ms, saved, len(saved)))
 
     def close(self) -> None:
-        """Frees what it holds. It ends no session."""
-        _library.dw_close(self._handle)
+        """Frees what it holds. It ends no session. In a forked child it does nothing."""
+        if os.getpid() == self._process:
+            _library.dw_close(self._handle)
 
     def __del__(self) -> None:
         self.close()
@@ -309,10 +355,10 @@ class Machine:
         return int(_library.dw_state(self._handle))
 
     def last_zxid(self) -> int:
-        return int(_library.dw_last_zxid(self._handle))
+        return self._number(_library.dw_last_zxid(self._handle))
 
     def timeout_ms(self) -> int:
-        return int(_library.dw_timeout_ms(self._handle))
+        return self._number(_library.dw_timeout_ms(self._handle))
 
     def deadline(self) -> Optional[int]:
         """The first moment at which something is due, if anything ever is."""
@@ -323,28 +369,47 @@ class Machine:
 
     def saved(self) -> bytes:
         """What takes the session up again."""
-        return self._counted(lambda *room: _library.dw_saved(self._handle, *room))
+        return _Room().filled(lambda *room: _library.dw_saved(self._handle, *room))
 
-    def peek_data(self, path: str) -> KeptData:
-        spelled, kept = path.encode(), _KeptData()
-        _checked(_library.dw_peek_data(self._handle, spelled, len(spelled), byref(kept), self._room, len(self._room)))
-        if self._widen(kept.length):
-            _checked(
-                _library.dw_peek_data(self._handle, spelled, len(spelled), byref(kept), self._room, len(self._room))
-            )
-        stat = DataStat._make(_fields_of_data_stat(kept.stat)) if kept.kind in (KNOWN, FULL) else None
-        data = string_at(self._room, kept.length) if kept.kind == FULL and not kept.is_null else None
-        return KeptData(kept.kind, kept.mark, stat, data)
+    def peek_data(self, path: str) -> tuple[KeptData, int]:
+        """What is kept of the data of a path, and the last zxid at that moment."""
+        spelled = path.encode()
+        return _steady(lambda: self._data_kept(spelled), self.last_zxid)
 
-    def peek_children(self, path: str) -> KeptNames:
-        spelled, kept = path.encode(), _KeptNames()
-        _checked(_library.dw_peek_children(self._handle, spelled, len(spelled), byref(kept)))
-        names = self._counted(lambda *room: _library.dw_peek_names(self._handle, spelled, len(spelled), *room))
-        return KeptNames(kept.mark, tuple(_texts_in(names)), kept.pzxid)
+    def peek_children(self, path: str) -> tuple[KeptNames, int]:
+        """What is kept of the children of a path, and the last zxid at that moment."""
+        spelled = path.encode()
+        names, (side, last_zxid) = _steady(
+            lambda: self._names_kept(spelled), lambda: (self._side_kept(spelled), self.last_zxid())
+        )
+        return KeptNames(side[0], names, side[1]), last_zxid
 
     def forget(self) -> None:
         """Forgets all stale answers."""
         _checked(_library.dw_forget(self._handle))
+
+    def _number(self, answered: int) -> int:
+        _checked(answered)
+        return int(answered)
+
+    def _data_kept(self, spelled: bytes) -> KeptData:
+        kept, room, is_whole = _KeptData(), _Room(), False
+        while not is_whole:
+            given = room.bytes, len(room.bytes)
+            _checked(_library.dw_peek_data(self._handle, spelled, len(spelled), byref(kept), *given))
+            is_whole = not room.widen(kept.length)
+        stat = DataStat._make(_fields_of_data_stat(kept.stat)) if kept.kind in (KNOWN, FULL) else None
+        data = string_at(room.bytes, kept.length) if kept.kind == FULL and not kept.is_null else None
+        return KeptData(kept.kind, kept.mark, stat, data)
+
+    def _side_kept(self, spelled: bytes) -> tuple[int, int]:
+        kept = _KeptNames()
+        _checked(_library.dw_peek_children(self._handle, spelled, len(spelled), byref(kept)))
+        return kept.mark, kept.pzxid
+
+    def _names_kept(self, spelled: bytes) -> tuple[str, ...]:
+        names = _Room().filled(lambda *room: _library.dw_peek_names(self._handle, spelled, len(spelled), *room))
+        return tuple(_texts_in(names))
 
     # What a step tells.
 
@@ -380,30 +445,15 @@ class Machine:
 
     def _text(self) -> bytes:
         length = self._output.length
-        self._widen(length)
-        _library.dw_copy(self._handle, 0, self._room, length)
-        return string_at(self._room, length)
+        self._room.widen(length)
+        _library.dw_copy(self._handle, 0, self._room.bytes, length)
+        return string_at(self._room.bytes, length)
 
     def _name(self, index: int) -> str:
-        length = _library.dw_name(self._handle, index, self._room, len(self._room))
-        if self._widen(length):
-            _library.dw_name(self._handle, index, self._room, len(self._room))
-        return string_at(self._room, length).decode()
+        length = _library.dw_name(self._handle, index, self._room.bytes, len(self._room.bytes))
+        if self._room.widen(length):
+            _library.dw_name(self._handle, index, self._room.bytes, length)
+        return string_at(self._room.bytes, length).decode()
 
     def _words(self) -> str:
-        return self._counted(lambda *room: _library.dw_words(self._handle, *room)).decode(errors="replace")
-
-    def _counted(self, call: Callable[..., int]) -> bytes:
-        """What a call writes into a room, of which it is told how much there is, and counts."""
-        count = c_size_t()
-        _checked(call(self._room, len(self._room), byref(count)))
-        if self._widen(count.value):
-            _checked(call(self._room, len(self._room), byref(count)))
-        return string_at(self._room, count.value)
-
-    def _widen(self, length: int) -> bool:
-        """Makes room for so many bytes. Answers whether there was too little."""
-        is_short = length > len(self._room)
-        if is_short:
-            self._room = ctypes.create_string_buffer(length)
-        return is_short
+        return self._room.filled(lambda *room: _library.dw_words(self._handle, *room)).decode(errors="replace")

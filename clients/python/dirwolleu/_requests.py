@@ -48,6 +48,8 @@ class Request(Generic[Result]):
     call: Callable[[Machine, int, int], list[Output]]
     is_exists: bool = False
     watcher: Optional[Watcher] = None
+    node: Optional[str] = None
+    """The path of the node whose data or absence the answer tells."""
 
     def leaves_watch(self, answer: Answer) -> bool:
         """Whether a watch that was asked for is left: where there is no node, `exists` alone leaves one."""
@@ -89,6 +91,7 @@ def exists(path: str, watch: Watch) -> Request[Optional[Stat]]:
         lambda machine, now, ticket: machine.exists(now, ticket, path, bool(watch)),
         is_exists=True,
         watcher=_watcher(path, library.DATA_SIDE, watch),
+        node=path,
     )
 
 
@@ -96,6 +99,7 @@ def get(path: str, watch: Watch) -> Request[tuple[Optional[bytes], Stat]]:
     return Request(
         lambda machine, now, ticket: machine.get_data(now, ticket, path, bool(watch)),
         watcher=_watcher(path, library.DATA_SIDE, watch),
+        node=path,
     )
 
 

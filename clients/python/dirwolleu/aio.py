@@ -5,26 +5,33 @@ from __future__ import annotations
 import asyncio
 import contextlib
 import inspect
+import time
 from collections.abc import AsyncGenerator
 from types import TracebackType
 from typing import Any, Callable, Optional
 
 from dirwolleu import _requests as requests
 from dirwolleu._driver import Driver, addresses, moment
-from dirwolleu._engine import Engine, Need
+from dirwolleu._engine import Engine
+from dirwolleu._follow import Follower, Need, Wait, passing
 from dirwolleu._requests import Request, Result
 from dirwolleu._shown import Shown
-from dirwolleu.exceptions import ConnectionClosedError, ConnectionLoss, NoNodeError, SessionExpiredError, ZookeeperError
+from dirwolleu.exceptions import ConnectionClosedError, NoNodeError, ZookeeperError
 from dirwolleu.types import Kept, Stat, Watch
 
 __all__ = ["Client"]
+
+LONGEST_FAREWELL = 2.0
+"""How long `stop` waits for a server to end the session, in seconds."""
 
 
 class Client(Shown):
     """A client of ZooKeeper whose functions are coroutines. It belongs to the event loop in which it is started.
 
     The parameters and what calls raise are those of `dirwolleu.Client`. Watches and listeners are functions or
-    coroutine functions, which the event loop calls. A call that is cancelled may still happen at the server.
+    coroutine functions, which the event loop calls. A call that is cancelled may still happen at the server, unless it
+    was not sent yet. Whoever cancels all tasks of the loop, as `asyncio.run` does at its end, leaves the connection as
+    it is, so that `stop` can still end the session.
     """
 
     def __init__(self, hosts: str, timeout: float = 10.0, saved: Optional[bytes] = None) -> None:
@@ -32,7 +39,6 @@ class Client(Shown):
         self._hosts = hosts
         super().__init__(Engine(timeout, saved, self._tell))
         self._driver: Optional[Driver] = None
-        self._running: Optional[asyncio.Task[None]] = None
         self._callbacks: set[asyncio.Future[Any]] = set()
 
     async def __aenter__(self) -> Client:
@@ -54,38 +60,42 @@ class Client(Shown):
         Raises `TimeoutError`, and stops, where that takes longer than `timeout` seconds; None is no bound.
         """
         self._engine.begin()
-        if self._running is None:
+        if self._driver is None:
             self._driver = Driver(self._hosts, self._engine)
-            self._running = asyncio.ensure_future(self._driver.run())
+            self._driver.start()
         try:
             await asyncio.wait_for(self._wait_until_connected(), timeout)
         except BaseException as error:
             await self.stop()
             if not isinstance(error, asyncio.TimeoutError):
                 raise
-            raise TimeoutError(f"no server of {self._hosts} accepted the session in {timeout} seconds") from None
+            trouble = f" ({self._engine.trouble})" if self._engine.trouble else ""
+            raise TimeoutError(
+                f"no server of {self._hosts} accepted the session in {timeout} seconds{trouble}"
+            ) from None
 
     async def stop(self) -> None:
         """Ends the session, with its ephemeral nodes and its watches.
 
-        `start` begins another session. Where no server has done so within a third of the session's timeout, the session
-        lives on for its timeout.
+        `start` begins another session. Where no server has ended the session within a third of its timeout, and within
+        2 seconds, it lives on for its timeout.
         """
-        if self._running is None:
+        if self._driver is None:
             return
-        if self.connected:
-            with contextlib.suppress(ZookeeperError, asyncio.TimeoutError):
-                await asyncio.wait_for(self._ask(requests.close_session()), self._engine.timeout() / 3)
-        self._engine.end()
-        await self._end_driver()
+        try:
+            if self.connected:
+                with contextlib.suppress(ZookeeperError, asyncio.TimeoutError):
+                    farewell = min(self._engine.timeout() / 3, LONGEST_FAREWELL)
+                    await asyncio.wait_for(self._ask(requests.close_session()), farewell)
+        finally:
+            self._end_driver(self._engine.end)
 
     async def close(self) -> None:
         """Frees what the client holds; it can't be started again.
 
         The session of a client that was not stopped lives on for its timeout, and `saved_session` can be taken up.
         """
-        self._engine.close()
-        await self._end_driver()
+        self._end_driver(self._engine.close)
 
     async def exists(self, path: str, watch: Watch = None) -> Optional[Stat]:
         """What is known of a node, or None where there is none. A watch is left also where there is none."""
@@ -126,18 +136,19 @@ class Client(Shown):
     async def follow(self, path: str) -> AsyncGenerator[Kept, None]:
         """Yields what a node holds, and again whenever that has changed, as `follow` of `dirwolleu.Client` does."""
         news = asyncio.Event()
-        with contextlib.closing(self._engine.follow(path, news)) as followed:
-            for told in followed:
-                if told is Need.READ:
+        with contextlib.closing(Follower(self._engine, path, news, time.monotonic).steps()) as steps:
+            for step in steps:
+                if isinstance(step, Kept):
+                    yield step
+                elif isinstance(step, Wait):
+                    with contextlib.suppress(asyncio.TimeoutError):
+                        await asyncio.wait_for(news.wait(), step.seconds)
+                elif step is Need.READ:
                     await self._read(path)
-                elif told is Need.NEWS:
-                    await news.wait()
-                else:
-                    yield told
 
     async def _read(self, path: str) -> None:
         """Reads a node, or its absence, with a watch."""
-        with contextlib.suppress(ConnectionLoss, SessionExpiredError, ConnectionClosedError):
+        with passing():
             try:
                 await self.get(path, watch=True)
             except NoNodeError:
@@ -169,8 +180,9 @@ class Client(Shown):
             self._callbacks.add(callback)
             callback.add_done_callback(self._callbacks.discard)
 
-    async def _end_driver(self) -> None:
-        running, self._running, self._driver = self._running, None, None
-        if running is not None:
-            running.cancel()
-            await asyncio.wait({running})
+    def _end_driver(self, end: Callable[[], None]) -> None:
+        driver, self._driver = self._driver, None
+        if driver is not None:
+            driver.stop(end)
+        else:
+            end()

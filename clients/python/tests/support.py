@@ -1,13 +1,17 @@
-"""What the tests share: the partner as a child, and waits that have a bound."""
+"""What the tests share: the partner as a child, servers that a test writes itself, and waits that have a bound."""
 
 from __future__ import annotations
 
+import contextlib
 import pathlib
+import socket
+import struct
 import subprocess
 import sys
+import threading
 import time
 import unittest
-from typing import Any, Callable, Optional
+from typing import Any, Callable, NamedTuple, Optional
 
 CLIENTS = pathlib.Path(__file__).resolve().parents[2]
 sys.path.insert(0, str(CLIENTS / "python"))
@@ -44,6 +48,120 @@ class Partner:
         self._process.communicate(timeout=WAIT)
 
 
+class Asked(NamedTuple):
+    """A request."""
+
+    xid: int
+    kind: int
+    body: bytes
+
+
+class Connected(NamedTuple):
+    """What a ConnectRequest says."""
+
+    last_zxid: int
+    timeout_ms: int
+    session: int
+
+
+PING, EXISTS, GET_DATA, SET_WATCHES, CLOSE_SESSION = 11, 3, 4, 101, -11
+PASSWORD = struct.pack(">i", 16) + bytes(16)
+STAT = struct.pack(">qqqqiiiqiiq", 5, 5, 0, 0, 0, 0, 0, 0, 3, 0, 5)
+
+
+class Peer:
+    """A connection, as a server that a test writes has it. Each of its functions raises `OSError` where it is over."""
+
+    def __init__(self, connection: socket.socket) -> None:
+        self._connection = connection
+
+    def take_payload(self) -> bytes:
+        return self._take(struct.unpack(">i", self._take(4))[0])
+
+    def take(self) -> Asked:
+        payload = self.take_payload()
+        xid, kind = struct.unpack(">ii", payload[:8])
+        return Asked(xid, kind, payload[8:])
+
+    def take_connect(self) -> Connected:
+        _, last_zxid, timeout_ms, session = struct.unpack(">iqiq", self.take_payload()[:24])
+        return Connected(last_zxid, timeout_ms, session)
+
+    def admit(self, timeout_ms: Optional[int] = None) -> Connected:
+        """Accepts the session, with the timeout that is asked for or another one."""
+        asked = self.take_connect()
+        self.send(struct.pack(">iiq", 0, timeout_ms or asked.timeout_ms, asked.session or 7) + PASSWORD + b"\0")
+        return asked
+
+    def refuse(self) -> None:
+        """Says that the session has expired."""
+        self.send(struct.pack(">iiq", 0, 0, 0) + PASSWORD + b"\0")
+
+    def send(self, *payloads: bytes) -> None:
+        self.send_bytes(b"".join(struct.pack(">i", len(payload)) + payload for payload in payloads))
+
+    def send_bytes(self, data: bytes) -> None:
+        self._connection.sendall(data)
+
+    def trickle(self, data: bytes, pause: float) -> None:
+        """Sends a byte after the other, with pauses."""
+        for byte in data:
+            self.send_bytes(bytes([byte]))
+            time.sleep(pause)
+
+    def _take(self, count: int) -> bytes:
+        taken = b""
+        while len(taken) < count:
+            piece = self._connection.recv(count - len(taken))
+            if not piece:
+                raise ConnectionError("the connection is over")
+            taken += piece
+        return taken
+
+
+def reply(asked: Asked, body: bytes = b"", code: int = 0, zxid: int = 5) -> bytes:
+    return struct.pack(">iqi", asked.xid, zxid, code) + body
+
+
+def notice(path: str, event: int = 3) -> bytes:
+    return struct.pack(">iqiii", -1, -1, 0, event, 3) + struct.pack(">i", len(path)) + path.encode()
+
+
+def data_reply(asked: Asked, data: bytes, zxid: int = 5) -> bytes:
+    return reply(asked, struct.pack(">i", len(data)) + data + STAT, zxid=zxid)
+
+
+class RawServer:
+    """A server of which a test writes what it does: each connection is served by a function, in a thread of its own."""
+
+    def __init__(self, serve: Callable[[Peer], None]) -> None:
+        self._serve = serve
+        self._listener = socket.create_server(("127.0.0.1", 0))
+        self.host = f"127.0.0.1:{self._listener.getsockname()[1]}"
+        self.dials: list[float] = []
+        """The moments of the connections."""
+        self.ends: list[float] = []
+        """The moments at which connections have ended."""
+        threading.Thread(target=self._accept, daemon=True).start()
+
+    def _accept(self) -> None:
+        with contextlib.suppress(OSError):
+            while True:
+                connection, _ = self._listener.accept()
+                self.dials.append(time.monotonic())
+                threading.Thread(target=self._run, args=(connection,), daemon=True).start()
+
+    def _run(self, connection: socket.socket) -> None:
+        with connection, contextlib.suppress(OSError):
+            self._serve(Peer(connection))
+        self.ends.append(time.monotonic())
+
+    def stop(self) -> None:
+        with contextlib.suppress(OSError):
+            self._listener.shutdown(socket.SHUT_RDWR)
+        self._listener.close()
+
+
 def within(condition: Callable[[], Any], seconds: float = WAIT) -> Any:
     """Waits until the condition has an answer that counts as true, and gives it."""
     until = time.monotonic() + seconds
@@ -61,6 +179,11 @@ class PartnerCase(unittest.TestCase):
         partner = Partner(*options, port=port)
         self.addCleanup(partner.stop)
         return partner
+
+    def raw_server(self, serve: Callable[[Peer], None]) -> RawServer:
+        server = RawServer(serve)
+        self.addCleanup(server.stop)
+        return server
 
     def raises(self, kind: type[BaseException], code: Optional[int]) -> Any:
         """A context in which an error of exactly this class and code is raised."""

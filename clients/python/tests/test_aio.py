@@ -3,11 +3,15 @@
 from __future__ import annotations
 
 import asyncio
+import signal
+import subprocess
+import sys
+import time
 import unittest
 from collections.abc import AsyncIterator
 from typing import Any, Callable, Optional
 
-from support import WAIT, Partner, PartnerCase
+from support import CLIENTS, WAIT, Partner, PartnerCase, Peer
 
 from dirwolleu import (
     ConnectionClosedError,
@@ -162,6 +166,30 @@ class AioTest(unittest.IsolatedAsyncioTestCase, PartnerCase):
         partner.do("unmute")
         self.assertEqual((await asyncio.wait_for(second, WAIT))[0], b"")
 
+    async def test_a_call_that_is_cancelled_before_it_is_sent_is_not_sent(self) -> None:
+        partner = self.partner()
+        client = await self.client(partner)
+        partner.do("down")
+        await within(lambda: client.state is State.SUSPENDED)
+        call = asyncio.ensure_future(client.create("/a"))
+        await asyncio.sleep(0.01)
+        call.cancel()
+        partner.do("up")
+        self.assertIsNone(await asyncio.wait_for(client.exists("/a"), WAIT))
+
+    async def test_a_server_that_never_says_farewell_holds_no_stop(self) -> None:
+        def serve(peer: Peer) -> None:
+            peer.admit(2_147_483_647)
+            while True:
+                peer.take()
+
+        client = Client(self.raw_server(serve).host)
+        self.addAsyncCleanup(client.close)
+        await client.start(WAIT)
+        began = time.monotonic()
+        await client.stop()
+        self.assertLess(time.monotonic() - began, 4.0)
+
     async def test_a_session_is_put_away_and_taken_up(self) -> None:
         partner = self.partner()
         client = await self.client(partner)
@@ -189,6 +217,55 @@ class AioTest(unittest.IsolatedAsyncioTestCase, PartnerCase):
         with self.assertRaises(TimeoutError):
             await client.start(0.3)
         await client.close()
+
+
+class EndOfLoopTest(PartnerCase):
+    """What `asyncio.run` does at its end, after a Ctrl-C too: it cancels all tasks and waits for them."""
+
+    def test_the_session_is_ended_though_all_tasks_are_cancelled(self) -> None:
+        partner = self.partner()
+
+        async def program() -> None:
+            async with Client(partner.host) as client:
+                await client.create("/a", ephemeral=True)
+                ready.set_result(None)
+                await asyncio.sleep(WAIT)
+
+        loop = asyncio.new_event_loop()
+        self.addCleanup(loop.close)
+        ready = loop.create_future()
+        main = loop.create_task(program())
+        loop.run_until_complete(ready)
+        began = time.monotonic()
+        for task in asyncio.all_tasks(loop):
+            task.cancel()
+        with self.assertRaises(asyncio.CancelledError):
+            loop.run_until_complete(main)
+        self.assertLess(time.monotonic() - began, 1.5)
+        self.assertEqual(asyncio.run(self.names(partner.host)), [])
+
+    async def names(self, host: str) -> list[str]:
+        async with Client(host) as client:
+            return await client.get_children("/")
+
+    def test_the_session_is_ended_after_an_interrupt(self) -> None:
+        partner = self.partner()
+        program = (
+            "import asyncio, sys; sys.path.insert(0, sys.argv[1]); import dirwolleu\n"
+            "async def main():\n"
+            "    async with dirwolleu.aio.Client(sys.argv[2]) as client:\n"
+            "        print(await client.create('/a', ephemeral=True), flush=True)\n"
+            "        await asyncio.sleep(60)\n"
+            "asyncio.run(main())\n"
+        )
+        command = [sys.executable, "-c", program, str(CLIENTS / "python"), partner.host]
+        child = subprocess.Popen(command, stdout=subprocess.PIPE, stderr=subprocess.DEVNULL, text=True)
+        self.addCleanup(child.kill)
+        assert child.stdout is not None
+        self.assertEqual(child.stdout.readline(), "/a\n")
+        child.send_signal(signal.SIGINT)
+        child.communicate(timeout=WAIT)
+        self.assertEqual(asyncio.run(self.names(partner.host)), [])
 
 
 if __name__ == "__main__":

@@ -470,7 +470,7 @@ class SessionTest(ClientCase):
         self.assertEqual(found.ephemeral_owner, other.session_id)
         self.assertGreaterEqual(other.last_zxid, client.last_zxid)
 
-    @mock.patch("dirwolleu._driver.LONGEST_PAUSE", 0.2)
+    @mock.patch("dirwolleu._pauses.LONGEST_PAUSE", 0.2)
     def test_a_server_that_is_behind_is_not_read(self) -> None:
         partner = self.partner()
         partner.do("create /a one")
@@ -549,7 +549,7 @@ class SessionTest(ClientCase):
         client = Client(partner.host)
         self.addCleanup(client.close)
         starts = InThread(lambda: client.start(None))
-        within(lambda: client._loop)
+        within(client._threads)
         client.stop()
         with self.raises(ConnectionClosedError, None):
             starts.result()

@@ -24,6 +24,7 @@ from dirwolleu import (
 )
 from dirwolleu import _requests as requests
 from dirwolleu._engine import Engine
+from dirwolleu._frames import Frames
 from dirwolleu._library import Answer, Halted, Machine
 from dirwolleu.exceptions import error_of
 
@@ -43,6 +44,7 @@ class EngineTest(support.PartnerCase):
     def ask(self, request: requests.Request[Any]) -> Future[Any]:
         waiter: Future[Any] = Future()
         self.engine.ask(200, request, waiter)
+        self.engine.take_handed(200)
         return waiter
 
     def test_want_of_memory_within_a_step_leaves_the_session(self) -> None:
@@ -90,6 +92,33 @@ class EngineTest(support.PartnerCase):
         kept = self.engine.kept("/a")
         assert kept is not None
         self.assertEqual((kept.mark, kept.data, kept.last_zxid), (Mark.GOOD, b"one", 9))
+
+    def test_a_request_that_is_given_up_before_it_is_sent_is_not_sent(self) -> None:
+        waiter: Future[Any] = Future()
+        self.engine.ask(200, requests.get("/a", None), waiter)
+        waiter.cancel()
+        self.engine.take_handed(200)
+        self.assertEqual(self.engine.take_frames()[0], b"")
+
+    def test_frames_are_cut_however_they_come(self) -> None:
+        answers = [reply(1, 9, 0, buffer(b"one") + STAT_BYTES), reply(-2, 9), reply(-1, -1, 0, b"short"), reply(-2, 9)]
+        for size in range(1, 60):
+            frames, came = Frames(), list[tuple[bytes, bool]]()
+            whole = b"".join(answers)
+            for begin in range(0, len(whole), size):
+                came.extend(frames.cut(whole[begin : begin + size]))
+            self.assertEqual(b"".join(piece for piece, _ in came), whole)
+            self.assertEqual(sum(is_ping_answered for _, is_ping_answered in came), 2)
+        self.assertEqual([piece for piece, _ in Frames().cut(whole)], answers)
+
+    def test_an_interrupt_within_a_step_leaves_the_session(self) -> None:
+        lost, session = self.ask(requests.get("/b", None)), self.engine.session_id()
+        with mock.patch.object(Machine, "received", side_effect=KeyboardInterrupt):
+            with self.assertRaises(KeyboardInterrupt):
+                self.engine.received(400, b"bytes")
+        with self.raises(ConnectionLoss, -4):
+            lost.result(0)
+        self.assertEqual((self.engine.session_id(), self.engine.take_frames()[1]), (session, True))
 
     def test_each_code_has_its_error(self) -> None:
         for kind in ZookeeperError.__subclasses__():

@@ -12,6 +12,7 @@ import shutil
 import struct
 import subprocess
 import tempfile
+import threading
 import unittest
 from unittest import mock
 
@@ -132,12 +133,12 @@ class MachineTest(unittest.TestCase):
         answer = Answer(7, 0, library.DATA, 0, STAT, b"hello", [])
         self.assertEqual(machine.received(300, reply(1, 9, 0, buffer(b"hello") + STAT_BYTES)), [answer])
         stat = DataStat(2, 5, 1000, 2000, 3, 0, 5)
-        self.assertEqual(machine.peek_data("/a"), (library.FULL, 1, stat, b"hello"))
+        self.assertEqual(machine.peek_data("/a"), ((library.FULL, 1, stat, b"hello"), 9))
         notice = reply(-1, -1, 0, struct.pack(">ii", 3, 3) + buffer(b"/a"))
         self.assertEqual(machine.received(400, notice), [Report(library.DATA_CHANGED, library.DATA_SIDE, "/a")])
-        self.assertEqual(machine.peek_data("/a").mark, 2)
+        self.assertEqual(machine.peek_data("/a")[0].mark, 2)
         machine.forget()
-        self.assertEqual(machine.peek_data("/a"), (library.NOTHING, 0, None, None))
+        self.assertEqual(machine.peek_data("/a"), ((library.NOTHING, 0, None, None), 9))
 
     def test_bytes_may_come_one_at_a_time(self) -> None:
         machine = connected()
@@ -146,7 +147,7 @@ class MachineTest(unittest.TestCase):
         came = reply(1, 9, 0, names + STAT_BYTES)
         outputs = [output for byte in came for output in machine.received(300, bytes([byte]))]
         self.assertEqual(outputs, [Answer(8, 0, library.NAMES, 0, STAT, None, ["ö", "a"])])
-        self.assertEqual(machine.peek_children("/"), (1, ("a", "ö"), STAT.pzxid))
+        self.assertEqual(machine.peek_children("/"), ((1, ("a", "ö"), STAT.pzxid), 9))
 
     def test_null_data_are_not_empty_data(self) -> None:
         machine = connected()
@@ -161,32 +162,27 @@ class MachineTest(unittest.TestCase):
         machine.get_data(400, 3, "/a", True)
         answer = machine.received(500, reply(3, 11, 0, struct.pack(">i", -1) + STAT_BYTES))
         self.assertEqual(answer, [Answer(3, 0, library.DATA, 0, STAT, None, [])])
-        self.assertIsNone(machine.peek_data("/a").data)
+        self.assertIsNone(machine.peek_data("/a")[0].data)
 
     def test_what_is_longer_than_the_room_comes_whole(self) -> None:
         machine, data, name = connected(), bytes(100_000), "n" * 5000
         machine.get_data(200, 1, "/a", True)
         answer = machine.received(300, reply(1, 9, 0, buffer(data) + STAT_BYTES))
         self.assertEqual(answer, [Answer(1, 0, library.DATA, 0, STAT, data, [])])
-        fresh = connected()
-        fresh.get_data(200, 1, "/a", True)
-        fresh.received(300, reply(1, 9, 0, buffer(data) + STAT_BYTES))
-        fresh._room = ctypes.create_string_buffer(16)
-        self.assertEqual(fresh.peek_data("/a").data, data)
+        self.assertEqual(machine.peek_data("/a")[0].data, data)
         other = connected()
         other.get_children(200, 1, "/a", True)
         listed = other.received(300, reply(1, 9, 0, struct.pack(">i", 1) + buffer(name.encode()) + STAT_BYTES))
         self.assertEqual(listed, [Answer(1, 0, library.NAMES, 0, STAT, None, [name])])
-        other._room = ctypes.create_string_buffer(16)
-        self.assertEqual(other.peek_children("/a").names, (name,))
+        self.assertEqual(other.peek_children("/a")[0].names, (name,))
 
     def test_names_of_each_length_are_kept_in_byte_order(self) -> None:
         machine, names = connected(), ["b", "n" * 300, "", "ö", *map(str, range(2000))]
         machine.get_children(200, 1, "/a", True)
         spelled = struct.pack(">i", len(names)) + b"".join(buffer(name.encode()) for name in names)
         machine.received(300, reply(1, 9, 0, spelled + STAT_BYTES))
-        self.assertEqual(machine.peek_children("/a"), (1, tuple(sorted(names)), STAT.pzxid))
-        self.assertEqual(machine.peek_children("/b"), (0, (), 0))
+        self.assertEqual(machine.peek_children("/a"), ((1, tuple(sorted(names)), STAT.pzxid), 9))
+        self.assertEqual(machine.peek_children("/b"), ((0, (), 0), 9))
 
     def test_a_bad_frame_ends_the_connection(self) -> None:
         machine = connected()
@@ -217,6 +213,25 @@ class MachineTest(unittest.TestCase):
             Machine(0)
         with self.assertRaises(ValueError):
             Machine(6000, b"short")
+
+    def test_a_look_up_is_of_one_moment_though_steps_go_on(self) -> None:
+        machine, is_over = connected(), threading.Event()
+        machine.get_data(200, 1, "/a", True)
+        machine.received(300, reply(1, 9, 0, buffer(b"9") + STAT_BYTES))
+
+        def step() -> None:
+            for xid in range(2, 3000):
+                machine.get_data(300, xid, "/a", True)
+                machine.received(300, reply(xid, 8 + xid, 0, buffer(b"%d" % (8 + xid)) + STAT_BYTES))
+            is_over.set()
+
+        threading.Thread(target=step, daemon=True).start()
+        looks = 0
+        while not is_over.is_set():
+            kept, last_zxid = machine.peek_data("/a")
+            self.assertEqual(kept.data, b"%d" % last_zxid)
+            looks += 1
+        self.assertGreater(looks, 10)
 
     def test_a_closed_machine_says_so(self) -> None:
         machine = connected()

@@ -1,0 +1,279 @@
+"""Tests of how a client dials: pauses, hostile and slow servers, a process that is held up."""
+
+from __future__ import annotations
+
+import contextlib
+import errno
+import pathlib
+import signal
+import struct
+import subprocess
+import sys
+import threading
+import time
+import unittest
+from typing import Callable
+from unittest import mock
+
+from support import (
+    PASSWORD,
+    PING,
+    WAIT,
+    Asked,
+    Connected,
+    PartnerCase,
+    Peer,
+    data_reply,
+    notice,
+    reply,
+    within,
+)
+
+from dirwolleu import Client, ConnectionClosedError, ConnectionLoss, NotConnectedError, State
+from dirwolleu._driver import Driver
+from dirwolleu._engine import Contact, Engine
+from dirwolleu._pauses import Pauses
+
+HELD_UP = pathlib.Path(__file__).resolve().parent / "held_up.py"
+
+
+class PausesTest(PartnerCase):
+    def row(self, pauses: Pauses, contact: Contact, timeout: float, may_live: bool, count: int) -> list[float]:
+        return [pauses.after(contact, timeout, may_live) for _ in range(count)]
+
+    def check(self, found: list[float], most: list[float]) -> None:
+        """Each is by chance between a half and the whole of these."""
+        for pause, bound in zip(found, most):
+            self.assertLessEqual(pause, bound)
+            self.assertGreaterEqual(pause, bound / 2)
+
+    def test_while_the_session_may_live_none_is_long(self) -> None:
+        for timeout, longest in ((1.0, 0.1), (4.0, 0.4), (10.0, 1.0), (600.0, 1.0)):
+            with self.subTest(timeout=timeout):
+                found = self.row(Pauses(), Contact(), timeout, True, 12)
+                self.check(found, [min(0.1 * 2**number, longest) for number in range(12)])
+                self.assertGreater(len(set(found)), 6)
+
+    def test_they_grow_where_the_session_is_gone(self) -> None:
+        pauses = Pauses()
+        self.row(pauses, Contact(), 10.0, True, 12)
+        self.check(self.row(pauses, Contact(), 10.0, False, 6), [2.0, 4.0, 8.0, 10.0, 10.0])
+
+    def test_what_ends_a_row_of_failures(self) -> None:
+        for contact, first in (
+            (Contact(), 10.0),
+            (Contact(lived=3300), 10.0),
+            (Contact(lived=3400), 0.1),
+            (Contact(answers=1), 0.1),
+            (Contact(expiries=1, has_expired=True), 0.1),
+        ):
+            with self.subTest(contact=contact):
+                pauses = Pauses()
+                self.row(pauses, Contact(), 10.0, False, 12)
+                self.check(self.row(pauses, contact, 10.0, False, 1), [first])
+
+
+class DialTest(PartnerCase):
+    def client(self, host: str, timeout: float, is_awaited: bool = True) -> Client:
+        client = Client(host, timeout)
+        self.addCleanup(client.close)
+        if is_awaited:
+            client.start(WAIT)
+        else:
+            threading.Thread(target=self.start, args=(client,), daemon=True).start()
+        return client
+
+    def start(self, client: Client) -> None:
+        with contextlib.suppress(ConnectionClosedError, TimeoutError):
+            client.start(WAIT)
+
+    def test_a_server_that_comes_back_in_time_is_met_in_time(self) -> None:
+        partner = self.partner()
+        client = self.client(partner.host, 4.0)
+        states: list[State] = []
+        client.add_listener(states.append)
+        partner.do("down")
+        time.sleep(3.0)
+        partner.do("up")
+        began = time.monotonic()
+        within(lambda: client.connected)
+        self.assertLess(time.monotonic() - began, 1.0)
+        within(lambda: states == [State.SUSPENDED, State.CONNECTED])
+
+    def test_no_server_is_dialled_more_than_three_times_a_second(self) -> None:
+        def closes(peer: Peer) -> None: ...
+
+        def admits(peer: Peer) -> None:
+            peer.admit()
+
+        def grants_a_millisecond(peer: Peer) -> None:
+            peer.admit(1)
+            peer.take()
+
+        def answers_and_closes(peer: Peer) -> None:
+            peer.admit()
+            peer.send(data_reply(peer.take(), b"one"))
+
+        def says_too_much(peer: Peer) -> None:
+            peer.admit()
+            peer.take()
+            peer.send_bytes(struct.pack(">i", 5_000_000))
+
+        def says_that_it_moved(peer: Peer) -> None:
+            peer.admit()
+            peer.send(reply(peer.take(), code=-118))
+            peer.take()
+
+        def expires(peer: Peer) -> None:
+            if peer.take_connect().session == 0:
+                peer.send(struct.pack(">iiq", 0, 1000, 7) + PASSWORD + b"\0")
+            else:
+                peer.refuse()
+
+        kinds: list[Callable[[Peer], None]] = [
+            closes, admits, grants_a_millisecond, answers_and_closes, says_too_much, says_that_it_moved, expires
+        ]  # fmt: skip
+        servers = [self.raw_server(kind) for kind in kinds]
+        for server in servers:
+            client = self.client(server.host, 1.0, is_awaited=False)
+            threading.Thread(target=self.follow, args=(client,), daemon=True).start()
+        time.sleep(3.0)
+        for kind, server in zip(kinds, servers):
+            with self.subTest(kind.__name__):
+                dials = list(server.dials)
+                self.assertGreater(len(dials), 1)
+                self.assertGreater((dials[-1] - dials[0]) / (len(dials) - 1), 0.3)
+                self.assertLessEqual(len(dials), 10)
+
+    def follow(self, client: Client) -> None:
+        within(lambda: client._engine.is_running)
+        for _ in client.follow("/a"):
+            pass
+
+    def test_a_timeout_of_a_millisecond_does_not_lock_the_client_out(self) -> None:
+        granted = iter((1, 1))
+
+        def serve(peer: Peer) -> None:
+            peer.admit(next(granted, None))
+            while True:
+                asked = peer.take()
+                peer.send(reply(asked))
+
+        client = self.client(self.raw_server(serve).host, 3.0, is_awaited=False)
+        within(lambda: client.connected and client.session_timeout == 3.0)
+
+    def test_the_last_zxid_is_kept_through_an_expiry(self) -> None:
+        seen: list[Connected] = []
+
+        def serve(peer: Peer) -> None:
+            if len(seen) == 1:
+                seen.append(peer.take_connect())
+                return peer.refuse()
+            seen.append(peer.admit())
+            peer.send(data_reply(peer.take(), b"one", zxid=9))
+
+        client = self.client(self.raw_server(serve).host, 3.0)
+        client.get("/a")
+        within(lambda: len(seen) >= 3)
+        self.assertEqual([(one.last_zxid, one.session) for one in seen[:3]], [(0, 0), (9, 7), (9, 0)])
+
+    def test_a_server_that_trickles_while_connecting_is_left(self) -> None:
+        def serve(peer: Peer) -> None:
+            peer.take_connect()
+            peer.trickle(struct.pack(">i", 1000) + bytes(996), 0.2)
+
+        server = self.raw_server(serve)
+        self.client(server.host, 3.0, is_awaited=False)
+        within(lambda: len(server.dials) > 1)
+        self.assertAlmostEqual(server.dials[1] - server.dials[0], 2.3, delta=0.8)
+
+    def test_a_server_that_trickles_an_answer_is_left(self) -> None:
+        def serve(peer: Peer) -> None:
+            peer.admit()
+            peer.take()
+            peer.trickle(struct.pack(">i", 1000) + bytes(996), 0.2)
+
+        client = self.client(self.raw_server(serve).host, 3.0)
+        began = time.monotonic()
+        with self.raises(ConnectionLoss, -4):
+            client.get("/a")
+        self.assertAlmostEqual(time.monotonic() - began, 2.0, delta=0.8)
+
+    def test_a_server_that_answers_no_ping_is_left(self) -> None:
+        def serve(peer: Peer) -> None:
+            peer.admit()
+            while True:
+                peer.send(notice("/elsewhere"))
+                time.sleep(0.2)
+
+        server = self.raw_server(serve)
+        self.client(server.host, 3.0)
+        within(lambda: len(server.dials) > 1)
+        self.assertAlmostEqual(server.dials[1] - server.dials[0], 3.3, delta=0.9)
+
+    def test_answered_pings_keep_a_connection(self) -> None:
+        def serve(peer: Peer) -> None:
+            peer.admit()
+            while True:
+                peer.send(reply(peer.take()))
+
+        server = self.raw_server(serve)
+        self.client(server.host, 1.0)
+        time.sleep(2.5)
+        self.assertEqual(len(server.dials), 1)
+
+    def test_a_process_that_was_held_up_reads_what_its_socket_has(self) -> None:
+        pinged, resumed, pings = threading.Event(), threading.Event(), list[Asked]()
+
+        def serve(peer: Peer) -> None:
+            peer.admit()
+            peer.send(reply(peer.take()))
+            pinged.set()
+            time.sleep(2.5)
+            peer.send(notice("/a"))
+            while True:
+                asked = peer.take()
+                peer.send(reply(asked))
+                pings.append(asked)
+                resumed.set()
+
+        server = self.raw_server(serve)
+        child = subprocess.Popen([sys.executable, str(HELD_UP), server.host, "6"], stdout=subprocess.PIPE, text=True)
+        self.addCleanup(child.communicate)
+        self.addCleanup(child.kill)
+        self.assertTrue(pinged.wait(WAIT))
+        time.sleep(1.4)
+        child.send_signal(signal.SIGSTOP)
+        time.sleep(2.9)
+        child.send_signal(signal.SIGCONT)
+        self.assertTrue(resumed.wait(WAIT))
+        self.assertEqual((len(server.dials), pings[0].kind), (1, PING))
+
+    def test_a_call_may_come_before_the_loop_has_begun(self) -> None:
+        engine = Engine(3.0, None, lambda function, argument: None)
+        self.addCleanup(engine.close)
+        Driver("127.0.0.1:1", engine).act()
+
+    def test_want_of_descriptors_is_told_as_that(self) -> None:
+        want = OSError(errno.EMFILE, "Too many open files")
+        with mock.patch("asyncio.BaseEventLoop.create_connection", side_effect=want):
+            client = Client("127.0.0.1:1", 1.0)
+            self.addCleanup(client.close)
+            with self.assertLogs("dirwolleu", "WARNING"), self.assertRaisesRegex(TimeoutError, "Too many open files"):
+                client.start(0.5)
+            threading.Thread(target=self.start, args=(client,), daemon=True).start()
+            within(lambda: client._engine.is_running)
+            with self.assertRaisesRegex(NotConnectedError, "Too many open files"):
+                client.get("/a")
+
+    def test_want_of_descriptors_for_the_client_itself_is_raised_by_start(self) -> None:
+        with mock.patch("asyncio.new_event_loop", side_effect=OSError(errno.EMFILE, "Too many open files")):
+            client = Client("127.0.0.1:1", 1.0)
+            self.addCleanup(client.close)
+            with self.assertRaisesRegex(OSError, "Too many open files"):
+                client.start()
+        self.assertIs(client.state, State.LOST)
+
+
+if __name__ == "__main__":
+    unittest.main()

@@ -1,0 +1,133 @@
+"""Tests of followers whose reads are refused, and of answers that are overtaken by a notice."""
+
+from __future__ import annotations
+
+import asyncio
+import threading
+import time
+import unittest
+
+from support import EXISTS, GET_DATA, STAT, WAIT, Asked, PartnerCase, Peer, RawServer, data_reply, notice, reply, within
+
+import dirwolleu
+from dirwolleu import Kept, Mark, NoAuthError
+from dirwolleu.aio import Client as AioClient
+
+REFUSALS = (-4, -112, -118, -127, -101)
+
+
+class Refusing:
+    """A server that refuses to tell a node's data, and says to `exists` that there is one."""
+
+    def __init__(self, code: int) -> None:
+        self.code = code
+        self.reads: list[float] = []
+
+    def serve(self, peer: Peer) -> None:
+        peer.admit()
+        while True:
+            asked = peer.take()
+            peer.send(self.answer(asked))
+
+    def answer(self, asked: Asked) -> bytes:
+        if asked.kind == EXISTS:
+            return reply(asked, STAT)
+        if asked.kind != GET_DATA:
+            return reply(asked)
+        self.reads.append(time.monotonic())
+        return reply(asked, code=self.code) if self.code else data_reply(asked, b"one")
+
+
+def overtakes(peer: Peer) -> None:
+    """Sends a notice with each answer to a read of data."""
+    peer.admit()
+    while True:
+        asked = peer.take()
+        if asked.kind == GET_DATA:
+            peer.send(data_reply(asked, b"one"), notice("/a"))
+        else:
+            peer.send(reply(asked))
+
+
+class BlockingTest(PartnerCase):
+    def follow(self, server: RawServer, told: list[Kept], errors: list[Exception]) -> None:
+        client = dirwolleu.Client(server.host, 5.0)
+        self.addCleanup(client.close)
+        client.start(WAIT)
+
+        def collect() -> None:
+            try:
+                for kept in client.follow("/a"):
+                    told.append(kept)
+            except Exception as error:
+                errors.append(error)
+
+        threading.Thread(target=collect, daemon=True).start()
+
+    def test_each_follower_goes_on_and_reads_once_a_second(self) -> None:
+        servers = [Refusing(code) for code in REFUSALS]
+        told: list[list[Kept]] = [[] for _ in servers]
+        for server, found in zip(servers, told):
+            self.follow(self.raw_server(server.serve), found, [])
+        time.sleep(2.5)
+        for server in servers:
+            with self.subTest(code=server.code):
+                self.assertIn(len(server.reads), (2, 3, 4))
+                server.code = 0
+        within(lambda: all(found for found in told))
+        self.assertEqual({found[0].data for found in told}, {b"one"})
+
+    def test_another_refusal_is_raised(self) -> None:
+        errors: list[Exception] = []
+        self.follow(self.raw_server(Refusing(-102).serve), [], errors)
+        within(lambda: errors)
+        self.assertIs(type(errors[0]), NoAuthError)
+
+    def test_an_answer_that_a_notice_overtakes_is_told(self) -> None:
+        told: list[Kept] = []
+        self.follow(self.raw_server(overtakes), told, [])
+        within(lambda: told)
+        self.assertEqual((told[0].mark, told[0].data, told[0].last_zxid), (Mark.GOOD, b"one", 5))
+
+
+class AioTest(unittest.IsolatedAsyncioTestCase, PartnerCase):
+    async def follow(self, server: RawServer, told: list[Kept]) -> None:
+        client = AioClient(server.host, 5.0)
+        self.addAsyncCleanup(client.close)
+        await client.start(WAIT)
+
+        async def collect() -> None:
+            async for kept in client.follow("/a"):
+                told.append(kept)
+
+        following = asyncio.ensure_future(collect())
+        self.addCleanup(following.cancel)
+
+    async def until_told(self, *told: list[Kept]) -> None:
+        async def poll() -> None:
+            while not all(told):
+                await asyncio.sleep(0.005)
+
+        await asyncio.wait_for(poll(), WAIT)
+
+    async def test_each_follower_goes_on_and_reads_once_a_second(self) -> None:
+        servers = [Refusing(code) for code in REFUSALS]
+        told: list[list[Kept]] = [[] for _ in servers]
+        for server, found in zip(servers, told):
+            await self.follow(self.raw_server(server.serve), found)
+        await asyncio.sleep(2.5)
+        for server in servers:
+            with self.subTest(code=server.code):
+                self.assertIn(len(server.reads), (2, 3, 4))
+                server.code = 0
+        await self.until_told(*told)
+
+    async def test_an_answer_that_a_notice_overtakes_is_told(self) -> None:
+        told: list[Kept] = []
+        await self.follow(self.raw_server(overtakes), told)
+        await self.until_told(told)
+        self.assertEqual((told[0].mark, told[0].data, told[0].last_zxid), (Mark.GOOD, b"one", 5))
+
+
+if __name__ == "__main__":
+    unittest.main()

@@ -1,0 +1,219 @@
+"""Tests of the blocking client under signals, forks and callbacks that do not end.
+
+`python3 test_interrupts.py --calls 100000` makes so many calls that may be interrupted; without it, as many are made as
+fit 20 seconds.
+"""
+
+from __future__ import annotations
+
+import contextlib
+import os
+import random
+import signal
+import sys
+import threading
+import time
+import unittest
+from collections.abc import Iterator
+from types import FrameType
+from typing import Any, Callable, Optional
+from unittest import mock
+
+from support import CLOSE_SESSION, WAIT, PartnerCase, Peer, reply, within
+
+from dirwolleu import Client, ConnectionClosedError, NoNodeError, State, WatchedEvent
+
+INTERRUPTED_CALLS, LONGEST = 100_000, 20.0
+
+
+class ClientCase(PartnerCase):
+    is_armed = False
+
+    def client(self, host: str, timeout: float = 10.0) -> Client:
+        client = Client(host, timeout)
+        self.addCleanup(client.close)
+        self.addCleanup(client.stop)
+        client.start(WAIT)
+        return client
+
+    @contextlib.contextmanager
+    def on_alarm(self, handler: Any) -> Iterator[None]:
+        before = signal.signal(signal.SIGALRM, handler)
+        try:
+            yield
+        finally:
+            signal.setitimer(signal.ITIMER_REAL, 0)
+            signal.signal(signal.SIGALRM, before)
+
+    def arm(self) -> None:
+        """Interrupts within the next call or so, and not between calls."""
+        self.is_armed = True
+        signal.setitimer(signal.ITIMER_REAL, random.uniform(1e-6, 3e-3))
+
+    def interrupt(self, *_: Any) -> None:
+        if self.is_armed:
+            self.is_armed = False
+            raise KeyboardInterrupt
+
+
+class SignalTest(ClientCase):
+    def test_calls_that_are_interrupted_leave_the_client_as_it_is(self) -> None:
+        client = self.client(self.partner().host)
+        client.create("/a", b"0")
+        done = interrupted = 0
+        until = time.monotonic() + LONGEST
+        with self.on_alarm(self.interrupt):
+            while done + interrupted < INTERRUPTED_CALLS and time.monotonic() < until:
+                try:
+                    self.arm()
+                    stat = client.set("/a", str(done).encode())
+                    self.is_armed = False
+                    self.assertGreaterEqual(stat.version, done + 1)
+                    done += 1
+                except KeyboardInterrupt:
+                    interrupted += 1
+        print(f"{done} calls, and {interrupted} that were interrupted", file=sys.stderr)
+        self.assertGreater(interrupted, 50)
+        self.check_counts(client, done, interrupted)
+
+    def check_counts(self, client: Client, done: int, interrupted: int) -> None:
+        """Each call that was answered has happened, each other one maybe, and the client goes on as before."""
+        _, stat = client.get("/a")
+        self.assertGreaterEqual(stat.version, done)
+        self.assertLessEqual(stat.version, done + interrupted)
+        self.assertEqual((client.state, client._engine._sent, len(client._engine._line)), (State.CONNECTED, {}, 0))
+        client.create("/b")
+        self.assertEqual(sorted(client.get_children("/")), ["a", "b"])
+
+    def test_a_signal_handler_may_call_the_client(self) -> None:
+        client = self.client(self.partner().host)
+        client.create("/a", b"one")
+        read: list[Optional[bytes]] = []
+
+        def handle(_: int, __: Optional[FrameType]) -> None:
+            read.append(client.get("/a", watch=True)[0])
+            kept = client.kept("/a")
+            read.append(kept.data if kept is not None else None)
+
+        with self.on_alarm(handle):
+            signal.setitimer(signal.ITIMER_REAL, 0.001, 0.003)
+            for _ in range(300):
+                self.assertEqual(client.get("/a", watch=True)[0], b"one")
+                self.assertIsNotNone(client.kept("/a"))
+        self.assertEqual(set(read), {b"one"})
+
+    def test_a_signal_handler_may_stop_the_client(self) -> None:
+        partner = self.partner()
+        client = self.client(partner.host)
+        partner.do("mute")
+        with self.on_alarm(lambda *_: client.stop()):
+            signal.setitimer(signal.ITIMER_REAL, 0.2)
+            with self.raises(ConnectionClosedError, None):
+                client.get("/")
+        self.assertIs(client.state, State.LOST)
+
+    def test_an_interrupt_ends_a_start(self) -> None:
+        partner = self.partner()
+        partner.do("mute")
+        client = Client(partner.host)
+        self.addCleanup(client.close)
+        self.is_armed = True
+        with self.on_alarm(self.interrupt):
+            signal.setitimer(signal.ITIMER_REAL, 0.2)
+            with self.assertRaises(KeyboardInterrupt):
+                client.start()
+        partner.do("unmute")
+        client.start(WAIT)
+        client.stop()
+
+
+class ForkTest(ClientCase):
+    def test_a_forked_child_is_told_so(self) -> None:
+        client = self.client(self.partner().host)
+        child = os.fork()
+        if child == 0:
+            signal.alarm(int(WAIT))
+            os._exit(self.try_in_child(client))
+        _, status = os.waitpid(child, 0)
+        self.assertEqual(status, 0)
+        self.assertEqual(client.get_children("/"), [])
+
+    def try_in_child(self, client: Client) -> int:
+        failures = 0
+        calls: list[Callable[[], object]] = [lambda: client.get("/"), lambda: next(client.follow("/")), client.start]
+        for call in calls:
+            try:
+                call()
+                failures += 1
+            except ConnectionClosedError as error:
+                failures += "fork" not in str(error)
+        client.stop()
+        client.close()
+        return failures
+
+
+class EndTest(ClientCase):
+    def test_a_callback_that_does_not_return_holds_no_stop(self) -> None:
+        partner = self.partner()
+        client, runs, ends = self.client(partner.host), threading.Event(), threading.Event()
+        self.addCleanup(ends.set)
+
+        def watch(_: WatchedEvent) -> None:
+            runs.set()
+            ends.wait()
+
+        client.exists("/a", watch=watch)
+        partner.do("create /a")
+        self.assertTrue(runs.wait(WAIT))
+        with mock.patch("dirwolleu.client.LONGEST_CALLBACK", 0.2), self.assertLogs("dirwolleu", "WARNING"):
+            began = time.monotonic()
+            client.stop()
+        self.assertLess(time.monotonic() - began, 2.0)
+
+    def test_a_callback_that_exits_leaves_the_others(self) -> None:
+        partner = self.partner()
+        client, told = self.client(partner.host), threading.Event()
+
+        def leave(_: WatchedEvent) -> None:
+            sys.exit("this ends no program")
+
+        client.exists("/a", watch=leave)
+        client.exists("/b", watch=lambda _: told.set())
+        with self.assertLogs("dirwolleu", "ERROR"):
+            partner.do("create /a", "create /b")
+            self.assertTrue(told.wait(WAIT))
+
+    def test_a_server_that_never_says_farewell_holds_no_stop(self) -> None:
+        def serve(peer: Peer) -> None:
+            peer.admit(2_147_483_647)
+            while True:
+                asked = peer.take()
+                if asked.kind != CLOSE_SESSION:
+                    peer.send(reply(asked))
+
+        client = self.client(self.raw_server(serve).host)
+        began = time.monotonic()
+        client.stop()
+        self.assertLess(time.monotonic() - began, 4.0)
+
+    def test_a_call_that_was_given_up_before_it_was_sent_is_not_sent(self) -> None:
+        partner = self.partner()
+        client = self.client(partner.host)
+        partner.do("down")
+        within(lambda: client.state is State.SUSPENDED)
+        self.is_armed = True
+        with self.on_alarm(self.interrupt):
+            signal.setitimer(signal.ITIMER_REAL, 0.2)
+            with self.assertRaises(KeyboardInterrupt):
+                client.create("/a")
+        partner.do("up")
+        with self.raises(NoNodeError, -101):
+            client.get("/a")
+
+
+if __name__ == "__main__":
+    if "--calls" in sys.argv:
+        place = sys.argv.index("--calls")
+        INTERRUPTED_CALLS, LONGEST = int(sys.argv[place + 1]), float("inf")
+        del sys.argv[place : place + 2]
+    unittest.main()
