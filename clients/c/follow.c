@@ -7,7 +7,7 @@
  *   /config good 12 "first"     the servers' history has these data at zxid 12
  *   /config stale 13 "first"    a change was told, and the node is read again
  *   /config good 14 absent      no node is there
- *   /config unknown 0           nothing is kept: the session has expired, and another one begins
+ *   /config unknown 14          nothing is kept: the session has expired, and another one begins, at no server that is behind
  *
  * What happens to connections is told on standard error. SIGINT and SIGTERM end the session and the program; it also ends, with status
  * 1, where standard output fails or memory runs out. */
@@ -31,13 +31,18 @@
 #include <unistd.h>
 
 enum {
-    TIMEOUT_MS = 10000,       /* of the session, as it is asked for */
-    LONGEST_DIAL_MS = 3000,   /* of an attempt to connect */
-    LONGEST_CLOSE_MS = 1000,  /* of the wait for the server's word that the session is closed */
-    FIRST_PAUSE_MS = 100,     /* before the next attempt to connect, and twice as long after each in vain */
+    TIMEOUT_MS = 10000,           /* of the session, as it is asked for */
+    LONGEST_DIAL_MS = 3000,       /* of an attempt to connect */
+    LONGEST_CLOSE_MS = 1000,      /* of the wait for the server's word that the session is closed */
+    FIRST_PAUSE_MS = 100,         /* before the next attempt to connect, and twice as long after each in vain */
+    LONGEST_LIVE_PAUSE_MS = 1000, /* while the session may live, and no longer than a tenth of its timeout */
     LONGEST_PAUSE_MS = 10000,
-    LONGEST_NAME = 512,       /* of HOST:PORT */
-    PIECE = 65536             /* the most bytes that are read at once */
+    BETWEEN_DIALS_MS = 334,       /* from an attempt to the next one, at least: no more than three begin in a second */
+    BETWEEN_READS_MS = 1000,      /* from a read that was refused to the next one */
+    LONGEST_NAME = 512,           /* of HOST:PORT */
+    MOST_PINGS = 4,               /* that wait for their answers */
+    MOST_PIECES = 64,             /* that are read before the moment is told */
+    PIECE = 65536                 /* the most bytes that are read at once */
 };
 
 /* The tickets of the calls. */
@@ -48,6 +53,12 @@ struct buffer {
     size_t length, room;
 };
 
+/* Where a stream of frames is: the length and the xid of a frame, and how many bytes of the frame are left. */
+struct frames {
+    uint8_t head[8];
+    size_t held, left;
+};
+
 struct follower {
     dw_client client;
     const char *path;
@@ -56,12 +67,22 @@ struct follower {
     struct addrinfo *found, *address; /* its addresses, and the one that was dialled last */
     int socket;                       /* -1 where there is none */
     bool is_connecting;               /* the attempt to connect is not over */
+    struct frames sent, came;         /* on this connection */
+    uint64_t opened_ms, admitted_ms;  /* when the connection began, and when the server admitted the session */
+    uint64_t pinged_ms[MOST_PINGS];   /* when the pings were sent that wait for their answers */
+    size_t pinged;
+    bool is_admitted;                 /* on this connection */
+    bool is_expired;                  /* a server has told so, and none has admitted the next session */
     bool is_asked;                    /* a read waits for its answer */
+    uint64_t asked_ms;                /* since when */
+    uint64_t read_at_ms;              /* when to read again, after a read that was refused */
     bool is_missing;                  /* the last read found no node */
     bool is_refused;                  /* the last read was answered with another code */
     bool is_closing, is_over;         /* the session is being closed, the program is to end */
+    uint64_t now_ms;                  /* the moment of this turn */
     uint64_t due_ms;                  /* when to dial, to give the attempt up, or to wait for the close no longer */
-    uint64_t pause_ms;
+    uint64_t dialled_ms, heard_ms;    /* when the last attempt began, and when something came from a server */
+    uint64_t pause_ms;                /* the longest one after the next attempt, as long as it is allowed */
     struct buffer unsent, data;
     dw_kept_data shown;               /* what the last line was about */
     int status;
@@ -126,19 +147,98 @@ static bool reserve(struct buffer *buffer, size_t room)
     return true;
 }
 
-/* Closes the connection, or gives the attempt up. The next attempt follows after a pause, half of which is up to chance, so that many
- * clients do not come back at once. */
+static uint64_t least(uint64_t one, uint64_t other)
+{
+    return one < other ? one : other;
+}
+
+static uint64_t most(uint64_t one, uint64_t other)
+{
+    return one < other ? other : one;
+}
+
+static uint64_t timeout_ms(struct follower *f)
+{
+    return (uint64_t)dw_timeout_ms(&f->client);
+}
+
+/* The longest pause at this moment. A session may live that has not expired, and of whose servers one was heard within its timeout. */
+static uint64_t longest_pause_ms(struct follower *f, uint64_t now)
+{
+    if (f->is_expired || now - f->heard_ms > timeout_ms(f)) {
+        return LONGEST_PAUSE_MS;
+    }
+    return least(LONGEST_LIVE_PAUSE_MS, timeout_ms(f) / 10);
+}
+
+/* Puts the next attempt off by a pause, half of which is up to chance, so that many clients do not come back at once. The row of failures
+ * is over with a connection that has lasted for a third of the timeout. */
+static void put_off(struct follower *f)
+{
+    uint64_t now = now_ms();
+    if (f->is_admitted && now - f->admitted_ms >= timeout_ms(f) / 3) {
+        f->pause_ms = FIRST_PAUSE_MS;
+    }
+    uint64_t pause = least(f->pause_ms, longest_pause_ms(f, now));
+    f->pause_ms = most(FIRST_PAUSE_MS, 2 * pause);
+    uint64_t by_chance = pause / 2 + (uint64_t)rand() % (pause - pause / 2 + 1);
+    f->due_ms = most(now + by_chance, f->dialled_ms + BETWEEN_DIALS_MS);
+}
+
+/* Closes the connection, or gives the attempt up. */
 static void hang_up(struct follower *f)
 {
-    if (f->socket >= 0) {
-        close(f->socket);
+    if (f->socket < 0) {
+        return;
     }
+    close(f->socket);
     f->socket = -1;
-    f->is_connecting = false;
+    put_off(f);
+    f->is_connecting = f->is_admitted = false;
     f->is_over = f->is_over || f->is_closing;
-    f->unsent.length = 0;
-    f->due_ms = now_ms() + f->pause_ms / 2 + (uint64_t)rand() % (f->pause_ms / 2 + 1);
-    f->pause_ms = f->pause_ms < LONGEST_PAUSE_MS / 2 ? 2 * f->pause_ms : LONGEST_PAUSE_MS;
+    f->unsent.length = f->pinged = 0;
+    f->sent = f->came = (struct frames){.held = 0};
+}
+
+/* How many pings, or answers to pings, end in these bytes, with which a stream of frames goes on. */
+static size_t count_pings(struct frames *frames, const uint8_t *bytes, size_t length)
+{
+    static const uint8_t ping[] = {0xff, 0xff, 0xff, 0xfe};
+    const uint8_t *head = frames->head;
+    size_t count = 0;
+    for (size_t taken, i = 0; i < length; i += taken) {
+        if (frames->held < sizeof frames->head) {
+            taken = 1;
+            frames->head[frames->held++] = bytes[i];
+            frames->left = (size_t)head[0] << 24 | (size_t)head[1] << 16 | (size_t)head[2] << 8 | head[3];
+            frames->left -= frames->left < sizeof ping ? frames->left : sizeof ping;
+        } else {
+            taken = (size_t)least(frames->left, length - i);
+            frames->left -= taken;
+        }
+        if (frames->held == sizeof frames->head && frames->left == 0) {
+            count += memcmp(head + 4, ping, sizeof ping) == 0;
+            frames->held = 0;
+        }
+    }
+    return count;
+}
+
+/* When the connection is to be given up, unless an answer comes: the admission of the session, a read and a ping wait for no longer than
+ * two thirds of the timeout, whatever else the server sends. */
+static uint64_t end_of_waiting(struct follower *f)
+{
+    uint64_t end = UINT64_MAX, longest = timeout_ms(f) * 2 / 3;
+    if (f->socket < 0 || f->is_connecting) {
+        return UINT64_MAX;
+    }
+    if (!f->is_admitted) {
+        return f->opened_ms + TIMEOUT_MS * 2 / 3;
+    }
+    if (f->is_asked) {
+        end = f->asked_ms + longest;
+    }
+    return f->pinged > 0 ? least(end, f->pinged_ms[0] + longest) : end;
 }
 
 /* Keeps the frame of the output that was told last until it is written. */
@@ -148,7 +248,11 @@ static void send_later(struct follower *f, size_t length)
         fail(f, "a frame", strerror(ENOMEM));
         return;
     }
-    f->unsent.length += dw_copy(&f->client, 0, f->unsent.bytes + f->unsent.length, length);
+    uint8_t *frame = f->unsent.bytes + f->unsent.length;
+    f->unsent.length += dw_copy(&f->client, 0, frame, length);
+    if (count_pings(&f->sent, frame, length) > 0 && f->pinged < MOST_PINGS) {
+        f->pinged_ms[f->pinged++] = f->now_ms;
+    }
 }
 
 static void take_answer(struct follower *f, const dw_output *output)
@@ -157,6 +261,9 @@ static void take_answer(struct follower *f, const dw_output *output)
     f->is_asked = false;
     f->is_missing = output->ticket == TICKET_DATA && is_code && output->code == DW_NO_NODE;
     f->is_refused = output->ticket != TICKET_CLOSE && is_code && output->code != DW_NO_NODE;
+    if (f->is_refused || (output->ticket == TICKET_EXISTS && output->result == DW_STAT)) {
+        f->read_at_ms = f->now_ms + BETWEEN_READS_MS; /* there is a node, of which a read was refused, or found nothing */
+    }
     if (f->is_refused) {
         fprintf(stderr, "follow: %s: the server answers with the code %" PRId32 "\n", f->path, output->code);
     } else if (output->detail == DW_REPLIED) {
@@ -167,9 +274,14 @@ static void take_answer(struct follower *f, const dw_output *output)
 static void take_state(struct follower *f, int32_t state)
 {
     if (state == DW_CONNECTED) {
+        f->is_admitted = true;
+        f->is_expired = false;
+        f->admitted_ms = f->now_ms;
         fprintf(stderr, "follow: %s: connected, with a timeout of %" PRId64 " ms\n", f->server, dw_timeout_ms(&f->client));
     } else if (state == DW_EXPIRED) {
         say(f->server, "the session has expired");
+        f->is_expired = true;
+        f->pause_ms = FIRST_PAUSE_MS;
         hang_up(f);
     } else if (state == DW_SESSION_CLOSED) {
         say(f->server, "the session is closed");
@@ -217,7 +329,7 @@ static void cut(struct follower *f, const char *why)
 {
     say(f->server, why);
     hang_up(f);
-    act(f, dw_cut(&f->client, now_ms()));
+    act(f, dw_cut(&f->client, f->now_ms));
 }
 
 /* Looks up the addresses of a server, HOST:PORT or [HOST]:PORT. This may take a while, which no connection waits for. */
@@ -272,15 +384,16 @@ static int begin_connection(const struct addrinfo *address)
 
 static void dial(struct follower *f)
 {
+    f->dialled_ms = f->now_ms;
     next_address(f);
     if (f->address == NULL) {
-        hang_up(f);
+        put_off(f);
         return;
     }
     f->socket = begin_connection(f->address);
     if (f->socket < 0) {
         say(f->server, strerror(errno));
-        hang_up(f);
+        put_off(f);
         return;
     }
     f->is_connecting = true;
@@ -301,8 +414,9 @@ static void finish_connection(struct follower *f)
         return;
     }
     f->is_connecting = false;
+    f->opened_ms = f->now_ms;
     f->due_ms = UINT64_MAX;
-    act(f, dw_opened(&f->client, now_ms()));
+    act(f, dw_opened(&f->client, f->now_ms));
 }
 
 static bool is_passing(int error)
@@ -310,16 +424,41 @@ static bool is_passing(int error)
     return error == EINTR || error == EAGAIN || error == EWOULDBLOCK;
 }
 
+/* Takes bytes from the server, which came at this moment. */
+static void hear(struct follower *f, uint64_t came_ms, const uint8_t *bytes, size_t length)
+{
+    size_t answered = (size_t)least(count_pings(&f->came, bytes, length), f->pinged);
+    f->pinged -= answered;
+    memmove(f->pinged_ms, f->pinged_ms + answered, f->pinged * sizeof f->pinged_ms[0]);
+    f->heard_ms = f->now_ms;
+    act(f, dw_bytes(&f->client, came_ms, bytes, length));
+}
+
+/* The moment with which is told what the connection has. Where something was due before this turn, since the program was stopped, it is
+ * the last moment before that: when the bytes came is not known, and a server that has sent something is not silent. */
+static uint64_t moment_of_bytes(struct follower *f)
+{
+    uint64_t due;
+    bool is_late = dw_deadline(&f->client, &due) == DW_OK && due <= f->now_ms;
+    return is_late && due > 0 ? due - 1 : f->now_ms;
+}
+
+/* Takes what the connection has. */
 static void receive(struct follower *f)
 {
     uint8_t piece[PIECE];
-    ssize_t count = recv(f->socket, piece, sizeof piece, 0);
-    if (count > 0) {
-        act(f, dw_bytes(&f->client, now_ms(), piece, (size_t)count));
-    } else if (count == 0) {
-        cut(f, "the server has ended the connection");
-    } else if (!is_passing(errno)) {
-        cut(f, strerror(errno));
+    uint64_t came_ms = moment_of_bytes(f);
+    for (int i = 0; i < MOST_PIECES && f->socket >= 0; i++) {
+        ssize_t count = recv(f->socket, piece, sizeof piece, 0);
+        if (count > 0) {
+            hear(f, came_ms, piece, (size_t)count);
+        } else if (count == 0) {
+            cut(f, "the server has ended the connection");
+        } else if (is_passing(errno)) {
+            return;
+        } else {
+            cut(f, strerror(errno));
+        }
     }
 }
 
@@ -360,14 +499,15 @@ static void ask(struct follower *f)
     if (f->is_asked || f->is_closing || dw_state(&f->client) != DW_CONNECTED || !look(f, &kept, 0)) {
         return;
     }
-    if (kept.mark == DW_GOOD && kept.kind != DW_KNOWN) {
+    if ((kept.mark == DW_GOOD && kept.kind != DW_KNOWN) || f->now_ms < f->read_at_ms) {
         return;
     }
     f->is_asked = true;
+    f->asked_ms = f->now_ms;
     if (f->is_missing) {
-        act(f, dw_exists(&f->client, now_ms(), TICKET_EXISTS, path, strlen(f->path), true));
+        act(f, dw_exists(&f->client, f->now_ms, TICKET_EXISTS, path, strlen(f->path), true));
     } else {
-        act(f, dw_get_data(&f->client, now_ms(), TICKET_DATA, path, strlen(f->path), true));
+        act(f, dw_get_data(&f->client, f->now_ms, TICKET_DATA, path, strlen(f->path), true));
     }
 }
 
@@ -432,14 +572,17 @@ static void leave(struct follower *f)
         return;
     }
     f->is_closing = true;
-    f->due_ms = now_ms() + LONGEST_CLOSE_MS;
-    act(f, dw_close_session(&f->client, now_ms(), TICKET_CLOSE));
+    f->due_ms = f->now_ms + LONGEST_CLOSE_MS;
+    act(f, dw_close_session(&f->client, f->now_ms, TICKET_CLOSE));
 }
 
 /* What this program has to do by itself at a moment. */
 static void keep_time(struct follower *f)
 {
-    if (now_ms() < f->due_ms) {
+    if (end_of_waiting(f) <= f->now_ms) {
+        cut(f, "an answer does not come");
+    }
+    if (f->now_ms < f->due_ms) {
         return;
     }
     if (f->socket < 0) {
@@ -452,14 +595,15 @@ static void keep_time(struct follower *f)
     }
 }
 
-/* A client of a new session, which knows nothing. It may meet a server that is behind what the old one saw. */
-static void open_client(struct follower *f)
+/* Begins a new session with the client: it knows nothing but the last zxid, so that it meets no server that is behind that. */
+static int32_t renew_client(dw_client *client)
 {
-    int32_t code = dw_open(&f->client, TIMEOUT_MS);
-    f->is_asked = f->is_missing = false;
-    if (code != DW_OK) {
-        fail(f, f->path, words_of(code));
+    uint8_t none[36] = {[11] = 16}; /* no session: the number 0, a password of 16 bytes of 0, and the zxid */
+    uint64_t zxid = (uint64_t)dw_last_zxid(client);
+    for (size_t i = 0; i < 8; i++) {
+        none[28 + i] = (uint8_t)(zxid >> (56 - 8 * i));
     }
+    return dw_resume(client, TIMEOUT_MS, none, sizeof none);
 }
 
 /* Goes on where this connection, or this session, is of no use any more. */
@@ -469,8 +613,13 @@ static void renew(struct follower *f)
         cut(f, "the next server is asked");
     }
     f->is_refused = false;
-    if (dw_state(&f->client) == DW_EXPIRED) {
-        open_client(f);
+    if (dw_state(&f->client) != DW_EXPIRED) {
+        return;
+    }
+    int32_t code = renew_client(&f->client);
+    f->is_asked = f->is_missing = false;
+    if (code != DW_OK) {
+        fail(f, f->path, words_of(code));
     }
 }
 
@@ -478,13 +627,25 @@ static void renew(struct follower *f)
 static int wait_ms(struct follower *f)
 {
     uint64_t first, now = now_ms();
-    if (dw_deadline(&f->client, &first) != DW_OK || first > f->due_ms) {
-        first = f->due_ms;
+    if (dw_deadline(&f->client, &first) != DW_OK) {
+        first = UINT64_MAX;
+    }
+    first = least(first, least(f->due_ms, end_of_waiting(f)));
+    if (f->read_at_ms > f->now_ms) {
+        first = least(first, f->read_at_ms);
     }
     if (first <= now) {
         return 0;
     }
     return first - now < INT_MAX ? (int)(first - now) : INT_MAX;
+}
+
+/* Whether something is due on the connection: then what it has is read before the moment is told. */
+static bool is_late(struct follower *f)
+{
+    uint64_t due;
+    bool is_due = dw_deadline(&f->client, &due) == DW_OK && due <= f->now_ms;
+    return f->socket >= 0 && (is_due || end_of_waiting(f) <= f->now_ms);
 }
 
 /* Waits until something happens or is due, and takes what happened. */
@@ -493,13 +654,16 @@ static void serve(struct follower *f)
     short wanted = f->is_connecting || f->unsent.length > 0 ? POLLIN | POLLOUT : POLLIN;
     struct pollfd waits[] = {{.fd = wakes[0], .events = POLLIN}, {.fd = f->socket, .events = wanted}};
     int ready = poll(waits, 2, wait_ms(f));
+    f->now_ms = now_ms();
     if (ready < 0 && errno != EINTR) {
         fail(f, "poll", strerror(errno));
     } else if (ready > 0 && waits[0].revents != 0) {
         leave(f);
-    } else if (ready > 0 && f->is_connecting) {
-        finish_connection(f);
-    } else if (ready > 0 && (waits[1].revents & ~POLLOUT) != 0) {
+    } else if (f->is_connecting) {
+        if (ready > 0) {
+            finish_connection(f);
+        }
+    } else if ((ready > 0 && (waits[1].revents & ~POLLOUT) != 0) || is_late(f)) {
         receive(f);
     }
 }
@@ -507,7 +671,7 @@ static void serve(struct follower *f)
 /* Tells the client the moment: what is due at it is done, and a connection that begins later has one before it. */
 static void tick(struct follower *f)
 {
-    act(f, dw_tick(&f->client, now_ms()));
+    act(f, dw_tick(&f->client, f->now_ms));
 }
 
 /* What is done in turn, over and over, until the program is to end. */
@@ -544,8 +708,12 @@ static void begin(struct follower *f)
     } else if (!reserve(&f->unsent, PIECE) || !reserve(&f->data, PIECE)) {
         fail(f, "buffers", strerror(ENOMEM));
     } else {
-        srand((unsigned)now_ms() ^ (unsigned)getpid());
-        open_client(f);
+        f->heard_ms = now_ms();
+        srand((unsigned)f->heard_ms ^ (unsigned)getpid());
+        int32_t code = dw_open(&f->client, TIMEOUT_MS);
+        if (code != DW_OK) {
+            fail(f, f->path, words_of(code));
+        }
     }
     if (!f->is_over) {
         look(f, &kept, 0);

@@ -4,17 +4,20 @@
   follow.py FOLLOW PARTNER
 """
 
+import contextlib
 import queue
 import signal
 import socket
+import struct
 import subprocess
 import sys
 import tempfile
 import threading
+import time
 import unittest
 
-# Seconds that a line, or an end, is waited for.
-BOUND = 20
+# Seconds that a line, or an end, is waited for; and that a busy machine may make something late.
+BOUND, SLACK = 20, 3
 PROGRAM, PARTNER = sys.argv[1:3] if len(sys.argv) == 3 else sys.exit(__doc__)
 
 
@@ -57,6 +60,88 @@ class Partner(Process):
             self.process.stdin.flush()
             if self.line() != "done":
                 raise AssertionError(command)
+
+
+class Line:
+    """A connection to the program, frame by frame."""
+
+    def __init__(self, accepted):
+        self._socket = accepted
+
+    def send(self, data):
+        self._socket.sendall(data)
+
+    def frame(self):
+        """The next frame without its length."""
+        head = self._socket.recv(4, socket.MSG_WAITALL)
+        frame = self._socket.recv(int.from_bytes(head, "big"), socket.MSG_WAITALL) if len(head) == 4 else b""
+        if not frame:
+            raise ConnectionError
+        return frame
+
+    def put(self, payload):
+        self.send(struct.pack(">i", len(payload)) + payload)
+
+    def admit(self, timeout):
+        """Admits the session, with this timeout in milliseconds. Answers the zxid that the client has seen."""
+        asked = self.frame()
+        self.put(struct.pack(">iiqi", 0, timeout, 77, 16) + bytes(17))
+        return struct.unpack(">q", asked[4:12])[0]
+
+    def request(self):
+        """The xid and the type of the next request."""
+        return struct.unpack(">ii", self.frame()[:8])
+
+    def answer(self, xid, code=0, body=b""):
+        self.put(struct.pack(">iqi", xid, 5, code) + body)
+
+    def serve(self, kinds):
+        """Answers each request by what its type has."""
+        while True:
+            xid, kind = self.request()
+            kinds[kind](xid)
+
+    def dribble(self, data):
+        while True:
+            self.send(data)
+            time.sleep(0.1)
+
+
+class Server:
+    """A server that serves each connection by a function of its number and the connection, one after the other."""
+
+    def __init__(self, serve):
+        self._serve, self.dials = serve, []
+        self._listener = socket.create_server(("127.0.0.1", 0))
+        self.address = f"127.0.0.1:{self._listener.getsockname()[1]}"
+        threading.Thread(target=self._run, daemon=True).start()
+
+    def _run(self):
+        while True:
+            try:
+                accepted, _ = self._listener.accept()
+            except OSError:
+                return
+            self.dials.append(time.monotonic())
+            with accepted, contextlib.suppress(OSError):
+                self._serve(len(self.dials) - 1, Line(accepted))
+
+    def wait_for_dials(self, count):
+        """The moments of so many dials."""
+        end = time.monotonic() + BOUND
+        while len(self.dials) < count and time.monotonic() < end:
+            time.sleep(0.05)
+        return self.dials[:count]
+
+    def end(self):
+        self._listener.shutdown(socket.SHUT_RDWR)
+        self._listener.close()
+
+
+# A Stat of a node that was made at zxid 5, and the reply to getData of one that holds `one`.
+STAT = struct.pack(">qqqqiiiqiiq", 5, 5, 1000, 1000, 0, 0, 0, 0, 3, 0, 5)
+DATA = struct.pack(">i", 3) + b"one" + STAT
+EXISTS, GET_DATA, PING = 3, 4, 11
 
 
 def unused_address():
@@ -126,10 +211,114 @@ class Follow(unittest.TestCase):
     def test_expired_session(self):
         partner = self.begin()
         partner.do("expire")
-        self.last_zxid = 0
         self.expect("unknown", 'good "first"')
         partner.do("set /config second")
         self.expect('stale "first"', 'good "second"')
+
+    def server(self, serve):
+        server = Server(serve)
+        self.addCleanup(server.end)
+        self.follow(server.address)
+        return server
+
+    def test_session_that_may_live(self):
+        """While the session may live, the program dials again within a second."""
+
+        def serve(number, line):
+            if number == 0:
+                line.admit(10_000)
+                xid, _ = line.request()
+                line.answer(xid, 0, DATA)
+
+        dials = self.server(serve).wait_for_dials(9)
+        self.assertEqual(len(dials), 9)
+        self.assertLess(max(after - before for before, after in zip(dials, dials[1:])), 1 + SLACK)
+
+    def test_admission_is_no_success(self):
+        """A server that admits the session and goes is dialled three times a second at most."""
+        server = self.server(lambda number, line: line.admit(10_000))
+        server.wait_for_dials(1)
+        time.sleep(3)
+        self.assertIn(len(server.dials), range(2, 11))
+
+    def test_stopped_program(self):
+        """A program that is stopped for more than two thirds of the timeout since it heard the server reads its socket first."""
+
+        def serve(_, line):
+            line.admit(3_000)
+            xid, _ = line.request()
+            line.answer(xid, 0, DATA)
+            time.sleep(0.4)
+            self.followed.process.send_signal(signal.SIGSTOP)
+            line.answer(-1, 0, struct.pack(">iii", 3, 3, 7) + b"/config")
+            time.sleep(2)
+            self.followed.process.send_signal(signal.SIGCONT)
+            line.serve({GET_DATA: lambda xid: line.answer(xid, 0, DATA), PING: line.answer})
+
+        server = self.server(serve)
+        self.expect('good "one"', 'stale "one"', 'good "one"')
+        self.assertEqual(len(server.dials), 1)
+
+    def test_refused_reads(self):
+        """The program goes on at each code, and reads once a second at most."""
+        codes, reads = [-127, -118, -112, -4, -102], []
+
+        def read(line, xid):
+            reads.append(time.monotonic())
+            code = codes.pop() if codes else 0
+            line.answer(xid, code, b"" if code else DATA)
+
+        def serve(_, line):
+            line.admit(10_000)
+            line.serve({GET_DATA: lambda xid: read(line, xid), PING: line.answer})
+
+        self.server(serve)
+        self.expect('good "one"')
+        self.assertGreater(min(after - before for before, after in zip(reads, reads[1:])), 0.95)
+
+    def test_denied_data(self):
+        """Data that are denied of a node that is there are read once a second at most."""
+        reads = []
+
+        def deny(line, xid):
+            reads.append(xid)
+            line.answer(xid, -101)
+
+        def serve(_, line):
+            line.admit(10_000)
+            kinds = {GET_DATA: lambda xid: deny(line, xid), EXISTS: lambda xid: line.answer(xid, 0, STAT), PING: line.answer}
+            line.serve(kinds)
+
+        self.server(serve).wait_for_dials(1)
+        time.sleep(3)
+        self.assertIn(len(reads), range(1, 6))
+
+    def test_server_that_dribbles(self):
+        """A read and a ping that are not answered end the connection, whatever else comes."""
+
+        def serve(number, line):
+            line.admit(1_500)
+            xid, _ = line.request()
+            if number == 1:
+                line.answer(xid, 0, DATA)
+            line.dribble(struct.pack(">iiqiiii", 30, -1, -1, 0, 3, 3, 2) + b"/a")
+
+        dials = self.server(serve).wait_for_dials(3)
+        self.assertEqual(len(dials), 3)
+        self.assertLess(dials[1] - dials[0], 1 + 0.4 + SLACK)
+        self.assertLess(dials[2] - dials[1], 1.5 + 0.4 + SLACK)
+
+    def test_server_that_dribbles_while_it_connects(self):
+        """The admission of the session is waited for as long as two thirds of the timeout."""
+
+        def serve(number, line):
+            if number == 0:
+                line.send(struct.pack(">i", 1 << 20))
+                line.dribble(b"0")
+
+        dials = self.server(serve).wait_for_dials(2)
+        self.assertEqual(len(dials), 2)
+        self.assertLess(dials[1] - dials[0], 6.7 + 0.2 + SLACK)
 
     def test_next_address(self):
         partner = self.partner()

@@ -22,7 +22,7 @@ fn main() -> Result<(), Box<dyn std::error::Error>> {
             }
             Ok(None) => println!("{path} is not there"),
             Err(Error::NoReply(NoReply::SessionExpired)) => session.renew()?,
-            Err(Error::NoReply(NoReply::NotConnected | NoReply::ConnectionLoss)) => {}
+            Err(fault) if fault.is_passing() => eprintln!("{path}: {fault}"),
             Err(fault) => return Err(fault.into()),
         }
     }

@@ -134,6 +134,14 @@ impl Client {
         let handle = Handle::resume(timeout_ms(timeout)?, saved.as_bytes())?;
         Ok(Client { handle })
     }
+
+    /// Begins a new session, which asks for this timeout: after an expiry, a close and [`Fault::Halted`]. Nothing is kept or watched, and
+    /// the greatest zxid seen stays, so that no server which is behind it admits the session. Close the connection of the old session
+    /// before. It fails as [`open`](Client::open), and is then as it was.
+    pub fn renew(&mut self, timeout: Duration) -> Result<(), Fault> {
+        *self = Client::resume(timeout, &SavedSession::none_from(self.last_zxid()))?;
+        Ok(())
+    }
 }
 
 /// Steps: what happened.

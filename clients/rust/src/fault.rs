@@ -102,6 +102,8 @@ impl error::Error for NoReply {}
 pub struct Code(pub i32);
 
 impl Code {
+    /// The connection was lost within the servers: the call may or may not have happened.
+    pub const CONNECTION_LOSS: Code = Code(-4);
     /// There is no node; for a create, no parent.
     pub const NO_NODE: Code = Code(-101);
     /// The node's ACL does not admit this client, which has no credentials.
@@ -114,18 +116,33 @@ impl Code {
     pub const NODE_EXISTS: Code = Code(-110);
     /// The node has children.
     pub const NOT_EMPTY: Code = Code(-111);
+    /// The session has expired, by the word of this reply; the state of the client tells it by the next connection.
+    pub const SESSION_EXPIRED: Code = Code(-112);
     /// The session was taken up over another connection.
     pub const SESSION_MOVED: Code = Code(-118);
+    /// The server has more requests to do than it admits at a time.
+    pub const THROTTLED: Code = Code(-127);
+
+    /// Whether the same read may be answered later, after a while: the server was busy, or has lost a connection or the session.
+    pub fn is_passing(self) -> bool {
+        matches!(
+            self,
+            Code::CONNECTION_LOSS | Code::SESSION_EXPIRED | Code::SESSION_MOVED | Code::THROTTLED
+        )
+    }
 
     fn words(self) -> &'static str {
         match self {
+            Code::CONNECTION_LOSS => "the servers have lost the connection",
             Code::NO_NODE => "there is no node",
             Code::NO_AUTH => "the node does not admit this client",
             Code::BAD_VERSION => "the node has another version",
             Code::NO_CHILDREN_FOR_EPHEMERALS => "the parent is an ephemeral node",
             Code::NODE_EXISTS => "there is a node already",
             Code::NOT_EMPTY => "the node has children",
+            Code::SESSION_EXPIRED => "the session has expired",
             Code::SESSION_MOVED => "the session was taken up over another connection",
+            Code::THROTTLED => "the server has too much to do",
             Code(_) => "the server refuses the call",
         }
     }
@@ -148,6 +165,21 @@ pub enum Error {
     NoReply(NoReply),
     /// The library has not made the step.
     Fault(Fault),
+}
+
+impl Error {
+    /// Whether the same read may be answered later: [`Code::is_passing`], and where the connection was lost, there is none, or too many
+    /// calls wait. An expired session is no such error: it is to be renewed.
+    pub fn is_passing(&self) -> bool {
+        match self {
+            Error::Server(code) => code.is_passing(),
+            Error::NoReply(reason) => matches!(
+                reason,
+                NoReply::ConnectionLoss | NoReply::NotConnected | NoReply::TooManyPending
+            ),
+            Error::Fault(_) => false,
+        }
+    }
 }
 
 impl fmt::Display for Error {

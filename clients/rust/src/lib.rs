@@ -19,9 +19,12 @@ mod kept;
 mod moment;
 mod node;
 mod output;
+mod pauses;
+mod refusals;
 mod saved;
 mod session;
 mod told;
+mod waiting;
 
 pub use client::{Client, State};
 pub use fault::{Code, Error, Fault, NoReply};

@@ -30,6 +30,11 @@ impl Moment {
         Moment(self.0.saturating_add(millis(duration)))
     }
 
+    /// The moment a millisecond before it, and the first one where there is none.
+    pub(crate) const fn before(self) -> Moment {
+        Moment(self.0.saturating_sub(1))
+    }
+
     /// How long it is behind another moment: nothing where it is not behind it.
     pub const fn saturating_duration_since(self, earlier: Moment) -> Duration {
         Duration::from_millis(self.0.saturating_sub(earlier.0))

@@ -22,7 +22,7 @@ impl SavedSession {
 
     /// No session, but this zxid: who resumes it asks for a new session, at a server that is not behind the zxid. It is for
     /// a client behind an expiry that must not see an older state than the expired one.
-    pub fn none_from(last_zxid: i64) -> SavedSession {
+    pub(crate) fn none_from(last_zxid: i64) -> SavedSession {
         let mut bytes = Vec::with_capacity(36);
         bytes.extend(0_i64.to_be_bytes());
         bytes.extend(i32::from(PASSWORD_LENGTH).to_be_bytes());

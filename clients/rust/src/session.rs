@@ -6,10 +6,14 @@ use crate::kept::{Children, DataAnswer, Kept};
 use crate::moment::{Clock, Moment};
 use crate::node::{Mode, Node, Stat, Watch};
 use crate::output::Outputs;
+use crate::pauses::{longest_dial, Pauses};
+use crate::refusals::Refusals;
 use crate::saved::SavedSession;
 use crate::told::{Event, Found, Told};
+use crate::waiting::Waiting;
 use std::fmt;
 use std::io::{self, ErrorKind, Read, Write};
+use std::mem;
 use std::net::{SocketAddr, TcpStream};
 use std::thread;
 use std::time::{Duration, Instant};
@@ -17,11 +21,11 @@ use std::time::{Duration, Instant};
 /// The most bytes that one read is asked for.
 const PIECE: usize = 65_536;
 
-/// The pause behind the first attempt to connect that has failed.
-const FIRST_PAUSE: Duration = Duration::from_millis(100);
+/// The most reads of what a connection has, before the moment is told.
+const MOST_PIECES: usize = 64;
 
-/// The longest pause between two attempts.
-const LONGEST_PAUSE: Duration = Duration::from_secs(10);
+/// How long a call waits for a connection at least, which is as long as an attempt has.
+const SHORTEST_PATIENCE: Duration = Duration::from_secs(1);
 
 /// The longest wait of one read: an hour.
 const LONGEST_WAIT: Duration = Duration::from_secs(3_600);
@@ -34,15 +38,22 @@ const NEVER: Moment = Moment::from_millis(u64::MAX);
 
 /// A session over TCP: a [`Client`], its connection, and a clock.
 ///
-/// It dials the addresses in turn, and goes on to the next one where a server is silent or the connection ends. The pause before an
-/// attempt is none at first, 100 milliseconds behind one that has failed, and twice as long behind each further one, up to 10 seconds;
-/// it begins again once a server has accepted the session. Watches and what is kept go on over reconnects.
+/// It dials the addresses in turn, and goes on to the next one where a server is silent or the connection ends. Watches and what is kept
+/// go on over reconnects. The first attempt is made at once, and may take a third of the timeout, and a second at least. The pause after
+/// one that has failed, and after a connection, is by chance between a half of this and the whole: 100 milliseconds, and twice as long
+/// each time, up to a second and to a tenth of the timeout; after an expiry, and once no server was heard for longer than the timeout, up
+/// to 10 seconds. It begins anew after an answered call, after an expiry that a server told, and after a connection that has lasted for
+/// a third of the timeout. A third of a second lies between two attempts at least, so a session of less than some three seconds does not
+/// outlive a lost connection for sure.
 ///
 /// It has no thread, so that it reads, pings and reconnects within its functions alone: call [`next_event`](Session::next_event) at
-/// least once in a third of the timeout. What it is not asked for waits there as an [`Event`].
+/// least once in a third of the timeout. A program that comes later than that keeps its connection where the server has sent something
+/// meanwhile. What it is not asked for waits there as an [`Event`]: 1,024 at most, and then [`Event::Missed`] tells how many are lost.
 ///
-/// A call waits for a connection, for as long as the timeout of the session, and then for its answer, which comes by itself: where the
-/// server is silent for two thirds of the timeout, it is [`ConnectionLoss`](crate::NoReply::ConnectionLoss). Nothing is asked twice.
+/// A call waits for a connection, for as long as the timeout of the session, and for a second at least; and then for its answer. Where
+/// that has not come after two thirds of the timeout, whatever else the server sends, the connection is over and the answer is
+/// [`ConnectionLoss`](crate::NoReply::ConnectionLoss). So it is for a ping, and for the admission of the session, by the timeout that was
+/// asked for. Nothing is asked twice.
 ///
 /// To let it go leaves the session to its timeout at the servers: [`close`](Session::close) ends it.
 ///
@@ -69,8 +80,9 @@ pub struct Session {
     stream: Option<TcpStream>,
     room: Vec<u8>,
     held: usize,
-    pause: Duration,
-    dial_at: Moment,
+    pauses: Pauses,
+    waiting: Waiting,
+    refusals: Refusals,
     told: Told,
 }
 
@@ -125,8 +137,9 @@ impl Session {
             stream: None,
             room: vec![0; PIECE],
             held: 0,
-            pause: FIRST_PAUSE,
-            dial_at: Moment::default(),
+            pauses: Pauses::new(),
+            waiting: Waiting::default(),
+            refusals: Refusals::default(),
             told: Told::default(),
         }
     }
@@ -134,13 +147,12 @@ impl Session {
     /// Goes on with a new client, which keeps and watches nothing: of a new session where this one has expired or is closed, at servers
     /// that are not behind what was seen, and else of the same session, as behind [`Fault::Halted`]. It fails as [`Client::resume`].
     pub fn renew(&mut self) -> Result<(), Fault> {
-        let saved = if self.client.state().is_final() {
-            SavedSession::none_from(self.client.last_zxid())
+        if self.client.state().is_final() {
+            self.client.renew(self.asked_timeout)?;
         } else {
-            self.client.saved()?
-        };
-        self.client = Client::resume(self.asked_timeout, &saved)?;
-        self.stream = None;
+            self.client = Client::resume(self.asked_timeout, &self.client.saved()?)?;
+        }
+        self.hang_up();
         Ok(())
     }
 
@@ -176,17 +188,39 @@ impl Session {
 
     /// The data of a node, and none where there is none. It leaves a watch on the path in both cases, so that the next change is
     /// reported, whatever it is.
+    ///
+    /// A read that the server has refused is followed by no other one of the path within a second: the next call waits until then. Where
+    /// there is a node, of which the server says that it has no data, they are read again after a second, until the two agree.
     pub fn watch(&mut self, path: &str) -> Result<Option<Node>, Error> {
         loop {
-            match self.get(path, Watch::Yes) {
-                Ok(node) => return Ok(Some(node)),
-                Err(Error::Server(Code::NO_NODE)) => {}
-                Err(fault) => return Err(fault),
+            self.wait_after_refusal(path)?;
+            let found = self.read_watched(path);
+            match found {
+                Err(Error::Server(_)) => self.refusals.note(path, self.clock.now()),
+                _ => self.refusals.forget(path),
             }
-            if self.exists(path, Watch::Yes)?.is_none() {
-                return Ok(None);
+            if found != Err(Error::Server(Code::NO_NODE)) {
+                return found;
             }
         }
+    }
+
+    /// Reads the data, and where there are none, asks whether there is a node. [`Code::NO_NODE`] where there is one.
+    fn read_watched(&mut self, path: &str) -> Result<Option<Node>, Error> {
+        let found = self.get(path, Watch::Yes);
+        if found == Err(Error::Server(Code::NO_NODE)) && self.exists(path, Watch::Yes)?.is_none() {
+            return Ok(None);
+        }
+        found.map(Some)
+    }
+
+    /// Goes on until a path whose read was refused may be read again, or the session is over.
+    fn wait_after_refusal(&mut self, path: &str) -> Result<(), Fault> {
+        let until = self.refusals.until(path).unwrap_or_default();
+        while self.clock.now() < until && !self.client.state().is_final() {
+            self.round(until)?;
+        }
+        Ok(())
     }
 
     /// The names of the children of a node, in an order that means nothing, and what is known of it. Where there is no node it fails
@@ -225,17 +259,30 @@ impl Session {
         self.wait_for_server()?;
         let ticket = self.told.await_answer();
         self.hear(|client, now| ask(client, now, ticket))?;
+        if self.told.answer.is_none() {
+            self.waiting.asks(self.clock.now());
+        }
         loop {
             if let Some(outcome) = self.told.answer.take() {
+                self.leave_moved(&outcome)?;
                 return outcome;
             }
             self.round(NEVER)?;
         }
     }
 
+    /// Ends a connection that the session was moved away from.
+    fn leave_moved(&mut self, outcome: &Result<Found, Error>) -> Result<(), Fault> {
+        match outcome {
+            Err(Error::Server(Code::SESSION_MOVED)) => self.end(),
+            _ => Ok(()),
+        }
+    }
+
     /// Waits until a server has accepted the session, the session is over, or its timeout has passed.
     fn wait_for_server(&mut self) -> Result<(), Fault> {
-        let until = self.clock.now().saturating_add(self.client.timeout());
+        let patience = self.client.timeout().max(SHORTEST_PATIENCE);
+        let until = self.clock.now().saturating_add(patience);
         while matches!(self.client.state(), State::Idle | State::Connecting)
             && self.clock.now() < until
         {
@@ -250,13 +297,13 @@ impl Session {
     /// The next event: one that waits, or the first that comes until this instant, and none where none has come by then. Without an
     /// instant it waits until there is one. Once the session has expired or is closed, and no event waits, there is none.
     ///
-    /// It may wait for longer by as much as an attempt to connect takes: a third of the timeout at most. It fails with
+    /// It may wait for longer by as much as an attempt to connect takes: a third of the timeout at most, or a second. It fails with
     /// [`Fault::NoMemory`] and [`Fault::Halted`].
     pub fn next_event(&mut self, until: Option<Instant>) -> Result<Option<Event>, Fault> {
         let until = until.map_or(NEVER, |until| self.clock.moment_of(until));
         let mut is_over = false;
         loop {
-            if let Some(event) = self.told.events.pop_front() {
+            if let Some(event) = self.told.next_event() {
                 return Ok(Some(event));
             }
             if is_over || self.client.state().is_final() {
@@ -291,35 +338,77 @@ impl Session {
 
 /// The connection.
 impl Session {
-    /// Takes a step at this moment, and does what the client says.
+    /// Takes a step at the moment that it is, and does what the client says. Where something was due before, what came until now is handed
+    /// in first: the program was stopped, or was away.
     fn hear<F>(&mut self, step: F) -> Result<(), Fault>
     where
         F: for<'a> FnOnce(&'a mut Client, Moment) -> Result<Outputs<'a>, Fault>,
     {
-        let outputs = step(&mut self.client, self.clock.now());
+        let now = self.clock.now();
+        if self.is_late(now) {
+            self.catch_up(now)?;
+        }
+        self.step(now, step)
+    }
+
+    /// Takes a step, and does what the client says.
+    fn step<F>(&mut self, now: Moment, step: F) -> Result<(), Fault>
+    where
+        F: for<'a> FnOnce(&'a mut Client, Moment) -> Result<Outputs<'a>, Fault>,
+    {
+        let outputs = step(&mut self.client, now);
         let taken = outputs.map(|outputs| self.told.take(outputs));
-        self.settle(taken)
+        self.settle(now, taken)
     }
 
     /// Does what the client has said at a step. The connection is over where the client says so or has halted, and where a write
     /// fails.
-    fn settle(&mut self, step: Result<(), Fault>) -> Result<(), Fault> {
-        let is_sent = self.send();
+    fn settle(&mut self, now: Moment, step: Result<(), Fault>) -> Result<(), Fault> {
+        self.note_news(now);
+        let is_sent = self.send(now);
         if self.told.is_over || !is_sent || step == Err(Fault::Halted) {
-            self.stream = None;
+            self.hang_up();
         }
         self.told.is_over = false;
         if !is_sent {
-            let outputs = self.client.cut(self.clock.now())?;
+            let outputs = self.client.cut(now)?;
             self.told.take(outputs);
         }
         step
     }
 
+    /// Notes what a server has done.
+    fn note_news(&mut self, now: Moment) {
+        let news = mem::take(&mut self.told.news);
+        if news.is_admitted {
+            self.waiting.is_admitted();
+            self.pauses.is_admitted(now);
+        }
+        if news.is_answered {
+            self.waiting.is_answered();
+            self.pauses.is_answered();
+        }
+        if news.is_expired {
+            self.pauses.expires();
+        }
+    }
+
+    /// Closes the connection, if there is one.
+    fn hang_up(&mut self) {
+        self.waiting = Waiting::default();
+        self.held = 0;
+        if self.stream.take().is_some() {
+            self.pauses.ends(self.clock.now(), self.client.timeout());
+        }
+    }
+
     /// Writes the frames that go to the server. Whether all was written, or there is nobody to write to.
-    fn send(&mut self) -> bool {
+    fn send(&mut self, now: Moment) -> bool {
         let is_sent = match &mut self.stream {
-            Some(stream) => stream.write_all(&self.told.frames).is_ok(),
+            Some(stream) => {
+                self.waiting.sends(now, &self.told.frames);
+                stream.write_all(&self.told.frames).is_ok()
+            }
             None => true,
         };
         self.told.frames.clear();
@@ -341,63 +430,125 @@ impl Session {
             match self.read(until) {
                 Ok(0) => return self.end(),
                 Ok(count) => self.held = count,
-                Err(fault) if is_late(&fault) => return self.hear(Client::tick),
+                Err(fault) if is_late(&fault) => return self.catch_up(self.clock.now()),
                 Err(_) => return self.end(),
             }
         }
-        let bytes = &self.room[..self.held];
-        let outputs = self.client.bytes(self.clock.now(), bytes);
-        let taken = outputs.map(|outputs| self.told.take(outputs));
-        self.settle(taken)?;
-        self.held = 0;
-        if self.client.state() == State::Connected {
-            self.pause = FIRST_PAUSE;
-            self.dial_at = Moment::default();
+        let now = self.clock.now();
+        let is_late = self.is_late(now);
+        self.hand_in(now)?;
+        if is_late {
+            self.catch_up(now)?;
         }
         Ok(())
     }
 
-    /// Reads, until the deadline of the client at most.
+    /// Hands in what was read. Where something was due meanwhile, it is handed in with the last moment before: when it came is not known,
+    /// and a server that has sent something is not silent.
+    fn hand_in(&mut self, now: Moment) -> Result<(), Fault> {
+        self.pauses.hears(now);
+        let due = self.client.deadline().unwrap_or(NEVER);
+        let moment = now.min(due.before());
+        let bytes = &self.room[..self.held];
+        let outputs = self.client.bytes(moment, bytes);
+        let taken = outputs.map(|outputs| self.told.take(outputs));
+        if taken.is_ok() {
+            self.waiting.hears(bytes);
+            self.held = 0;
+        }
+        self.settle(now, taken)
+    }
+
+    /// Hands in what the connection has, and then tells this moment: so a client that comes late does not take a server for silent that
+    /// has answered. The connection ends where the server leaves something without an answer for too long.
+    fn catch_up(&mut self, now: Moment) -> Result<(), Fault> {
+        for _ in 0..MOST_PIECES {
+            if self.held == 0 {
+                match self.read_now() {
+                    Ok(0) => return self.end(),
+                    Ok(count) => self.held = count,
+                    Err(fault) if is_late(&fault) => break,
+                    Err(_) => return self.end(),
+                }
+            }
+            self.hand_in(now)?;
+        }
+        self.step(now, Client::tick)?;
+        if self.end_of_waiting() <= now {
+            return self.end();
+        }
+        Ok(())
+    }
+
+    /// When the connection is to be given up, by what waits for an answer.
+    fn end_of_waiting(&self) -> Moment {
+        let end = self.waiting.end(self.asked_timeout, self.client.timeout());
+        end.unwrap_or(NEVER)
+    }
+
+    /// The first moment at which something is due.
+    fn due(&self) -> Moment {
+        let due = self.client.deadline().unwrap_or(NEVER);
+        due.min(self.end_of_waiting())
+    }
+
+    /// Whether something is due on the connection at this moment.
+    fn is_late(&self, now: Moment) -> bool {
+        self.stream.is_some() && self.due() <= now
+    }
+
+    /// Reads, until something is due at most.
     fn read(&mut self, until: Moment) -> io::Result<usize> {
+        let wait = self.due().min(until);
+        let wait = wait.saturating_duration_since(self.clock.now());
         let Some(stream) = &mut self.stream else {
             return Ok(0);
         };
-        let end = self.client.deadline().unwrap_or(NEVER).min(until);
-        let wait = end.saturating_duration_since(self.clock.now());
         stream.set_read_timeout(Some(wait.clamp(SHORTEST_WAIT, LONGEST_WAIT)))?;
         stream.read(&mut self.room)
     }
 
+    /// Reads what there is, without a wait.
+    fn read_now(&mut self) -> io::Result<usize> {
+        let Some(stream) = &mut self.stream else {
+            return Err(ErrorKind::WouldBlock.into());
+        };
+        stream.set_nonblocking(true)?;
+        let count = stream.read(&mut self.room);
+        stream.set_nonblocking(false)?;
+        count
+    }
+
     /// The connection is over.
     fn end(&mut self) -> Result<(), Fault> {
-        self.stream = None;
-        self.hear(Client::cut)
+        self.hang_up();
+        self.step(self.clock.now(), Client::cut)
     }
 
     /// Dials, where the moment for it has come, and else waits for that moment.
     fn reach(&mut self, until: Moment) -> Result<(), Fault> {
-        let now = self.clock.now();
-        if now < self.dial_at {
-            thread::sleep(self.dial_at.min(until).saturating_duration_since(now));
+        let (now, dial_at) = (self.clock.now(), self.pauses.dial_at());
+        if now < dial_at {
+            thread::sleep(dial_at.min(until).saturating_duration_since(now));
             return Ok(());
         }
+        self.pauses.dials(now);
         let stream = self.dial();
-        self.dial_at = self.clock.now().saturating_add(self.pause);
-        self.pause = (self.pause * 2).min(LONGEST_PAUSE);
-        let Some(stream) = stream else {
+        let now = self.clock.now();
+        if stream.is_none() {
+            self.pauses.ends(now, self.client.timeout());
             return Ok(());
-        };
-        self.stream = Some(stream);
-        self.held = 0;
-        self.hear(Client::opened)
+        }
+        self.stream = stream;
+        self.waiting = Waiting::since(now);
+        self.step(now, Client::opened)
     }
 
-    /// A connection to the address whose turn it is, and none where none is made within a third of the timeout.
+    /// A connection to the address whose turn it is, and none where none is made in time.
     fn dial(&mut self) -> Option<TcpStream> {
         let address = self.addresses.get(self.turn)?;
         self.turn = (self.turn + 1) % self.addresses.len();
-        let within = (self.client.timeout() / 3).max(SHORTEST_WAIT);
-        connect(address, within).ok()
+        connect(address, longest_dial(self.client.timeout())).ok()
     }
 }
 

@@ -5,6 +5,10 @@ use crate::fault::{Error, NoReply};
 use crate::node::{NodeEvent, Side, Stat};
 use crate::output::{Brought, Cause, GivenUp, Output, Outputs, Reply};
 use std::collections::VecDeque;
+use std::mem;
+
+/// The most events that wait for the caller.
+const MOST_EVENTS: usize = 1_024;
 
 /// What a session hears without having asked.
 #[derive(Clone, Debug, PartialEq, Eq)]
@@ -27,6 +31,9 @@ pub enum Event {
         /// Why, in words.
         words: String,
     },
+    /// So many events are lost, those that had waited longest, since 1,024 wait at most. Those that wait still come next. Marks are right
+    /// all the same: ask the client for its state, and for what is kept of the paths that you watch.
+    Missed(u64),
 }
 
 /// What a reply brings. What its call does not ask for is empty.
@@ -43,13 +50,26 @@ pub(crate) struct Found {
 pub(crate) struct Told {
     /// What goes to the server.
     pub(crate) frames: Vec<u8>,
-    /// What the caller has not asked for.
-    pub(crate) events: VecDeque<Event>,
     /// The answer to the call that was asked last, once it is there.
     pub(crate) answer: Option<Result<Found, Error>>,
     /// Whether the connection is over.
     pub(crate) is_over: bool,
+    /// What was told of the server since this was taken.
+    pub(crate) news: News,
+    events: VecDeque<Event>,
+    missed: u64,
     ticket: u64,
+}
+
+/// What servers do.
+#[derive(Clone, Copy, Default)]
+pub(crate) struct News {
+    /// One has admitted the session.
+    pub(crate) is_admitted: bool,
+    /// One has answered a call.
+    pub(crate) is_answered: bool,
+    /// One has told that the session has expired.
+    pub(crate) is_expired: bool,
 }
 
 impl Found {
@@ -102,16 +122,40 @@ impl Told {
             match output {
                 Output::Send(frame) => frame.append_to(&mut self.frames),
                 Output::Answer { ticket, outcome } if ticket == self.ticket => {
+                    self.news.is_answered |= outcome.is_ok();
                     self.answer = Some(answer_of(outcome));
                 }
                 Output::Answer { .. } => {}
                 Output::Report { path, side, event } => {
                     let path = String::from(path);
-                    self.events.push_back(Event::Report { path, side, event });
+                    self.tell(Event::Report { path, side, event });
                 }
-                Output::State(state) => self.events.push_back(Event::State(state)),
-                Output::Drop(given_up) => self.events.push_back(dropped(&given_up)),
+                Output::State(state) => self.tell_state(state),
+                Output::Drop(given_up) => self.tell(dropped(&given_up)),
             }
+        }
+    }
+
+    fn tell_state(&mut self, state: State) {
+        self.news.is_admitted |= state == State::Connected;
+        self.news.is_expired |= state == State::Expired;
+        self.tell(Event::State(state));
+    }
+
+    /// Keeps an event for the caller. Where there are too many, the first one is lost.
+    fn tell(&mut self, event: Event) {
+        if self.events.len() == MOST_EVENTS {
+            self.events.pop_front();
+            self.missed += 1;
+        }
+        self.events.push_back(event);
+    }
+
+    /// The next event for the caller.
+    pub(crate) fn next_event(&mut self) -> Option<Event> {
+        match mem::take(&mut self.missed) {
+            0 => self.events.pop_front(),
+            missed => Some(Event::Missed(missed)),
         }
     }
 }

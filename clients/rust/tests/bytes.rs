@@ -422,10 +422,12 @@ fn a_session_is_saved_and_resumed() {
 }
 
 #[test]
-fn a_new_session_is_asked_for_from_a_zxid_on() {
-    let mut client = Client::resume(TIMEOUT, &SavedSession::none_from(77)).unwrap();
-    assert_eq!(client.last_zxid(), 77);
-    let request = Record::new().int(0).long(77).int(9_000).long(0);
+fn a_renewed_client_asks_for_a_new_session_from_its_zxid_on() {
+    let mut client = watching();
+    client.renew(TIMEOUT).unwrap();
+    assert_eq!(client.last_zxid(), 5);
+    assert_eq!(client.data_mark("/a"), Ok(None));
+    let request = Record::new().int(0).long(5).int(9_000).long(0);
     let request = request.buffer(&[0; 16]).boolean(false).framed();
     assert_eq!(frames(client.opened(START).unwrap()), [request]);
 }

@@ -1,5 +1,6 @@
 //! Sessions over TCP, at the server in memory. Where there is no python3, each says so and passes.
 
+mod example;
 mod server;
 
 use dirwolleu::{
@@ -8,7 +9,6 @@ use dirwolleu::{
 };
 use server::Server;
 use std::io::{BufRead, BufReader};
-use std::path::PathBuf;
 use std::process::{Command, Stdio};
 use std::sync::mpsc::channel;
 use std::thread;
@@ -320,20 +320,13 @@ fn each_call_returns_whatever_a_server_sends() {
     }
 }
 
-/// The example that this run of cargo has built.
-fn follow_example() -> PathBuf {
-    let test = std::env::current_exe().unwrap();
-    let built = test.parent().unwrap().parent().unwrap();
-    built.join("examples").join("follow")
-}
-
 #[test]
 fn the_example_follows_a_node_through_a_restart() {
     let Some(mut server) = Server::start(&[]) else {
         return;
     };
     server.tell("create /config first");
-    let mut command = Command::new(follow_example());
+    let mut command = Command::new(example::follow());
     command.arg(server.address.to_string()).arg("/config");
     let mut child = command.stdout(Stdio::piped()).spawn().unwrap();
     let output = BufReader::new(child.stdout.take().unwrap());

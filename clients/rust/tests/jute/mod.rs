@@ -1,4 +1,5 @@
-//! Frames as `zookeeper.jute` spells them.
+//! Frames as `zookeeper.jute` spells them, of which each test takes what it needs.
+#![allow(dead_code)]
 
 /// Types of requests.
 pub const CREATE: i32 = 1;

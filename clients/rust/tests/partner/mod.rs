@@ -1,0 +1,102 @@
+//! A server on 127.0.0.1 that does what a test says, frame by frame.
+
+use crate::jute::Record;
+use std::io::{Read, Write};
+use std::net::{SocketAddr, TcpListener, TcpStream};
+use std::sync::mpsc::{channel, Receiver};
+use std::thread;
+use std::time::{Duration, Instant};
+
+/// How long an attempt to connect may take to come.
+const PATIENCE: Duration = Duration::from_secs(30);
+
+/// One connection.
+pub struct Line {
+    stream: TcpStream,
+}
+
+/// A request: its xid, its type, and what follows.
+pub struct Request {
+    pub xid: i32,
+    pub kind: i32,
+}
+
+impl Line {
+    /// The next frame without its length, and none where the client has ended the connection.
+    pub fn frame(&mut self) -> Option<Vec<u8>> {
+        let mut length = [0; 4];
+        self.stream.read_exact(&mut length).ok()?;
+        let mut frame = vec![0; u32::from_be_bytes(length) as usize];
+        self.stream.read_exact(&mut frame).ok()?;
+        Some(frame)
+    }
+
+    /// Sends bytes. Whether the client has not ended the connection.
+    pub fn send(&mut self, bytes: &[u8]) -> bool {
+        self.stream.write_all(bytes).is_ok()
+    }
+
+    /// Admits the session, with this timeout in milliseconds.
+    pub fn admit(&mut self, timeout: i32) -> bool {
+        self.frame().is_some() && self.send(&Record::accepted(timeout, 0x1234))
+    }
+
+    /// The next request.
+    pub fn request(&mut self) -> Option<Request> {
+        let frame = self.frame()?;
+        let int = |at: usize| i32::from_be_bytes(frame[at..at + 4].try_into().expect("four bytes"));
+        Some(Request {
+            xid: int(0),
+            kind: int(4),
+        })
+    }
+
+    /// Answers with a code.
+    pub fn refuse(&mut self, xid: i32, code: i32) -> bool {
+        self.send(&Record::reply(xid, 5, code).framed())
+    }
+
+    /// Answers with a Stat.
+    pub fn tell_stat(&mut self, xid: i32) -> bool {
+        self.send(&Record::reply(xid, 5, 0).stat(5, 0, 3, 0).framed())
+    }
+
+    /// Answers with the bytes `one`, and a Stat.
+    pub fn tell_data(&mut self, xid: i32) -> bool {
+        let reply = Record::reply(xid, 5, 0).buffer(b"one");
+        self.send(&reply.stat(5, 0, 3, 0).framed())
+    }
+}
+
+/// The server. Each connection is served before the next one.
+pub struct Partner {
+    pub address: SocketAddr,
+    dials: Receiver<Instant>,
+}
+
+impl Partner {
+    /// A server that serves the connections in turn, from number 0 on.
+    pub fn start(mut serve: impl FnMut(usize, Line) + Send + 'static) -> Partner {
+        let listener = TcpListener::bind("127.0.0.1:0").expect("a port is free");
+        let address = listener.local_addr().expect("it listens");
+        let (sender, dials) = channel();
+        thread::spawn(move || {
+            for (number, stream) in listener.incoming().map_while(Result::ok).enumerate() {
+                let _ = sender.send(Instant::now());
+                stream.set_nodelay(true).expect("it is open");
+                serve(number, Line { stream });
+            }
+        });
+        Partner { address, dials }
+    }
+
+    /// When the next attempt to connect comes.
+    pub fn dial(&self) -> Instant {
+        self.dials.recv_timeout(PATIENCE).expect("it is dialled")
+    }
+
+    /// How many attempts came that were not asked for yet.
+    pub fn dials(&self) -> usize {
+        self.dials.try_iter().count()
+    }
+}

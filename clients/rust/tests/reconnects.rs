@@ -1,0 +1,289 @@
+//! What a session does where servers go, refuse, and hold it: at a server that does what each test says.
+
+mod example;
+mod jute;
+mod partner;
+
+use dirwolleu::{Code, Error, Event, Mark, NoReply, Session, State, Watch};
+use jute::{EXISTS, GET_DATA, NOTICE, PING, PONG};
+use partner::{Line, Partner};
+use std::io::{BufRead, BufReader};
+use std::process::{Command, Stdio};
+use std::thread::{self, sleep};
+use std::time::{Duration, Instant};
+
+/// How much later than it could a program on a busy machine may act.
+const SLACK: Duration = Duration::from_millis(700);
+
+fn millis(count: u64) -> Duration {
+    Duration::from_millis(count)
+}
+
+fn session_at(partner: &Partner, timeout: Duration) -> Session {
+    Session::open([partner.address], timeout).unwrap()
+}
+
+/// Goes on for so long.
+fn go_on(session: &mut Session, time: Duration) {
+    let until = Instant::now() + time;
+    while session.next_event(Some(until)).unwrap().is_some() {}
+}
+
+/// Answers each ping and each read, until the client ends the connection.
+fn serve_well(mut line: Line) {
+    while let Some(request) = line.request() {
+        match request.kind {
+            PING => line.refuse(PONG, 0),
+            EXISTS => line.tell_stat(request.xid),
+            _ => line.tell_data(request.xid),
+        };
+    }
+}
+
+/// Sends these bytes again and again, from a thread, until the client ends the connection.
+fn dribble(mut line: Line, bytes: Vec<u8>) {
+    thread::spawn(move || {
+        while line.send(&bytes) {
+            sleep(millis(50));
+        }
+    });
+}
+
+#[test]
+fn a_session_that_may_live_is_not_left_alone_for_long() {
+    let partner = Partner::start(|number, mut line| {
+        if number == 0 && line.admit(6_000) {
+            let request = line.request().unwrap();
+            line.tell_stat(request.xid);
+        }
+    });
+    let mut session = session_at(&partner, millis(6_000));
+    session.exists("/", Watch::No).unwrap();
+    go_on(&mut session, millis(5_000));
+    let dials: Vec<Instant> = (0..7).map(|_| partner.dial()).collect();
+    for pair in dials[1..].windows(2) {
+        let pause = pair[1] - pair[0];
+        assert!(pause < millis(600) + SLACK, "{pause:?}");
+    }
+}
+
+#[test]
+fn a_server_that_admits_and_closes_is_dialled_three_times_a_second_at_most() {
+    let partner = Partner::start(|_, mut line| {
+        line.admit(10_000);
+    });
+    let mut session = session_at(&partner, millis(10_000));
+    go_on(&mut session, millis(4_000));
+    let dials = partner.dials();
+    assert!((2..=10).contains(&dials), "{dials} attempts in 4 seconds"); // a row of failures, with pauses up to a second
+}
+
+#[test]
+fn an_answer_is_no_reason_to_dial_at_once() {
+    let partner = Partner::start(|_, mut line| {
+        if line.admit(10_000) {
+            let request = line.request();
+            request.map(|request| line.tell_stat(request.xid));
+        }
+    });
+    let mut session = session_at(&partner, millis(10_000));
+    let until = Instant::now() + millis(3_000);
+    while Instant::now() < until {
+        let _ = session.exists("/", Watch::No);
+    }
+    let dials = partner.dials();
+    assert!((4..=10).contains(&dials), "{dials} attempts in 3 seconds");
+}
+
+#[test]
+fn a_timeout_of_a_millisecond_does_not_lock_the_client_out() {
+    let partner = Partner::start(|number, mut line| match number {
+        0 => drop(line.admit(1)),
+        _ => {
+            line.frame();
+            sleep(millis(200));
+            line.send(&jute::Record::accepted(10_000, 0x1234));
+            serve_well(line);
+        }
+    });
+    let mut session = session_at(&partner, millis(10_000));
+    let until = Instant::now() + millis(10_000);
+    while session.exists("/", Watch::No).is_err() {
+        assert!(Instant::now() < until, "the client is locked out");
+    }
+}
+
+#[test]
+fn a_program_that_was_stopped_keeps_a_server_that_has_sent_something() {
+    let partner = Partner::start(|_, mut line| {
+        line.admit(3_000);
+        let request = line.request().unwrap();
+        line.tell_data(request.xid);
+        sleep(millis(500));
+        line.send(&jute::Record::notice(3, "/a"));
+        serve_well(line);
+    });
+    let mut session = session_at(&partner, millis(3_000));
+    session.watch("/a").unwrap();
+    sleep(millis(2_300));
+    assert!(session.exists("/", Watch::No).unwrap().is_some());
+    let mark = session.client().data_mark("/a");
+    assert_eq!(mark, Ok(Some(Mark::Stale)));
+    assert_eq!(partner.dials(), 1, "the connection goes on");
+}
+
+#[test]
+fn events_that_nobody_takes_are_bounded() {
+    const CHANGES: u64 = 1_500;
+    let partner = Partner::start(|_, mut line| {
+        line.admit(10_000);
+        while let Some(request) = line.request() {
+            line.tell_data(request.xid);
+            line.send(&jute::Record::notice(3, "/a"));
+        }
+    });
+    let mut session = session_at(&partner, millis(10_000));
+    for _ in 0..CHANGES {
+        session.get("/a", Watch::Yes).unwrap();
+    }
+    session.exists("/", Watch::No).unwrap();
+    let missed = session.next_event(None).unwrap();
+    let most = 1_024;
+    assert_eq!(missed, Some(Event::Missed(CHANGES + 2 - most))); // Connecting and Connected are events too
+    let rest = (0..most).map(|_| session.next_event(None).unwrap());
+    assert!(rest
+        .into_iter()
+        .all(|event| matches!(event, Some(Event::Report { .. }))));
+    assert_eq!(session.next_event(Some(Instant::now())), Ok(None));
+}
+
+#[test]
+fn the_example_goes_on_where_a_read_is_refused() {
+    let mut codes = vec![-127, -118, -112, -4];
+    let partner = Partner::start(move |_, mut line| {
+        line.admit(10_000);
+        while let Some(request) = line.request() {
+            match (request.kind, codes.pop()) {
+                (GET_DATA, Some(code)) => line.refuse(request.xid, code),
+                (GET_DATA, None) => line.tell_data(request.xid),
+                _ => line.refuse(request.xid, 0),
+            };
+        }
+    });
+    let begun = Instant::now();
+    let mut command = Command::new(example::follow());
+    command.arg(partner.address.to_string()).arg("/config");
+    let mut child = command.stdout(Stdio::piped()).spawn().unwrap();
+    let mut line = String::new();
+    let mut output = BufReader::new(child.stdout.take().unwrap());
+    output.read_line(&mut line).unwrap();
+    child.kill().unwrap();
+    child.wait().unwrap();
+    assert_eq!(line, "/config version 0: one\n");
+    let took = begun.elapsed();
+    assert!(took >= millis(4_000), "four reads are refused: {took:?}");
+}
+
+#[test]
+fn data_that_are_denied_of_a_node_are_read_again_after_a_second() {
+    let mut denials = 2;
+    let partner = Partner::start(move |_, mut line| {
+        line.admit(10_000);
+        while let Some(request) = line.request() {
+            match request.kind {
+                GET_DATA if denials > 0 => {
+                    denials -= 1;
+                    line.refuse(request.xid, Code::NO_NODE.0)
+                }
+                GET_DATA => line.tell_data(request.xid),
+                _ => line.tell_stat(request.xid),
+            };
+        }
+    });
+    let mut session = session_at(&partner, millis(10_000));
+    let begun = Instant::now();
+    assert!(session.watch("/a").unwrap().is_some());
+    let took = begun.elapsed();
+    assert!(took >= millis(2_000), "two reads are denied: {took:?}");
+}
+
+#[test]
+fn a_path_that_is_refused_holds_no_other_one() {
+    let partner = Partner::start(|_, mut line| {
+        line.admit(10_000);
+        while let Some(request) = line.request() {
+            line.refuse(request.xid, Code::NO_AUTH.0);
+        }
+    });
+    let mut session = session_at(&partner, millis(10_000));
+    let refused = Err(Error::Server(Code::NO_AUTH));
+    assert_eq!(session.watch("/a"), refused);
+    let begun = Instant::now();
+    assert_eq!(session.watch("/b"), refused);
+    assert!(begun.elapsed() < millis(900));
+    assert_eq!(session.watch("/a"), refused);
+    assert!(begun.elapsed() + SLACK >= millis(1_000));
+}
+
+#[test]
+fn a_server_that_dribbles_is_left_while_it_connects() {
+    let partner = Partner::start(|number, mut line| {
+        if number == 0 {
+            line.send(&[0, 32, 0, 0]); // a frame of two million bytes
+            dribble(line, vec![0]);
+        }
+    });
+    let mut session = session_at(&partner, millis(1_500));
+    go_on(&mut session, millis(1_500) + SLACK);
+    let first = partner.dial();
+    let took = partner.dial() - first;
+    assert!(
+        took >= millis(1_000) && took < millis(1_500) + SLACK,
+        "{took:?}"
+    );
+}
+
+#[test]
+fn a_call_that_is_not_answered_is_lost_whatever_else_comes() {
+    let partner = Partner::start(|_, mut line| {
+        line.admit(1_500);
+        line.request();
+        dribble(line, jute::Record::notice(3, "/a"));
+    });
+    let mut session = session_at(&partner, millis(1_500));
+    let begun = Instant::now();
+    let lost = session.exists("/", Watch::No);
+    let took = begun.elapsed();
+    assert_eq!(lost, Err(Error::NoReply(NoReply::ConnectionLoss)));
+    assert!(
+        took >= millis(990) && took < millis(1_000) + SLACK,
+        "{took:?}"
+    );
+}
+
+#[test]
+fn a_ping_that_is_not_answered_ends_the_connection() {
+    let partner = Partner::start(|number, mut line| {
+        if number == 0 {
+            line.admit(1_500);
+            line.request();
+            dribble(
+                line,
+                jute::Record::reply(NOTICE, -1, 0)
+                    .int(3)
+                    .int(3)
+                    .text("/a")
+                    .framed(),
+            );
+        }
+    });
+    let mut session = session_at(&partner, millis(1_500));
+    let begun = Instant::now();
+    while session.next_event(None).unwrap() != Some(Event::State(State::Connected)) {}
+    while session.next_event(None).unwrap() != Some(Event::State(State::Idle)) {}
+    let took = begun.elapsed();
+    assert!(
+        took >= millis(1_490) && took < millis(1_500) + SLACK,
+        "{took:?}"
+    );
+}
