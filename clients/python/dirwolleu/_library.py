@@ -79,6 +79,7 @@ _STEP, _PATH_STEP = (_HANDLE, c_uint64), (_HANDLE, c_uint64, c_uint64, *_BYTES)
 _FUNCTIONS: dict[str, tuple[Any, tuple[Any, ...]]] = {
     "dw_open": (c_int32, (_HANDLE, c_int32)),
     "dw_resume": (c_int32, (_HANDLE, c_int32, *_BYTES)),
+    "dw_renew": (c_int32, (_HANDLE, c_int32)),
     "dw_close": (None, (_HANDLE,)),
     "dw_opened": (c_int32, _STEP),
     "dw_cut": (c_int32, _STEP),
@@ -285,6 +286,10 @@ class Machine:
 
     def __del__(self) -> None:
         self.close()
+
+    def renew(self, timeout_ms: int) -> None:
+        """Begins a new session, which takes no server that is behind what the old one has seen. Nothing else is kept."""
+        _checked(_library.dw_renew(self._handle, timeout_ms))
 
     # Steps.
 
