@@ -107,12 +107,6 @@ class Contact:
     """The last moment at which a server that had accepted the session was heard, or at which dialling began."""
 
 
-def _renewed(machine: Machine, timeout_ms: int) -> Machine:
-    """A machine of no session yet for the place of another one: it takes no server that is behind what that has seen.
-    """
-    return Machine(timeout_ms, struct.pack(">qi16xq", 0, 16, machine.last_zxid()))
-
-
 class Engine:
     """A machine with its callers.
 
@@ -429,20 +423,17 @@ class Engine:
             self._enter(State.SUSPENDED)
 
     def _begin_anew(self, error: ZookeeperError) -> None:
-        """Has a machine of no session yet, and leaves all callers of the session."""
+        """Has the machine begin a new session, and leaves all callers of the old one."""
         if self._saved_at_close is None:
-            self._replace(_renewed(self._machine, self._timeout_ms))
+            self._machine.renew(self._timeout_ms)
         self._forget_callers(error, State.LOST)
 
     def _resume(self, why: str) -> None:
         """Has a machine of the same session, which keeps nothing, where the old one is of no use any more."""
-        self._replace(Machine(self._timeout_ms, self._machine.saved()))
+        old, self._machine = self._machine, Machine(self._timeout_ms, self._machine.saved())
+        old.close()
         self._is_over = True
         self._forget_callers(ConnectionLoss(why), State.SUSPENDED)
-
-    def _replace(self, machine: Machine) -> None:
-        old, self._machine = self._machine, machine
-        old.close()
 
     def _forget_callers(self, error: ZookeeperError, state: State) -> None:
         """Fails all that waits for an answer, ends all watches, and enters a state."""

@@ -302,6 +302,10 @@ class Machine:
     def __del__(self) -> None:
         self.close()
 
+    def renew(self, timeout_ms: int) -> None:
+        """Begins a new session, which takes no server that is behind what the old one has seen. Nothing else is kept."""
+        _checked(_library.dw_renew(self._handle, timeout_ms))
+
     # Steps.
 
     def opened(self, now: int) -> list[Output]:
