@@ -595,17 +595,6 @@ static void keep_time(struct follower *f)
     }
 }
 
-/* Begins a new session with the client: it knows nothing but the last zxid, so that it meets no server that is behind that. */
-static int32_t renew_client(dw_client *client)
-{
-    uint8_t none[36] = {[11] = 16}; /* no session: the number 0, a password of 16 bytes of 0, and the zxid */
-    uint64_t zxid = (uint64_t)dw_last_zxid(client);
-    for (size_t i = 0; i < 8; i++) {
-        none[28 + i] = (uint8_t)(zxid >> (56 - 8 * i));
-    }
-    return dw_resume(client, TIMEOUT_MS, none, sizeof none);
-}
-
 /* Goes on where this connection, or this session, is of no use any more. */
 static void renew(struct follower *f)
 {
@@ -616,7 +605,7 @@ static void renew(struct follower *f)
     if (dw_state(&f->client) != DW_EXPIRED) {
         return;
     }
-    int32_t code = renew_client(&f->client);
+    int32_t code = dw_renew(&f->client, TIMEOUT_MS); /* it keeps the last zxid, so it meets no server that is behind that */
     f->is_asked = f->is_missing = false;
     if (code != DW_OK) {
         fail(f, f->path, words_of(code));

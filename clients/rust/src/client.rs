@@ -139,8 +139,7 @@ impl Client {
     /// the greatest zxid seen stays, so that no server which is behind it admits the session. Close the connection of the old session
     /// before. It fails as [`open`](Client::open), and is then as it was.
     pub fn renew(&mut self, timeout: Duration) -> Result<(), Fault> {
-        *self = Client::resume(timeout, &SavedSession::none_from(self.last_zxid()))?;
-        Ok(())
+        self.handle.renew(timeout_ms(timeout)?)
     }
 }
 

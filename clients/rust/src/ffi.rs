@@ -163,6 +163,11 @@ impl Handle {
         Ok(handle)
     }
 
+    pub(crate) fn renew(&mut self, timeout_ms: i32) -> Result<(), Fault> {
+        // SAFETY: as `Handle` says.
+        done(unsafe { dw_renew(self.raw.get_mut(), timeout_ms) })
+    }
+
     pub(crate) fn opened(&mut self, now: Moment) -> Result<(), Fault> {
         // SAFETY: as `Handle` says.
         done(unsafe { dw_opened(self.raw.get_mut(), now.as_millis()) })
