@@ -8,7 +8,7 @@ what refused it. There are three lists, in the folder wrong_definitions:
   narrower   premises on servers that are harder to meet than they should be. A law that has such a premise is still true: it is refused by
              what the laws say of servers by themselves, by the schedules that meet the premise, and by the laws of zk_receptive
   weaker     promises that say less. Each law is still proved: they are refused by scripts/statements and scripts/definitions, which compare
-             the code with docs/STATEMENTS.md and docs/DEFINITIONS.md
+             the code with STATEMENTS.md and docs/DEFINITIONS.md
 
 An edit is four lines: what it turns, the file below crates/, the old text and the new one, where \\n stands for the end of a line. Each
 definition of sections 12 to 15 of docs/DEFINITIONS.md is to have an edit that is narrower or weaker, or a reason in EXCEPTIONS: --check says
