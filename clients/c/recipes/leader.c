@@ -1,4 +1,4 @@
-/* An election, as docs/COOKBOOK.md has it in Python and Rust. */
+/* An election, as docs/COOKBOOK.md has it in Python. */
 #define _POSIX_C_SOURCE 200809L
 #include "session.h"
 

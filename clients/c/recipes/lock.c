@@ -1,4 +1,4 @@
-/* A lock with a token, as docs/COOKBOOK.md has it in Python and Rust. */
+/* A lock with a token, as docs/COOKBOOK.md has it in Python. */
 #define _POSIX_C_SOURCE 200809L
 #include "session.h"
 

@@ -1,4 +1,4 @@
-/* Several nodes, and the names below another, of one moment, as docs/COOKBOOK.md has it in Python and Rust. */
+/* Several nodes, and the names below another, of one moment, as docs/COOKBOOK.md has it in Python. */
 #define _POSIX_C_SOURCE 200809L
 #include "session.h"
 
