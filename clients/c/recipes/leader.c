@@ -1,0 +1,33 @@
+/* An election, as docs/COOKBOOK.md has it in Python. */
+#define _POSIX_C_SOURCE 200809L
+#include "session.h"
+
+int main(void)
+{
+    static struct session s;
+    char text[256];
+    dw_kept_data kept;
+    session_open(&s, "127.0.0.1:2181");
+    for (;;) {
+        if (session_is_over(&s)) {
+            session_renew(&s);
+        }
+        if (!session_good_data(&s, "/leader", &kept, text, sizeof text)) {
+            if (session_get(&s, "/leader", true) == DW_NO_NODE) {
+                session_exists(&s, "/leader", true);
+            }
+            continue;
+        }
+        if (kept.kind == DW_ABSENT) {
+            session_create(&s, "/leader", "host-1", DW_EPHEMERAL); /* what became of it, the watch tells */
+            continue;
+        }
+        if (kept.stat.ephemeral_owner == session_id(&s)) {
+            printf("leads at zxid %" PRId64 " with token %" PRId64 "\n", dw_last_zxid(&s.client), kept.stat.czxid);
+        } else {
+            printf("follows %s\n", text);
+        }
+        fflush(stdout);
+        session_wait(&s);
+    }
+}

@@ -1,0 +1,45 @@
+//! An election: `docs/COOKBOOK.md` has it in Python.
+
+use dirwolleu::{Code, DataAnswer, Error, Mark, Mode, NoReply, Session};
+use std::{net::ToSocketAddrs, time::Duration};
+
+/// Goes on by one call, or until something is told.
+fn go_on(session: &mut Session) -> Result<(), Error> {
+    let saved = session.client().saved()?;
+    let owner = i64::from_be_bytes(saved.as_bytes()[..8].try_into().expect("eight bytes"));
+    let kept = session
+        .peek("/leader")?
+        .filter(|kept| kept.mark == Mark::Good);
+    match kept.map(|kept| kept.answer) {
+        Some(DataAnswer::Absent) => drop(session.create("/leader", b"host-1", Mode::Ephemeral)?),
+        Some(DataAnswer::Full { data, stat }) => {
+            if stat.ephemeral_owner == owner {
+                println!(
+                    "leads at zxid {} with token {}",
+                    session.client().last_zxid(),
+                    stat.czxid
+                );
+            } else {
+                println!(
+                    "follows {}",
+                    String::from_utf8_lossy(&data.unwrap_or_default())
+                );
+            }
+            session.next_event(None)?;
+        }
+        Some(DataAnswer::Known(_)) | None => drop(session.watch("/leader")?),
+    }
+    Ok(())
+}
+
+fn main() -> Result<(), Box<dyn std::error::Error>> {
+    let mut session = Session::open("127.0.0.1:2181".to_socket_addrs()?, Duration::from_secs(10))?;
+    loop {
+        match go_on(&mut session) {
+            Ok(()) | Err(Error::Server(Code::NODE_EXISTS)) => {}
+            Err(Error::NoReply(NoReply::SessionExpired)) => session.renew()?,
+            Err(fault) if fault.is_passing() => {}
+            Err(fault) => return Err(fault.into()),
+        }
+    }
+}
