@@ -1,4 +1,4 @@
-use Rattle.std.proofs.Common.{of_z, to_z, w32, tt}
+use Rattle.std.proofs.Common.{of_z, to_z, w32}
 use Rattle.std.specs.Prelude.{Result, Ok, Err, OnOk}
 use Rattle.zk_watch.proofs.watcher.Watcher.renew.Goals as goal
 
