@@ -102,15 +102,17 @@ class FindTest(unittest.TestCase):
         with mock.patch.dict(os.environ, {"DIRWOLLEU_LIBRARY": "/a/library.so"}):
             self.assertEqual(library._find(), "/a/library.so")
 
-    def test_a_checkout_comes_before_the_system(self) -> None:
+    def test_the_places_are_looked_at_in_order(self) -> None:
+        own = str(support.CLIENTS / "python" / "dirwolleu" / "libdirwolleu.so")
         built = str(support.CLIENTS / "out" / "libdirwolleu.so")
+        prebuilt = str(support.CLIENTS.parent / "prebuilt" / "x86_64-linux" / "libdirwolleu.so")
         with mock.patch.dict(os.environ, {"DIRWOLLEU_LIBRARY": ""}), mock.patch("ctypes.util.find_library") as find:
-            with mock.patch("pathlib.Path.exists", return_value=True):
-                self.assertEqual(library._find(), built)
             find.return_value = "libdirwolleu.so.0"
+            for missing, wanted in [((), own), ((own,), built), ((own, built), prebuilt), ((own, built, prebuilt), find.return_value)]:
+                with mock.patch("pathlib.Path.exists", lambda place, missing=missing: str(place) not in missing):
+                    self.assertEqual(library._find(), wanted)
+            find.return_value = None
             with mock.patch("pathlib.Path.exists", return_value=False):
-                self.assertEqual(library._find(), "libdirwolleu.so.0")
-                find.return_value = None
                 self.assertRaises(ImportError, library._find)
 
 
