@@ -200,7 +200,7 @@ static void hang_up(struct follower *f)
     f->sent = f->came = (struct frames){.held = 0};
 }
 
-/* How many pings, or answers to pings, end in these bytes, with which a stream of frames goes on. */
+/* How many pings, or answers to pings, end in these bytes, which come next in a stream of frames. */
 static size_t count_pings(struct frames *frames, const uint8_t *bytes, size_t length)
 {
     static const uint8_t ping[] = {0xff, 0xff, 0xff, 0xfe};

@@ -370,7 +370,7 @@ class Connection(asyncio.Protocol):
         self._reply(NOTICE_XID, OK, struct.pack(">ii", event, SYNC_CONNECTED) + put_text(path), zxid=-1)
 
     def _close(self) -> None:
-        """Ends the connection behind what was sent."""
+        """Ends the connection after what was sent."""
         self._forget()
         self.transport.close()
 
@@ -505,7 +505,7 @@ class Connection(asyncio.Protocol):
 
 
 def nonsense(source: random.Random, request: bytes) -> bytes:
-    """Random bytes: bare, in a frame, or in a frame behind the right xid."""
+    """Random bytes: bare, in a frame, or in a frame after the right xid."""
     noise = source.randbytes(source.randrange(1, 200))
     kind = source.randrange(3)
     payload = noise if kind < 2 else request[:4] + struct.pack(">qi", source.getrandbits(40), 0) + noise
@@ -513,7 +513,7 @@ def nonsense(source: random.Random, request: bytes) -> bytes:
 
 
 def read_lines(loop: asyncio.AbstractEventLoop, lines: asyncio.Queue[Optional[str]]) -> None:
-    """Hands the lines of standard input to the loop, and at its end or behind `quit` None."""
+    """Hands the lines of standard input to the loop, and None at its end or after `quit`."""
     for line in sys.stdin:
         loop.call_soon_threadsafe(lines.put_nowait, line)
         if line.strip() == "quit":

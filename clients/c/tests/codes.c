@@ -197,7 +197,7 @@ static void expect_answers_without_reply(dw_client *client)
     }
 }
 
-/* K2 behind an expiry, K3 behind a close. */
+/* K2 after an expiry, K3 after a close. */
 static void expect_ended(dw_client *client)
 {
     struct bytes came = {.length = 0};

@@ -1,4 +1,4 @@
-/* Whatever a server sends behind a right connect response, each call returns, all outputs can be read, each call is answered once, and
+/* Whatever a server sends after a right connect response, each call returns, all outputs can be read, each call is answered once, and
  * what is told is what the header has. Each seed plays a session of its own: frames that are right, out of step, changed, or random,
  * cut anyhow, between moments, cuts and calls.
  *
@@ -35,7 +35,7 @@ static uint64_t draw(struct session *s, uint64_t bound)
     return (s->random * UINT64_C(2685821657736338717) >> 11) % bound;
 }
 
-/* Reads the text from some place into little room, behind which nothing is written. */
+/* Reads the text from some place into little room, past which nothing is written. */
 static void read_text(struct session *s, size_t length)
 {
     uint8_t room[ROOM + 1];
@@ -45,7 +45,7 @@ static void read_text(struct session *s, size_t length)
     EXPECT_NUMBER(GUARD, room[ROOM]);
 }
 
-/* A frame has its own length in its first four bytes; a request of a call its xid, above 0, and its type behind them. */
+/* A frame has its own length in its first four bytes; a request of a call its xid, above 0, and its type after them. */
 static void take_frame(struct session *s, const dw_output *output)
 {
     uint8_t head[12];
@@ -163,7 +163,7 @@ static void add_other(struct session *s, struct bytes *bytes)
     }
 }
 
-/* A frame: mostly a right one, else one that is out of step, or changed in some bytes, or random bytes behind a length that fits, or
+/* A frame: mostly a right one, else one that is out of step, or changed in some bytes, or random bytes after a length that fits, or
  * random bytes alone. */
 static void make_bytes(struct session *s, struct bytes *bytes)
 {

@@ -126,7 +126,7 @@ static void play_first(dw_client *client, struct lines *lines, const struct cutt
     add_outputs(lines, client);
 }
 
-/* The second one: a watch is set anew and fires, and the session is closed. */
+/* The second one: a watch is set again and fires, and the session is closed. */
 static void play_second(dw_client *client, struct lines *lines, const struct cutting *cutting)
 {
     static struct bytes stream;

@@ -1,5 +1,5 @@
 /* Each request for memory of a short session is refused in turn. The codes are those of the header: where a call was refused, the same
- * call succeeds behind it, and all goes on as if nothing had happened; where a step halted, nothing is kept, and the saved session is
+ * call succeeds after it, and all goes on as if nothing had happened; where a step halted, nothing is kept, and the saved session is
  * taken up by another handle. No block is lost. */
 #include "dirwolleu.h"
 #include "expect.h"
@@ -165,7 +165,7 @@ static int32_t closed(struct play *play)
     return hand_in(&play->client, &replies);
 }
 
-/* A move: a step may halt, and one that refuses may answer DW_NO_MEMORY, by the header. The outputs of a step are read behind it,
+/* A move: a step may halt, and one that refuses may answer DW_NO_MEMORY, by the header. The outputs of a step are read after it,
  * unless a move that follows reads them. */
 enum { STEP = 1, REFUSES = 2, UNREAD = 4 };
 struct move {
@@ -212,7 +212,7 @@ static void expect_taken_up(struct play *play)
     EXPECT_NUMBER(DW_OK, dw_next(&play->second, &output));
     EXPECT_NUMBER(DW_SEND, output.kind);
     EXPECT_NUMBER(49, dw_copy(&play->second, 0, frame, sizeof frame));
-    /* saved: session, password, zxid; ConnectRequest behind its length: version, zxid, timeout, session, password */
+    /* saved: session, password, zxid; ConnectRequest after its length: version, zxid, timeout, session, password */
     EXPECT(memcmp(frame + 20, play->saved, 28) == 0);
     EXPECT(memcmp(frame + 8, play->saved + 28, 8) == 0);
 }

@@ -32,7 +32,7 @@ def moment() -> int:
 def addresses(hosts: str) -> list[Address]:
     """The addresses of a text like `host:port,host:port`.
 
-    A port that is left out is 2181. An IPv6 address stands in brackets.
+    A port that is left out is 2181. An IPv6 address is written in brackets.
     """
     return [_address(host.strip()) for host in hosts.split(",")]
 
@@ -115,7 +115,7 @@ class Driver:
             await self._ended
 
     def stop(self, end: Callable[[], None]) -> None:
-        """Does what ends the engine, ends the connection, and dials no more."""
+        """Does what ends the engine, ends the connection, and stops dialling."""
         self._is_stopped = True
         end()
         if self._link is not None:

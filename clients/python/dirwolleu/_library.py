@@ -236,7 +236,7 @@ def _checked(code: int) -> None:
 
 
 def _texts_in(spelled: bytes) -> Iterator[str]:
-    """The texts that stand behind each other, each behind its length in four bytes."""
+    """The texts that follow one another, each after its length in four bytes."""
     end = 0
     while end < len(spelled):
         begin = end + 4

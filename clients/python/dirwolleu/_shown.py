@@ -53,7 +53,7 @@ class Shown:
         self._engine.add_listener(listener)
 
     def remove_listener(self, listener: Listener) -> None:
-        """Calls the listener no more. Raises `ValueError` where it was not added."""
+        """Stops calling the listener. Raises `ValueError` where it was not added."""
         self._engine.remove_listener(listener)
 
     def kept(self, path: str) -> Optional[Kept]:

@@ -1,4 +1,4 @@
-"""Tests of the engine for what the partner does not do: want of memory, and answers that end a session."""
+"""Tests of the engine for what the partner does not do: memory that runs out, and answers that end a session."""
 
 from __future__ import annotations
 

@@ -30,7 +30,7 @@ pub(crate) fn whole_text(bytes: Vec<u8>) -> String {
     String::from_utf8(bytes).expect("the library gives UTF-8")
 }
 
-/// So many texts, which stand behind each other, each behind its length in four bytes.
+/// So many texts, which follow one another, each after its length in four bytes.
 fn texts_in(count: usize, mut spelled: &[u8]) -> Vec<String> {
     let mut texts = Vec::with_capacity(count);
     while let [a, b, c, d, rest @ ..] = spelled {
@@ -67,7 +67,7 @@ impl State {
         }
     }
 
-    /// Whether there is no other state behind it.
+    /// Whether no other state comes after it.
     pub fn is_final(self) -> bool {
         matches!(self, State::Expired | State::Closed)
     }
@@ -106,7 +106,7 @@ impl State {
 ///     }
 /// }
 /// assert_eq!(client.state(), State::Connecting);
-/// assert_eq!(to_server.len(), 4 + 45); // a ConnectRequest behind its length
+/// assert_eq!(to_server.len(), 4 + 45); // a ConnectRequest after its length
 /// assert_eq!(client.deadline(), Some(Moment::from_millis(7_000))); // two thirds of the timeout
 /// # Ok(())
 /// # }

@@ -1,5 +1,5 @@
 //! The C interface, `include/dirwolleu.h`, and a [`Handle`] that keeps what the header asks of its callers. All `unsafe` code of this
-//! crate stands here.
+//! crate is here.
 #![deny(clippy::undocumented_unsafe_blocks)]
 
 use crate::fault::{done, Fault};
@@ -115,7 +115,7 @@ pub(crate) struct Call<'a> {
 /// - pointers come from references and slices, so none is null, lengths are those of the slices, and what a call writes is borrowed
 ///   mutably, so it overlaps with nothing.
 ///
-/// The layouts above are those of the header that stands beside the library.
+/// The layouts above are those of the header that comes with the library.
 pub(crate) struct Handle {
     raw: UnsafeCell<Raw>,
 }
@@ -342,7 +342,7 @@ impl Handle {
         Ok(kept)
     }
 
-    /// Copies the names that are kept of a path, each behind its length in four bytes, and tells how many bytes there are.
+    /// Copies the names that are kept of a path, each after its length in four bytes, and tells how many bytes there are.
     pub(crate) fn peek_names(&self, path: &str, room: &mut [u8]) -> Result<usize, Fault> {
         let mut count = 0;
         let (path, path_length) = (path.as_ptr(), path.len());

@@ -1,6 +1,6 @@
 //! A client of [Apache ZooKeeper](https://zookeeper.apache.org) over a core that is proved: each answer that it keeps and marks
 //! [`Good`](Mark::Good) is what the servers' history has at the greatest zxid seen, each watch is reported once at most, a reply goes to
-//! the call that has waited longest, and once a session has expired or is closed nothing is kept. What this rests on stands in the
+//! the call that has waited longest, and once a session has expired or is closed nothing is kept. What this rests on is in the
 //! header of the core, `include/dirwolleu.h`.
 //!
 //! There are two ways to use it:

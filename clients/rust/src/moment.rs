@@ -14,17 +14,17 @@ fn millis(duration: Duration) -> u64 {
 }
 
 impl Moment {
-    /// So many milliseconds behind the clock's beginning.
+    /// So many milliseconds after the clock's beginning.
     pub const fn from_millis(millis: u64) -> Moment {
         Moment(millis)
     }
 
-    /// How many milliseconds it is behind the clock's beginning.
+    /// How many milliseconds it is after the clock's beginning.
     pub const fn as_millis(self) -> u64 {
         self.0
     }
 
-    /// The moment that is so much later, in whole milliseconds, and the last one there is where it would be behind that.
+    /// The moment that is so much later, in whole milliseconds, and the last one there is where it would be after that.
     #[must_use]
     pub fn saturating_add(self, duration: Duration) -> Moment {
         Moment(self.0.saturating_add(millis(duration)))
@@ -35,7 +35,7 @@ impl Moment {
         Moment(self.0.saturating_sub(1))
     }
 
-    /// How long it is behind another moment: nothing where it is not behind it.
+    /// How long it is after another moment: zero where it is not after it.
     pub const fn saturating_duration_since(self, earlier: Moment) -> Duration {
         Duration::from_millis(self.0.saturating_sub(earlier.0))
     }

@@ -198,7 +198,7 @@ impl Bytes<'_> {
         self.handle.copy(from, room).min(room.len())
     }
 
-    /// Copies them behind what a vector has.
+    /// Copies them to the end of a vector.
     pub fn append_to(&self, bytes: &mut Vec<u8>) {
         let from = bytes.len();
         bytes.resize(from + self.length, 0);

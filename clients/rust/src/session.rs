@@ -42,7 +42,7 @@ const NEVER: Moment = Moment::from_millis(u64::MAX);
 /// go on over reconnects. The first attempt is made at once, and may take a third of the timeout, and a second at least. The pause after
 /// one that has failed, and after a connection, is by chance between a half of this and the whole: 100 milliseconds, and twice as long
 /// each time, up to a second and to a tenth of the timeout; after an expiry, and once no server was heard for longer than the timeout, up
-/// to 10 seconds. It begins anew after an answered call, after an expiry that a server told, and after a connection that has lasted for
+/// to 10 seconds. It begins again after an answered call, after an expiry that a server told, and after a connection that has lasted for
 /// a third of the timeout. A third of a second lies between two attempts at least, so a session of less than some three seconds does not
 /// outlive a lost connection for sure.
 ///
@@ -145,7 +145,7 @@ impl Session {
     }
 
     /// Goes on with a new client, which keeps and watches nothing: of a new session where this one has expired or is closed, at servers
-    /// that are not behind what was seen, and else of the same session, as behind [`Fault::Halted`]. It fails as [`Client::resume`].
+    /// that are not behind what was seen, and else of the same session, as after [`Fault::Halted`]. It fails as [`Client::resume`].
     pub fn renew(&mut self) -> Result<(), Fault> {
         if self.client.state().is_final() {
             self.client.renew(self.asked_timeout)?;

@@ -98,7 +98,7 @@ fn answer_of(outcome: Result<Reply<'_>, NoReply>) -> Result<Found, Error> {
     Ok(Found::of(&brought))
 }
 
-/// The event of a connection that is given up. Where there is no memory for the words, its code stands for them.
+/// The event of a connection that is given up. Where there is no memory for the words, it has its code instead.
 fn dropped(given_up: &GivenUp<'_>) -> Event {
     let words = given_up.words();
     Event::Dropped {

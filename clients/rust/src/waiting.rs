@@ -19,7 +19,7 @@ struct Pings {
 }
 
 impl Pings {
-    /// How many end in these bytes, with which the stream goes on.
+    /// How many end in these bytes, which come next in the stream.
     fn count(&mut self, mut bytes: &[u8]) -> usize {
         let mut count = 0;
         while !bytes.is_empty() {
@@ -119,10 +119,10 @@ mod tests {
     use crate::moment::Moment;
     use std::time::Duration;
 
-    /// A ping as `zookeeper.jute` spells it, behind its length.
+    /// A ping as `zookeeper.jute` spells it, after its length.
     const PING: [u8; 12] = [0, 0, 0, 8, 255, 255, 255, 254, 0, 0, 0, 11];
 
-    /// A `ReplyHeader` of this xid, behind its length, with the zxid 1.
+    /// A `ReplyHeader` of this xid, after its length, with the zxid 1.
     fn header(xid: i32) -> Vec<u8> {
         let mut frame = vec![0, 0, 0, 16];
         frame.extend(xid.to_be_bytes());

@@ -12,7 +12,7 @@ fn file(path: &str) -> String {
     fs::read_to_string(&path).unwrap_or_else(|fault| panic!("{path}: {fault}"))
 }
 
-/// What stands between two marks, behind which the text goes on.
+/// The text between two marks, and the text after the second one.
 fn between<'a>(text: &'a str, begin: &str, end: &str) -> Option<(&'a str, &'a str)> {
     text.split_once(begin)?.1.split_once(end)
 }

@@ -17,7 +17,7 @@ pub const NOTICE: i32 = -1;
 pub const PONG: i32 = -2;
 pub const WATCHES_SET: i32 = -8;
 
-/// Fields of records, one behind the other.
+/// Fields of records, one after the other.
 #[derive(Default)]
 pub struct Record {
     bytes: Vec<u8>,
@@ -83,7 +83,7 @@ impl Record {
         header.int(event).int(3).text(path).framed()
     }
 
-    /// Its bytes behind their length.
+    /// Its bytes after their length.
     pub fn framed(self) -> Vec<u8> {
         let mut frame = (self.bytes.len() as i32).to_be_bytes().to_vec();
         frame.extend(self.bytes);
