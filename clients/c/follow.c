@@ -132,7 +132,7 @@ static const char *words_of(int32_t code)
     }
 }
 
-/* Makes room for so many bytes in all. */
+/* Makes room for this many bytes in all. */
 static bool reserve(struct buffer *buffer, size_t room)
 {
     if (room <= buffer->room) {
@@ -666,7 +666,7 @@ static void tick(struct follower *f)
 /* What is done in turn, over and over, until the program is to end. */
 static void (*const parts[])(struct follower *f) = {serve, tick, keep_time, renew, ask, show, transmit};
 
-/* Whether the text begins with a HOST:PORT of so many bytes. */
+/* Whether the text begins with a HOST:PORT of this length. */
 static bool is_server(const char *text, size_t length)
 {
     size_t last = length;

@@ -65,7 +65,7 @@ static void expect_closed_session(dw_client *none)
     expect_untouched(room, sizeof room);
 }
 
-/* The look-ups of a path answer this code and write nothing, but for the counts of bytes. */
+/* The look-ups of a path answer this code and write nothing except the counts of bytes. */
 static void expect_no_look_up(dw_client *client, int32_t code, const uint8_t *path, size_t length)
 {
     uint8_t room[ROOM];

@@ -127,7 +127,7 @@ class Server:
                 self._serve(len(self.dials) - 1, Line(accepted))
 
     def wait_for_dials(self, count):
-        """The moments of so many dials."""
+        """The moments of this many dials."""
         end = time.monotonic() + BOUND
         while len(self.dials) < count and time.monotonic() < end:
             time.sleep(0.05)

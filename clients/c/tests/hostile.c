@@ -1,6 +1,6 @@
 /* Whatever a server sends after a right connect response, each call returns, all outputs can be read, each call is answered once, and
  * what is told is what the header has. Each seed plays a session of its own: frames that are right, out of step, changed, or random,
- * cut anyhow, between moments, cuts and calls.
+ * cut anywhere, between moments, cuts and calls.
  *
  *   hostile [SEEDS] */
 #include "dirwolleu.h"
@@ -21,7 +21,7 @@ struct session {
     int32_t xid;                     /* of the last request */
     uint8_t types[MOST_TICKETS + 1]; /* of requests, by their xids */
     int64_t zxid;                    /* the greatest that a right reply told */
-    uint64_t tickets, answers;       /* so many calls were made, with the tickets from 1 on, and answered */
+    uint64_t tickets, answers;       /* how many calls were made, with the tickets from 1 on, and how many were answered */
     bool is_answered[MOST_TICKETS];
     bool is_dropped;                 /* within this step */
 };

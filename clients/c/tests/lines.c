@@ -163,7 +163,7 @@ static int32_t expect_kept_name(dw_client *client, const char *path, size_t inde
     return code;
 }
 
-/* Adds so many names that are kept of a path, each of which comes after its length and is that of its index. */
+/* Adds this many names that are kept of a path, each of which comes after its length and is that of its index. */
 static int32_t add_all_names(struct lines *lines, dw_client *client, const char *path, size_t names)
 {
     uint8_t spelled[ROOM];

@@ -7,7 +7,7 @@
 
 #include <string.h>
 
-/* How a stream is cut: its first piece has so many bytes, and each that follows so many. */
+/* How a stream is cut: how many bytes its first piece has, and how many each that follows has. */
 struct cutting {
     size_t first, rest;
 };

@@ -1,7 +1,8 @@
-"""A client of Apache ZooKeeper that knows which of its answers still hold.
+"""A client of Apache ZooKeeper that knows which of its answers are still good.
 
-`dirwolleu.Client` waits for its answers, and `dirwolleu.aio.Client` is for asyncio. Both stand on the proved machine of
-the Dirwolleu library, which keeps what was read with a watch, and tells whether it is good or stale.
+`dirwolleu.Client` waits for its answers, and `dirwolleu.aio.Client` is for asyncio. Both use the proved machine of the
+Dirwolleu library, which keeps what was read with a watch, and tells whether it is good or stale. Good: ZooKeeper held
+this at this zxid, and nothing that the client was told has ended it.
 """
 
 import logging

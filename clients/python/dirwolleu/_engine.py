@@ -42,7 +42,7 @@ _LONGEST_TIMEOUT_MS = 2_147_483_647
 
 
 class Waiter(Protocol):
-    """Who waits for an answer: a future. It is done also where it waits no longer."""
+    """What waits for an answer: a future. It is done also where it waits no longer."""
 
     def cancel(self) -> object: ...
     def done(self) -> bool: ...
@@ -80,7 +80,7 @@ class _Asked:
 
 
 class _Listening(NamedTuple):
-    """Who is woken at news of the data of a path, or of none but of the state, and the last good answer for it."""
+    """What is woken at news of the data of a path, or at news of the state alone, and the last good answer for it."""
 
     path: Optional[str]
     wake: Callable[[], None]
@@ -92,7 +92,7 @@ class Contact:
     """What was heard of servers, for whoever decides when to dial again. Moments are milliseconds."""
 
     answers: int = 0
-    """How many calls a server has answered, but for answers that end the connection."""
+    """How many calls a server has answered, without answers that end the connection."""
 
     expiries: int = 0
     """How many sessions have expired."""
@@ -351,7 +351,7 @@ class Engine:
         return self.state is not State.CONNECTED and asked.until <= now
 
     def _send_line(self, now: int) -> None:
-        """Sends what waits to be sent, as far as the machine takes it, but for what nobody waits for any more."""
+        """Sends what waits to be sent, as far as the machine takes it, except what nobody waits for any more."""
         while self._line and self.state is State.CONNECTED:
             asked = self._line.popleft()
             if not asked.waiter.done():

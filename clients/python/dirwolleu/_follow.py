@@ -31,7 +31,7 @@ class Need(enum.Enum):
 
 
 class Wait(NamedTuple):
-    """Wait for news, for so many seconds at most; None is no bound."""
+    """Wait for news, for at most this many seconds; None is no bound."""
 
     seconds: Optional[float]
 

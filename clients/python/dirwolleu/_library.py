@@ -251,7 +251,7 @@ class _Room:
         self.bytes = ctypes.create_string_buffer(4096)
 
     def widen(self, length: int) -> bool:
-        """Makes room for so many bytes. Answers whether there was too little."""
+        """Makes room for this many bytes. Answers whether there was too little."""
         is_short = length > len(self.bytes)
         if is_short:
             self.bytes = ctypes.create_string_buffer(length)

@@ -34,7 +34,7 @@ _ERRORS: dict[int, ZookeeperError] = {
 
 
 class Watcher(NamedTuple):
-    """Who is to be called when a watch fires."""
+    """What is called when a watch fires."""
 
     path: str
     side: int

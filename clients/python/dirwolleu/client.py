@@ -55,7 +55,7 @@ class _News:
 
 
 class _Waiter:
-    """Who waits for an answer, in one thread. What is said of `_News` holds here too."""
+    """One thread that waits for an answer. What is said of `_News` holds here too."""
 
     def __init__(self) -> None:
         self._news = _News()

@@ -54,10 +54,10 @@ calls nothing.
 
 
 class Mark(enum.IntEnum):
-    """Whether a kept answer still holds."""
+    """Whether anything that the client was told has ended a kept answer. It tells of a zxid, and not of a time."""
 
     GOOD = 1
-    """The answer is what the servers' history has at the last seen zxid."""
+    """ZooKeeper held this at the last seen zxid, and nothing that the client was told has ended it."""
 
     STALE = 2
     """A change was told since, and the path was not read again."""

@@ -42,7 +42,7 @@ class PausesTest(PartnerCase):
         return [pauses.after(contact, timeout, may_live) for _ in range(count)]
 
     def check(self, found: list[float], most: list[float]) -> None:
-        """Each is by chance between a half and the whole of these."""
+        """Each is at random between a half and the whole of these."""
         for pause, bound in zip(found, most):
             self.assertLessEqual(pause, bound)
             self.assertGreaterEqual(pause, bound / 2)

@@ -1,7 +1,7 @@
 """Tests of the blocking client under signals, forks and callbacks that do not end.
 
-`python3 test_interrupts.py --calls 100000` makes so many calls that may be interrupted; without it, as many are made as
-fit 20 seconds.
+`python3 test_interrupts.py --calls 100000` makes this many calls that may be interrupted; without it, as many are made as
+fit into 20 seconds.
 """
 
 from __future__ import annotations

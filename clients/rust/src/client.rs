@@ -30,7 +30,7 @@ pub(crate) fn whole_text(bytes: Vec<u8>) -> String {
     String::from_utf8(bytes).expect("the library gives UTF-8")
 }
 
-/// So many texts, which follow one another, each after its length in four bytes.
+/// This many texts, which follow one another, each after its length in four bytes.
 fn texts_in(count: usize, mut spelled: &[u8]) -> Vec<String> {
     let mut texts = Vec::with_capacity(count);
     while let [a, b, c, d, rest @ ..] = spelled {
@@ -163,7 +163,7 @@ impl Client {
         Ok(Outputs::of(self))
     }
 
-    /// Bytes came from the server, cut anyhow. Also [`Fault::NoMemory`]: the same bytes can be handed in again.
+    /// Bytes came from the server, in any pieces. Also [`Fault::NoMemory`]: the same bytes can be handed in again.
     pub fn bytes(&mut self, now: Moment, bytes: &[u8]) -> Result<Outputs<'_>, Fault> {
         self.handle.bytes(now, bytes)?;
         Ok(Outputs::of(self))

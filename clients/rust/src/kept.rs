@@ -3,10 +3,10 @@
 use crate::ffi;
 use crate::node::DataStat;
 
-/// Whether what is kept still holds.
+/// Whether anything that the client was told has ended what is kept. It tells of a zxid, and not of a time.
 #[derive(Clone, Copy, Debug, PartialEq, Eq, Hash)]
 pub enum Mark {
-    /// It is what the servers' history has at the greatest zxid seen.
+    /// ZooKeeper held this at the greatest zxid seen, and nothing that the client was told has ended it.
     Good,
     /// A change was told since, and the path was not read again.
     Stale,
@@ -28,7 +28,7 @@ impl Mark {
 pub struct Kept<T> {
     /// What was answered.
     pub answer: T,
-    /// Whether it still holds.
+    /// Whether it is good.
     pub mark: Mark,
 }
 

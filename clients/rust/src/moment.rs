@@ -14,7 +14,7 @@ fn millis(duration: Duration) -> u64 {
 }
 
 impl Moment {
-    /// So many milliseconds after the clock's beginning.
+    /// The moment this many milliseconds after the clock's beginning.
     pub const fn from_millis(millis: u64) -> Moment {
         Moment(millis)
     }

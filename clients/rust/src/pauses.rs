@@ -25,7 +25,7 @@ pub(crate) fn longest_dial(timeout: Duration) -> Duration {
     (timeout / 3).max(SHORTEST_DIAL)
 }
 
-/// A number by chance.
+/// A random number.
 fn chance() -> u64 {
     RandomState::new().build_hasher().finish()
 }

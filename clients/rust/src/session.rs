@@ -40,11 +40,11 @@ const NEVER: Moment = Moment::from_millis(u64::MAX);
 ///
 /// It dials the addresses in turn, and goes on to the next one where a server is silent or the connection ends. Watches and what is kept
 /// go on over reconnects. The first attempt is made at once, and may take a third of the timeout, and a second at least. The pause after
-/// one that has failed, and after a connection, is by chance between a half of this and the whole: 100 milliseconds, and twice as long
+/// one that has failed, and after a connection, is at random between a half of this and the whole: 100 milliseconds, and twice as long
 /// each time, up to a second and to a tenth of the timeout; after an expiry, and once no server was heard for longer than the timeout, up
 /// to 10 seconds. It begins again after an answered call, after an expiry that a server told, and after a connection that has lasted for
 /// a third of the timeout. A third of a second lies between two attempts at least, so a session of less than some three seconds does not
-/// outlive a lost connection for sure.
+/// surely outlive a lost connection.
 ///
 /// It has no thread, so that it reads, pings and reconnects within its functions alone: call [`next_event`](Session::next_event) at
 /// least once in a third of the timeout. A program that comes later than that keeps its connection where the server has sent something

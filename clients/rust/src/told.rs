@@ -31,7 +31,7 @@ pub enum Event {
         /// Why, in words.
         words: String,
     },
-    /// So many events are lost, those that had waited longest, since 1,024 wait at most. Those that wait still come next. Marks are right
+    /// This many events are lost, those that had waited longest, since 1,024 wait at most. Those that wait still come next. Marks are right
     /// all the same: ask the client for its state, and for what is kept of the paths that you watch.
     Missed(u64),
 }

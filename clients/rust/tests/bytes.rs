@@ -224,7 +224,7 @@ fn stream() -> Vec<u8> {
     .concat()
 }
 
-/// All that is said where the stream comes in pieces of so many bytes.
+/// All that is said where the stream comes in pieces of this length.
 fn pieces(length: usize) -> Vec<String> {
     let mut client = connected();
     let _ = client.get_data(START, 1, "/a", Watch::Yes).unwrap();

@@ -1,4 +1,4 @@
-//! The declarations of `src/ffi.rs` and `src/node.rs` are those of `include/dirwolleu.h`: the same functions but for one, with the same
+//! The declarations of `src/ffi.rs` and `src/node.rs` are those of `include/dirwolleu.h`: the same functions except one, with the same
 //! parameters, and structs with the same fields, each in the same order.
 
 use std::fs;
