@@ -2,7 +2,7 @@
 //! the prebuilt one of this crate or of the checkout, else by pkg-config.
 
 use std::env;
-use std::path::{Path, PathBuf};
+use std::path::PathBuf;
 use std::process::{exit, Command};
 
 const LIBRARY: &str = "libdirwolleu.a";

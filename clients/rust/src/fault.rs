@@ -118,6 +118,10 @@ impl Code {
     pub const NOT_EMPTY: Code = Code(-111);
     /// The session has expired, by the word of this reply; the state of the client tells it by the next connection.
     pub const SESSION_EXPIRED: Code = Code(-112);
+    /// The server does not take this ACL.
+    pub const INVALID_ACL: Code = Code(-114);
+    /// The server does not take these credentials, or does not know their scheme.
+    pub const AUTH_FAILED: Code = Code(-115);
     /// The session was taken up over another connection.
     pub const SESSION_MOVED: Code = Code(-118);
     /// The server has more requests to do than it admits at a time.
@@ -141,6 +145,8 @@ impl Code {
             Code::NODE_EXISTS => "there is a node already",
             Code::NOT_EMPTY => "the node has children",
             Code::SESSION_EXPIRED => "the session has expired",
+            Code::INVALID_ACL => "the server does not take this ACL",
+            Code::AUTH_FAILED => "the server does not take these credentials",
             Code::SESSION_MOVED => "the session was taken up over another connection",
             Code::THROTTLED => "the server has too much to do",
             Code(_) => "the server refuses the call",
@@ -158,6 +164,7 @@ impl error::Error for Code {}
 
 /// Why a call of a [`Session`](crate::Session) does not give what was asked.
 #[derive(Clone, Copy, Debug, PartialEq, Eq, Hash)]
+#[non_exhaustive]
 pub enum Error {
     /// The server refuses the call.
     Server(Code),
@@ -165,11 +172,23 @@ pub enum Error {
     NoReply(NoReply),
     /// The library has not made the step.
     Fault(Fault),
+    /// The caller's limit has passed before there was an answer. The call is on its way: a write may still happen.
+    TimedOut,
 }
 
 impl Error {
-    /// Whether the same read may be answered later: [`Code::is_passing`], and where the connection was lost, there is none, or too many
-    /// calls wait. An expired session is no such error: it is to be renewed.
+    /// Whether a write that has failed so may have happened all the same, or may still happen. With each other error nothing has changed.
+    pub fn may_have_happened(&self) -> bool {
+        matches!(
+            self,
+            Error::TimedOut
+                | Error::NoReply(NoReply::ConnectionLoss)
+                | Error::Server(Code::CONNECTION_LOSS)
+        )
+    }
+
+    /// Whether the same read may be answered later: [`Code::is_passing`], and where the connection was lost, there is none, too many
+    /// calls wait, or a limit has passed. An expired session is no such error: it is to be renewed.
     pub fn is_passing(&self) -> bool {
         match self {
             Error::Server(code) => code.is_passing(),
@@ -177,6 +196,7 @@ impl Error {
                 reason,
                 NoReply::ConnectionLoss | NoReply::NotConnected | NoReply::TooManyPending
             ),
+            Error::TimedOut => true,
             Error::Fault(_) => false,
         }
     }
@@ -188,6 +208,9 @@ impl fmt::Display for Error {
             Error::Server(code) => code.fmt(f),
             Error::NoReply(reason) => reason.fmt(f),
             Error::Fault(fault) => fault.fmt(f),
+            Error::TimedOut => {
+                f.write_str("no answer has come in time, and the call may still happen")
+            }
         }
     }
 }
