@@ -5,19 +5,16 @@ from __future__ import annotations
 import asyncio
 import errno
 import functools
-import itertools
 import logging
 import time
 from typing import Any, Callable, Optional, cast
 
 from dirwolleu._engine import Engine
+from dirwolleu._hosts import Place, Servers
 from dirwolleu._pauses import BETWEEN_DIALS, Pauses
 
 logger = logging.getLogger("dirwolleu")
 
-Address = tuple[str, int]
-
-DEFAULT_PORT = 2181
 SHORTEST_DIAL = 1.0
 """How long an attempt to connect has at least, in seconds, however short the timeout is."""
 SHORTEST_WAIT = 0.1
@@ -27,25 +24,6 @@ _NO_DESCRIPTOR = (errno.EMFILE, errno.ENFILE)
 def moment() -> int:
     """Milliseconds of a clock that does not go back."""
     return int(time.monotonic() * 1000)
-
-
-def addresses(hosts: str) -> list[Address]:
-    """The addresses of a text like `host:port,host:port`.
-
-    A port that is left out is 2181. An IPv6 address is written in brackets.
-    """
-    return [_address(host.strip()) for host in hosts.split(",")]
-
-
-def _address(text: str) -> Address:
-    host, colon, port = text.rpartition(":")
-    if not colon or text.endswith("]"):
-        host, port = text, str(DEFAULT_PORT)
-    host = host[1:-1] if host.startswith("[") and host.endswith("]") else host
-    if not host or "/" in host or not port.isdecimal() or not 0 < int(port) < 65536:
-        raise ValueError(f"{text!r} is no address: host:port is wanted, and no path behind it")
-    host.encode("idna")  # a ValueError where it is no name
-    return host, int(port)
 
 
 class Link(asyncio.Protocol):
@@ -86,9 +64,9 @@ class Driver:
     It is made of the loop's callbacks, and not of a task: whoever cancels all tasks of a loop does not end it.
     """
 
-    def __init__(self, hosts: str, engine: Engine) -> None:
-        self._addresses = itertools.cycle(addresses(hosts))
-        self._address = next(self._addresses)
+    def __init__(self, servers: Servers, engine: Engine) -> None:
+        self._servers = servers
+        self._place: Optional[Place] = None
         self._engine = engine
         self._pauses = Pauses()
         self._expiries = engine.contact.expiries
@@ -164,7 +142,7 @@ class Driver:
         if self._is_stopped or not self._engine.is_running:
             return self._end()
         if self._engine.contact.expiries == self._expiries:  # else the server that said so gives a new session
-            self._address = next(self._addresses)
+            self._place = None
         self._expiries = self._engine.contact.expiries
         pause = self._pauses.after(self._engine.contact, self._engine.timeout(), self._engine.may_live(now))
         apart = BETWEEN_DIALS - (now - self._dialed_at) / 1000
@@ -174,11 +152,15 @@ class Driver:
         """Begins an attempt to connect. It has a third of the timeout, and a second at least."""
         self._next = None
         self._dialed_at = moment()
-        host, port = self._address
         link = self._link = Link(self)
-        dialing = self._dialing = self._loop.create_task(self._loop.create_connection(lambda: link, host, port))
+        dialing = self._dialing = self._loop.create_task(self._connect(link))
         limit = self._loop.call_later(max(self._engine.timeout() / 3, SHORTEST_DIAL), dialing.cancel)
         dialing.add_done_callback(functools.partial(self._dialed, link, limit))
+
+    async def _connect(self, link: Link) -> None:
+        """Connects to the place that is next, or once more to the one that was kept."""
+        place = self._place = self._place or await self._servers.next()
+        await self._loop.create_connection(lambda: link, place.address, place.port)
 
     def _dialed(self, link: Link, limit: asyncio.Handle, dialing: asyncio.Future[Any]) -> None:
         """An attempt to connect has ended."""
@@ -190,8 +172,8 @@ class Driver:
             self._engine.trouble = ""
             return
         if link is self._link:
-            host, port = self._address
-            self._engine.trouble = f"{host}:{port}: {error or 'no connection in time'}"
+            where = f"{self._place}: " if self._place is not None else ""
+            self._engine.trouble = f"{where}{error or 'no connection in time'}"
             is_ours = isinstance(error, OSError) and error.errno in _NO_DESCRIPTOR
             logger.log(logging.WARNING if is_ours else logging.INFO, "no connection to %s", self._engine.trouble)
         link.end()

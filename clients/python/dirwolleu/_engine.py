@@ -16,6 +16,7 @@ from dirwolleu import _requests as requests
 from dirwolleu._frames import Frames, is_ping
 from dirwolleu._library import Answer, Closed, Drop, Found, Halted, Machine, Output, Report, Send
 from dirwolleu._requests import Request, Watcher
+from dirwolleu._root import Root
 from dirwolleu.exceptions import (
     ConnectionClosedError,
     ConnectionLoss,
@@ -115,11 +116,13 @@ class Engine:
     does not go back. `tell` is handed a function and its argument: it calls the function later, not within the call.
     """
 
-    def __init__(self, timeout: float, saved: Optional[bytes], tell: Tell) -> None:
+    def __init__(self, timeout: float, saved: Optional[bytes], tell: Tell, root: Root = Root()) -> None:
         self._timeout_ms = int(timeout * 1000)
         if not 0 < self._timeout_ms <= _LONGEST_TIMEOUT_MS:
             raise ValueError(f"a timeout is 0.001 to {_LONGEST_TIMEOUT_MS / 1000} seconds")
-        self._machine = Machine(self._timeout_ms, saved)
+        self._root = root
+        self._machine = Machine(self._timeout_ms, saved, root)
+        self._machine.peek_data("/")  # a ValueError where the root is no path
         self._tell = tell
         self._tickets = itertools.count(1)
         self._handed: collections.deque[_Asked] = collections.deque()
@@ -430,7 +433,7 @@ class Engine:
 
     def _resume(self, why: str) -> None:
         """Has a machine of the same session, which keeps nothing, where the old one is of no use any more."""
-        old, self._machine = self._machine, Machine(self._timeout_ms, self._machine.saved())
+        old, self._machine = self._machine, Machine(self._timeout_ms, self._machine.saved(), self._root)
         old.close()
         self._is_over = True
         self._forget_callers(ConnectionLoss(why), State.SUSPENDED)

@@ -19,6 +19,7 @@ from ctypes import c_bool, c_char, c_char_p, c_int32, c_int64, c_size_t, c_uint3
 from operator import attrgetter
 from typing import Any, Callable, Iterator, NamedTuple, Optional, TypeVar, Union
 
+from dirwolleu._root import Root
 from dirwolleu.types import DataStat, Stat
 
 OK, HALTED, NO_MEMORY, CLOSED, NOT_TEXT, NOT_PATH, BAD_TIMEOUT = 0, -1, -2, -3, -4, -5, -6
@@ -284,11 +285,15 @@ _fields_of_stat, _fields_of_data_stat = attrgetter(*Stat._fields), attrgetter(*D
 
 
 class Machine:
-    """One session, as a machine. It holds memory of the library's until `close`."""
+    """One session, as a machine. It holds memory of the library's until `close`.
 
-    def __init__(self, timeout_ms: int, saved: Optional[bytes] = None) -> None:
+    All paths that go in and come out are below the root, which is put before them and taken off.
+    """
+
+    def __init__(self, timeout_ms: int, saved: Optional[bytes] = None, root: Root = Root()) -> None:
         self._handle, self._output, self._room = _Handle(), _Output(), _Room()
         self._process = os.getpid()
+        self._root = root
         if saved is None:
             _checked(_library.dw_open(self._handle, timeout_ms))
         else:
@@ -321,19 +326,19 @@ class Machine:
         return self._outputs(_library.dw_bytes(self._handle, now, data, len(data)))
 
     def exists(self, now: int, ticket: int, path: str, watch: bool) -> list[Output]:
-        spelled = path.encode()
+        spelled = self._root.spell(path)
         return self._outputs(_library.dw_exists(self._handle, now, ticket, spelled, len(spelled), watch))
 
     def get_data(self, now: int, ticket: int, path: str, watch: bool) -> list[Output]:
-        spelled = path.encode()
+        spelled = self._root.spell(path)
         return self._outputs(_library.dw_get_data(self._handle, now, ticket, spelled, len(spelled), watch))
 
     def get_children(self, now: int, ticket: int, path: str, watch: bool) -> list[Output]:
-        spelled = path.encode()
+        spelled = self._root.spell(path)
         return self._outputs(_library.dw_get_children(self._handle, now, ticket, spelled, len(spelled), watch))
 
     def set_data(self, now: int, ticket: int, path: str, data: Optional[bytes], version: int) -> list[Output]:
-        spelled, given = path.encode(), data or b""
+        spelled, given = self._root.spell(path), data or b""
         return self._outputs(
             _library.dw_set_data(
                 self._handle, now, ticket, spelled, len(spelled), given, len(given), data is None, version
@@ -341,13 +346,15 @@ class Machine:
         )
 
     def create(self, now: int, ticket: int, path: str, data: Optional[bytes], mode: int) -> list[Output]:
-        spelled, given = path.encode(), data or b""
+        if mode & SEQUENTIAL and path == "/" and self._root.path:
+            raise ValueError("the digits would be part of the root's own name")
+        spelled, given = self._root.spell(path), data or b""
         return self._outputs(
             _library.dw_create(self._handle, now, ticket, spelled, len(spelled), given, len(given), data is None, mode)
         )
 
     def delete(self, now: int, ticket: int, path: str, version: int) -> list[Output]:
-        spelled = path.encode()
+        spelled = self._root.spell(path)
         return self._outputs(_library.dw_delete(self._handle, now, ticket, spelled, len(spelled), version))
 
     def close_session(self, now: int, ticket: int) -> list[Output]:
@@ -377,12 +384,12 @@ class Machine:
 
     def peek_data(self, path: str) -> tuple[KeptData, int]:
         """What is kept of the data of a path, and the last zxid at that moment."""
-        spelled = path.encode()
+        spelled = self._root.spell(path)
         return _steady(lambda: self._data_kept(spelled), self.last_zxid)
 
     def peek_children(self, path: str) -> tuple[KeptNames, int]:
         """What is kept of the children of a path, and the last zxid at that moment."""
-        spelled = path.encode()
+        spelled = self._root.spell(path)
         names, (side, last_zxid) = _steady(
             lambda: self._names_kept(spelled), lambda: (self._side_kept(spelled), self.last_zxid())
         )
@@ -430,20 +437,23 @@ class Machine:
         if output.kind == ANSWER:
             return self._answer(output)
         if output.kind == REPORT:
-            return Report(output.detail, output.result, self._text().decode())
+            return Report(output.detail, output.result, self._root.read(self._text()))
         if output.kind == STATE:
             return StateChange(output.detail)
         return Drop(self._text().decode(), self._words())
 
     def _answer(self, output: _Output) -> Answer:
         has_text = output.result == CREATED or output.result == DATA and not output.is_null
+        text = self._text() if has_text else None
+        if output.result == CREATED and text is not None:
+            text = self._root.read(text).encode()
         return Answer(
             output.ticket,
             output.detail,
             output.result,
             output.code,
             Stat._make(_fields_of_stat(output.stat)) if output.has_stat else None,
-            self._text() if has_text else None,
+            text,
             [self._name(index) for index in range(output.names)],
         )
 

@@ -5,14 +5,30 @@ from __future__ import annotations
 from typing import Optional
 
 from dirwolleu._engine import Engine, Listener
+from dirwolleu._hosts import Servers
 from dirwolleu.types import Kept, KeptChildren, State
 
 
 class Shown:
     """What a client shows of its session, and of what it keeps."""
 
-    def __init__(self, engine: Engine) -> None:
+    def __init__(self, servers: Servers, engine: Engine) -> None:
+        self._servers = servers
         self._engine = engine
+
+    @property
+    def chroot(self) -> str:
+        """The node of the servers that the program knows as `/`: empty where that is the servers' own."""
+        return self._servers.hosts.root.path
+
+    def set_hosts(self, hosts: str) -> None:
+        """Has each dial from now on go to one of these servers. A connection that there is goes on.
+
+        Raises `ValueError` where the text is no list of hosts, or has another root than before.
+
+            client.set_hosts("new-1:2181,new-2:2181/app")
+        """
+        self._servers.replace(hosts)
 
     @property
     def state(self) -> State:

@@ -11,9 +11,10 @@ from types import TracebackType
 from typing import Any, Callable, Optional
 
 from dirwolleu import _requests as requests
-from dirwolleu._driver import Driver, addresses, moment
+from dirwolleu._driver import Driver, moment
 from dirwolleu._engine import Engine
 from dirwolleu._follow import Follower, Need, Wait, passing
+from dirwolleu._hosts import Servers
 from dirwolleu._requests import Request, Result
 from dirwolleu._shown import Shown
 from dirwolleu.exceptions import ConnectionClosedError, NoNodeError, ZookeeperError
@@ -34,10 +35,11 @@ class Client(Shown):
     it is, so that `stop` can still end the session.
     """
 
-    def __init__(self, hosts: str, timeout: float = 10.0, saved: Optional[bytes] = None) -> None:
-        addresses(hosts)
-        self._hosts = hosts
-        super().__init__(Engine(timeout, saved, self._tell))
+    def __init__(
+        self, hosts: str, timeout: float = 10.0, saved: Optional[bytes] = None, *, randomize_hosts: bool = True
+    ) -> None:
+        servers = Servers(hosts, randomize_hosts)
+        super().__init__(servers, Engine(timeout, saved, self._tell, servers.hosts.root))
         self._driver: Optional[Driver] = None
         self._callbacks: set[asyncio.Future[Any]] = set()
 
@@ -61,7 +63,7 @@ class Client(Shown):
         """
         self._engine.begin()
         if self._driver is None:
-            self._driver = Driver(self._hosts, self._engine)
+            self._driver = Driver(self._servers, self._engine)
             self._driver.start()
         try:
             await asyncio.wait_for(self._wait_until_connected(), timeout)
@@ -71,7 +73,7 @@ class Client(Shown):
                 raise
             trouble = f" ({self._engine.trouble})" if self._engine.trouble else ""
             raise TimeoutError(
-                f"no server of {self._hosts} accepted the session in {timeout} seconds{trouble}"
+                f"no server of {self._servers.hosts.text} accepted the session in {timeout} seconds{trouble}"
             ) from None
 
     async def stop(self) -> None:

@@ -14,9 +14,10 @@ from types import TracebackType
 from typing import Any, Callable, Optional
 
 from dirwolleu import _requests as requests
-from dirwolleu._driver import Driver, addresses, moment
+from dirwolleu._driver import Driver, moment
 from dirwolleu._engine import Engine
 from dirwolleu._follow import Follower, Need, Wait, passing
+from dirwolleu._hosts import Servers
 from dirwolleu._requests import Request, Result
 from dirwolleu._shown import Shown
 from dirwolleu.exceptions import ConnectionClosedError, NoNodeError, ZookeeperError
@@ -150,8 +151,8 @@ class _Callbacks(threading.Thread):
 class _Threads:
     """The threads of a client that is started, in one process."""
 
-    def __init__(self, hosts: str, engine: Engine) -> None:
-        self.loop = _Loop(Driver(hosts, engine))
+    def __init__(self, servers: Servers, engine: Engine) -> None:
+        self.loop = _Loop(Driver(servers, engine))
         self.callbacks = _Callbacks()
         self._process = os.getpid()
 
@@ -167,9 +168,12 @@ class _Threads:
 class Client(Shown):
     """A client of ZooKeeper whose functions wait for their answers. Any thread may call them.
 
-    `hosts` is a text like `host:port,host:port`: the addresses are tried in this order, again and again. `timeout` is
-    that of the session in seconds, as it is asked for; a server grants what lies between its own bounds. `saved` takes
-    up the session of another client, as its `saved_session` told it.
+    `hosts` is a text like `host:port,host:port/root`. Each dial looks the name up again and goes to one of its
+    addresses; the order is left to chance, unless `randomize_hosts` is false. A port that is left out is 2181, and an
+    IPv6 address is in brackets. The root, which is known as a chroot, is the node that the program knows as `/`: all
+    paths of calls, answers, events and kept answers are below it. `timeout` is that of the session in seconds, as it is
+    asked for; a server grants what lies between its own bounds. `saved` takes up the session of another client, as its
+    `saved_session` told it.
 
     What all calls may raise: `ConnectionLoss` where the connection ended before the reply; `NotConnectedError`, which
     is one, where there was no connection for the timeout of the session; `SessionExpiredError`; `ConnectionClosedError`
@@ -182,10 +186,11 @@ class Client(Shown):
     `ConnectionClosedError`, and `stop` and `close` do nothing.
     """
 
-    def __init__(self, hosts: str, timeout: float = 10.0, saved: Optional[bytes] = None) -> None:
-        addresses(hosts)
-        self._hosts = hosts
-        super().__init__(Engine(timeout, saved, self._tell))
+    def __init__(
+        self, hosts: str, timeout: float = 10.0, saved: Optional[bytes] = None, *, randomize_hosts: bool = True
+    ) -> None:
+        servers = Servers(hosts, randomize_hosts)
+        super().__init__(servers, Engine(timeout, saved, self._tell, servers.hosts.root))
         self._running: dict[str, _Threads] = {}  # a dict's functions are single steps of the interpreter: no lock
 
     def __enter__(self) -> Client:
@@ -217,7 +222,7 @@ class Client(Shown):
                 self.stop()
         if not is_connected:
             trouble = f" ({self._engine.trouble})" if self._engine.trouble else ""
-            raise TimeoutError(f"no server of {self._hosts} accepted the session in {timeout} seconds{trouble}")
+            raise TimeoutError(f"no server of {self._servers.hosts.text} accepted the session in {timeout} seconds{trouble}")
 
     def stop(self) -> None:
         """Ends the session, with its ephemeral nodes and its watches, and the threads of the client.
@@ -348,7 +353,7 @@ class Client(Shown):
 
     def _begin_threads(self) -> None:
         if self._threads() is None:
-            threads = _Threads(self._hosts, self._engine)
+            threads = _Threads(self._servers, self._engine)
             if self._running.setdefault("threads", threads) is threads:
                 threads.start()
             else:

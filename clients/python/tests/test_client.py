@@ -32,7 +32,6 @@ from dirwolleu import (
     WatchedEvent,
     ZookeeperError,
 )
-from dirwolleu._driver import addresses
 
 
 class InThread:
@@ -74,7 +73,8 @@ class Following:
 
 class ClientCase(PartnerCase):
     def client(self, *partners: Partner, timeout: float = 6.0, saved: Optional[bytes] = None) -> Client:
-        client = Client(",".join(partner.host for partner in partners), timeout, saved)
+        hosts = ",".join(partner.host for partner in partners)
+        client = Client(hosts, timeout, saved, randomize_hosts=False)
         self.addCleanup(client.close)
         self.addCleanup(client.stop)
         client.start(WAIT)
@@ -554,11 +554,7 @@ class SessionTest(ClientCase):
         with self.raises(ConnectionClosedError, None):
             starts.result()
 
-    def test_addresses(self) -> None:
-        self.assertEqual(addresses("a:1, b,[::1]:3,[::1]"), [("a", 1), ("b", 2181), ("::1", 3), ("::1", 2181)])
-        for wrong in ("", "a:", "a:x", "a:0", ":1", "a..b:1", "a:1/root", "a:1,,b:2"):
-            with self.subTest(wrong), self.assertRaises(ValueError):
-                Client(wrong)
+    def test_what_no_client_is_made_of(self) -> None:
         for timeout in (0, -1, 3e6):
             with self.assertRaises(ValueError):
                 Client("a:1", timeout)

@@ -32,6 +32,7 @@ from support import (
 from dirwolleu import Client, ConnectionClosedError, ConnectionLoss, NotConnectedError, State
 from dirwolleu._driver import Driver
 from dirwolleu._engine import Contact, Engine
+from dirwolleu._hosts import Servers
 from dirwolleu._pauses import Pauses
 
 HELD_UP = pathlib.Path(__file__).resolve().parent / "held_up.py"
@@ -252,7 +253,7 @@ class DialTest(PartnerCase):
     def test_a_call_may_come_before_the_loop_has_begun(self) -> None:
         engine = Engine(3.0, None, lambda function, argument: None)
         self.addCleanup(engine.close)
-        Driver("127.0.0.1:1", engine).act()
+        Driver(Servers("127.0.0.1:1"), engine).act()
 
     def test_want_of_descriptors_is_told_as_that(self) -> None:
         want = OSError(errno.EMFILE, "Too many open files")

@@ -1,0 +1,148 @@
+"""Which servers a client dials: what a connection string says, and which address is next."""
+
+from __future__ import annotations
+
+import asyncio
+import contextlib
+import ipaddress
+import random
+import socket
+import threading
+from typing import NamedTuple, Optional
+
+from dirwolleu._root import Root
+
+DEFAULT_PORT = 2181
+
+Server = tuple[str, int]
+"""The name or the address of a host, and a port."""
+
+
+class Hosts(NamedTuple):
+    """What a connection string says."""
+
+    text: str
+    servers: tuple[Server, ...]
+    root: Root
+
+
+class Place(NamedTuple):
+    """An address to dial, and the name that it was looked up for."""
+
+    name: str
+    address: str
+    port: int
+
+    def __str__(self) -> str:
+        shown = f"[{self.name}]" if ":" in self.name else self.name
+        found = "" if self.name == self.address else f" ({self.address})"
+        return f"{shown}:{self.port}{found}"
+
+
+def hosts_of(text: str) -> Hosts:
+    """What a text like `host:port,host:port/root` says. Raises `ValueError` where it is none.
+
+    A port that is left out is 2181. An IPv6 address is in brackets. The root is that of all hosts.
+    """
+    servers, slash, path = text.partition("/")
+    root = Root(slash + path if path else "")
+    return Hosts(text, tuple(_server(server.strip()) for server in servers.split(",")), root)
+
+
+def _server(text: str) -> Server:
+    host, colon, port = text.rpartition(":")
+    if not colon or text.endswith("]"):
+        host, port = text, str(DEFAULT_PORT)
+    host = host[1:-1] if host.startswith("[") and host.endswith("]") else host
+    if not host or not port.isdecimal() or not 0 < int(port) < 65536:
+        raise ValueError(f"{text!r} is no address: host:port is wanted")
+    host.encode("idna")  # a ValueError where it is no name
+    return host, int(port)
+
+
+class _Round:
+    """The servers that are still to be dialled, and the places that were, until each was."""
+
+    def __init__(self, servers: tuple[Server, ...], is_by_chance: bool) -> None:
+        self._servers, self._is_by_chance = servers, is_by_chance
+        self._left: list[Server] = []
+        self._dialled: set[Place] = set()
+
+    def next_server(self) -> Server:
+        if not self._left:
+            count = len(self._servers)
+            self._left = random.sample(self._servers, count) if self._is_by_chance else list(self._servers)
+        return self._left.pop(0)
+
+    def choose(self, places: list[Place]) -> Place:
+        """One of the places of a name: one that was not dialled yet, as long as there is one."""
+        fresh = [place for place in places if place not in self._dialled]
+        if not fresh:
+            self._dialled.difference_update(places)
+            fresh = places
+        chosen = random.choice(fresh) if self._is_by_chance else fresh[0]
+        self._dialled.add(chosen)
+        return chosen
+
+
+class Servers:
+    """The servers of a client, one after the other, again and again. Any thread may replace them."""
+
+    def __init__(self, hosts: str, is_by_chance: bool = True) -> None:
+        self.hosts = hosts_of(hosts)
+        self._is_by_chance = is_by_chance
+        self._round = _Round(self.hosts.servers, is_by_chance)
+        self._lookups: dict[Server, asyncio.Future[list[str]]] = {}
+
+    def replace(self, hosts: str) -> None:
+        """Has the next dial go to one of these servers. Raises `ValueError` where the root is another one."""
+        new = hosts_of(hosts)
+        if new.root != self.hosts.root:
+            raise ValueError(f"the root of a client stays {self.hosts.root.path or '/'}")
+        self.hosts = new
+        self._round = _Round(new.servers, self._is_by_chance)
+
+    async def next(self) -> Place:
+        """The next place to dial. A name is looked up each time. Raises `OSError` where it is not found."""
+        current = self._round
+        host, port = current.next_server()
+        return current.choose([Place(host, address, port) for address in await self._look_up(host, port)])
+
+    async def _look_up(self, host: str, port: int) -> list[str]:
+        """The addresses of a host. A look-up that is under way already is shared, so that no more than one waits."""
+        with contextlib.suppress(ValueError):
+            return [str(ipaddress.ip_address(host))]
+        pending = self._lookups.get((host, port))
+        if pending is None or pending.done() or pending.get_loop() is not asyncio.get_running_loop():
+            pending = self._lookups[host, port] = _looked_up(host, port)
+        try:
+            return await asyncio.shield(pending)
+        except OSError as error:
+            raise OSError(error.errno, f"{host}: {error.strerror}") from error
+
+
+def _looked_up(host: str, port: int) -> asyncio.Future[list[str]]:
+    """Looks a host up in a thread of its own, which holds up neither the event loop nor the end of the program."""
+    loop = asyncio.get_running_loop()
+    future: asyncio.Future[list[str]] = loop.create_future()
+    future.add_done_callback(lambda done: done.cancelled() or done.exception())  # it may be that nobody waits any more
+
+    def settle(addresses: list[str], error: Optional[OSError]) -> None:
+        if future.done():
+            return
+        if error is not None:
+            future.set_exception(error)
+        else:
+            future.set_result(addresses)
+
+    def run() -> None:
+        try:
+            found = socket.getaddrinfo(host, port, type=socket.SOCK_STREAM)
+            outcome: tuple[list[str], Optional[OSError]] = [str(one[4][0]) for one in found], None
+        except OSError as error:
+            outcome = [], error
+        with contextlib.suppress(RuntimeError):  # the loop is closed
+            loop.call_soon_threadsafe(settle, *outcome)
+
+    threading.Thread(target=run, name="dirwolleu-lookup", daemon=True).start()
+    return future

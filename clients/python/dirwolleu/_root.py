@@ -1,0 +1,33 @@
+"""The root of a client, which is known as its chroot: the path of the servers' tree that the program knows as `/`."""
+
+from __future__ import annotations
+
+from typing import NamedTuple
+
+
+class Root(NamedTuple):
+    """A path of the servers' tree, without a slash at its end: nothing for the whole tree."""
+
+    path: str = ""
+
+    def full(self, path: str) -> str:
+        """The servers' path of a program's path. Raises `ValueError` where that does not begin with a slash."""
+        if not self.path:
+            return path
+        if not path.startswith("/"):
+            raise ValueError("this is no path of a node")
+        return self.path if path == "/" else self.path + path
+
+    def spell(self, path: str) -> bytes:
+        """The bytes of the servers' path of a program's path."""
+        return self.full(path).encode()
+
+    def own(self, full: str) -> str:
+        """The program's path of a servers' path. One that is not below the root stays as it is."""
+        if full == self.path:
+            return "/"
+        return full[len(self.path) :] if full.startswith(self.path + "/") else full
+
+    def read(self, spelled: bytes) -> str:
+        """The program's path of the bytes of a servers' path."""
+        return self.own(spelled.decode())

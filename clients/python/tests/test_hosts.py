@@ -1,0 +1,223 @@
+"""Tests of connection strings: what they say, which address is dialled, and the root that all paths go through."""
+
+from __future__ import annotations
+
+import asyncio
+import contextlib
+import queue
+import socket
+import threading
+import time
+import unittest
+from typing import Any, Callable
+from unittest import mock
+
+from support import WAIT, Partner, PartnerCase, Peer, within
+
+from dirwolleu import Client, EventType, Mark, NoNodeError, State, WatchedEvent
+from dirwolleu._hosts import Place, Servers, hosts_of
+
+WRONG = (
+    "", "a:", "a:x", "a:0", ":1", "a..b:1", "a:1,,b:2", "a:1/a/", "a:1//a", "a:1/../a", "a:1/.", "a:1/a,b:1/b/",
+)  # fmt: skip
+
+
+def found(*addresses: str) -> Any:
+    """What `getaddrinfo` answers for a name of these addresses."""
+    return [(socket.AF_INET, socket.SOCK_STREAM, 6, "", (address, 2181)) for address in addresses]
+
+
+class HostsTest(unittest.TestCase):
+    def test_a_text_is_servers_and_a_root(self) -> None:
+        hosts = hosts_of("a:1, b,[::1]:3,[::1]")
+        self.assertEqual(hosts.servers, (("a", 1), ("b", 2181), ("::1", 3), ("::1", 2181)))
+        self.assertEqual(hosts.root.path, "")
+        self.assertEqual(hosts_of("a:1,b:2/app/x").root.path, "/app/x")
+        self.assertEqual(hosts_of("[::1]/app").root.path, "/app")
+
+    def test_what_is_no_text_of_hosts(self) -> None:
+        for wrong in WRONG:
+            with self.subTest(wrong), self.assertRaises(ValueError):
+                Client(wrong)
+
+    def dialled(self, servers: Servers, count: int) -> list[Place]:
+        async def dial() -> list[Place]:
+            return [await servers.next() for _ in range(count)]
+
+        return asyncio.run(dial())
+
+    def test_each_server_has_its_turn(self) -> None:
+        servers = Servers("10.0.0.1:1,10.0.0.2:2,10.0.0.3:3")
+        dialled = self.dialled(servers, 300)
+        for begin in range(0, 300, 3):
+            self.assertEqual(len(set(dialled[begin : begin + 3])), 3)
+        self.assertGreater(len({tuple(dialled[begin : begin + 3]) for begin in range(0, 300, 3)}), 3)
+
+    def test_the_order_is_that_of_the_text_where_it_is_not_left_to_chance(self) -> None:
+        dialled = self.dialled(Servers("10.0.0.1:1,10.0.0.2:2", is_by_chance=False), 4)
+        self.assertEqual([place.port for place in dialled], [1, 2, 1, 2])
+
+    def test_a_name_is_looked_up_at_each_dial_and_each_address_has_its_turn(self) -> None:
+        with mock.patch("socket.getaddrinfo", return_value=found("10.0.0.1", "10.0.0.2")) as look_up:
+            dialled = self.dialled(Servers("name:7"), 4)
+            self.assertEqual(look_up.call_count, 4)
+        self.assertEqual({place.address for place in dialled[:2]}, {"10.0.0.1", "10.0.0.2"})
+        self.assertEqual({place.address for place in dialled[2:]}, {"10.0.0.1", "10.0.0.2"})
+        self.assertIn(str(dialled[0]), ("name:7 (10.0.0.1)", "name:7 (10.0.0.2)"))
+
+    def test_look_ups_that_are_late_are_one(self) -> None:
+        may_end = threading.Event()
+        self.addCleanup(may_end.set)
+
+        def look_up(*_: Any, **__: Any) -> Any:
+            may_end.wait(WAIT)
+            return found("10.0.0.1")
+
+        async def dial(servers: Servers) -> Place:
+            for _ in range(3):
+                with self.assertRaises(asyncio.TimeoutError):
+                    await asyncio.wait_for(servers.next(), 0.02)
+            may_end.set()
+            return await servers.next()
+
+        with mock.patch("socket.getaddrinfo", side_effect=look_up) as looked_up:
+            self.assertEqual(asyncio.run(dial(Servers("name:7"))).address, "10.0.0.1")
+        self.assertLessEqual(looked_up.call_count, 2)
+
+    def test_a_name_that_is_not_found_is_told(self) -> None:
+        with mock.patch("socket.getaddrinfo", side_effect=socket.gaierror(-2, "Name or service not known")):
+            client = Client("nowhere.example:2181", 1.0)
+            self.addCleanup(client.close)
+            with self.assertRaisesRegex(TimeoutError, "nowhere.example: Name or service not known"):
+                client.start(0.5)
+
+
+class NamesTest(PartnerCase):
+    def client(self, hosts: str, timeout: float = 6.0) -> Client:
+        client = Client(hosts, timeout)
+        self.addCleanup(client.close)
+        self.addCleanup(client.stop)
+        client.start(WAIT)
+        return client
+
+    def test_a_name_that_has_a_new_address_is_followed_there(self) -> None:
+        partner = self.partner()
+        with mock.patch("socket.getaddrinfo", return_value=found("127.0.0.9")) as look_up:
+            client = Client(f"name:{partner.port}", 2.0)
+            self.addCleanup(client.close)
+            begun = threading.Thread(target=lambda: client.start(WAIT), daemon=True)
+            begun.start()
+            within(lambda: client._engine.trouble)
+            look_up.return_value = found("127.0.0.1")
+            begun.join(WAIT)
+            self.assertTrue(client.connected)
+            client.stop()
+
+    def test_a_look_up_that_hangs_holds_no_stop(self) -> None:
+        may_end = threading.Event()
+        self.addCleanup(may_end.set)
+        with mock.patch("socket.getaddrinfo", side_effect=lambda *_, **__: may_end.wait(WAIT) and []):
+            client = Client("name:1", 1.0)
+            began = time.monotonic()
+            with self.assertRaises(TimeoutError):
+                client.start(0.3)
+            client.close()
+        self.assertLess(time.monotonic() - began, 8.0)
+
+    def test_hosts_can_be_replaced_at_any_time(self) -> None:
+        first, second = self.partner(), self.partner()
+        second.do("create /a second", "create /b", "create /c")
+        client = self.client(first.host)
+        client.set_hosts(second.host)
+        self.assertTrue(client.connected)
+        first.do("down")
+        within(lambda: client.state is not State.CONNECTED)
+        within(lambda: client.connected)
+        self.assertEqual(client.get("/a")[0], b"second")
+        with self.assertRaises(ValueError):
+            client.set_hosts(second.host + "/root")
+        with self.assertRaises(ValueError):
+            client.set_hosts("")
+
+    def test_an_address_of_ipv6(self) -> None:
+        class Peer6:
+            def __init__(self) -> None:
+                self.listener = socket.create_server(("::1", 0), family=socket.AF_INET6)
+
+            def serve(self) -> None:
+                with self.listener.accept()[0] as connection, contextlib.suppress(OSError):
+                    peer = Peer(connection)
+                    peer.admit()
+                    peer.take()
+
+        try:
+            server = Peer6()
+        except OSError:
+            self.skipTest("there is no IPv6")
+        self.addCleanup(server.listener.close)
+        threading.Thread(target=server.serve, daemon=True).start()
+        client = Client(f"[::1]:{server.listener.getsockname()[1]}")
+        self.addCleanup(client.close)
+        client.start(WAIT)
+
+
+class RootTest(PartnerCase):
+    def setUp(self) -> None:
+        self.other: Partner = self.partner()
+        self.other.do("create /app", "create /app/x one", "create /elsewhere")
+        self.client = Client(self.other.host + "/app")
+        self.addCleanup(self.client.close)
+        self.addCleanup(self.client.stop)
+        self.client.start(WAIT)
+
+    def test_calls_and_answers_are_below_the_root(self) -> None:
+        client = self.client
+        self.assertEqual(client.chroot, "/app")
+        self.assertEqual(client.get("/x")[0], b"one")
+        self.assertEqual(client.get_children("/"), ["x"])
+        self.assertEqual(client.create("/y", b""), "/y")
+        self.assertEqual(client.create("/y/n-", b"", sequence=True), "/y/n-0000000000")
+        client.set("/y", b"two")
+        self.assertIsNone(client.exists("/elsewhere"))
+        client.delete("/x")
+        with self.raises(NoNodeError, -101):
+            client.get("/app")
+
+    def test_no_path_leads_out_of_the_root(self) -> None:
+        for path in ("", "x", "/../elsewhere", "/x/", "//x", "/x/../.."):
+            client = self.client
+            calls: list[Callable[[str], object]] = [client.get, client.exists, client.delete, client.kept]
+            for call in calls:
+                with self.subTest(path=path), self.assertRaises(ValueError):
+                    call(path)
+        with self.assertRaises(ValueError):
+            self.client.create("/", b"", sequence=True)
+
+    def test_events_and_kept_answers_are_below_the_root(self) -> None:
+        client, events = self.client, queue.Queue[WatchedEvent]()
+        client.get("/x", watch=events.put)
+        client.get_children("/", watch=events.put)
+        kept, children = client.kept("/x"), client.kept_children("/")
+        assert kept is not None and children is not None
+        self.assertEqual((kept.path, kept.mark, kept.data), ("/x", Mark.GOOD, b"one"))
+        self.assertEqual((children.path, children.names), ("/", ("x",)))
+        self.other.do("set /app/x two")
+        self.assertEqual(events.get(timeout=WAIT), (EventType.CHANGED, State.CONNECTED, "/x"))
+        self.other.do("create /app/y")
+        self.assertEqual(events.get(timeout=WAIT), (EventType.CHILD, State.CONNECTED, "/"))
+        follower = client.follow("/x")
+        self.assertEqual(next(follower).data, b"two")
+        follower.close()
+
+    def test_watches_are_set_again_below_the_root(self) -> None:
+        client, events = self.client, queue.Queue[WatchedEvent]()
+        client.get("/x", watch=events.put)
+        client.exists("/z", watch=events.put)
+        self.other.do("down", "set /app/x two", "create /app/z", "up")
+        told = {events.get(timeout=WAIT), events.get(timeout=WAIT)}
+        expected = {(EventType.CHANGED, "/x"), (EventType.CREATED, "/z")}
+        self.assertEqual({(event.type, event.path) for event in told}, expected)
+
+
+if __name__ == "__main__":
+    unittest.main()
