@@ -1,0 +1,19 @@
+-- From eight failures on the longest pause is the longest of all.
+use Rattle.std.proofs.Common.{◌≡◌, ◌≤◌, ℕ, zero, suc, ◌*◌, ◌^◌, sym, arith}
+use Rattle.std.proofs.Math.Nat.{min-le_left, min-eq_left}
+use Rattle.std.proofs.Math.Pow.{pow_mono}
+use Rattle.zk_dialler.specs.Pauses.{longest_ms}
+
+hundreds : (m n : ℕ) → m ≤ n → 100 * 2 ^ m ≤ 100 * 2 ^ n
+hundreds m n h = let p : 2 ^ m ≤ 2 ^ n = pow_mono h in omega arith
+
+pub longest : (failures most : ℕ) → 8 ≤ failures → most ≤ 10000 → most ≡ longest_ms failures most
+longest zero most h e = absurd (omega arith)
+longest (suc n) most h e =
+    let big : 100 * 2 ^ 7 ≤ 100 * 2 ^ n = hundreds 7 n (omega arith) in
+    let enough : most ≤ 100 * 2 ^ n = omega arith in
+    sym (min-eq_left enough)
+
+pub at_most : (failures most : ℕ) → longest_ms failures most ≤ most
+at_most zero most = omega arith
+at_most (suc n) most = min-le_left most (100 * 2 ^ n)

@@ -1,0 +1,149 @@
+//! When a connection is asked for, at which address, and when an attempt is given up.
+
+ghost use Rattle.std.specs.Prelude.{◌≡◌, Bool, true, false, is_some, IfOk, OnOk, OnErr};
+ghost use Rattle.std.specs.List.Sorted.{IsPermutation};
+ghost use Rattle.zk_dialler.specs.Backoffs.{connected_at, row_ended};
+ghost use Rattle.zk_dialler.specs.Chances.{state_after};
+ghost use Rattle.zk_dialler.specs.Dialling.{first_moment, is_due, Ends, Opens, DialsWell};
+ghost use Rattle.zk_dialler.specs.Orders.{numbers, shuffled};
+
+use crate::backoff::Backoff;
+use crate::chance::Chance;
+use crate::ring::Ring;
+use std::alloc::{AllocError, Allocator, Global};
+
+/// The shortest time that an attempt to connect has, in milliseconds, whatever the timeout.
+const SHORTEST_DIAL_MS: u64 = 1_000;
+
+/// Where the connection is.
+#[derive(Clone, Copy)]
+pub(crate) enum Phase {
+    /// There is none, and the next attempt has its moment.
+    Waiting,
+    /// One is asked for since a moment. At another the attempt is given up.
+    Dialling { began: u64, until: u64 },
+    /// There is one.
+    Open,
+}
+
+/// What is to be done about the connection.
+#[derive(Clone, Copy)]
+pub enum Due {
+    /// Connect to the address at this place of the caller's list. After so many milliseconds the attempt will be given up.
+    Dial { place: usize, within_ms: u64 },
+    /// Give the attempt up.
+    GiveUp,
+}
+
+/// The addresses of the servers, and where the connection is. Moments are milliseconds of one clock; the timeout is that of the session.
+#[derive(Drop)]
+pub struct Dialler<A: Allocator = Global> {
+    ring: Ring<A>,
+    backoff: Backoff,
+    phase: Phase,
+}
+
+impl<A: Allocator> Dialler<A> {
+    /// With so many addresses, by this seed. There is no connection, and the first attempt may be made at once.
+    pub fn new(alloc: A, count: usize, seed: u64) -> Result<Dialler<A>, AllocError>
+        ensures phase { IfOk result (λ dialler. dialler.phase ≡ Phase.Waiting) }
+        ensures order { IfOk result (λ dialler. dialler.ring.order.items ≡ shuffled seed count (numbers count)) }
+        ensures each { IfOk result (λ dialler. IsPermutation (numbers count) dialler.ring.order.items) }
+        ensures first { IfOk result (λ dialler. dialler.ring.next ≡ 0) }
+        ensures backoff { IfOk result (λ dialler. dialler.backoff ≡ record { chance = record { state = state_after count seed }; failures = 0; connected = None; ended = 0; least = 0; moment = 0 }) }
+    {
+        let mut chance = Chance::new(seed);
+        let ring = Ring::new(alloc, count, &mut chance)?;
+        Ok(Dialler {
+            ring,
+            backoff: Backoff::new(chance),
+            phase: Phase::Waiting,
+        })
+    }
+
+    /// Another list, of so many addresses, in a new order by the same chance. A connection or an attempt that is on goes on, and so does the
+    /// row of failures. An error is want of memory, and nothing has changed then.
+    pub fn set_addresses(&mut self, alloc: A, count: usize) -> Result<(), AllocError>
+        ensures order { OnOk result (self.new.ring.order.items ≡ shuffled self.old.backoff.chance.state count (numbers count)) }
+        ensures each { OnOk result (IsPermutation (numbers count) self.new.ring.order.items) }
+        ensures first { OnOk result (self.new.ring.next ≡ 0) }
+        ensures phase { OnOk result (self.new.phase ≡ self.old.phase) }
+        ensures backoff { OnOk result (self.new.backoff ≡ record self.old.backoff { chance = record { state = state_after count self.old.backoff.chance.state } }) }
+        ensures same { OnErr result (self.new ≡ self.old) }
+    {
+        self.ring = Ring::new(alloc, count, &mut self.backoff.chance)?;
+        Ok(())
+    }
+
+    /// What is to be done at this moment: an attempt for a third of the timeout, and for a second at least, or the end of one.
+    pub fn due(&mut self, timeout_ms: u32, now: u64) -> Option<Due>
+        ensures well { DialsWell timeout_ms now self.old self.new result }
+        ensures told { is_some result ≡ is_due now self.old }
+    {
+        match self.phase {
+            Phase::Waiting if self.backoff.moment() <= now => {
+                let place = self.ring.turn()?;
+                let within_ms = u64::from(timeout_ms / 3).max(SHORTEST_DIAL_MS);
+                self.phase = Phase::Dialling {
+                    began: now,
+                    until: now.saturating_add(within_ms),
+                };
+                Some(Due::Dial { place, within_ms })
+            }
+            Phase::Dialling { began, until } if until <= now => {
+                self.backoff.attempt(timeout_ms, began, now);
+                self.phase = Phase::Waiting;
+                Some(Due::GiveUp)
+            }
+            _ => None,
+        }
+    }
+
+    /// The first moment at which something is to be done. There is none while there is a connection, or where there are no addresses.
+    pub fn deadline(&self) -> Option<u64>
+        ensures { result ≡ first_moment self.now }
+    {
+        match self.phase {
+            Phase::Waiting if !self.ring.is_empty() => Some(self.backoff.moment()),
+            Phase::Dialling { until, .. } => Some(until),
+            _ => None,
+        }
+    }
+
+    /// The connection that was asked for is there since this moment. The answer is false where none was asked for, as where the attempt was
+    /// given up before: nothing has changed then, and the caller is to close it.
+    pub fn open(&mut self, timeout_ms: u32, now: u64) -> bool
+        ensures { Opens timeout_ms now self.old self.new result }
+    {
+        let Phase::Dialling { began, .. } = self.phase else {
+            return false;
+        };
+        self.backoff.attempt(timeout_ms, began, now);
+        self.phase = Phase::Open;
+        true
+    }
+
+    /// The attempt has failed, or the connection is over, at this moment.
+    pub fn end(&mut self, timeout_ms: u32, now: u64)
+        ensures { Ends timeout_ms now self.old self.new }
+    {
+        if let Phase::Dialling { began, .. } = self.phase {
+            self.backoff.attempt(timeout_ms, began, now);
+        }
+        self.phase = Phase::Waiting;
+    }
+
+    /// The client is connected at this moment. The row of failures ends where the connection has lived for a third of the timeout.
+    pub fn connected(&mut self, timeout_ms: u32, now: u64)
+        ensures { self.new ≡ record self.old { backoff = connected_at timeout_ms now self.old.backoff } }
+    {
+        self.backoff.connected(timeout_ms, now);
+    }
+
+    /// A server has answered a call, or has told an expiry: the row of failures ends.
+    pub fn answered(&mut self)
+        ensures { self.new ≡ record self.old { backoff = row_ended self.old.backoff } }
+    {
+        self.backoff.end_row();
+    }
+}

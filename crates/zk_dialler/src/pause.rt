@@ -1,0 +1,54 @@
+//! How long the pause before an attempt to connect is.
+
+ghost use Rattle.std.specs.Prelude.{◌≡◌, ◌≤◌, ◌/◌, false};
+ghost use Rattle.zk_dialler.specs.Pauses.{longest_ms, most_ms, pause_ms};
+
+use crate::chance::Chance;
+
+/// The longest pause of all, by whether the client was not connected for longer than the timeout.
+fn most_ms(is_over: bool, timeout_ms: u32) -> u64
+    ensures exact { result ≡ most_ms is_over timeout_ms }
+    ensures most { result ≤ 10000 }
+{
+    if is_over {
+        return 10_000;
+    }
+    u64::from(timeout_ms / 10).min(1_000)
+}
+
+/// The longest pause after so many attempts that failed in a row, by a table.
+#[tactic(auto, using(crate::proofs::PauseLemmas::longest))]
+fn longest_ms(failures: u32, most: u64) -> u64
+    requires { most ≤ 10000 }
+    ensures { result ≡ longest_ms failures most }
+{
+    match failures {
+        0 => 0,
+        1 => most.min(100),
+        2 => most.min(200),
+        3 => most.min(400),
+        4 => most.min(800),
+        5 => most.min(1_600),
+        6 => most.min(3_200),
+        7 => most.min(6_400),
+        _ => most,
+    }
+}
+
+/// The pause before the next attempt, in milliseconds, after so many attempts in a row that have failed. It is by chance between a half of
+/// the longest one and the whole. The longest is none after none, then 100, and from there twice as long after each further one: up to a
+/// second, and to a tenth of the timeout, as long as the session may live, and up to ten seconds where the client was not connected for
+/// longer than the timeout, so that the session is over.
+#[tactic(auto, using(crate::proofs::PauseLemmas::at_most))]
+pub fn pause_after(failures: u32, is_over: bool, timeout_ms: u32, chance: Chance) -> u64
+    ensures exact { result ≡ pause_ms (longest_ms failures (most_ms is_over timeout_ms)) chance.state }
+    ensures least { longest_ms failures (most_ms is_over timeout_ms) / 2 ≤ result }
+    ensures most { result ≤ longest_ms failures (most_ms is_over timeout_ms) }
+    ensures second { is_over ≡ false → result ≤ 1000 }
+    ensures tenth { is_over ≡ false → result ≤ timeout_ms / 10 }
+    ensures slowest { result ≤ 10000 }
+{
+    let longest = longest_ms(failures, most_ms(is_over, timeout_ms));
+    let half = longest / 2;
+    half + chance.below(longest - half + 1)
+}
