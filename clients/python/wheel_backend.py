@@ -14,7 +14,10 @@ import hashlib
 import io
 import os
 import pathlib
+import platform
 import re
+import stat
+import sys
 import tarfile
 import time
 import zipfile
@@ -29,14 +32,26 @@ FIRST_DATE = 315532800  # 1 January 1980, the first that a zip file can tell
 Settings = Optional[Mapping[str, Any]]
 
 
-def _field(name: str) -> str:
-    """The text of a field of [project] in pyproject.toml."""
+def _project() -> str:
+    """The text of [project] in pyproject.toml."""
     text = (HERE / "pyproject.toml").read_text(encoding="utf-8")
-    project = text.split("[project]", 1)[1].split("\n[", 1)[0]
-    found = re.search(rf'^{name} = (?:"([^"]*)"|{{ text = "([^"]*)" }})$', project, re.MULTILINE)
+    return text.split("[project]", 1)[1].split("\n[", 1)[0]
+
+
+def _field(name: str) -> str:
+    """The text of a field of [project]."""
+    found = re.search(rf'^{name} = "([^"]*)"$', _project(), re.MULTILINE)
     if found is None:
         raise ValueError(f"pyproject.toml has no text {name} in [project]")
-    return found[1] or found[2]
+    return found[1]
+
+
+def _list(name: str) -> list[str]:
+    """The texts of a list of [project]."""
+    found = re.search(rf"^{name} = \[(.*?)\]$", _project(), re.MULTILINE | re.DOTALL)
+    if found is None:
+        raise ValueError(f"pyproject.toml has no list {name} in [project]")
+    return re.findall(r'"([^"]*)"', found[1])
 
 
 def _version() -> str:
@@ -62,18 +77,17 @@ def _library() -> bytes:
     return _read(HERE / LIBRARY, PREBUILT / "libdirwolleu.so")
 
 
-def _metadata() -> bytes:
+def metadata() -> bytes:
+    """The metadata of the package, as METADATA of a wheel and PKG-INFO of a source distribution have it."""
     lines = [
-        "Metadata-Version: 2.1",
+        "Metadata-Version: 2.4",
         f"Name: {_field('name')}",
         f"Version: {_version()}",
         f"Summary: {_field('description')}",
-        f"License: {_field('license')}",
+        f"License-Expression: {_field('license')}",
+        *(f"License-File: {file}" for file in _list("license-files")),
         f"Requires-Python: {_field('requires-python')}",
-        "Classifier: Operating System :: POSIX :: Linux",
-        "Classifier: Programming Language :: Python :: 3",
-        "Classifier: Topic :: System :: Distributed Computing",
-        "Classifier: Typing :: Typed",
+        *(f"Classifier: {classifier}" for classifier in _list("classifiers")),
         "Description-Content-Type: text/markdown",
         "",
         (HERE / "README.md").read_text(encoding="utf-8"),
@@ -100,24 +114,36 @@ def _record(files: Mapping[str, bytes], name: str) -> bytes:
     return "".join([*rows, f"{name},,\n"]).encode()
 
 
+def _mode(name: str) -> int:
+    return 0o755 if name.endswith(".so") else 0o644
+
+
 def _write_zip(path: pathlib.Path, files: Mapping[str, bytes]) -> None:
     date = time.gmtime(_date())[:6]
     with zipfile.ZipFile(path, "w", zipfile.ZIP_DEFLATED) as archive:
         for name, data in sorted(files.items()):
             info = zipfile.ZipInfo(name, date)
             info.compress_type = zipfile.ZIP_DEFLATED
-            info.external_attr = (0o755 if name.endswith(".so") else 0o644) << 16
+            info.external_attr = (stat.S_IFREG | _mode(name)) << 16
             archive.writestr(info, data)
+
+
+def _check_machine() -> None:
+    """Fails in words where the library in the wheel can't run."""
+    machine, system = platform.machine(), platform.system()
+    if (machine.lower(), system) not in (("x86_64", "Linux"), ("amd64", "Linux")):
+        sys.exit(f"dirwolleu runs on Linux on x86-64 alone, and this is {system} on {machine}")
 
 
 def build_wheel(wheel_directory: str, config_settings: Settings = None, metadata_directory: Optional[str] = None) -> str:
     """Writes the wheel into the folder, and answers its name (PEP 517)."""
+    _check_machine()
     information = f"dirwolleu-{_version()}.dist-info"
     wheel = f"Wheel-Version: 1.0\nGenerator: wheel_backend of dirwolleu\nRoot-Is-Purelib: false\nTag: {TAG}\n"
     files = {
         **_modules(),
         LIBRARY: _library(),
-        f"{information}/METADATA": _metadata(),
+        f"{information}/METADATA": metadata(),
         f"{information}/WHEEL": wheel.encode(),
         f"{information}/licenses/LICENSE": _license(),
     }
@@ -135,7 +161,7 @@ def build_sdist(sdist_directory: str, config_settings: Settings = None) -> str:
         **_modules(),
         LIBRARY: _library(),
         "LICENSE": _license(),
-        "PKG-INFO": _metadata(),
+        "PKG-INFO": metadata(),
         **{name: (HERE / name).read_bytes() for name in ("README.md", "pyproject.toml", "wheel_backend.py")},
     }
     held = io.BytesIO()
@@ -143,7 +169,7 @@ def build_sdist(sdist_directory: str, config_settings: Settings = None) -> str:
         for name, data in sorted(files.items()):
             info = tarfile.TarInfo(f"{top}/{name}")
             info.size, info.mtime = len(data), _date()
-            info.mode = 0o755 if name.endswith(".so") else 0o644
+            info.mode = _mode(name)
             archive.addfile(info, io.BytesIO(data))
     name = f"{top}.tar.gz"
     with open(pathlib.Path(sdist_directory) / name, "wb") as out:
