@@ -1,17 +1,16 @@
 //! Follows a node: `follow HOST:PORT[,HOST:PORT..] PATH` prints what it holds at first, and at each change, whatever the servers do.
 
 use dirwolleu::{Error, Mark, NoReply, Session};
-use std::{env, net::ToSocketAddrs, time::Duration};
+use std::{env, time::Duration};
 
 fn main() -> Result<(), Box<dyn std::error::Error>> {
     let words: Vec<String> = env::args().skip(1).collect();
     let [hosts, path] = words.as_slice() else {
         return Err("usage: follow HOST:PORT[,HOST:PORT..] PATH".into());
     };
-    let found: Result<Vec<_>, _> = hosts.split(',').map(str::to_socket_addrs).collect();
-    let mut session = Session::open(found?.into_iter().flatten(), Duration::from_secs(10))?;
+    let session = Session::open(hosts, Duration::from_secs(10))?;
     loop {
-        if session.client().data_mark(path)? == Some(Mark::Good) {
+        if session.data_mark(path)? == Some(Mark::Good) {
             session.next_event(None)?;
             continue;
         }

@@ -1,12 +1,11 @@
 //! An election: `docs/COOKBOOK.md` has it in Python.
 
 use dirwolleu::{Code, DataAnswer, Error, Mark, Mode, NoReply, Session};
-use std::{net::ToSocketAddrs, time::Duration};
+use std::time::Duration;
 
 /// Goes on by one call, or until something is told.
-fn go_on(session: &mut Session) -> Result<(), Error> {
-    let saved = session.client().saved()?;
-    let owner = i64::from_be_bytes(saved.as_bytes()[..8].try_into().expect("eight bytes"));
+fn go_on(session: &Session) -> Result<(), Error> {
+    let owner = session.id()?;
     let kept = session
         .peek("/leader")?
         .filter(|kept| kept.mark == Mark::Good);
@@ -16,7 +15,7 @@ fn go_on(session: &mut Session) -> Result<(), Error> {
             if stat.ephemeral_owner == owner {
                 println!(
                     "leads at zxid {} with token {}",
-                    session.client().last_zxid(),
+                    session.last_zxid(),
                     stat.czxid
                 );
             } else {
@@ -33,9 +32,9 @@ fn go_on(session: &mut Session) -> Result<(), Error> {
 }
 
 fn main() -> Result<(), Box<dyn std::error::Error>> {
-    let mut session = Session::open("127.0.0.1:2181".to_socket_addrs()?, Duration::from_secs(10))?;
+    let session = Session::open("127.0.0.1:2181", Duration::from_secs(10))?;
     loop {
-        match go_on(&mut session) {
+        match go_on(&session) {
             Ok(()) | Err(Error::Server(Code::NODE_EXISTS)) => {}
             Err(Error::NoReply(NoReply::SessionExpired)) => session.renew()?,
             Err(fault) if fault.is_passing() => {}

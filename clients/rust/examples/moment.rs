@@ -1,20 +1,21 @@
 //! Several nodes, and the names below another, of one moment: `docs/COOKBOOK.md` has it in Python.
 
-use dirwolleu::{DataAnswer, Error, Kept, Mark, NoReply, Session, Watch};
-use std::{net::ToSocketAddrs, time::Duration};
+use dirwolleu::{DataAnswer, Error, Fault, Kept, Mark, NoReply, Session, View};
+use std::time::Duration;
 
-fn read_what_is_not_good(session: &mut Session) -> Result<(), Error> {
+fn read_what_is_not_good(session: &Session) -> Result<(), Error> {
     for node in ["/host", "/port"] {
-        if session.client().data_mark(node)? != Some(Mark::Good) {
+        if session.data_mark(node)? != Some(Mark::Good) {
             session.watch(node)?;
         }
     }
-    if session.client().children_mark("/workers")? != Some(Mark::Good) {
-        session.children("/workers", Watch::Yes)?;
+    if session.children_mark("/workers")? != Some(Mark::Good) {
+        session.watch_children("/workers")?;
     }
     Ok(())
 }
 
+/// The data as text, where what is kept is good.
 fn text(kept: Option<Kept<DataAnswer>>) -> Option<String> {
     match kept? {
         Kept {
@@ -25,27 +26,31 @@ fn text(kept: Option<Kept<DataAnswer>>) -> Option<String> {
     }
 }
 
+/// What is good of one zxid, in words. None where there is something that is not.
+fn moment(view: View<'_>) -> Result<Option<String>, Fault> {
+    let (host, port) = (text(view.peek("/host")?), text(view.peek("/port")?));
+    let workers = view.peek_children("/workers")?;
+    let workers = workers.filter(|kept| kept.mark == Mark::Good);
+    let (Some(host), Some(port), Some(workers)) = (host, port, workers) else {
+        return Ok(None);
+    };
+    let names = workers.answer.names;
+    let zxid = view.last_zxid();
+    Ok(Some(format!("{host} {port} {names:?} at zxid {zxid}")))
+}
+
 fn main() -> Result<(), Box<dyn std::error::Error>> {
-    let mut session = Session::open("127.0.0.1:2181".to_socket_addrs()?, Duration::from_secs(10))?;
+    let session = Session::open("127.0.0.1:2181", Duration::from_secs(10))?;
     loop {
-        match read_what_is_not_good(&mut session) {
+        match read_what_is_not_good(&session) {
             Ok(()) => {}
             Err(Error::NoReply(NoReply::SessionExpired)) => session.renew()?,
             Err(fault) if fault.is_passing() => continue,
             Err(fault) => return Err(fault.into()),
         }
-        // nothing happens between look-ups, so what is good is of one zxid
-        let (host, port) = (text(session.peek("/host")?), text(session.peek("/port")?));
-        let workers = session
-            .peek_children("/workers")?
-            .filter(|kept| kept.mark == Mark::Good);
-        if let (Some(host), Some(port), Some(workers)) = (host, port, workers) {
-            println!(
-                "{host} {port} {:?} at zxid {}",
-                workers.answer.names,
-                session.client().last_zxid()
-            );
-            session.next_event(None)?;
+        if let Some(words) = session.view(moment)? {
+            println!("{words}");
         }
+        session.next_event(None)?;
     }
 }

@@ -1,10 +1,10 @@
 //! A queue: `docs/COOKBOOK.md` has it in Python.
 
-use dirwolleu::{Code, Error, Mode, NoReply, Session, Watch, ANY_VERSION};
-use std::{net::ToSocketAddrs, process, time::Duration};
+use dirwolleu::{Code, Error, Mode, NoReply, Session, ANY_VERSION};
+use std::{process, time::Duration};
 
 /// Adds an item, of a tag that no other item has.
-fn put(session: &mut Session, tag: &str, data: &[u8]) -> Result<(), Error> {
+fn put(session: &Session, tag: &str, data: &[u8]) -> Result<(), Error> {
     while let Err(fault) =
         session.create(&format!("/queue/{tag}-"), data, Mode::PersistentSequential)
     {
@@ -12,7 +12,7 @@ fn put(session: &mut Session, tag: &str, data: &[u8]) -> Result<(), Error> {
             return Err(fault);
         }
     }
-    let (mut names, _) = session.children("/queue", Watch::No)?;
+    let (mut names, _) = session.children("/queue")?;
     names.retain(|name| name.starts_with(tag));
     names.sort();
     for name in names.iter().skip(1) {
@@ -22,12 +22,12 @@ fn put(session: &mut Session, tag: &str, data: &[u8]) -> Result<(), Error> {
 }
 
 /// Does the work of the first item, and deletes it. Whether there was one.
-fn take(session: &mut Session, work: fn(&[u8])) -> Result<bool, Error> {
-    let (mut names, _) = session.children("/queue", Watch::No)?;
+fn take(session: &Session, work: fn(&[u8])) -> Result<bool, Error> {
+    let (mut names, _) = session.children("/queue")?;
     names.sort_by_key(|name| name[name.len().saturating_sub(10)..].to_owned());
     for name in names {
         let path = format!("/queue/{name}");
-        match session.get(&path, Watch::No) {
+        match session.get(&path) {
             Err(Error::Server(Code::NO_NODE)) => continue, // another consumer was faster
             node => work(&node?.data.unwrap_or_default()),
         }
@@ -38,16 +38,16 @@ fn take(session: &mut Session, work: fn(&[u8])) -> Result<bool, Error> {
 }
 
 fn main() -> Result<(), Box<dyn std::error::Error>> {
-    let mut session = Session::open("127.0.0.1:2181".to_socket_addrs()?, Duration::from_secs(10))?;
+    let session = Session::open("127.0.0.1:2181", Duration::from_secs(10))?;
     for data in ["first", "second"] {
         put(
-            &mut session,
+            &session,
             &format!("{}-{data}", process::id()),
             data.as_bytes(),
         )?;
     }
-    while take(&mut session, |data| {
-        println!("took {}", String::from_utf8_lossy(data))
+    while take(&session, |data| {
+        println!("took {}", String::from_utf8_lossy(data));
     })? {}
     session.close()?;
     Ok(())

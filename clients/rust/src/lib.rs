@@ -3,38 +3,71 @@
 //! the call that has waited longest, and once a session has expired or is closed nothing is kept. What this rests on is in the
 //! header of the core, `include/dirwolleu.h`.
 //!
-//! There are two ways to use it:
+//! There are three ways to use it:
 //!
-//! - [`Session`] is a session over TCP: it dials, pings and reconnects, and its calls wait for their answers.
-//! - [`Client`] is the core itself, a machine without socket and clock, for a loop of your own: many calls at once, an event loop, TLS.
+//! - [`Session`] is a session that a thread of its own keeps alive. Its calls wait for their answers, or give a [`Ticket`], which is a
+//!   future too. [`SessionOptions`] opens one otherwise than usual.
+//! - [`LocalSession`] is the same without a thread, for a loop of your own.
+//! - [`Client`] is the core itself, a machine without socket and clock, for an event loop.
+//!
+//! **Proved** is the core: what each function of its header says. **Tested** is all that is above it, in this crate: connections,
+//! pauses, tickets, retries, chroots, hosts.
 //!
 //! The core takes its memory by `malloc`. Use no client in the forked child of a process with threads.
 #![deny(missing_docs, unsafe_op_in_unsafe_fn, unsafe_code)]
+#![warn(clippy::pedantic)]
+// Functions that fail alike are in one group, whose comment says how.
+#![allow(clippy::missing_errors_doc)]
+// A look-up whose value is dropped does no harm, and an attribute at each would hide those where one matters.
+#![allow(clippy::must_use_candidate)]
 
+mod both;
+mod calls;
+mod chroot;
 mod client;
+mod engine;
 mod fault;
 #[allow(unsafe_code)]
 mod ffi;
+mod follow;
+mod hosts;
+mod keeper;
 mod kept;
+mod local;
 mod moment;
 mod node;
+mod options;
 mod output;
 mod pauses;
 mod refusals;
+mod request;
+mod retry;
 mod saved;
 mod session;
+mod stream;
+mod ticket;
 mod told;
+mod view;
 mod waiting;
 
 pub use client::{Client, State};
 pub use fault::{Code, Error, Fault, NoReply};
+pub use follow::Follow;
+pub use hosts::{Hosts, HostsFault};
 pub use kept::{Children, DataAnswer, Kept, Mark};
+pub use local::LocalSession;
 pub use moment::{Clock, Moment};
 pub use node::{DataStat, Mode, Node, NodeEvent, Side, Stat, Watch, ANY_VERSION};
+pub use options::{OpenError, SessionOptions};
 pub use output::{Brought, Bytes, Cause, GivenUp, Names, Output, Outputs, Reply, Text};
+pub use request::Request;
+pub use retry::Retry;
 pub use saved::SavedSession;
-pub use session::Session;
+pub use session::{Session, SharedSession};
+pub use stream::{Connection, Dial, Incoming, Outgoing, Server, Tcp};
+pub use ticket::Ticket;
 pub use told::Event;
+pub use view::View;
 
 /// The lines of the page, as a test that they compile.
 #[cfg(doctest)]

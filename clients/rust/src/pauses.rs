@@ -1,8 +1,7 @@
 //! When a session dials, and for how long.
 
+use crate::hosts::chance;
 use crate::moment::Moment;
-use std::collections::hash_map::RandomState;
-use std::hash::{BuildHasher, Hasher};
 use std::time::Duration;
 
 /// The longest pause after the first attempt of a row that has failed. It is twice as long after each further one.
@@ -25,13 +24,8 @@ pub(crate) fn longest_dial(timeout: Duration) -> Duration {
     (timeout / 3).max(SHORTEST_DIAL)
 }
 
-/// A random number.
-fn chance() -> u64 {
-    RandomState::new().build_hasher().finish()
-}
-
 /// By chance between a half of this duration and the whole, in milliseconds.
-fn spread(longest: Duration, chance: u64) -> Duration {
+pub(crate) fn spread(longest: Duration, chance: u64) -> Duration {
     let whole = u64::try_from(longest.as_millis()).unwrap_or(u64::MAX);
     let half = whole / 2;
     Duration::from_millis(half + chance % (whole - half + 1))

@@ -17,6 +17,13 @@ impl SavedSession {
         SavedSession { bytes }
     }
 
+    /// The number of the session, which its ephemeral nodes have as their owner: 0 before a server has admitted it. None where the bytes
+    /// are no session.
+    pub fn id(&self) -> Option<i64> {
+        let number = self.bytes.get(..8)?.try_into().ok()?;
+        Some(i64::from_be_bytes(number))
+    }
+
     /// Its bytes: a secret.
     pub fn as_bytes(&self) -> &[u8] {
         &self.bytes

@@ -1,5 +1,6 @@
-//! What the client of a session has said, until the session's caller takes it.
+//! What the client of a session has said, until it is taken.
 
+use crate::chroot::Chroot;
 use crate::client::State;
 use crate::fault::{Error, NoReply};
 use crate::node::{NodeEvent, Side, Stat};
@@ -37,7 +38,7 @@ pub enum Event {
 }
 
 /// What a reply brings. What its call does not ask for is empty.
-#[derive(Default)]
+#[derive(Debug, Default)]
 pub(crate) struct Found {
     pub(crate) data: Option<Vec<u8>>,
     pub(crate) path: String,
@@ -45,20 +46,23 @@ pub(crate) struct Found {
     pub(crate) stat: Stat,
 }
 
+/// How a call ends.
+pub(crate) type Outcome = Result<Found, Error>;
+
 /// What a client has said.
 #[derive(Default)]
 pub(crate) struct Told {
     /// What goes to the server.
     pub(crate) frames: Vec<u8>,
-    /// The answer to the call that was asked last, once it is there.
-    pub(crate) answer: Option<Result<Found, Error>>,
+    /// The answers to calls, by their tickets.
+    pub(crate) answers: Vec<(u64, Outcome)>,
     /// Whether the connection is over.
     pub(crate) is_over: bool,
     /// What was told of the server since this was taken.
     pub(crate) news: News,
+    chroot: Chroot,
     events: VecDeque<Event>,
     missed: u64,
-    ticket: u64,
 }
 
 /// What servers do.
@@ -73,7 +77,7 @@ pub(crate) struct News {
 }
 
 impl Found {
-    fn of(brought: &Brought<'_>) -> Found {
+    fn of(brought: &Brought<'_>, chroot: &Chroot) -> Found {
         let mut found = Found::default();
         match brought {
             Brought::Stat(stat) => found.stat = *stat,
@@ -85,7 +89,7 @@ impl Found {
                 found.names = names.iter().collect();
                 found.stat = *stat;
             }
-            Brought::Created(path) => found.path = String::from(*path),
+            Brought::Created(path) => found.path = chroot.inner(String::from(*path)),
             Brought::Done => {}
         }
         found
@@ -93,12 +97,12 @@ impl Found {
 }
 
 /// The answer to a call, out of the library.
-fn answer_of(outcome: Result<Reply<'_>, NoReply>) -> Result<Found, Error> {
+fn answer_of(outcome: Result<Reply<'_>, NoReply>, chroot: &Chroot) -> Outcome {
     let brought = outcome?.result?;
-    Ok(Found::of(&brought))
+    Ok(Found::of(&brought, chroot))
 }
 
-/// The event of a connection that is given up. Where there is no memory for the words, it has its code instead.
+/// The event of a connection that is given up. Where there is no memory for the words, its code is there in their place.
 fn dropped(given_up: &GivenUp<'_>) -> Event {
     let words = given_up.words();
     Event::Dropped {
@@ -108,11 +112,12 @@ fn dropped(given_up: &GivenUp<'_>) -> Event {
 }
 
 impl Told {
-    /// The ticket of a call that is about to be asked. Its answer is the one that is awaited from now on.
-    pub(crate) fn await_answer(&mut self) -> u64 {
-        self.ticket += 1;
-        self.answer = None;
-        self.ticket
+    /// For a session whose nodes are below this path.
+    pub(crate) fn below(chroot: Chroot) -> Told {
+        Told {
+            chroot,
+            ..Told::default()
+        }
     }
 
     /// Takes what a client says.
@@ -121,13 +126,13 @@ impl Told {
             self.is_over |= output.ends_connection();
             match output {
                 Output::Send(frame) => frame.append_to(&mut self.frames),
-                Output::Answer { ticket, outcome } if ticket == self.ticket => {
+                Output::Answer { ticket, outcome } => {
                     self.news.is_answered |= outcome.is_ok();
-                    self.answer = Some(answer_of(outcome));
+                    self.answers
+                        .push((ticket, answer_of(outcome, &self.chroot)));
                 }
-                Output::Answer { .. } => {}
                 Output::Report { path, side, event } => {
-                    let path = String::from(path);
+                    let path = self.chroot.inner(String::from(path));
                     self.tell(Event::Report { path, side, event });
                 }
                 Output::State(state) => self.tell_state(state),
@@ -143,12 +148,17 @@ impl Told {
     }
 
     /// Keeps an event for the caller. Where there are too many, the first one is lost.
-    fn tell(&mut self, event: Event) {
+    pub(crate) fn tell(&mut self, event: Event) {
         if self.events.len() == MOST_EVENTS {
             self.events.pop_front();
             self.missed += 1;
         }
         self.events.push_back(event);
+    }
+
+    /// Whether an event waits for the caller.
+    pub(crate) fn has_event(&self) -> bool {
+        self.missed > 0 || !self.events.is_empty()
     }
 
     /// The next event for the caller.

@@ -1,7 +1,7 @@
 //! What waits for a server's answer on a connection, and since when.
 
 use crate::moment::Moment;
-use std::collections::VecDeque;
+use std::collections::{BTreeMap, VecDeque};
 use std::time::Duration;
 
 /// The xid of a ping and of its answer.
@@ -56,7 +56,7 @@ impl Pings {
 #[derive(Debug, Default)]
 pub(crate) struct Waiting {
     admission: Option<Moment>,
-    call: Option<Moment>,
+    calls: BTreeMap<u64, Moment>,
     pings: VecDeque<Moment>,
     sent: Pings,
     came: Pings,
@@ -76,14 +76,14 @@ impl Waiting {
         self.admission = None;
     }
 
-    /// A call is asked.
-    pub(crate) fn asks(&mut self, now: Moment) {
-        self.call = Some(now);
+    /// The call of this ticket is asked. Tickets rise from call to call.
+    pub(crate) fn asks(&mut self, now: Moment, ticket: u64) {
+        self.calls.insert(ticket, now);
     }
 
-    /// The call is answered.
-    pub(crate) fn is_answered(&mut self) {
-        self.call = None;
+    /// The call of this ticket is answered.
+    pub(crate) fn is_answered(&mut self, ticket: u64) {
+        self.calls.remove(&ticket);
     }
 
     /// Frames go to the server.
@@ -103,11 +103,8 @@ impl Waiting {
         let admission = self
             .admission
             .map(|since| since.saturating_add(asked * 2 / 3));
-        let oldest = self
-            .call
-            .into_iter()
-            .chain(self.pings.front().copied())
-            .min();
+        let call = self.calls.values().next();
+        let oldest = call.into_iter().chain(self.pings.front()).min();
         let answer = oldest.map(|since| since.saturating_add(granted * 2 / 3));
         admission.into_iter().chain(answer).min()
     }
@@ -152,14 +149,17 @@ mod tests {
         waiting.is_admitted();
         assert_eq!(end(&waiting), None);
         waiting.sends(Moment::from_millis(2_000), &PING);
-        waiting.asks(Moment::from_millis(2_500));
+        waiting.asks(Moment::from_millis(2_500), 1);
+        waiting.asks(Moment::from_millis(2_600), 2);
         waiting.sends(Moment::from_millis(3_000), &PING);
         assert_eq!(end(&waiting), Some(4_000));
         waiting.hears(&header(-1));
         assert_eq!(end(&waiting), Some(4_000), "a notice is no answer");
         waiting.hears(&header(-2));
         assert_eq!(end(&waiting), Some(4_500));
-        waiting.is_answered();
+        waiting.is_answered(1);
+        assert_eq!(end(&waiting), Some(4_600));
+        waiting.is_answered(2);
         assert_eq!(end(&waiting), Some(5_000));
         waiting.hears(&[header(-2), header(-2)].concat());
         assert_eq!(end(&waiting), None);

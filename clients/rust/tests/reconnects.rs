@@ -4,7 +4,7 @@ mod example;
 mod jute;
 mod partner;
 
-use dirwolleu::{Code, Error, Event, Mark, NoReply, Session, State, Watch};
+use dirwolleu::{Code, Error, Event, LocalSession, Mark, NoReply, Request, State};
 use jute::{EXISTS, GET_DATA, NOTICE, PING, PONG};
 use partner::{Line, Partner};
 use std::io::{BufRead, BufReader};
@@ -19,12 +19,12 @@ fn millis(count: u64) -> Duration {
     Duration::from_millis(count)
 }
 
-fn session_at(partner: &Partner, timeout: Duration) -> Session {
-    Session::open([partner.address], timeout).unwrap()
+fn session_at(partner: &Partner, timeout: Duration) -> LocalSession {
+    LocalSession::open([partner.address], timeout).unwrap()
 }
 
 /// Goes on for so long.
-fn go_on(session: &mut Session, time: Duration) {
+fn go_on(session: &mut LocalSession, time: Duration) {
     let until = Instant::now() + time;
     while session.next_event(Some(until)).unwrap().is_some() {}
 }
@@ -58,7 +58,7 @@ fn a_session_that_may_live_is_not_left_alone_for_long() {
         }
     });
     let mut session = session_at(&partner, millis(6_000));
-    session.exists("/", Watch::No).unwrap();
+    session.exists("/").unwrap();
     go_on(&mut session, millis(5_000));
     let dials: Vec<Instant> = (0..7).map(|_| partner.dial()).collect();
     for pair in dials[1..].windows(2) {
@@ -89,7 +89,7 @@ fn an_answer_is_no_reason_to_dial_at_once() {
     let mut session = session_at(&partner, millis(10_000));
     let until = Instant::now() + millis(3_000);
     while Instant::now() < until {
-        let _ = session.exists("/", Watch::No);
+        let _ = session.exists("/");
     }
     let dials = partner.dials();
     assert!((4..=10).contains(&dials), "{dials} attempts in 3 seconds");
@@ -97,18 +97,19 @@ fn an_answer_is_no_reason_to_dial_at_once() {
 
 #[test]
 fn a_timeout_of_a_millisecond_does_not_lock_the_client_out() {
-    let partner = Partner::start(|number, mut line| match number {
-        0 => drop(line.admit(1)),
-        _ => {
-            line.frame();
-            sleep(millis(200));
-            line.send(&jute::Record::accepted(10_000, 0x1234));
-            serve_well(line);
+    let partner = Partner::start(|number, mut line| {
+        if number == 0 {
+            line.admit(1);
+            return;
         }
+        line.frame();
+        sleep(millis(200));
+        line.send(&jute::Record::accepted(10_000, 0x1234));
+        serve_well(line);
     });
     let mut session = session_at(&partner, millis(10_000));
     let until = Instant::now() + millis(10_000);
-    while session.exists("/", Watch::No).is_err() {
+    while session.exists("/").is_err() {
         assert!(Instant::now() < until, "the client is locked out");
     }
 }
@@ -126,8 +127,8 @@ fn a_program_that_was_stopped_keeps_a_server_that_has_sent_something() {
     let mut session = session_at(&partner, millis(3_000));
     session.watch("/a").unwrap();
     sleep(millis(2_300));
-    assert!(session.exists("/", Watch::No).unwrap().is_some());
-    let mark = session.client().data_mark("/a");
+    assert!(session.exists("/").unwrap().is_some());
+    let mark = session.data_mark("/a");
     assert_eq!(mark, Ok(Some(Mark::Stale)));
     assert_eq!(partner.dials(), 1, "the connection goes on");
 }
@@ -144,9 +145,9 @@ fn events_that_nobody_takes_are_bounded() {
     });
     let mut session = session_at(&partner, millis(10_000));
     for _ in 0..CHANGES {
-        session.get("/a", Watch::Yes).unwrap();
+        session.call(Request::get("/a").watched()).unwrap();
     }
-    session.exists("/", Watch::No).unwrap();
+    session.exists("/").unwrap();
     let missed = session.next_event(None).unwrap();
     let most = 1_024;
     assert_eq!(missed, Some(Event::Missed(CHANGES + 2 - most))); // Connecting and Connected are events too
@@ -252,7 +253,7 @@ fn a_call_that_is_not_answered_is_lost_whatever_else_comes() {
     });
     let mut session = session_at(&partner, millis(1_500));
     let begun = Instant::now();
-    let lost = session.exists("/", Watch::No);
+    let lost = session.exists("/");
     let took = begun.elapsed();
     assert_eq!(lost, Err(Error::NoReply(NoReply::ConnectionLoss)));
     assert!(

@@ -4,8 +4,8 @@ mod example;
 mod server;
 
 use dirwolleu::{
-    Cause, Code, DataAnswer, Error, Event, Fault, Mark, Mode, NoReply, NodeEvent, Session, Side,
-    State, Watch, ANY_VERSION,
+    Cause, Code, DataAnswer, Error, Event, Fault, Mark, Mode, NoReply, NodeEvent, Request, Session,
+    SessionOptions, Side, State, ANY_VERSION,
 };
 use server::Server;
 use std::io::{BufRead, BufReader};
@@ -22,7 +22,7 @@ fn session_at(server: &Server, timeout_ms: u64) -> Session {
 }
 
 /// The first event of this kind. Those before it are skipped.
-fn wait_for(session: &mut Session, is_awaited: impl Fn(&Event) -> bool) -> Event {
+fn wait_for(session: &Session, is_awaited: impl Fn(&Event) -> bool) -> Event {
     let until = Instant::now() + PATIENCE;
     loop {
         let event = session.next_event(Some(until)).unwrap();
@@ -33,7 +33,7 @@ fn wait_for(session: &mut Session, is_awaited: impl Fn(&Event) -> bool) -> Event
     }
 }
 
-fn wait_for_state(session: &mut Session, state: State) {
+fn wait_for_state(session: &Session, state: State) {
     wait_for(session, |event| *event == Event::State(state));
 }
 
@@ -52,15 +52,15 @@ fn kept(session: &Session, path: &str) -> Option<(Vec<u8>, Mark)> {
 }
 
 /// Each call, as the Programmer's Guide has it, and the errors of the server.
-fn try_calls(mut session: Session) {
+fn try_calls(session: Session) {
     let server = |code| Err(Error::Server(code));
-    assert_eq!(session.get("/a", Watch::No), server(Code::NO_NODE));
-    assert_eq!(session.exists("/a", Watch::No), Ok(None));
+    assert_eq!(session.get("/a"), server(Code::NO_NODE));
+    assert_eq!(session.exists("/a"), Ok(None));
     let made = session.create("/a", b"one", Mode::Persistent);
     assert_eq!(made.as_deref(), Ok("/a"));
     let again = session.create("/a", b"two", Mode::Persistent);
     assert_eq!(again, Err(Error::Server(Code::NODE_EXISTS)));
-    let node = session.get("/a", Watch::No).unwrap();
+    let node = session.get("/a").unwrap();
     assert_eq!(node.data.as_deref(), Some(b"one".as_slice()));
     assert_eq!((node.stat.version, node.stat.data_length), (0, 3));
     assert_eq!(session.set("/a", b"three", 0).unwrap().version, 1);
@@ -70,11 +70,11 @@ fn try_calls(mut session: Session) {
         .create("/a/s-", b"", Mode::EphemeralSequential)
         .unwrap();
     assert_eq!(first, "/a/s-0000000000");
-    let stat = session.exists(&first, Watch::No).unwrap().unwrap();
+    let stat = session.exists(&first).unwrap().unwrap();
     assert_ne!(stat.ephemeral_owner, 0);
     let below = session.create(&format!("{first}/b"), b"", Mode::Persistent);
     assert_eq!(below, Err(Error::Server(Code::NO_CHILDREN_FOR_EPHEMERALS)));
-    let (names, stat) = session.children("/a", Watch::No).unwrap();
+    let (names, stat) = session.children("/a").unwrap();
     assert_eq!(
         (names.as_slice(), stat.num_children),
         (["s-0000000000".to_string()].as_slice(), 1)
@@ -85,7 +85,7 @@ fn try_calls(mut session: Session) {
     );
     assert_eq!(session.delete(&first, 0), Ok(()));
     assert_eq!(session.delete("/a", ANY_VERSION), Ok(()));
-    let no_path = session.get("a", Watch::No);
+    let no_path = session.get("a");
     assert_eq!(no_path, Err(Error::Fault(Fault::NotPath)));
     let large = session.set("/a", &vec![0; 1 << 20], ANY_VERSION);
     assert_eq!(large, Err(Error::NoReply(NoReply::TooLarge)));
@@ -118,19 +118,19 @@ fn a_change_is_reported() {
         return;
     };
     server.tell("create /a one");
-    let mut session = session_at(&server, 10_000);
+    let session = session_at(&server, 10_000);
     session.watch("/a").unwrap().expect("there is a node");
     assert_eq!(kept(&session, "/a"), Some((b"one".to_vec(), Mark::Good)));
-    session.children("/a", Watch::Yes).unwrap();
+    session.watch_children("/a").unwrap();
     server.tell("set /a two");
     let changed = report("/a", Side::Data, NodeEvent::DataChanged);
-    wait_for(&mut session, |event| *event == changed);
+    wait_for(&session, |event| *event == changed);
     assert_eq!(kept(&session, "/a"), Some((b"one".to_vec(), Mark::Stale)));
-    session.get("/a", Watch::Yes).unwrap();
+    session.call(Request::get("/a").watched()).unwrap();
     assert_eq!(kept(&session, "/a"), Some((b"two".to_vec(), Mark::Good)));
     server.tell("create /a/b x");
     let more = report("/a", Side::Children, NodeEvent::ChildrenChanged);
-    wait_for(&mut session, |event| *event == more);
+    wait_for(&session, |event| *event == more);
     let names = session.peek_children("/a").unwrap().unwrap();
     assert_eq!((names.answer.names.len(), names.mark), (0, Mark::Stale));
     session.forget_stale();
@@ -143,7 +143,7 @@ fn a_node_that_is_not_there_is_watched() {
     let Some(mut server) = Server::start(&[]) else {
         return;
     };
-    let mut session = session_at(&server, 10_000);
+    let session = session_at(&server, 10_000);
     assert_eq!(session.watch("/a"), Ok(None));
     let absent = session.peek("/a").unwrap().unwrap();
     assert_eq!(
@@ -152,7 +152,7 @@ fn a_node_that_is_not_there_is_watched() {
     );
     server.tell("create /a one");
     let made = report("/a", Side::Data, NodeEvent::Created);
-    wait_for(&mut session, |event| *event == made);
+    wait_for(&session, |event| *event == made);
 }
 
 #[test]
@@ -160,8 +160,8 @@ fn no_event_is_no_wait() {
     let Some(server) = Server::start(&[]) else {
         return;
     };
-    let mut session = session_at(&server, 10_000);
-    session.exists("/", Watch::No).unwrap();
+    let session = session_at(&server, 10_000);
+    session.exists("/").unwrap();
     while session.next_event(Some(Instant::now())).unwrap().is_some() {}
     let begun = Instant::now();
     let until = begun + Duration::from_millis(50);
@@ -177,16 +177,16 @@ fn a_connection_that_is_dropped_begins_again() {
     for node in ["create /a one", "create /b one"] {
         server.tell(node);
     }
-    let mut session = session_at(&server, 10_000);
+    let session = session_at(&server, 10_000);
     session.watch("/a").unwrap();
     session.watch("/b").unwrap();
     server.tell("drop");
     server.tell("set /a two");
-    wait_for_state(&mut session, State::Idle);
+    wait_for_state(&session, State::Idle);
     assert_eq!(kept(&session, "/a"), Some((b"one".to_vec(), Mark::Good)));
-    wait_for_state(&mut session, State::Connected);
+    wait_for_state(&session, State::Connected);
     let changed = report("/a", Side::Data, NodeEvent::DataChanged);
-    wait_for(&mut session, |event| *event == changed);
+    wait_for(&session, |event| *event == changed);
     assert_eq!(kept(&session, "/b"), Some((b"one".to_vec(), Mark::Good)));
     let node = session.watch("/a").unwrap().unwrap();
     assert_eq!(node.data.as_deref(), Some(b"two".as_slice()));
@@ -203,11 +203,14 @@ fn a_silent_server_is_left_after_two_thirds_of_the_timeout() {
     other.tell("create /ahead x");
     other.tell("set /ahead y");
     let timeout = Duration::from_millis(1_500);
-    let mut session = Session::open([silent.address, other.address], timeout).unwrap();
-    session.exists("/", Watch::No).unwrap();
+    let session = SessionOptions::new(timeout)
+        .shuffles(false)
+        .open([silent.address, other.address])
+        .unwrap();
+    session.exists("/").unwrap();
     let heard = Instant::now();
     silent.tell("mute");
-    wait_for(&mut session, |event| {
+    wait_for(&session, |event| {
         matches!(
             event,
             Event::Dropped {
@@ -222,7 +225,7 @@ fn a_silent_server_is_left_after_two_thirds_of_the_timeout() {
         "{:?}",
         heard.elapsed()
     );
-    wait_for_state(&mut session, State::Expired); // the other one has never heard of the session
+    wait_for_state(&session, State::Expired); // the other one has never heard of the session
 }
 
 #[test]
@@ -230,15 +233,15 @@ fn a_call_is_lost_with_its_connection() {
     let Some(mut server) = Server::start(&[]) else {
         return;
     };
-    let mut session = session_at(&server, 1_500);
-    session.exists("/", Watch::No).unwrap();
+    let session = session_at(&server, 1_500);
+    session.exists("/").unwrap();
     server.tell("mute");
-    let lost = session.exists("/", Watch::No);
+    let lost = session.exists("/");
     assert_eq!(lost, Err(Error::NoReply(NoReply::ConnectionLoss)));
-    let nobody = session.exists("/", Watch::No);
+    let nobody = session.exists("/");
     assert_eq!(nobody, Err(Error::NoReply(NoReply::NotConnected)));
     server.tell("unmute");
-    wait_for_state(&mut session, State::Connected);
+    wait_for_state(&session, State::Connected);
 }
 
 #[test]
@@ -246,7 +249,7 @@ fn an_idle_session_goes_on_by_pings() {
     let Some(server) = Server::start(&[]) else {
         return;
     };
-    let mut session = session_at(&server, 3_000);
+    let session = session_at(&server, 3_000);
     session.watch("/").unwrap();
     while session.next_event(Some(Instant::now())).unwrap().is_some() {}
     let until = Instant::now() + Duration::from_millis(2_500);
@@ -260,19 +263,19 @@ fn an_expired_session_is_renewed() {
         return;
     };
     server.tell("create /a one");
-    let mut session = session_at(&server, 10_000);
+    let session = session_at(&server, 10_000);
     session.watch("/a").unwrap();
     session.create("/mine", b"", Mode::Ephemeral).unwrap();
     server.tell("expire");
-    wait_for_state(&mut session, State::Expired);
+    wait_for_state(&session, State::Expired);
     assert_eq!(session.next_event(None), Ok(None));
     assert_eq!(session.peek("/a").unwrap(), None);
-    let expired = session.get("/a", Watch::No);
+    let expired = session.get("/a");
     assert_eq!(expired, Err(Error::NoReply(NoReply::SessionExpired)));
-    let seen = session.client().last_zxid();
+    let seen = session.last_zxid();
     session.renew().unwrap();
-    assert_eq!(session.exists("/mine", Watch::No), Ok(None));
-    assert!(session.client().last_zxid() >= seen);
+    assert_eq!(session.exists("/mine"), Ok(None));
+    assert!(session.last_zxid() >= seen);
 }
 
 #[test]
@@ -280,22 +283,25 @@ fn a_session_is_taken_up_by_another() {
     let Some(server) = Server::start(&[]) else {
         return;
     };
-    let mut first = session_at(&server, 10_000);
+    let first = session_at(&server, 10_000);
     first.create("/mine", b"", Mode::Ephemeral).unwrap();
-    let saved = first.client().saved().unwrap();
+    let saved = first.saved().unwrap();
     drop(first);
     let timeout = Duration::from_secs(10);
-    let mut second = Session::resume([server.address], timeout, &saved).unwrap();
-    assert!(second.exists("/mine", Watch::No).unwrap().is_some());
+    let second = SessionOptions::new(timeout)
+        .resume(&saved)
+        .open(server.address)
+        .unwrap();
+    assert!(second.exists("/mine").unwrap().is_some());
     second.close().unwrap();
-    let mut third = session_at(&server, 10_000);
-    assert_eq!(third.exists("/mine", Watch::No), Ok(None));
+    let third = session_at(&server, 10_000);
+    assert_eq!(third.exists("/mine"), Ok(None));
 }
 
 #[test]
 fn nobody_answers_where_there_is_no_server() {
-    let mut session = Session::open([], Duration::from_millis(100)).unwrap();
-    let nobody = session.get("/a", Watch::No);
+    let session = Session::open([], Duration::from_millis(100)).unwrap();
+    let nobody = session.get("/a");
     assert_eq!(nobody, Err(Error::NoReply(NoReply::NotConnected)));
 }
 
@@ -304,11 +310,11 @@ fn try_hostile(seed: &str) {
     let Some(server) = Server::start(&["--hostile", seed]) else {
         return;
     };
-    let mut session = session_at(&server, 100);
-    for _ in 0..4 {
+    let session = session_at(&server, 100);
+    for _ in 0..2 {
         let begun = Instant::now();
-        let _ = session.get("/a", Watch::Yes);
-        let _ = session.children("/a", Watch::Yes);
+        let _ = session.call(Request::get("/a").watched());
+        let _ = session.watch_children("/a");
         assert!(begun.elapsed() < PATIENCE, "seed {seed}");
     }
 }
@@ -318,6 +324,67 @@ fn each_call_returns_whatever_a_server_sends() {
     for seed in ["1", "2", "3", "4"] {
         try_hostile(seed);
     }
+}
+
+#[test]
+fn all_paths_are_below_the_chroot() {
+    let Some(mut server) = Server::start(&[]) else {
+        return;
+    };
+    let below = format!("{}/app", server.address);
+    let session = Session::open(below, Duration::from_secs(10)).unwrap();
+    for (path, made) in [("/", "/"), ("/a", "/a")] {
+        let path = session.create(path, b"one", Mode::Persistent);
+        assert_eq!(path.as_deref(), Ok(made));
+    }
+    let numbered = session.create("/a/s-", b"", Mode::PersistentSequential);
+    assert_eq!(numbered.as_deref(), Ok("/a/s-0000000000"));
+    session.watch("/a").unwrap();
+    session.watch_children("/").unwrap();
+    assert_eq!(kept(&session, "/a"), Some((b"one".to_vec(), Mark::Good)));
+    let names = session.peek_children("/").unwrap().unwrap().answer.names;
+    assert_eq!(names, ["a"]);
+    server.tell("set /app/a two");
+    let changed = report("/a", Side::Data, NodeEvent::DataChanged);
+    wait_for(&session, |event| *event == changed);
+    server.tell("create /app/b x");
+    let more = report("/", Side::Children, NodeEvent::ChildrenChanged);
+    wait_for(&session, |event| *event == more);
+    let no_path = Err(Error::Fault(Fault::NotPath));
+    assert_eq!(
+        [session.get(""), session.get("a")],
+        [no_path.clone(), no_path]
+    );
+    let whole = session_at(&server, 10_000);
+    let node = whole.get("/app/a").unwrap();
+    assert_eq!(node.data.as_deref(), Some(b"two".as_slice()));
+}
+
+#[test]
+fn a_node_is_followed_through_all() {
+    let Some(mut server) = Server::start(&[]) else {
+        return;
+    };
+    let options = SessionOptions::new(Duration::from_secs(10)).renews(true);
+    let session = options.open(server.address).unwrap();
+    let mut nodes = session.follow("/a");
+    let mut next = || {
+        let node = nodes.next().expect("the session lives").unwrap();
+        node.map(|node| String::from_utf8(node.data.unwrap()).unwrap())
+    };
+    assert_eq!(next(), None);
+    server.tell("create /a one");
+    assert_eq!(next().as_deref(), Some("one"));
+    server.tell("down");
+    server.tell("set /a two");
+    server.tell("up");
+    assert_eq!(next().as_deref(), Some("two"));
+    server.tell("expire");
+    assert_eq!(next().as_deref(), Some("two"));
+    server.tell("delete /a");
+    assert_eq!(next(), None);
+    let shared = session.ask(dirwolleu::Request::create("/b", b"", Mode::Persistent));
+    assert_eq!(shared.wait().as_deref(), Ok("/b"));
 }
 
 #[test]

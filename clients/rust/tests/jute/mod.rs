@@ -1,5 +1,7 @@
 //! Frames as `zookeeper.jute` spells them, of which each test takes what it needs.
 #![allow(dead_code)]
+// What a test spells has a few bytes.
+#![allow(clippy::cast_possible_truncation, clippy::cast_possible_wrap)]
 
 /// Types of requests.
 pub const CREATE: i32 = 1;
@@ -75,6 +77,12 @@ impl Record {
         let password: Vec<u8> = (0..16).collect();
         let fields = Record::new().int(0).int(timeout).long(session);
         fields.buffer(&password).boolean(false).framed()
+    }
+
+    /// A `ConnectResponse` that says that the session has expired.
+    pub fn expired() -> Vec<u8> {
+        let fields = Record::new().int(0).int(0).long(0);
+        fields.buffer(&[0; 16]).boolean(false).framed()
     }
 
     /// A `WatcherEvent` while connected.

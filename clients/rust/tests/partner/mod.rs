@@ -1,8 +1,9 @@
-//! A server on 127.0.0.1 that does what a test says, frame by frame.
+//! A server that does what a test says, frame by frame: on 127.0.0.1, or at the end of a connection in memory.
+#![allow(dead_code)] // each test takes what it needs
 
 use crate::jute::Record;
 use std::io::{Read, Write};
-use std::net::{SocketAddr, TcpListener, TcpStream};
+use std::net::{SocketAddr, TcpListener};
 use std::sync::mpsc::{channel, Receiver};
 use std::thread;
 use std::time::{Duration, Instant};
@@ -10,18 +11,29 @@ use std::time::{Duration, Instant};
 /// How long an attempt to connect may take to come.
 const PATIENCE: Duration = Duration::from_secs(30);
 
+/// What a connection is over.
+trait Stream: Read + Write + Send {}
+
+impl<T: Read + Write + Send> Stream for T {}
+
 /// One connection.
 pub struct Line {
-    stream: TcpStream,
+    stream: Box<dyn Stream>,
 }
 
 /// A request: its xid, its type, and what follows.
 pub struct Request {
     pub xid: i32,
     pub kind: i32,
+    pub rest: Vec<u8>,
 }
 
 impl Line {
+    pub fn over(stream: impl Read + Write + Send + 'static) -> Line {
+        let stream = Box::new(stream);
+        Line { stream }
+    }
+
     /// The next frame without its length, and none where the client has ended the connection.
     pub fn frame(&mut self) -> Option<Vec<u8>> {
         let mut length = [0; 4];
@@ -48,12 +60,18 @@ impl Line {
         Some(Request {
             xid: int(0),
             kind: int(4),
+            rest: frame[8..].to_vec(),
         })
     }
 
     /// Answers with a code.
     pub fn refuse(&mut self, xid: i32, code: i32) -> bool {
         self.send(&Record::reply(xid, 5, code).framed())
+    }
+
+    /// Answers with a path.
+    pub fn tell_path(&mut self, xid: i32, path: &str) -> bool {
+        self.send(&Record::reply(xid, 5, 0).text(path).framed())
     }
 
     /// Answers with a Stat.
@@ -84,7 +102,7 @@ impl Partner {
             for (number, stream) in listener.incoming().map_while(Result::ok).enumerate() {
                 let _ = sender.send(Instant::now());
                 stream.set_nodelay(true).expect("it is open");
-                serve(number, Line { stream });
+                serve(number, Line::over(stream));
             }
         });
         Partner { address, dials }

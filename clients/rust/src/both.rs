@@ -1,0 +1,152 @@
+//! What a session does alike with a thread and without one.
+
+use crate::fault::{Code, Error, Fault};
+use crate::keeper::Shared;
+use crate::moment::Moment;
+use crate::node::Node;
+use crate::request::Request;
+
+/// What asks, and waits for answers.
+pub(crate) trait Asks {
+    /// Asks, and waits for the answer.
+    fn answer<T>(&mut self, request: Request<T>) -> Result<T, Error>;
+
+    /// Lets the time pass until this moment, or until the session is over.
+    fn pass(&mut self, until: Moment) -> Result<(), Fault>;
+
+    fn inner(&self) -> &Shared;
+}
+
+/// Reads the data of a node, and leaves a watch on its path whether there is a node or not.
+pub(crate) fn watch(session: &mut impl Asks, path: &str) -> Result<Option<Node>, Error> {
+    loop {
+        let until = session.inner().with(|engine| engine.refusals().until(path));
+        if let Some(until) = until {
+            session.pass(until)?;
+        }
+        let found = read_watched(session, path);
+        session.inner().with(|engine| match found {
+            Err(Error::Server(_)) => {
+                let now = engine.clock().now();
+                engine.refusals().note(path, now);
+            }
+            _ => engine.refusals().forget(path),
+        });
+        if found != Err(Error::Server(Code::NO_NODE)) {
+            return found;
+        }
+    }
+}
+
+/// Reads the data, and where there are none, asks whether there is a node. [`Code::NO_NODE`] where there is one.
+fn read_watched(session: &mut impl Asks, path: &str) -> Result<Option<Node>, Error> {
+    let found = session.answer(Request::get(path).watched());
+    let is_absent = found == Err(Error::Server(Code::NO_NODE));
+    if is_absent && session.answer(Request::exists(path).watched())?.is_none() {
+        return Ok(None);
+    }
+    found.map(Some)
+}
+
+/// The calls of a session, each of which asks by `call` and waits.
+macro_rules! calls {
+    ($this:ident: [$($receiver:tt)+] $asks:expr) => {
+        /// What is known of a node, and none where there is none.
+        pub fn exists($($receiver)+, path: &str) -> Result<Option<Stat>, Error> {
+            $this.call(Request::exists(path))
+        }
+
+        /// The data of a node. Where there is none it fails with [`Code::NO_NODE`](crate::Code::NO_NODE).
+        pub fn get($($receiver)+, path: &str) -> Result<Node, Error> {
+            $this.call(Request::get(path))
+        }
+
+        /// The names of the children of a node, in an order that means nothing, and what is known of it. Where there is no node it
+        /// fails with [`Code::NO_NODE`](crate::Code::NO_NODE).
+        pub fn children($($receiver)+, path: &str) -> Result<(Vec<String>, Stat), Error> {
+            $this.call(Request::children(path))
+        }
+
+        /// The data of a node, and none where there is none. It leaves a watch on the path in both cases, so that the next change is
+        /// reported, whatever it is; and what it brings is kept.
+        ///
+        /// A read that the server has refused is followed by no other one of the path within a second: the next call waits until then.
+        /// Where there is a node, of which the server says that it has no data, they are read again after a second, until the two agree.
+        pub fn watch($($receiver)+, path: &str) -> Result<Option<Node>, Error> {
+            watch($asks, path)
+        }
+
+        /// The same as [`children`](Self::children), and it leaves a watch where there is a node; what it brings is kept then.
+        pub fn watch_children($($receiver)+, path: &str) -> Result<(Vec<String>, Stat), Error> {
+            $this.call(Request::children(path).watched())
+        }
+
+        /// Sets the data of a node that has this version; [`ANY_VERSION`](crate::ANY_VERSION) is that of each node.
+        pub fn set($($receiver)+, path: &str, data: &[u8], version: i32) -> Result<Stat, Error> {
+            $this.call(Request::set(path, data, version))
+        }
+
+        /// Makes a node, and tells its path, which ends in ten digits more where it is sequential.
+        pub fn create($($receiver)+, path: &str, data: &[u8], mode: Mode) -> Result<String, Error> {
+            $this.call(Request::create(path, data, mode))
+        }
+
+        /// Deletes a node that has this version and no children; [`ANY_VERSION`](crate::ANY_VERSION) is that of each node.
+        pub fn delete($($receiver)+, path: &str, version: i32) -> Result<(), Error> {
+            $this.call(Request::delete(path, version))
+        }
+    };
+}
+
+/// The look-ups of a session, each of one moment.
+macro_rules! look_ups {
+    () => {
+        /// Looks several things up at one moment. The session waits meanwhile, so do not wait there, and ask nothing of it.
+        pub fn view<R>(&self, look: impl FnOnce(View<'_>) -> R) -> R {
+            self.inner().with(|engine| look(View::of(engine)))
+        }
+
+        /// What is kept about the data of a path that was read with a watch, with its mark; see [`View::peek`].
+        pub fn peek(&self, path: &str) -> Result<Option<Kept<DataAnswer>>, Fault> {
+            self.view(|view| view.peek(path))
+        }
+
+        /// What is kept about the children of a path that were read with a watch, with its mark; see [`View::peek_children`].
+        pub fn peek_children(&self, path: &str) -> Result<Option<Kept<Children>>, Fault> {
+            self.view(|view| view.peek_children(path))
+        }
+
+        /// The mark of what is kept about the data of a path; see [`View::data_mark`].
+        pub fn data_mark(&self, path: &str) -> Result<Option<Mark>, Fault> {
+            self.view(|view| view.data_mark(path))
+        }
+
+        /// The mark of what is kept about the children of a path; see [`View::children_mark`].
+        pub fn children_mark(&self, path: &str) -> Result<Option<Mark>, Fault> {
+            self.view(|view| view.children_mark(path))
+        }
+
+        /// The greatest zxid seen, not below 0.
+        pub fn last_zxid(&self) -> i64 {
+            self.view(|view| view.last_zxid())
+        }
+
+        /// The timeout of the session: the one that a server granted last, or the one to ask for.
+        pub fn timeout(&self) -> Duration {
+            self.view(|view| view.timeout())
+        }
+
+        /// The number of the session, which its ephemeral nodes have as their owner; see [`View::id`].
+        pub fn id(&self) -> Result<i64, Fault> {
+            self.view(|view| view.id())
+        }
+
+        /// The session, to be taken up by [`SessionOptions::resume`](crate::SessionOptions::resume), maybe in another process. It fails
+        /// with [`Fault::NoMemory`] alone.
+        pub fn saved(&self) -> Result<SavedSession, Fault> {
+            self.view(|view| view.saved())
+        }
+    };
+}
+
+pub(crate) use {calls, look_ups};

@@ -1,0 +1,96 @@
+//! Calls of a session that wait: for a connection, or for their answer.
+
+use crate::fault::Error;
+use crate::moment::Moment;
+use crate::request::Asked;
+use crate::ticket::Slot;
+use crate::told::Outcome;
+use std::collections::{HashMap, VecDeque};
+use std::mem;
+use std::sync::Arc;
+
+/// A call that waits for a connection.
+pub(crate) struct Queued {
+    pub(crate) asked: Asked,
+    pub(crate) slot: Arc<Slot>,
+    until: Moment,
+}
+
+impl Queued {
+    /// A call that is asked at once.
+    pub(crate) fn now(asked: Asked, slot: Arc<Slot>) -> Queued {
+        let until = Moment::default();
+        Queued { asked, slot, until }
+    }
+}
+
+/// The calls of a session, and the answers that were not handed out yet.
+#[derive(Default)]
+pub(crate) struct Calls {
+    last_ticket: u64,
+    slots: HashMap<u64, Arc<Slot>>,
+    queue: VecDeque<Queued>,
+    answers: Vec<(Arc<Slot>, Outcome)>,
+}
+
+impl Calls {
+    /// A call that waits for a connection, until this moment.
+    pub(crate) fn enqueue(&mut self, asked: Asked, slot: Arc<Slot>, until: Moment) {
+        self.queue.push_back(Queued { asked, slot, until });
+    }
+
+    /// The call that has waited longest for a connection.
+    pub(crate) fn dequeue(&mut self) -> Option<Queued> {
+        self.queue.pop_front()
+    }
+
+    /// The same, where it may not wait any longer.
+    pub(crate) fn dequeue_late(&mut self, now: Moment) -> Option<Queued> {
+        let late = self.queue.iter().position(|queued| queued.until <= now)?;
+        self.queue.remove(late)
+    }
+
+    /// Takes a call back that waits for a connection. Whether there was one of this slot.
+    pub(crate) fn take_back(&mut self, slot: &Arc<Slot>) -> bool {
+        let before = self.queue.len();
+        self.queue.retain(|queued| !Arc::ptr_eq(&queued.slot, slot));
+        self.queue.len() < before
+    }
+
+    /// Until when the first call may wait for a connection.
+    pub(crate) fn patience(&self) -> Option<Moment> {
+        self.queue.iter().map(|queued| queued.until).min()
+    }
+
+    /// A call is asked now: its ticket, which is above each one before.
+    pub(crate) fn begin(&mut self, slot: Arc<Slot>) -> u64 {
+        self.last_ticket += 1;
+        self.slots.insert(self.last_ticket, slot);
+        self.last_ticket
+    }
+
+    /// Whether a call has no answer yet.
+    pub(crate) fn is_pending(&self, ticket: u64) -> bool {
+        self.slots.contains_key(&ticket)
+    }
+
+    /// A call has its answer.
+    pub(crate) fn end(&mut self, ticket: u64, outcome: Outcome) {
+        if let Some(slot) = self.slots.remove(&ticket) {
+            self.answers.push((slot, outcome));
+        }
+    }
+
+    /// All calls have this answer, also those that were not sent yet.
+    pub(crate) fn end_all(&mut self, fault: Error) {
+        let asked = self.slots.drain().map(|(_, slot)| slot);
+        let queued = self.queue.drain(..).map(|queued| queued.slot);
+        let answers = asked.chain(queued).map(|slot| (slot, Err(fault)));
+        self.answers.extend(answers);
+    }
+
+    /// The answers that are to be handed out.
+    pub(crate) fn take_answers(&mut self) -> Vec<(Arc<Slot>, Outcome)> {
+        mem::take(&mut self.answers)
+    }
+}

@@ -1,0 +1,88 @@
+//! The path below which a session has its nodes.
+
+use crate::fault::Fault;
+use std::borrow::Cow;
+
+/// The prefix of all paths at the servers: nothing, or a path that is not `/`.
+#[derive(Clone, Debug, Default, PartialEq, Eq, Hash)]
+pub(crate) struct Chroot {
+    prefix: String,
+}
+
+impl Chroot {
+    /// The chroot of the end of a connection string: nothing, `/`, or a path. None where it is no path.
+    pub(crate) fn of(text: &str) -> Option<Chroot> {
+        let prefix = String::from(if text == "/" { "" } else { text });
+        let mut parts = prefix.split('/');
+        let is_rooted = parts.next() == Some("");
+        let is_path = is_rooted && parts.all(|part| !matches!(part, "" | "." | ".."));
+        is_path.then_some(Chroot { prefix })
+    }
+
+    pub(crate) fn as_str(&self) -> &str {
+        &self.prefix
+    }
+
+    /// The path that the servers know, of one of the program's. A text that is no path does not become one.
+    pub(crate) fn outer<'a>(&self, path: &'a str) -> Result<Cow<'a, str>, Fault> {
+        match path {
+            _ if self.prefix.is_empty() => Ok(Cow::Borrowed(path)),
+            "/" => Ok(Cow::Owned(self.prefix.clone())),
+            _ if path.starts_with('/') => Ok(Cow::Owned(self.prefix.clone() + path)),
+            _ => Err(Fault::NotPath),
+        }
+    }
+
+    /// The program's path, of one that the servers know.
+    pub(crate) fn inner(&self, path: String) -> String {
+        match path.strip_prefix(&self.prefix) {
+            Some("") => String::from("/"),
+            Some(rest) if rest.starts_with('/') => String::from(rest),
+            _ => path,
+        }
+    }
+}
+
+#[cfg(test)]
+mod tests {
+    use super::Chroot;
+    use crate::fault::Fault;
+
+    #[test]
+    fn a_path_goes_out_and_comes_back() {
+        let app = Chroot::of("/app/one").unwrap();
+        for (inner, outer) in [
+            ("/", "/app/one"),
+            ("/a", "/app/one/a"),
+            ("/a/b", "/app/one/a/b"),
+        ] {
+            assert_eq!(app.outer(inner).as_deref(), Ok(outer));
+            assert_eq!(app.inner(outer.into()), inner);
+        }
+        assert_eq!(app.inner("/app/onetwo".into()), "/app/onetwo");
+        let root = Chroot::default();
+        assert_eq!(root.outer("/a").as_deref(), Ok("/a"));
+        assert_eq!(root.inner("/a".into()), "/a");
+    }
+
+    #[test]
+    fn what_is_no_path_becomes_none() {
+        let app = Chroot::of("/app").unwrap();
+        for text in ["", "a", "-1/a"] {
+            assert_eq!(app.outer(text), Err(Fault::NotPath), "{text}");
+        }
+    }
+
+    #[test]
+    fn a_chroot_is_nothing_or_a_path() {
+        for (text, prefix) in [("", ""), ("/", ""), ("/app", "/app"), ("/a/b", "/a/b")] {
+            assert_eq!(
+                Chroot::of(text).map(|chroot| chroot.prefix).as_deref(),
+                Some(prefix)
+            );
+        }
+        for text in ["app", "/app/", "//app", "/a//b", "/a/./b", "/.."] {
+            assert_eq!(Chroot::of(text), None, "{text}");
+        }
+    }
+}

@@ -1,0 +1,455 @@
+//! A session without what it reads from and without what it waits on: a client, the half of the connection that is written, and what waits.
+
+use crate::calls::{Calls, Queued};
+use crate::chroot::Chroot;
+use crate::client::{Client, State};
+use crate::fault::{Code, Error, Fault};
+use crate::hosts::Hosts;
+use crate::moment::{Clock, Moment};
+use crate::output::Outputs;
+use crate::pauses::{longest_dial, Pauses};
+use crate::refusals::Refusals;
+use crate::request::Asked;
+use crate::stream::Outgoing;
+use crate::ticket::Slot;
+use crate::told::{Event, Outcome, Told};
+use crate::waiting::Waiting;
+use std::mem;
+use std::sync::Arc;
+use std::time::Duration;
+
+/// How long a call waits for a connection at least, which is as long as an attempt has.
+const SHORTEST_PATIENCE: Duration = Duration::from_secs(1);
+
+/// How long the admission of a session is waited for at a time: calls that wait for it may have to be told that there is none.
+const LOOK_ROUND: Duration = Duration::from_millis(250);
+
+/// The moment that never comes.
+pub(crate) const NEVER: Moment = Moment::from_millis(u64::MAX);
+
+/// What is to be done next, outside of the engine.
+#[derive(Clone, Copy, Debug, PartialEq, Eq)]
+pub(crate) enum Plan {
+    /// Nothing, ever.
+    Stop,
+    /// Nothing, until this moment, or until something is changed.
+    Rest(Moment),
+    /// To dial.
+    Dial,
+    /// To read the connection, until this moment.
+    Listen(Moment),
+    /// To hand in again what there was no memory for.
+    HandIn,
+}
+
+/// How a session begins.
+pub(crate) struct Beginning {
+    pub(crate) client: Client,
+    pub(crate) timeout: Duration,
+    pub(crate) hosts: Hosts,
+    pub(crate) renews: bool,
+}
+
+/// A client, its connection, and the calls that wait.
+pub(crate) struct Engine {
+    client: Client,
+    asked_timeout: Duration,
+    renews: bool,
+    clock: Clock,
+    hosts: Arc<Hosts>,
+    chroot: Chroot,
+    pauses: Pauses,
+    waiting: Waiting,
+    calls: Calls,
+    told: Told,
+    refusals: Refusals,
+    line: Option<Box<dyn Outgoing>>,
+    inbox: Vec<u8>,
+    is_halted: bool,
+    is_stopped: bool,
+}
+
+/// How it begins, goes on with another client, and ends.
+impl Engine {
+    pub(crate) fn new(beginning: Beginning) -> Engine {
+        let chroot = beginning.hosts.root().clone();
+        Engine {
+            client: beginning.client,
+            asked_timeout: beginning.timeout,
+            renews: beginning.renews,
+            clock: Clock::start(),
+            hosts: Arc::new(beginning.hosts),
+            told: Told::below(chroot.clone()),
+            chroot,
+            pauses: Pauses::new(),
+            waiting: Waiting::default(),
+            calls: Calls::default(),
+            refusals: Refusals::default(),
+            line: None,
+            inbox: Vec::new(),
+            is_halted: false,
+            is_stopped: false,
+        }
+    }
+
+    /// Goes on with a new client: of a new session where this one is over, and else of the same session.
+    pub(crate) fn renew(&mut self) -> Result<(), Fault> {
+        if self.client.state().is_final() {
+            self.client.renew(self.asked_timeout)?;
+        } else {
+            let renewed = Client::resume(self.asked_timeout, &self.client.saved()?)?;
+            // A client that has halted answers nothing.
+            let _ = self.end();
+            self.client = renewed;
+        }
+        self.hang_up();
+        self.is_halted = false;
+        Ok(())
+    }
+
+    /// Other hosts, from the next attempt to connect on. Hosts with another chroot are handed back.
+    pub(crate) fn change_hosts(&mut self, hosts: Hosts) -> Result<(), Hosts> {
+        if *hosts.root() != self.chroot {
+            return Err(hosts);
+        }
+        self.hosts = Arc::new(hosts);
+        Ok(())
+    }
+
+    /// It is over with everything: each call is answered.
+    pub(crate) fn stop(&mut self) {
+        self.is_stopped = true;
+        // Memory that ran out leaves calls without an answer.
+        let _ = self.end();
+        while let Some(queued) = self.calls.dequeue() {
+            self.put(&queued);
+        }
+        self.calls.end_all(Fault::Halted.into());
+    }
+}
+
+/// Look-ups.
+impl Engine {
+    pub(crate) fn client(&self) -> &Client {
+        &self.client
+    }
+
+    pub(crate) fn chroot(&self) -> &Chroot {
+        &self.chroot
+    }
+
+    pub(crate) fn clock(&self) -> Clock {
+        self.clock
+    }
+
+    /// The state, and none where something was due so long ago that nobody has done: then nobody knows.
+    pub(crate) fn state(&self, lateness: Duration) -> Option<State> {
+        let late = self.due().saturating_add(lateness);
+        let is_served = self.line.is_none() || self.clock.now() < late;
+        is_served.then(|| self.client.state())
+    }
+
+    /// Whether nothing more happens before it is renewed.
+    pub(crate) fn is_over(&self) -> bool {
+        let state = self.client.state();
+        let is_renewed = self.renews && state == State::Expired;
+        self.is_stopped || self.is_halted || state.is_final() && !is_renewed
+    }
+
+    /// It fails where the client has halted.
+    pub(crate) fn halt(&self) -> Result<(), Fault> {
+        if self.is_halted {
+            return Err(Fault::Halted);
+        }
+        Ok(())
+    }
+
+    pub(crate) fn next_event(&mut self) -> Option<Event> {
+        self.told.next_event()
+    }
+
+    /// Whether who waits for events has something to look at.
+    pub(crate) fn has_event(&self) -> bool {
+        self.told.has_event() || self.is_over()
+    }
+
+    /// The answers that are to be handed out.
+    pub(crate) fn take_answers(&mut self) -> Vec<(Arc<Slot>, Outcome)> {
+        self.calls.take_answers()
+    }
+
+    pub(crate) fn forget_stale(&mut self) {
+        self.client.forget_stale();
+    }
+
+    pub(crate) fn refusals(&mut self) -> &mut Refusals {
+        &mut self.refusals
+    }
+}
+
+/// Calls.
+impl Engine {
+    /// Asks, now or once there is a connection. The answer comes to the slot. Whether the call waits for a connection.
+    pub(crate) fn ask(&mut self, asked: Asked, slot: Arc<Slot>) -> bool {
+        let is_waiting = match self.client.state() {
+            State::Idle | State::Connecting => true,
+            State::Expired => self.renews,
+            State::Connected | State::Closed => false,
+        };
+        let patience = self.client.timeout().max(SHORTEST_PATIENCE);
+        let until = self.clock.now().saturating_add(patience);
+        if is_waiting && !self.is_stopped && !self.is_halted {
+            self.calls.enqueue(asked, slot, until);
+            return true;
+        }
+        self.put(&Queued::now(asked, slot));
+        false
+    }
+
+    /// Takes a call back that was not sent yet. Whether it was so.
+    pub(crate) fn take_back(&mut self, slot: &Arc<Slot>) -> bool {
+        self.calls.take_back(slot)
+    }
+
+    /// Asks the client.
+    fn put(&mut self, call: &Queued) {
+        let now = self.clock.now();
+        let ticket = self.calls.begin(Arc::clone(&call.slot));
+        let path = self.chroot.outer(&call.asked.path);
+        let asked = path.and_then(|path| {
+            self.step(self.in_time(now), |client, now| {
+                call.asked.call.ask(client, now, ticket, &path)
+            })
+        });
+        if let Err(fault) = asked {
+            self.calls.end(ticket, Err(fault.into()));
+        }
+        if self.calls.is_pending(ticket) {
+            self.waiting.asks(now, ticket);
+        }
+    }
+
+    /// Asks what waited for a connection.
+    fn put_queued(&mut self) {
+        while let Some(queued) = self.calls.dequeue() {
+            self.put(&queued);
+        }
+    }
+
+    /// Asks what has waited for a connection for too long: the client answers that there is none.
+    fn put_late(&mut self) {
+        while let Some(queued) = self.calls.dequeue_late(self.clock.now()) {
+            self.put(&queued);
+        }
+    }
+
+    /// Hands out what the client has answered.
+    fn end_answered(&mut self) -> Result<(), Fault> {
+        let answers = mem::take(&mut self.told.answers);
+        let moved = Error::Server(Code::SESSION_MOVED);
+        let is_moved = answers
+            .iter()
+            .any(|(_, outcome)| matches!(outcome, Err(fault) if *fault == moved));
+        for (ticket, outcome) in answers {
+            self.waiting.is_answered(ticket);
+            self.calls.end(ticket, outcome);
+        }
+        if is_moved {
+            return self.end();
+        }
+        Ok(())
+    }
+}
+
+/// Steps of the client.
+impl Engine {
+    /// The last moment before something is due, where that was before: who asks or tells does not know when it happened, and a server that
+    /// was heard meanwhile is not silent.
+    fn in_time(&self, now: Moment) -> Moment {
+        let due = self.client.deadline().unwrap_or(NEVER);
+        now.min(due.before())
+    }
+
+    /// Takes a step, and does what the client says.
+    fn step<F>(&mut self, now: Moment, step: F) -> Result<(), Fault>
+    where
+        F: for<'a> FnOnce(&'a mut Client, Moment) -> Result<Outputs<'a>, Fault>,
+    {
+        let outputs = step(&mut self.client, now);
+        let taken = outputs.map(|outputs| self.told.take(outputs));
+        self.settle(now, taken)
+    }
+
+    /// Does what the client has said at a step. The connection is over where the client says so or has halted, and where a write
+    /// fails.
+    fn settle(&mut self, now: Moment, step: Result<(), Fault>) -> Result<(), Fault> {
+        let is_admitted = self.note_news(now);
+        let is_sent = self.send(now);
+        let has_halted = step == Err(Fault::Halted);
+        if mem::take(&mut self.told.is_over) || !is_sent || has_halted {
+            self.hang_up();
+        }
+        if has_halted {
+            self.is_halted = true;
+            self.calls.end_all(Fault::Halted.into());
+        }
+        if !is_sent {
+            self.step(now, Client::cut)?;
+        }
+        self.end_answered()?;
+        if is_admitted || self.is_over() {
+            self.put_queued();
+        }
+        step
+    }
+
+    /// Notes what a server has done. Whether one has admitted the session.
+    fn note_news(&mut self, now: Moment) -> bool {
+        let news = mem::take(&mut self.told.news);
+        if news.is_admitted {
+            self.waiting.is_admitted();
+            self.pauses.is_admitted(now);
+        }
+        if news.is_answered {
+            self.pauses.is_answered();
+        }
+        if news.is_expired {
+            self.pauses.expires();
+        }
+        news.is_admitted
+    }
+
+    /// Writes the frames that go to the server. Whether all was written, or there is nobody to write to.
+    fn send(&mut self, now: Moment) -> bool {
+        let frames = mem::take(&mut self.told.frames);
+        let Some(line) = &mut self.line else {
+            return true;
+        };
+        if frames.is_empty() {
+            return true;
+        }
+        self.waiting.sends(now, &frames);
+        line.write_all(&frames).is_ok()
+    }
+}
+
+/// The connection.
+impl Engine {
+    /// What is to be done next, until this moment at most.
+    pub(crate) fn plan(&mut self, until: Moment) -> Plan {
+        if self.is_stopped {
+            return Plan::Stop;
+        }
+        self.put_late();
+        if self.is_over() {
+            return Plan::Rest(until);
+        }
+        if self.client.state() == State::Expired && self.renew().is_err() {
+            return Plan::Rest(until.min(self.clock.now().saturating_add(LOOK_ROUND)));
+        }
+        match &self.line {
+            Some(_) if !self.inbox.is_empty() => Plan::HandIn,
+            Some(_) => Plan::Listen(self.listens_until(until)),
+            None if self.pauses.dial_at() <= self.clock.now() => Plan::Dial,
+            None => Plan::Rest(until.min(self.pauses.dial_at()).min(self.patience())),
+        }
+    }
+
+    fn patience(&self) -> Moment {
+        self.calls.patience().unwrap_or(NEVER)
+    }
+
+    /// Until when the connection is read, before something else is to be looked at.
+    fn listens_until(&self, until: Moment) -> Moment {
+        let until = until.min(self.due()).min(self.patience());
+        if self.client.state() == State::Connected {
+            return until;
+        }
+        until.min(self.clock.now().saturating_add(LOOK_ROUND))
+    }
+
+    /// An attempt to connect begins: to these hosts, within this time.
+    pub(crate) fn dials(&mut self) -> (Arc<Hosts>, Duration) {
+        self.pauses.dials(self.clock.now());
+        (Arc::clone(&self.hosts), longest_dial(self.client.timeout()))
+    }
+
+    /// An attempt has failed.
+    pub(crate) fn has_failed(&mut self) {
+        self.pauses.ends(self.clock.now(), self.client.timeout());
+    }
+
+    /// A connection is made. It is closed where nobody wants it any more.
+    pub(crate) fn opened(&mut self, mut outgoing: Box<dyn Outgoing>) -> Result<(), Fault> {
+        if self.is_over() || self.client.state() != State::Idle {
+            outgoing.close();
+            return Ok(());
+        }
+        let now = self.clock.now();
+        self.line = Some(outgoing);
+        self.waiting = Waiting::since(now);
+        self.step(now, Client::opened)
+    }
+
+    /// Whether there is a connection.
+    pub(crate) fn is_open(&self) -> bool {
+        self.line.is_some()
+    }
+
+    /// Hands in what came from the server, and before it what there was no memory for.
+    pub(crate) fn hand_in(&mut self, bytes: &[u8]) -> Result<(), Fault> {
+        self.inbox.extend_from_slice(bytes);
+        let now = self.clock.now();
+        self.pauses.hears(now);
+        let outputs = self.client.bytes(self.in_time(now), &self.inbox);
+        let taken = outputs.map(|outputs| self.told.take(outputs));
+        if taken.is_ok() {
+            self.waiting.hears(&self.inbox);
+            self.inbox.clear();
+        }
+        self.settle(now, taken)
+    }
+
+    /// Tells the moment that it is. The connection ends where the server leaves something without an answer for too long.
+    pub(crate) fn tick(&mut self) -> Result<(), Fault> {
+        let now = self.clock.now();
+        self.step(now, Client::tick)?;
+        if self.end_of_waiting() <= now {
+            return self.end();
+        }
+        Ok(())
+    }
+
+    /// When the connection is to be given up, by what waits for an answer.
+    fn end_of_waiting(&self) -> Moment {
+        let end = self.waiting.end(self.asked_timeout, self.client.timeout());
+        end.unwrap_or(NEVER)
+    }
+
+    /// The first moment at which something is due on the connection.
+    fn due(&self) -> Moment {
+        let due = self.client.deadline().unwrap_or(NEVER);
+        due.min(self.end_of_waiting())
+    }
+
+    /// Whether something is due on the connection already.
+    pub(crate) fn is_late(&self) -> bool {
+        self.line.is_some() && self.due() <= self.clock.now()
+    }
+
+    /// The connection is over.
+    pub(crate) fn end(&mut self) -> Result<(), Fault> {
+        self.hang_up();
+        self.step(self.clock.now(), Client::cut)
+    }
+
+    /// Closes the connection, if there is one.
+    fn hang_up(&mut self) {
+        self.waiting = Waiting::default();
+        self.inbox.clear();
+        if let Some(mut line) = self.line.take() {
+            line.close();
+            self.pauses.ends(self.clock.now(), self.client.timeout());
+        }
+    }
+}

@@ -1,0 +1,283 @@
+//! What keeps a session alive: it dials, reads and waits, in a thread of its own or in its caller's.
+
+use crate::engine::{Engine, Plan, NEVER};
+use crate::fault::Fault;
+use crate::hosts::{Order, Turns};
+use crate::moment::Moment;
+use crate::request::Request;
+use crate::stream::{self, Dial, Incoming, Server};
+use crate::ticket::{Slot, TakesBack, Ticket};
+use crate::told::Event;
+use std::sync::{Arc, Condvar, Mutex, MutexGuard, PoisonError, Weak};
+use std::thread;
+use std::time::{Duration, Instant};
+
+/// The most bytes that one read is asked for.
+const PIECE: usize = 65_536;
+
+/// The most reads of what a connection has, before the moment is told.
+const MOST_PIECES: usize = 64;
+
+/// The longest wait of one read, and of one rest: an hour.
+const LONGEST_WAIT: Duration = Duration::from_secs(3_600);
+
+/// How long a session waits before it tries again what there was no memory for.
+const WAIT_FOR_MEMORY: Duration = Duration::from_millis(10);
+
+/// An engine that threads share.
+pub(crate) struct Shared {
+    engine: Mutex<Engine>,
+    changed: Condvar,
+}
+
+impl Shared {
+    pub(crate) fn new(engine: Engine) -> Arc<Shared> {
+        Arc::new(Shared {
+            engine: Mutex::new(engine),
+            changed: Condvar::new(),
+        })
+    }
+
+    fn lock(&self) -> MutexGuard<'_, Engine> {
+        self.engine.lock().unwrap_or_else(PoisonError::into_inner)
+    }
+
+    /// Does something with the engine, and then hands out what was answered.
+    pub(crate) fn with<R>(&self, act: impl FnOnce(&mut Engine) -> R) -> R {
+        let mut engine = self.lock();
+        let result = act(&mut engine);
+        self.hand_out(engine);
+        result
+    }
+
+    /// Lets the engine go, so that whoever is woken can have it.
+    fn hand_out(&self, mut engine: MutexGuard<'_, Engine>) {
+        let answers = engine.take_answers();
+        let is_news = engine.has_event();
+        drop(engine);
+        for (slot, outcome) in answers {
+            slot.tell(outcome);
+        }
+        if is_news {
+            self.changed.notify_all();
+        }
+    }
+
+    /// Has whoever rests look again.
+    pub(crate) fn wake(&self) {
+        self.changed.notify_all();
+    }
+
+    /// Waits until something is changed, for so long at most.
+    fn rest<'a>(&self, engine: MutexGuard<'a, Engine>, wait: Duration) -> MutexGuard<'a, Engine> {
+        let waited = self.changed.wait_timeout(engine, wait.min(LONGEST_WAIT));
+        waited.unwrap_or_else(PoisonError::into_inner).0
+    }
+
+    /// Waits while this holds.
+    pub(crate) fn wait_while(&self, holds: impl Fn(&Engine) -> bool) {
+        let mut engine = self.lock();
+        while holds(&engine) {
+            engine = self.rest(engine, LONGEST_WAIT);
+        }
+    }
+
+    /// What is to be done next, after a rest where there is time for one.
+    fn plan(&self, until: Moment) -> Plan {
+        let mut engine = self.lock();
+        let mut plan = engine.plan(until);
+        if let Plan::Rest(moment) = plan {
+            let wait = moment.saturating_duration_since(engine.clock().now());
+            engine = self.rest(engine, wait);
+            plan = Plan::Rest(moment);
+        }
+        self.hand_out(engine);
+        plan
+    }
+
+    /// The next event: one that waits, or the first that comes until this instant. None where none has come, or the session is over.
+    pub(crate) fn next_event(&self, until: Option<Instant>) -> Result<Option<Event>, Fault> {
+        let mut engine = self.lock();
+        loop {
+            if let Some(event) = engine.next_event() {
+                return Ok(Some(event));
+            }
+            engine.halt()?;
+            let now = Instant::now();
+            let left = until.map_or(LONGEST_WAIT, |until| until.saturating_duration_since(now));
+            if engine.is_over() || left.is_zero() {
+                return Ok(None);
+            }
+            engine = self.rest(engine, left);
+        }
+    }
+}
+
+impl TakesBack for Shared {
+    fn take_back(&self, slot: &Arc<Slot>) -> bool {
+        self.with(|engine| engine.take_back(slot))
+    }
+}
+
+/// Asks a request of a session: the ticket for its answer.
+pub(crate) fn ask<T>(shared: &Arc<Shared>, request: Request<T>) -> Ticket<T> {
+    let slot = Slot::new();
+    let Request { asked, read } = request;
+    if shared.with(|engine| engine.ask(asked, Arc::clone(&slot))) {
+        shared.wake();
+    }
+    let session: Weak<Shared> = Arc::downgrade(shared);
+    Ticket::new(slot, read, session)
+}
+
+/// What a read has brought.
+enum Heard {
+    /// Bytes, which are handed in. Something may have been due before.
+    Bytes { is_late: bool },
+    /// Nothing in time.
+    Nothing,
+    /// The end of the connection.
+    End,
+}
+
+/// What dials and reads for a session. Each session has one.
+pub(crate) struct Keeper {
+    shared: Arc<Shared>,
+    dial: Box<dyn Dial>,
+    turns: Turns,
+    incoming: Option<Box<dyn Incoming>>,
+    room: Vec<u8>,
+}
+
+impl Keeper {
+    pub(crate) fn new(shared: Arc<Shared>, dial: Box<dyn Dial>, order: Order) -> Keeper {
+        Keeper {
+            shared,
+            dial,
+            turns: Turns::new(Arc::default(), order),
+            incoming: None,
+            room: vec![0; PIECE],
+        }
+    }
+
+    pub(crate) fn shared(&self) -> &Arc<Shared> {
+        &self.shared
+    }
+
+    /// Keeps the session alive until it is let go.
+    pub(crate) fn run(mut self) {
+        let _end = End(Arc::clone(&self.shared));
+        loop {
+            let plan = self.shared.plan(NEVER);
+            match self.follow(plan) {
+                _ if plan == Plan::Stop => return,
+                Err(Fault::NoMemory) => thread::sleep(WAIT_FOR_MEMORY),
+                // A client that has halted is told to whoever asks, and rests.
+                Ok(()) | Err(_) => {}
+            }
+        }
+    }
+
+    /// Does what is next, until this moment at most.
+    pub(crate) fn round(&mut self, until: Moment) -> Result<(), Fault> {
+        let plan = self.shared.plan(until);
+        self.follow(plan)
+    }
+
+    fn follow(&mut self, plan: Plan) -> Result<(), Fault> {
+        match plan {
+            Plan::Stop | Plan::Rest(_) => Ok(()),
+            Plan::Dial => self.dial(),
+            Plan::Listen(until) => self.listen(until),
+            Plan::HandIn => self.shared.with(|engine| engine.hand_in(&[])),
+        }
+    }
+
+    /// Dials the server whose turn it is.
+    fn dial(&mut self) -> Result<(), Fault> {
+        self.incoming = None;
+        let (hosts, within) = self.shared.with(Engine::dials);
+        self.turns.change(&hosts);
+        let dial = &mut self.dial;
+        let made = self.turns.next().and_then(|(name, address)| {
+            let server = Server::new(&name, address);
+            dial.dial(&server, within)
+        });
+        let Ok(connection) = made else {
+            self.shared.with(Engine::has_failed);
+            return Ok(());
+        };
+        self.incoming = Some(connection.incoming);
+        self.shared
+            .with(|engine| engine.opened(connection.outgoing))
+    }
+
+    /// Hands in what the connection brings next. Where something was due before, it catches up.
+    fn listen(&mut self, until: Moment) -> Result<(), Fault> {
+        let now = self.shared.with(|engine| engine.clock().now());
+        let wait = until.saturating_duration_since(now).min(LONGEST_WAIT);
+        match self.hear(wait)? {
+            Heard::End | Heard::Bytes { is_late: false } => Ok(()),
+            Heard::Nothing | Heard::Bytes { is_late: true } => self.catch_up(),
+        }
+    }
+
+    /// Hands in what the connection has, and then tells the moment: so a session that comes late does not take a server for silent that
+    /// has answered.
+    fn catch_up(&mut self) -> Result<(), Fault> {
+        for _ in 0..MOST_PIECES {
+            match self.hear(Duration::ZERO)? {
+                Heard::Bytes { .. } => {}
+                Heard::Nothing => break,
+                Heard::End => return Ok(()),
+            }
+        }
+        self.shared.with(|engine| {
+            if engine.is_open() {
+                engine.tick()?;
+            }
+            Ok(())
+        })
+    }
+
+    /// Catches up where something is due already.
+    pub(crate) fn catch_up_if_late(&mut self) -> Result<(), Fault> {
+        if self.shared.with(|engine| engine.is_late()) {
+            self.catch_up()?;
+        }
+        Ok(())
+    }
+
+    /// Reads once, and hands in what has come.
+    fn hear(&mut self, wait: Duration) -> Result<Heard, Fault> {
+        let Some(incoming) = &mut self.incoming else {
+            return Ok(Heard::End);
+        };
+        let read = incoming.read(&mut self.room, wait);
+        let room = &self.room;
+        self.shared.with(|engine| {
+            let is_late = engine.is_late();
+            match read {
+                _ if !engine.is_open() => Ok(Heard::End),
+                Ok(count @ 1..) => {
+                    engine.hand_in(&room[..count])?;
+                    Ok(Heard::Bytes { is_late })
+                }
+                Err(fault) if stream::is_late(&fault) => Ok(Heard::Nothing),
+                Ok(_) | Err(_) => {
+                    engine.end()?;
+                    Ok(Heard::End)
+                }
+            }
+        })
+    }
+}
+
+/// The end of a thread that kept a session alive, also where what dials has panicked: nobody waits any longer.
+struct End(Arc<Shared>);
+
+impl Drop for End {
+    fn drop(&mut self) {
+        self.0.with(Engine::stop);
+    }
+}

@@ -1,0 +1,185 @@
+//! A session without a thread.
+
+use crate::both::{calls, look_ups, watch, Asks};
+use crate::client::State;
+use crate::engine::{Engine, NEVER};
+use crate::fault::{Error, Fault, NoReply};
+use crate::hosts::Hosts;
+use crate::keeper::{ask, Keeper, Shared};
+use crate::kept::{Children, DataAnswer, Kept, Mark};
+use crate::moment::Moment;
+use crate::node::{Mode, Node, Stat};
+use crate::options::{OpenError, SessionOptions};
+use crate::request::Request;
+use crate::saved::SavedSession;
+use crate::told::Event;
+use crate::view::View;
+use std::fmt;
+use std::time::{Duration, Instant};
+
+/// A session without a thread, for a loop of the program's own: it reads, pings and reconnects within its functions alone, and is one
+/// thread's at a time. [`Session`](crate::Session) is the same with a thread, and says how both dial and wait.
+///
+/// Call [`next_event`](LocalSession::next_event) at least once in a third of the timeout. A program that comes later than that keeps its
+/// connection where the server has sent something meanwhile. What is not asked for waits as an [`Event`].
+///
+/// A call waits for a connection, and then for its answer. Nothing is asked twice.
+///
+/// ```no_run
+/// use dirwolleu::{LocalSession, Mode};
+/// use std::time::{Duration, Instant};
+///
+/// # fn main() -> Result<(), Box<dyn std::error::Error>> {
+/// let mut session = LocalSession::open("127.0.0.1:2181", Duration::from_secs(10))?;
+/// session.create("/mine", b"", Mode::Ephemeral)?;
+/// loop {
+///     // a part of the work, and then:
+///     let until = Instant::now() + Duration::from_secs(3);
+///     while let Some(event) = session.next_event(Some(until))? {
+///         println!("{event:?}");
+///     }
+/// }
+/// # }
+/// ```
+pub struct LocalSession {
+    keeper: Keeper,
+}
+
+/// How a session begins and ends.
+impl LocalSession {
+    /// A session at these hosts, which asks for this timeout. It dials at the first call. Without a host it never connects.
+    /// [`SessionOptions::open_local`] opens one otherwise.
+    ///
+    /// # Errors
+    ///
+    /// As [`OpenError`] says.
+    pub fn open<H>(hosts: H, timeout: Duration) -> Result<LocalSession, OpenError>
+    where
+        H: TryInto<Hosts>,
+        OpenError: From<H::Error>,
+    {
+        SessionOptions::new(timeout).open_local(hosts)
+    }
+
+    pub(crate) fn kept_by(keeper: Keeper) -> LocalSession {
+        LocalSession { keeper }
+    }
+
+    /// Goes on with a new client, as [`Session::renew`](crate::Session::renew) does.
+    ///
+    /// # Errors
+    ///
+    /// [`Fault::NoMemory`]; then the session is as it was.
+    pub fn renew(&mut self) -> Result<(), Fault> {
+        self.inner().with(Engine::renew)
+    }
+
+    /// Ends the session, with its ephemeral nodes. A session that is over already is no error.
+    ///
+    /// # Errors
+    ///
+    /// Why there is no reply: the session may or may not be over.
+    pub fn close(mut self) -> Result<(), Error> {
+        match self.call(Request::close()) {
+            Ok(()) | Err(Error::NoReply(NoReply::SessionExpired | NoReply::SessionClosed)) => {
+                Ok(())
+            }
+            Err(fault) => Err(fault),
+        }
+    }
+}
+
+/// Calls. Each fails with the error of the server, with why there is no reply, or with [`Fault::NotPath`], [`Fault::NoMemory`] or
+/// [`Fault::Halted`].
+impl LocalSession {
+    calls! { self: [&mut self] self }
+
+    /// Asks a request, and waits for its answer.
+    pub fn call<T>(&mut self, request: Request<T>) -> Result<T, Error> {
+        self.keeper.catch_up_if_late()?;
+        let ticket = ask(self.keeper.shared(), request);
+        while !ticket.is_answered() {
+            self.keeper.round(NEVER)?;
+        }
+        ticket.wait()
+    }
+}
+
+impl Asks for LocalSession {
+    fn answer<T>(&mut self, request: Request<T>) -> Result<T, Error> {
+        self.call(request)
+    }
+
+    fn pass(&mut self, until: Moment) -> Result<(), Fault> {
+        while self
+            .inner()
+            .with(|engine| !engine.is_over() && engine.clock().now() < until)
+        {
+            self.keeper.round(until)?;
+        }
+        Ok(())
+    }
+
+    fn inner(&self) -> &Shared {
+        self.keeper.shared()
+    }
+}
+
+/// What is heard and kept. Look-ups ask nobody; those of a path fail with [`Fault::NotPath`] and [`Fault::NoMemory`].
+impl LocalSession {
+    look_ups! {}
+
+    /// The state. None where something was due on the connection and this program has not come to do it: then nobody knows whether there
+    /// is a session still. Call [`next_event`](LocalSession::next_event) to learn it.
+    pub fn state(&self) -> Option<State> {
+        self.inner().with(|engine| engine.state(Duration::ZERO))
+    }
+
+    /// The next event: one that waits, or the first that comes until this instant, and none where none has come by then. Without an
+    /// instant it waits until there is one. Once the session has expired or is closed, and no event waits, there is none.
+    ///
+    /// It may wait for longer by as much as an attempt to connect takes: a third of the timeout at most, or a second.
+    ///
+    /// # Errors
+    ///
+    /// [`Fault::NoMemory`] and [`Fault::Halted`].
+    pub fn next_event(&mut self, until: Option<Instant>) -> Result<Option<Event>, Fault> {
+        let clock = self.inner().with(|engine| engine.clock());
+        let until = until.map_or(NEVER, |until| clock.moment_of(until));
+        let mut is_past = false;
+        loop {
+            let (event, is_over) = self
+                .inner()
+                .with(|engine| (engine.next_event(), engine.is_over()));
+            if event.is_some() {
+                return Ok(event);
+            }
+            if is_past || is_over {
+                return self.inner().with(|engine| engine.halt().map(|()| None));
+            }
+            self.keeper.round(until)?;
+            is_past = until <= clock.now();
+        }
+    }
+
+    /// Forgets all stale answers.
+    pub fn forget_stale(&mut self) {
+        self.inner().with(Engine::forget_stale);
+    }
+
+    /// Other hosts, as [`Session::change_hosts`](crate::Session::change_hosts).
+    ///
+    /// # Errors
+    ///
+    /// The hosts, where they have another chroot.
+    pub fn change_hosts(&mut self, hosts: Hosts) -> Result<(), Hosts> {
+        self.inner().with(|engine| engine.change_hosts(hosts))
+    }
+}
+
+impl fmt::Debug for LocalSession {
+    fn fmt(&self, f: &mut fmt::Formatter<'_>) -> fmt::Result {
+        let mut shown = f.debug_struct("LocalSession");
+        self.view(|view| shown.field("client", &view).finish_non_exhaustive())
+    }
+}

@@ -1,0 +1,200 @@
+//! How a session is opened.
+
+use crate::client::Client;
+use crate::engine::{Beginning, Engine};
+use crate::fault::Fault;
+use crate::hosts::{Hosts, HostsFault, Order};
+use crate::keeper::{Keeper, Shared};
+use crate::local::LocalSession;
+use crate::retry::Retry;
+use crate::saved::SavedSession;
+use crate::session::Session;
+use crate::stream::{Dial, Tcp};
+use std::convert::Infallible;
+use std::error;
+use std::fmt;
+use std::io;
+use std::time::Duration;
+
+/// Why a session was not opened.
+#[derive(Debug)]
+#[non_exhaustive]
+pub enum OpenError {
+    /// The text is no list of hosts.
+    Hosts(HostsFault),
+    /// The library has not made a client: [`Fault::BadTimeout`], [`Fault::NotSaved`] or [`Fault::NoMemory`].
+    Fault(Fault),
+    /// The system has not made a thread.
+    Thread(io::Error),
+}
+
+impl fmt::Display for OpenError {
+    fn fmt(&self, f: &mut fmt::Formatter<'_>) -> fmt::Result {
+        match self {
+            OpenError::Hosts(fault) => fault.fmt(f),
+            OpenError::Fault(fault) => fault.fmt(f),
+            OpenError::Thread(fault) => write!(f, "no thread for the session: {fault}"),
+        }
+    }
+}
+
+impl error::Error for OpenError {}
+
+impl From<HostsFault> for OpenError {
+    fn from(fault: HostsFault) -> OpenError {
+        OpenError::Hosts(fault)
+    }
+}
+
+impl From<Fault> for OpenError {
+    fn from(fault: Fault) -> OpenError {
+        OpenError::Fault(fault)
+    }
+}
+
+impl From<Infallible> for OpenError {
+    fn from(never: Infallible) -> OpenError {
+        match never {}
+    }
+}
+
+/// How a session is opened: its timeout, and what differs from how [`Session::open`] opens one.
+///
+/// ```no_run
+/// use dirwolleu::{Retry, SessionOptions};
+/// use std::time::Duration;
+///
+/// # fn main() -> Result<(), Box<dyn std::error::Error>> {
+/// let session = SessionOptions::new(Duration::from_secs(10))
+///     .renews(true)
+///     .retry(Retry::times(3))
+///     .limit(Duration::from_secs(30))
+///     .open("zk1:2181,zk2:2181,zk3:2181/app")?;
+/// # Ok(())
+/// # }
+/// ```
+#[must_use = "it opens nothing by itself"]
+pub struct SessionOptions {
+    timeout: Duration,
+    order: Order,
+    renews: bool,
+    pub(crate) retry: Retry,
+    pub(crate) limit: Option<Duration>,
+    saved: Option<SavedSession>,
+    dial: Box<dyn Dial>,
+}
+
+impl SessionOptions {
+    /// A session that asks for this timeout, in whole milliseconds: 1 to 2,147,483,647.
+    pub fn new(timeout: Duration) -> SessionOptions {
+        SessionOptions {
+            timeout,
+            order: Order::Shuffled,
+            renews: false,
+            retry: Retry::never(),
+            limit: None,
+            saved: None,
+            dial: Box::new(Tcp),
+        }
+    }
+
+    /// Whether the servers are dialled in random order, another one in each round, or as the list has them. The order is random unless
+    /// this says otherwise, so that many clients spread over many servers.
+    pub fn shuffles(mut self, shuffles: bool) -> SessionOptions {
+        self.order = if shuffles {
+            Order::Shuffled
+        } else {
+            Order::AsListed
+        };
+        self
+    }
+
+    /// Whether a new session begins by itself where one has expired. None does, unless this says otherwise. The event
+    /// [`State(Expired)`](crate::Event::State) tells that the ephemeral nodes and the watches of the old one are gone.
+    pub fn renews(mut self, renews: bool) -> SessionOptions {
+        self.renews = renews;
+        self
+    }
+
+    /// How often calls are asked again.
+    pub fn retry(mut self, retry: Retry) -> SessionOptions {
+        self.retry = retry;
+        self
+    }
+
+    /// How long a call is waited for at most, with all times that it is asked again. A call whose limit has passed fails as that of
+    /// [`Ticket::wait_for`](crate::Ticket::wait_for).
+    pub fn limit(mut self, limit: Duration) -> SessionOptions {
+        self.limit = Some(limit);
+        self
+    }
+
+    /// Takes up a session that was put away.
+    pub fn resume(mut self, saved: &SavedSession) -> SessionOptions {
+        self.saved = Some(saved.clone());
+        self
+    }
+
+    /// What makes connections, instead of [`Tcp`].
+    pub fn dial(mut self, dial: impl Dial + 'static) -> SessionOptions {
+        self.dial = Box::new(dial);
+        self
+    }
+
+    /// Opens a session that is kept alive by a thread of its own. It dials at once.
+    ///
+    /// # Errors
+    ///
+    /// As [`OpenError`] says.
+    pub fn open<H>(self, hosts: H) -> Result<Session, OpenError>
+    where
+        H: TryInto<Hosts>,
+        OpenError: From<H::Error>,
+    {
+        let (retry, limit) = (self.retry, self.limit);
+        let keeper = self.keeper(hosts.try_into()?)?;
+        Session::kept_by(keeper, retry, limit).map_err(OpenError::Thread)
+    }
+
+    /// Opens a session without a thread, for a loop of the program's own. It dials at the first call. It asks nothing again, and has no
+    /// limits.
+    ///
+    /// # Errors
+    ///
+    /// As [`OpenError`] says.
+    pub fn open_local<H>(self, hosts: H) -> Result<LocalSession, OpenError>
+    where
+        H: TryInto<Hosts>,
+        OpenError: From<H::Error>,
+    {
+        Ok(LocalSession::kept_by(self.keeper(hosts.try_into()?)?))
+    }
+
+    fn keeper(self, hosts: Hosts) -> Result<Keeper, Fault> {
+        let client = match &self.saved {
+            Some(saved) => Client::resume(self.timeout, saved)?,
+            None => Client::open(self.timeout)?,
+        };
+        let engine = Engine::new(Beginning {
+            client,
+            timeout: self.timeout,
+            hosts,
+            renews: self.renews,
+        });
+        Ok(Keeper::new(Shared::new(engine), self.dial, self.order))
+    }
+}
+
+/// It tells nothing of what dials.
+impl fmt::Debug for SessionOptions {
+    fn fmt(&self, f: &mut fmt::Formatter<'_>) -> fmt::Result {
+        f.debug_struct("SessionOptions")
+            .field("timeout", &self.timeout)
+            .field("order", &self.order)
+            .field("renews", &self.renews)
+            .field("retry", &self.retry)
+            .field("limit", &self.limit)
+            .field("saved", &self.saved)
+            .finish_non_exhaustive()
+    }
+}

@@ -1,0 +1,197 @@
+//! What a program asks of the servers.
+
+use crate::client::Client;
+use crate::fault::{Code, Error, Fault};
+use crate::moment::Moment;
+use crate::node::{Mode, Node, Stat, Watch};
+use crate::output::Outputs;
+use crate::told::{Found, Outcome};
+use std::fmt;
+
+/// A call of the core, without its path.
+#[derive(Clone, Debug, PartialEq, Eq)]
+pub(crate) enum Call {
+    Exists(Watch),
+    Data(Watch),
+    Children(Watch),
+    Set { data: Vec<u8>, version: i32 },
+    Create { data: Vec<u8>, mode: Mode },
+    Delete { version: i32 },
+    Close,
+}
+
+impl Call {
+    /// Whether the servers are as they were after it.
+    pub(crate) fn is_read(&self) -> bool {
+        matches!(self, Call::Exists(_) | Call::Data(_) | Call::Children(_))
+    }
+
+    /// Asks the client, about the node of this path at the servers.
+    pub(crate) fn ask<'a>(
+        &self,
+        client: &'a mut Client,
+        now: Moment,
+        ticket: u64,
+        path: &str,
+    ) -> Result<Outputs<'a>, Fault> {
+        match self {
+            Call::Exists(watch) => client.exists(now, ticket, path, *watch),
+            Call::Data(watch) => client.get_data(now, ticket, path, *watch),
+            Call::Children(watch) => client.get_children(now, ticket, path, *watch),
+            Call::Set { data, version } => client.set_data(now, ticket, path, Some(data), *version),
+            Call::Create { data, mode } => client.create(now, ticket, path, Some(data), *mode),
+            Call::Delete { version } => client.delete(now, ticket, path, *version),
+            Call::Close => client.close_session(now, ticket),
+        }
+    }
+}
+
+/// What is asked, without what its answer is made to.
+#[derive(Clone, PartialEq, Eq)]
+pub(crate) struct Asked {
+    pub(crate) path: String,
+    pub(crate) call: Call,
+}
+
+/// A request, whose answer is a `T`.
+///
+/// [`Session::ask`](crate::Session::ask) sends it and goes on, and [`Session::call`](crate::Session::call) waits for its answer. Each
+/// function of a session that has the same name as one here is such a call.
+///
+/// ```no_run
+/// use dirwolleu::{Request, Session};
+/// # use std::time::Duration;
+///
+/// # fn main() -> Result<(), Box<dyn std::error::Error>> {
+/// # let session = Session::open("127.0.0.1:2181", Duration::from_secs(10))?;
+/// let tickets: Vec<_> = ["/a", "/b", "/c"].map(|path| session.ask(Request::get(path).watched())).into();
+/// for ticket in tickets {
+///     println!("{:?}", ticket.wait()?.data); // all three were on their way at once
+/// }
+/// # Ok(())
+/// # }
+/// ```
+#[must_use = "it is not sent before it is asked"]
+pub struct Request<T> {
+    pub(crate) asked: Asked,
+    pub(crate) read: fn(Outcome) -> Result<T, Error>,
+}
+
+impl<T> Request<T> {
+    fn new(path: &str, call: Call, read: fn(Outcome) -> Result<T, Error>) -> Request<T> {
+        let path = String::from(path);
+        Request {
+            asked: Asked { path, call },
+            read,
+        }
+    }
+
+    /// Whether it only reads. A read is safe to be asked again, whatever became of it; a write is where it was not sent or was refused.
+    pub fn is_read(&self) -> bool {
+        self.asked.call.is_read()
+    }
+
+    /// Whether it is safe to be asked again after this error, and of use.
+    pub(crate) fn may_be_repeated(&self, fault: Error) -> bool {
+        fault.is_passing() && (self.is_read() || !fault.may_have_happened())
+    }
+}
+
+impl Request<Option<Stat>> {
+    /// What is known of a node, and none where there is none.
+    pub fn exists(path: &str) -> Request<Option<Stat>> {
+        Request::new(path, Call::Exists(Watch::No), |outcome| match outcome {
+            Ok(found) => Ok(Some(found.stat)),
+            Err(Error::Server(Code::NO_NODE)) => Ok(None),
+            Err(fault) => Err(fault),
+        })
+    }
+
+    /// The same, and a watch is left, also where there is no node.
+    pub fn watched(mut self) -> Request<Option<Stat>> {
+        self.asked.call = Call::Exists(Watch::Yes);
+        self
+    }
+}
+
+impl Request<Node> {
+    /// The data of a node. Where there is none the answer is [`Code::NO_NODE`].
+    pub fn get(path: &str) -> Request<Node> {
+        Request::new(path, Call::Data(Watch::No), |outcome| {
+            let Found { data, stat, .. } = outcome?;
+            Ok(Node { data, stat })
+        })
+    }
+
+    /// The same, and a watch is left where there is a node.
+    pub fn watched(mut self) -> Request<Node> {
+        self.asked.call = Call::Data(Watch::Yes);
+        self
+    }
+}
+
+impl Request<(Vec<String>, Stat)> {
+    /// The names of the children of a node, in an order that means nothing, and what is known of it. Where there is none the answer is
+    /// [`Code::NO_NODE`].
+    pub fn children(path: &str) -> Request<(Vec<String>, Stat)> {
+        Request::new(path, Call::Children(Watch::No), |outcome| {
+            outcome.map(|found| (found.names, found.stat))
+        })
+    }
+
+    /// The same, and a watch is left where there is a node.
+    pub fn watched(mut self) -> Request<(Vec<String>, Stat)> {
+        self.asked.call = Call::Children(Watch::Yes);
+        self
+    }
+}
+
+impl Request<Stat> {
+    /// Sets the data of a node that has this version; [`ANY_VERSION`](crate::ANY_VERSION) is that of each node.
+    pub fn set(path: &str, data: &[u8], version: i32) -> Request<Stat> {
+        let data = data.to_vec();
+        Request::new(path, Call::Set { data, version }, |outcome| {
+            outcome.map(|found| found.stat)
+        })
+    }
+}
+
+impl Request<String> {
+    /// Makes a node, and tells its path, which ends in ten digits more where it is sequential.
+    pub fn create(path: &str, data: &[u8], mode: Mode) -> Request<String> {
+        let data = data.to_vec();
+        Request::new(path, Call::Create { data, mode }, |outcome| {
+            outcome.map(|found| found.path)
+        })
+    }
+}
+
+impl Request<()> {
+    /// Deletes a node that has this version and no children; [`ANY_VERSION`](crate::ANY_VERSION) is that of each node.
+    pub fn delete(path: &str, version: i32) -> Request<()> {
+        Request::new(path, Call::Delete { version }, |outcome| outcome.map(drop))
+    }
+
+    /// Ends the session.
+    pub(crate) fn close() -> Request<()> {
+        Request::new("/", Call::Close, |outcome| outcome.map(drop))
+    }
+}
+
+impl<T> Clone for Request<T> {
+    fn clone(&self) -> Request<T> {
+        Request {
+            asked: self.asked.clone(),
+            read: self.read,
+        }
+    }
+}
+
+/// It tells no data.
+impl<T> fmt::Debug for Request<T> {
+    fn fmt(&self, f: &mut fmt::Formatter<'_>) -> fmt::Result {
+        f.debug_struct("Request")
+            .field("path", &self.asked.path)
+            .finish_non_exhaustive()
+    }
+}

@@ -1,0 +1,62 @@
+//! How often a call is asked again.
+
+use crate::hosts::chance;
+use crate::pauses::spread;
+use std::time::Duration;
+
+/// The longest pause before a call is asked again for the first time. It is twice as long before each further time.
+const FIRST_PAUSE: Duration = Duration::from_millis(100);
+
+/// The longest pause of all.
+const LONGEST_PAUSE: Duration = Duration::from_secs(1);
+
+/// How often a call is asked again that has failed for a reason that passes ([`Error::is_passing`](crate::Error::is_passing)).
+///
+/// A read is asked again after each such error. A write is asked again only where nothing has happened for sure: it was not sent, or the
+/// server has refused it. One that [may have happened](crate::Error::may_have_happened) is never asked twice: its caller is told.
+///
+/// ```
+/// use dirwolleu::{Retry, SessionOptions};
+/// use std::time::Duration;
+///
+/// let options = SessionOptions::new(Duration::from_secs(10)).retry(Retry::times(3));
+/// ```
+#[derive(Clone, Copy, Debug, Default, PartialEq, Eq, Hash)]
+pub struct Retry {
+    times: u32,
+}
+
+impl Retry {
+    /// Each call is asked once, which is how a session begins.
+    pub const fn never() -> Retry {
+        Retry { times: 0 }
+    }
+
+    /// A call is asked this often again, after random pauses that grow up to a second.
+    pub const fn times(times: u32) -> Retry {
+        Retry { times }
+    }
+
+    /// The pauses before a call is asked again.
+    pub(crate) fn pauses(self) -> impl Iterator<Item = Duration> {
+        let longest = |time: u32| FIRST_PAUSE.saturating_mul(1 << time.min(8));
+        (0..self.times).map(move |time| spread(longest(time).min(LONGEST_PAUSE), chance()))
+    }
+}
+
+#[cfg(test)]
+mod tests {
+    use super::Retry;
+
+    #[test]
+    fn pauses_grow_up_to_a_second() {
+        let pauses: Vec<_> = Retry::times(6).pauses().collect();
+        for (pause, whole) in pauses.iter().zip([100, 200, 400, 800, 1_000, 1_000]) {
+            assert!(
+                (whole / 2..=whole).contains(&pause.as_millis()),
+                "{pause:?}"
+            );
+        }
+        assert_eq!((pauses.len(), Retry::never().pauses().count()), (6, 0));
+    }
+}

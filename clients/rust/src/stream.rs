@@ -1,0 +1,136 @@
+//! Connections, as a session sees them: what dials, and the two halves of what it makes.
+
+use std::io::{self, ErrorKind, Read, Write};
+use std::net::{Shutdown, SocketAddr, TcpStream};
+use std::time::Duration;
+
+/// The shortest time that the system takes for a bound on a wait.
+const SHORTEST_WAIT: Duration = Duration::from_millis(1);
+
+/// The server that is dialled.
+#[derive(Clone, Copy, Debug, PartialEq, Eq)]
+#[non_exhaustive]
+pub struct Server<'a> {
+    /// Its name, as the list of hosts has it, without the port: what a certificate has to say.
+    pub name: &'a str,
+    /// One of the addresses that the name has now.
+    pub address: SocketAddr,
+}
+
+impl<'a> Server<'a> {
+    pub(crate) fn new(name: &'a str, address: SocketAddr) -> Server<'a> {
+        Server { name, address }
+    }
+}
+
+/// The half of a connection that is read. One thread has it.
+pub trait Incoming: Send {
+    /// Waits until there are bytes, for so long at most, and reads as many as there are and there is room for. `Ok(0)` says that the
+    /// stream has ended.
+    ///
+    /// # Errors
+    ///
+    /// [`ErrorKind::WouldBlock`], [`ErrorKind::TimedOut`] or [`ErrorKind::Interrupted`] where nothing came in time; with another kind the
+    /// connection is over.
+    fn read(&mut self, room: &mut [u8], wait: Duration) -> io::Result<usize>;
+}
+
+/// The half of a connection that is written. Any thread writes to it, one at a time, while another one reads.
+pub trait Outgoing: Send {
+    /// Writes all of these bytes and has them sent. It waits for room for as long as the attempt to connect could have taken.
+    ///
+    /// # Errors
+    ///
+    /// With any error the connection is over.
+    fn write_all(&mut self, bytes: &[u8]) -> io::Result<()>;
+
+    /// Ends the connection: a read that waits at the other half ends soon.
+    fn close(&mut self);
+}
+
+/// A connection to a server.
+pub struct Connection {
+    /// What comes from the server.
+    pub incoming: Box<dyn Incoming>,
+    /// What goes to it.
+    pub outgoing: Box<dyn Outgoing>,
+}
+
+/// Makes connections: [`Tcp`] does, and so does any function of the same form.
+///
+/// A program brings its own for TLS, for a proxy, and for tests without a network:
+///
+/// ```
+/// use dirwolleu::{Connection, Dial, Server, SessionOptions, Tcp};
+/// use std::{io, time::Duration};
+///
+/// # fn main() -> Result<(), Box<dyn std::error::Error>> {
+/// let guarded = |server: &Server<'_>, within: Duration| -> io::Result<Connection> {
+///     if !server.address.ip().is_loopback() {
+///         return Err(io::ErrorKind::PermissionDenied.into());
+///     }
+///     Tcp.dial(server, within)
+/// };
+/// let session = SessionOptions::new(Duration::from_secs(10)).dial(guarded).open("10.0.0.1:2181")?;
+/// # Ok(())
+/// # }
+/// ```
+pub trait Dial: Send {
+    /// Connects to a server, within this time.
+    ///
+    /// # Errors
+    ///
+    /// Any: the next address is dialled after a pause.
+    fn dial(&mut self, server: &Server<'_>, within: Duration) -> io::Result<Connection>;
+}
+
+impl<F> Dial for F
+where
+    F: FnMut(&Server<'_>, Duration) -> io::Result<Connection> + Send,
+{
+    fn dial(&mut self, server: &Server<'_>, within: Duration) -> io::Result<Connection> {
+        self(server, within)
+    }
+}
+
+/// Connections over TCP, each frame sent at once.
+#[derive(Clone, Copy, Debug, Default)]
+pub struct Tcp;
+
+impl Dial for Tcp {
+    fn dial(&mut self, server: &Server<'_>, within: Duration) -> io::Result<Connection> {
+        let stream = TcpStream::connect_timeout(&server.address, within)?;
+        stream.set_nodelay(true)?;
+        stream.set_write_timeout(Some(within))?;
+        Ok(Connection {
+            incoming: Box::new(stream.try_clone()?),
+            outgoing: Box::new(stream),
+        })
+    }
+}
+
+impl Incoming for TcpStream {
+    fn read(&mut self, room: &mut [u8], wait: Duration) -> io::Result<usize> {
+        self.set_read_timeout(Some(wait.max(SHORTEST_WAIT)))?;
+        Read::read(self, room)
+    }
+}
+
+impl Outgoing for TcpStream {
+    fn write_all(&mut self, bytes: &[u8]) -> io::Result<()> {
+        Write::write_all(self, bytes)
+    }
+
+    fn close(&mut self) {
+        // It fails where the server has closed it already.
+        let _ = self.shutdown(Shutdown::Both);
+    }
+}
+
+/// Whether a read that failed so may succeed later: nothing came in time, or it was interrupted.
+pub(crate) fn is_late(fault: &io::Error) -> bool {
+    matches!(
+        fault.kind(),
+        ErrorKind::WouldBlock | ErrorKind::TimedOut | ErrorKind::Interrupted
+    )
+}

@@ -1,0 +1,99 @@
+//! Look-ups of one moment.
+
+use crate::engine::Engine;
+use crate::fault::Fault;
+use crate::kept::{Children, DataAnswer, Kept, Mark};
+use crate::saved::SavedSession;
+use std::fmt;
+use std::time::Duration;
+
+/// What a session knows at one moment: nothing happens between two look-ups of one view. So answers that are all good are what the
+/// servers' history has at one zxid, that of [`last_zxid`](View::last_zxid).
+///
+/// ```no_run
+/// use dirwolleu::{DataAnswer, Fault, Kept, Mark, Session};
+/// # use std::time::Duration;
+///
+/// # fn main() -> Result<(), Box<dyn std::error::Error>> {
+/// # let session = Session::open("127.0.0.1:2181", Duration::from_secs(10))?;
+/// session.watch("/host")?;
+/// session.watch("/port")?;
+/// let of_one_zxid = session.view(|view| {
+///     let are_good = [view.data_mark("/host")?, view.data_mark("/port")?] == [Some(Mark::Good); 2];
+///     Ok::<_, Fault>(are_good.then_some((view.peek("/host")?, view.peek("/port")?, view.last_zxid())))
+/// })?;
+/// # Ok(())
+/// # }
+/// ```
+#[derive(Clone, Copy)]
+pub struct View<'a> {
+    engine: &'a Engine,
+}
+
+impl<'a> View<'a> {
+    pub(crate) fn of(engine: &'a Engine) -> View<'a> {
+        View { engine }
+    }
+}
+
+/// Look-ups ask nobody. Those of a path fail with [`Fault::NotPath`] and [`Fault::NoMemory`].
+impl View<'_> {
+    /// The greatest zxid seen, not below 0. A good answer is what the servers' history has at it.
+    pub fn last_zxid(&self) -> i64 {
+        self.engine.client().last_zxid()
+    }
+
+    /// The timeout of the session: the one that a server granted last, or the one to ask for.
+    pub fn timeout(&self) -> Duration {
+        self.engine.client().timeout()
+    }
+
+    /// The number of the session, which its ephemeral nodes have as their owner: 0 before a server has admitted it.
+    ///
+    /// # Errors
+    ///
+    /// [`Fault::NoMemory`] alone.
+    pub fn id(&self) -> Result<i64, Fault> {
+        Ok(self.saved()?.id().unwrap_or_default())
+    }
+
+    /// The session, to be taken up by another one.
+    ///
+    /// # Errors
+    ///
+    /// [`Fault::NoMemory`] alone.
+    pub fn saved(&self) -> Result<SavedSession, Fault> {
+        self.engine.client().saved()
+    }
+
+    /// What is kept about the data of a path that was read with a watch, with its mark, and none where nothing is. The data are copied.
+    pub fn peek(&self, path: &str) -> Result<Option<Kept<DataAnswer>>, Fault> {
+        let path = self.engine.chroot().outer(path)?;
+        self.engine.client().peek_data(&path)
+    }
+
+    /// The mark of what is kept about the data of a path, and none where nothing is. It copies no data.
+    pub fn data_mark(&self, path: &str) -> Result<Option<Mark>, Fault> {
+        let path = self.engine.chroot().outer(path)?;
+        self.engine.client().data_mark(&path)
+    }
+
+    /// What is kept about the children of a path that were read with a watch, with its mark, and none where nothing is. The names are
+    /// copied.
+    pub fn peek_children(&self, path: &str) -> Result<Option<Kept<Children>>, Fault> {
+        let path = self.engine.chroot().outer(path)?;
+        self.engine.client().peek_children(&path)
+    }
+
+    /// The mark of what is kept about the children of a path, and none where nothing is. It copies no names.
+    pub fn children_mark(&self, path: &str) -> Result<Option<Mark>, Fault> {
+        let path = self.engine.chroot().outer(path)?;
+        self.engine.client().children_mark(&path)
+    }
+}
+
+impl fmt::Debug for View<'_> {
+    fn fmt(&self, f: &mut fmt::Formatter<'_>) -> fmt::Result {
+        fmt::Debug::fmt(self.engine.client(), f)
+    }
+}

@@ -1,0 +1,424 @@
+//! Sessions that live by a thread of their own, and calls that are on their way at once.
+
+mod jute;
+mod memory;
+mod partner;
+
+use dirwolleu::{
+    Code, Error, Event, Hosts, LocalSession, Mode, NoReply, Request, Retry, Session,
+    SessionOptions, State, Ticket, ANY_VERSION,
+};
+use jute::{CREATE, EXISTS, GET_DATA, PING, PONG, SET_DATA};
+use partner::{Line, Partner};
+use std::future::Future;
+use std::io;
+use std::net::{TcpListener, TcpStream};
+use std::pin::pin;
+use std::sync::atomic::{AtomicUsize, Ordering};
+use std::sync::{mpsc, Arc, Mutex};
+use std::task::{Context, Poll, Wake};
+use std::thread::{self, sleep, Thread};
+use std::time::{Duration, Instant};
+
+/// How long what is awaited may take.
+const PATIENCE: Duration = Duration::from_secs(30);
+
+fn millis(count: u64) -> Duration {
+    Duration::from_millis(count)
+}
+
+fn session_at(partner: &Partner, timeout: u64) -> Session {
+    Session::open(partner.address, millis(timeout)).unwrap()
+}
+
+/// Answers all that comes, until the client ends the connection.
+fn serve_well(line: &mut Line) {
+    while let Some(request) = line.request() {
+        match request.kind {
+            PING => line.refuse(PONG, 0),
+            CREATE => line.tell_path(request.xid, "/mine"),
+            EXISTS | SET_DATA => line.tell_stat(request.xid),
+            _ => line.tell_data(request.xid),
+        };
+    }
+}
+
+/// A server that gives a session up which it has not heard of for its timeout, and then says so to each that asks for it.
+fn expiring(timeout: Duration) -> (TcpListener, Arc<AtomicUsize>) {
+    let listener = TcpListener::bind("127.0.0.1:0").unwrap();
+    let accepting = listener.try_clone().unwrap();
+    let expiries = Arc::new(AtomicUsize::new(0));
+    let counted = Arc::clone(&expiries);
+    thread::spawn(move || {
+        for stream in accepting.incoming().map_while(Result::ok) {
+            serve_or_expire(stream, timeout, &counted);
+        }
+    });
+    (listener, expiries)
+}
+
+fn serve_or_expire(stream: TcpStream, timeout: Duration, expiries: &AtomicUsize) {
+    let begun = Instant::now();
+    stream.set_nodelay(true).unwrap();
+    stream.set_read_timeout(Some(timeout)).unwrap();
+    let mut line = Line::over(stream);
+    let granted = i32::try_from(timeout.as_millis()).unwrap();
+    if expiries.load(Ordering::SeqCst) > 0 {
+        line.frame();
+        line.send(&jute::Record::expired());
+        return;
+    }
+    line.admit(granted);
+    serve_well(&mut line);
+    if begun.elapsed() >= timeout {
+        expiries.fetch_add(1, Ordering::SeqCst);
+    }
+}
+
+#[test]
+fn a_session_lives_while_its_program_works() {
+    let (listener, expiries) = expiring(millis(4_000));
+    let address = listener.local_addr().unwrap();
+    let session = Session::open(address, millis(4_000)).unwrap();
+    session.create("/mine", b"", Mode::Ephemeral).unwrap();
+    sleep(millis(9_000));
+    assert_eq!(session.state(), Some(State::Connected));
+    assert_eq!(
+        expiries.load(Ordering::SeqCst),
+        0,
+        "the servers have the session"
+    );
+    assert!(session.exists("/mine").unwrap().is_some());
+}
+
+#[test]
+fn without_a_thread_the_state_is_not_known_after_work() {
+    let (listener, expiries) = expiring(millis(4_000));
+    let address = listener.local_addr().unwrap();
+    let mut session = LocalSession::open(address, millis(4_000)).unwrap();
+    session.create("/mine", b"", Mode::Ephemeral).unwrap();
+    assert_eq!(session.state(), Some(State::Connected));
+    sleep(millis(9_000));
+    assert_eq!(session.state(), None);
+    assert_eq!(
+        expiries.load(Ordering::SeqCst),
+        1,
+        "the servers have given it up"
+    );
+    let expired = Event::State(State::Expired);
+    while session
+        .next_event(Some(Instant::now() + PATIENCE))
+        .unwrap()
+        .as_ref()
+        != Some(&expired)
+    {}
+    assert_eq!(session.state(), Some(State::Expired));
+}
+
+#[test]
+fn calls_are_on_their_way_at_once() {
+    let partner = Partner::start(|_, mut line| {
+        line.admit(10_000);
+        let requests: Vec<_> = (0..3).map_while(|_| line.request()).collect();
+        for request in requests {
+            line.tell_data(request.xid);
+        }
+        serve_well(&mut line);
+    });
+    let session = session_at(&partner, 10_000);
+    let tickets = ["/a", "/b", "/c"].map(|path| session.ask(Request::get(path)));
+    for ticket in tickets {
+        let node = ticket.wait_for(PATIENCE).unwrap();
+        assert_eq!(node.data.as_deref(), Some(b"one".as_slice()));
+    }
+}
+
+/// Wakes a thread.
+struct Unpark(Thread);
+
+impl Wake for Unpark {
+    fn wake(self: Arc<Self>) {
+        self.0.unpark();
+    }
+}
+
+/// Waits for a future, as the smallest of runtimes would.
+fn block_on<F: Future>(future: F) -> F::Output {
+    let mut future = pin!(future);
+    let waker = Arc::new(Unpark(thread::current())).into();
+    let mut context = Context::from_waker(&waker);
+    loop {
+        match future.as_mut().poll(&mut context) {
+            Poll::Ready(output) => return output,
+            Poll::Pending => thread::park_timeout(PATIENCE),
+        }
+    }
+}
+
+#[test]
+fn a_ticket_is_awaited_by_any_runtime() {
+    let partner = Partner::start(|_, mut line| {
+        line.admit(10_000);
+        serve_well(&mut line);
+    });
+    let session = session_at(&partner, 10_000);
+    let stat = block_on(async {
+        let first = session.ask(Request::get("/a"));
+        let second = session.ask(Request::set("/a", b"two", ANY_VERSION));
+        first.await?;
+        second.await
+    });
+    assert_eq!(stat.map(|stat| stat.data_length), Ok(3));
+}
+
+#[test]
+fn a_limit_says_whether_a_call_may_still_happen() {
+    let (sender, requests) = mpsc::channel();
+    let partner = Partner::start(move |_, mut line| {
+        line.admit(10_000);
+        while let Some(request) = line.request() {
+            sender.send(request.kind).unwrap();
+        }
+    });
+    let session = session_at(&partner, 10_000);
+    let ticket = session.ask(Request::set("/a", b"one", 0));
+    assert_eq!(requests.recv_timeout(PATIENCE), Ok(SET_DATA));
+    let late = ticket.wait_for(millis(100)).unwrap_err();
+    assert_eq!(late, Error::TimedOut);
+    assert!(late.may_have_happened());
+    let nowhere = SessionOptions::new(millis(10_000))
+        .limit(millis(100))
+        .open(Hosts::default())
+        .unwrap();
+    let not_sent = nowhere.set("/a", b"one", 0).unwrap_err();
+    assert_eq!(not_sent, Error::NoReply(NoReply::NotConnected));
+    assert!(!not_sent.may_have_happened());
+}
+
+#[test]
+fn a_call_waits_for_a_connection_as_long_as_the_timeout() {
+    let session = Session::open(Hosts::default(), millis(1_500)).unwrap();
+    let begun = Instant::now();
+    let nobody = session.get("/a");
+    assert_eq!(nobody, Err(Error::NoReply(NoReply::NotConnected)));
+    let took = begun.elapsed();
+    assert!(took >= millis(1_490) && took < PATIENCE, "{took:?}");
+}
+
+/// A server that ends the connection at the first request of a kind, and counts those that come.
+fn losing(kind: i32) -> (Partner, Arc<AtomicUsize>) {
+    let count = Arc::new(AtomicUsize::new(0));
+    let counted = Arc::clone(&count);
+    let partner = Partner::start(move |_, mut line| {
+        line.admit(10_000);
+        while let Some(request) = line.request() {
+            let is_first = request.kind == kind && counted.fetch_add(1, Ordering::SeqCst) == 0;
+            match request.kind {
+                _ if is_first => return,
+                PING => line.refuse(PONG, 0),
+                SET_DATA => line.tell_stat(request.xid),
+                _ => line.tell_data(request.xid),
+            };
+        }
+    });
+    (partner, count)
+}
+
+fn retrying(partner: &Partner) -> Session {
+    let options = SessionOptions::new(millis(10_000)).retry(Retry::times(3));
+    options.open(partner.address).unwrap()
+}
+
+#[test]
+fn a_read_is_asked_again_after_a_lost_connection() {
+    let (partner, count) = losing(GET_DATA);
+    assert!(retrying(&partner).get("/a").is_ok());
+    assert_eq!(count.load(Ordering::SeqCst), 2);
+}
+
+#[test]
+fn a_write_that_may_have_happened_is_not_asked_again() {
+    let (partner, count) = losing(SET_DATA);
+    let session = retrying(&partner);
+    let lost = session.set("/a", b"one", ANY_VERSION);
+    assert_eq!(lost, Err(Error::NoReply(NoReply::ConnectionLoss)));
+    assert!(session.get("/a").is_ok());
+    assert_eq!(count.load(Ordering::SeqCst), 1);
+}
+
+#[test]
+fn a_write_that_was_refused_for_a_while_is_asked_again() {
+    let mut refusals = 2;
+    let partner = Partner::start(move |_, mut line| {
+        line.admit(10_000);
+        while let Some(request) = line.request() {
+            if request.kind == SET_DATA && refusals > 0 {
+                refusals -= 1;
+                line.refuse(request.xid, Code::THROTTLED.0);
+            } else {
+                line.tell_stat(request.xid);
+            }
+        }
+    });
+    assert!(retrying(&partner).set("/a", b"one", ANY_VERSION).is_ok());
+}
+
+#[test]
+fn each_ticket_is_answered_where_the_session_is_let_go() {
+    let (sender, requests) = mpsc::channel();
+    let partner = Partner::start(move |_, mut line| {
+        line.admit(10_000);
+        while let Some(request) = line.request() {
+            let _ = sender.send(request.kind);
+        }
+    });
+    let session = session_at(&partner, 10_000);
+    let sent = session.ask(Request::get("/a"));
+    assert_eq!(requests.recv_timeout(PATIENCE), Ok(GET_DATA));
+    drop(session);
+    assert_eq!(
+        sent.wait_for(PATIENCE),
+        Err(Error::NoReply(NoReply::ConnectionLoss))
+    );
+    let nowhere = Session::open(Hosts::default(), millis(10_000)).unwrap();
+    let not_sent = nowhere.ask(Request::get("/a"));
+    drop(nowhere);
+    assert_eq!(
+        not_sent.wait_for(PATIENCE),
+        Err(Error::NoReply(NoReply::NotConnected))
+    );
+}
+
+#[test]
+fn a_dial_that_panics_leaves_nobody_waiting() {
+    let panics = |_: &dirwolleu::Server<'_>, _: Duration| -> io::Result<dirwolleu::Connection> {
+        panic!("as the test has it")
+    };
+    let options = SessionOptions::new(millis(10_000)).dial(panics);
+    let session = options.open("127.0.0.1:1").unwrap();
+    let answer: Ticket<_> = session.ask(Request::get("/a"));
+    assert_eq!(
+        answer.wait_for(PATIENCE),
+        Err(Error::NoReply(NoReply::NotConnected))
+    );
+    assert_eq!(session.next_event(None).map(drop), Ok(()));
+}
+
+#[test]
+fn threads_share_a_session() {
+    let partner = Partner::start(|_, mut line| {
+        line.admit(10_000);
+        serve_well(&mut line);
+    });
+    let session = session_at(&partner, 10_000).shared();
+    let threads: Vec<_> = (0..8)
+        .map(|number| {
+            let session = session.clone();
+            thread::spawn(move || (0..50).all(|_| session.get(&format!("/{number}")).is_ok()))
+        })
+        .collect();
+    for thread in threads {
+        assert!(thread.join().unwrap());
+    }
+}
+
+#[test]
+fn a_session_needs_no_network() {
+    let (sender, dials) = mpsc::channel();
+    let dial = move |server: &dirwolleu::Server<'_>, _: Duration| {
+        let (connection, end) = memory::connection();
+        let _ = sender.send((server.name.to_owned(), server.address));
+        thread::spawn(move || {
+            let mut line = Line::over(end);
+            line.admit(10_000);
+            let request = line.request()?;
+            line.tell_data(request.xid);
+            Some(()) // and the connection is over
+        });
+        Ok(connection)
+    };
+    let options = SessionOptions::new(millis(10_000))
+        .dial(dial)
+        .shuffles(false);
+    let session = options.open("10.1.2.3,[2001:db8::1]:7/app").unwrap();
+    for _ in 0..2 {
+        assert!(session.get("/a").is_ok());
+        while session.state() == Some(State::Connected) {
+            sleep(millis(5));
+        }
+    }
+    let first = (String::from("10.1.2.3"), "10.1.2.3:2181".parse().unwrap());
+    let second = (
+        String::from("2001:db8::1"),
+        "[2001:db8::1]:7".parse().unwrap(),
+    );
+    assert_eq!(dials.recv_timeout(PATIENCE), Ok(first));
+    assert_eq!(dials.recv_timeout(PATIENCE), Ok(second));
+}
+
+#[test]
+fn a_name_is_looked_up_and_each_of_its_addresses_dialled() {
+    let partner = Partner::start(|_, mut line| {
+        line.admit(10_000);
+        serve_well(&mut line);
+    });
+    let hosts = format!("localhost:{}", partner.address.port());
+    let session = Session::open(hosts, millis(10_000)).unwrap();
+    assert!(session.get("/a").is_ok());
+}
+
+#[test]
+fn hosts_are_changed_while_the_session_lives() {
+    let partner = Partner::start(|_, mut line| {
+        line.admit(10_000);
+        serve_well(&mut line);
+    });
+    let session = Session::open(Hosts::default(), millis(10_000)).unwrap();
+    let ticket = session.ask(Request::get("/a"));
+    let other_root: Hosts = "127.0.0.1:1/app".parse().unwrap();
+    assert_eq!(session.change_hosts(other_root.clone()), Err(other_root));
+    assert_eq!(session.change_hosts(partner.address.into()), Ok(()));
+    assert!(ticket.wait_for(PATIENCE).is_ok());
+}
+
+#[test]
+fn an_expired_session_renews_itself_where_it_is_told_to() {
+    let is_expired = Arc::new(Mutex::new(true));
+    let partner = Partner::start(move |number, mut line| {
+        if number == 1 && std::mem::take(&mut *is_expired.lock().unwrap()) {
+            line.frame();
+            line.send(&jute::Record::expired());
+            return;
+        }
+        line.admit(10_000);
+        if number == 0 {
+            line.request();
+            return;
+        }
+        serve_well(&mut line);
+    });
+    let options = SessionOptions::new(millis(10_000)).renews(true);
+    let session = options.open(partner.address).unwrap();
+    assert_eq!(
+        session.get("/a"),
+        Err(Error::NoReply(NoReply::ConnectionLoss))
+    );
+    assert!(session.get("/a").is_ok());
+    let mut states = Vec::new();
+    while let Some(event) = session.next_event(Some(Instant::now())).unwrap() {
+        if let Event::State(state) = event {
+            states.push(state);
+        }
+    }
+    let (connecting, connected) = (State::Connecting, State::Connected);
+    let expected = [
+        connecting,
+        connected,
+        State::Idle,
+        connecting,
+        State::Expired,
+        connecting,
+        connected,
+    ];
+    assert_eq!(states, expected);
+}
