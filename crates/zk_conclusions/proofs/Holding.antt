@@ -5,21 +5,20 @@ use Rattle.std.proofs.lemmas.Bool.Decides.{nat_tests, Decides-int_eq}
 use Rattle.std.proofs.lemmas.Int.{ints}
 use Rattle.std.specs.Prelude.{is_some}
 use Rattle.std.specs.Ordering.{int_eq}
-use Rattle.std.specs.FinSet as set
 use Rattle.zk_nodes.specs.Path.{Name, NodePath, path_of}
-use Rattle.zk_nodes.specs.History.{Node, Tree, History, IsHistory, tree_at, contents_of, children_of, node_fields}
+use Rattle.zk_nodes.specs.History.{Node, Tree, History, IsHistory, tree_at, contents_of, node_fields}
 use Rattle.zk_nodes.specs.declared.data_stat.DataStat.{DataStat}
-use Rattle.zk_cache.specs.Kept.{Answer, Absent, Known, Full, Names, as_good}
-use Rattle.zk_laws.specs.Server.{Fits, FitsNames}
+use Rattle.zk_cache.specs.Kept.{Answer, Absent, Known, Full, as_good}
+use Rattle.zk_laws.specs.Server.{Fits}
 use Rattle.zk_laws.specs.Messages.{from_zero}
 use Rattle.zk_conclusions.specs.Seen.{tree_seen}
 use Rattle.zk_conclusions.specs.Holders.{HasPrefix, is_before, IsHolder, token_of, token_in, HeldIsTrue, OneHolds, OneShows, NamesRise, TokensRise, LaterTokens}
-use Rattle.zk_conclusions.proofs.Truths.{coherent}
+use Rattle.zk_conclusions.proofs.Truths.{coherent, names_there}
 use Rattle.zk_conclusions.proofs.Orders.{before_or_same}
 use Rattle.zk_conclusions.proofs.Made.{IsMade, made_before}
 use Rattle.zk_laws.proofs.Stamps.{IsAtMost, made_by}
 
-the_one : {X : Type 0} (x y : X) → Some x ≡ Some y → x ≡ y
+pub the_one : {X : Type 0} (x y : X) → Some x ≡ Some y → x ≡ y
 the_one {X} x y e = ap (λ (o : Option X). elim o [ None ↦ x | Some z ↦ z ]) e
 
 -- what a token says of the fields that it comes from
@@ -45,7 +44,7 @@ owned_by session token fields e = go (int_eq fields.ephemeral_owner session && n
     go false f = absurd (no_token token None refl (rw f at e))
 
 -- an answer with a token that fits what there is to see is of a node that is there
-node_of : (session token : ℤ) (answer : Answer) (found : Option Node) → token_in session answer ≡ Some token → Fits answer (contents_of found)
+pub node_of : (session token : ℤ) (answer : Answer) (found : Option Node) → token_in session answer ≡ Some token → Fits answer (contents_of found)
     → (node : Node) × (found ≡ Some node) × IsOwned session token (node_fields node)
 node_of session token Absent found e fits = absurd cc
 node_of session token (Known fields) None e fits = absurd fits
@@ -53,18 +52,12 @@ node_of session token (Known fields) (Some node) e fits = (node, refl, subst (Is
 node_of session token (Full bytes fields) None e fits = absurd fits
 node_of session token (Full bytes fields) (Some node) e fits = (node, refl, subst (IsOwned session token) fits.1 (owned_by session token fields e))
 
--- a name that is there is among the names that fit
-named : (names : Names) (tree : Tree) (dir : NodePath) (found : Option Node) → FitsNames names (children_of (λ name. is_some (tree (name ∷ dir))) found)
-    → (name : Name) → is_some (tree (name ∷ dir)) ≡ true → set.contains names.names name ≡ true
-named names tree dir None fits name there = absurd fits
-named names tree dir (Some node) fits name there = fits.1 name ∙ there
-
 pub held_here : HeldIsTrue
 held_here h view dir prefix path token seen shows =
     let tree : Tree = tree_seen h view in
     let true_of = coherent h view seen in
     let found = node_of view.saved.session.session token shows.answer (tree (path_of path)) shows.made (true_of.nodes path (as_good shows.answer) shows.nodes refl) in
-    let listed = named shows.names tree (path_of dir) (tree (path_of dir)) (true_of.children dir (as_good shows.names) shows.children refl) in
+    let listed = names_there shows.names tree (path_of dir) (tree (path_of dir)) (true_of.children dir (as_good shows.names) shows.children refl) in
     record {
       own = shows.own;
       below = shows.below;

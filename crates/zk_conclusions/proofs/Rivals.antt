@@ -1,17 +1,14 @@
 -- None of some names is before another, as a test and as a set says it.
-use Rattle.std.proofs.Common.{◌≡◌, ◌↔◌, Bool, true, false, ◌||◌, not, List, [], ◌∷◌, map, refl, sym, ap, ap₂, ◌∙◌, subst, drop, length}
+use Rattle.std.proofs.Common.{◌≡◌, ◌↔◌, Bool, true, false, ◌||◌, not, List, [], ◌∷◌, map, refl, sym, ap, ◌∙◌, subst, drop, length}
 use Rattle.std.proofs.lemmas.Bool.Decides.{Decides-eqb}
 use Rattle.std.specs.Prelude.{bytes_eq, nat_eq}
-use Rattle.std.specs.Cmp.Lexicographic.{slice_cmp}
 use Rattle.std.specs.List.{list_any, starts_with}
-use Rattle.std.specs.Ordering.{is_eq, nat_cmp}
 use Rattle.std.specs.FinSet as set
-use Rattle.std.proofs.lemmas.Cmp.{nat_list_cmp_total}
-use Rattle.std.proofs.lemmas.Map.Text.{is_eq-slice_cmp}
 use Rattle.std.proofs.lemmas.Slice.Eq.{starts_is}
 use Rattle.zk_turns.proofs.Lists.{same_text, bytes_eq-refl}
 use Rattle.zk_nodes.specs.Path.{Name}
 use Rattle.zk_conclusions.specs.Holders.{HasPrefix, is_before, is_rival, IsFirstOf}
+use Rattle.zk_conclusions.proofs.Sets.{members}
 
 -- the test of a prefix
 pub begins : (prefix name : Name) → starts_with nat_eq name prefix ≡ true → HasPrefix prefix name
@@ -60,13 +57,6 @@ none_of prefix own (one ∷ more) each =
         go : (b : Bool) → (b || list_any (bytes_eq name) more) ≡ true
         go true = refl
         go false = there
-
-same_test : (names : List Name) (name : Name) → list_any (bytes_eq name) names ≡ list_any (λ other. is_eq (slice_cmp nat_cmp name other)) names
-same_test [] name = refl
-same_test (other ∷ names) name = ap₂ (λ (a b : Bool). a || b) (sym (is_eq-slice_cmp name other)) (same_test names name)
-
-members : (names : List Name) (name : Name) → list_any (bytes_eq name) names ≡ set.contains (set.from_list {R = slice_cmp nat_cmp} names) name
-members names name = same_test names name ∙ sym (set.contains-from_list nat_list_cmp_total names name)
 
 any_mapped : {X : Type 0} (test : Name → Bool) (f : X → Name) (xs : List X) → list_any test (map f xs) ≡ list_any (λ x. test (f x)) xs
 any_mapped test f [] = refl

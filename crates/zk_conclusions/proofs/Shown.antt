@@ -1,5 +1,5 @@
 -- What a client shows of a holder, put together from what its parts say.
-use Rattle.std.proofs.Common.{◌≡◌, ◌↔◌, ℤ, Bool, true, false, [], ◌∷◌, Option, Some, None, refl, sym, ap, ◌∙◌, subst}
+use Rattle.std.proofs.Common.{[], ◌≡◌, ◌↔◌, ℤ, Bool, true, false, ◌∷◌, Option, Some, None, refl, sym, ap, ◌∙◌, subst}
 use Rattle.zk_nodes.specs.Path.{Text, Name, NodePath, path_of, is_below, name_of}
 use Rattle.zk_cache.specs.declared.held.Kept.{Kept}
 use Rattle.zk_cache.specs.declared.held.Mark.{Mark}
@@ -10,7 +10,7 @@ use Rattle.zk_laws.proofs.Basics.{path_eq-true, path_eq_from}
 use Rattle.zk_conclusions.specs.Holders.{HasPrefix, IsFirstOf, IsShownFirst, ShowsHolder, token_in, token_kept}
 
 -- a token comes from a good answer
-token_good : (session token : ℤ) (kept : Option (Kept Answer)) → token_kept session kept ≡ Some token → (answer : Answer) × (kept ≡ good answer) × (token_in session answer ≡ Some token)
+pub token_good : (session token : ℤ) (kept : Option (Kept Answer)) → token_kept session kept ≡ Some token → (answer : Answer) × (kept ≡ good answer) × (token_in session answer ≡ Some token)
 token_good session token None e = absurd cc
 token_good session token (Some kept) e = go kept.answer kept.mark e
   where
@@ -26,7 +26,7 @@ shows_holder view dir prefix path own token place first made =
     let k = token_good view.saved.session.session token (view.cache.nodes path) (sym made) in
     record { own = own; below = place.0; begins = place.1; names = first.0; children = first.1; first = first.2; answer = k.0; nodes = k.1; made = k.2 }
 
-first_name : (dir path : NodePath) (one other : Name) → path ≡ one ∷ dir → path ≡ other ∷ dir → one ≡ other
+pub first_name : (dir path : NodePath) (one other : Name) → path ≡ one ∷ dir → path ≡ other ∷ dir → one ≡ other
 first_name dir path one other e f = ap (λ (p : NodePath). elim p [ [] ↦ one | (n ∷ rest) ↦ n ]) (sym e ∙ f)
 
 -- where the name is not first, nobody is shown to hold

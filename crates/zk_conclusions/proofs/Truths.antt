@@ -1,12 +1,13 @@
 -- What is good is the history's, where the client was served from it.
 use Rattle.std.proofs.Common.{◌≡◌, ℕ, zero, suc, true, false, List, [], ◌∷◌, Option, Some, None, refl, ap, sym, ◌∙◌, subst, inl, inr}
 use Rattle.std.proofs.lemmas.Bool.{and_parts}
-use Rattle.std.specs.Prelude.{slice_get}
+use Rattle.std.specs.Prelude.{slice_get, is_some}
+use Rattle.std.specs.FinSet as set
 use Rattle.std.proofs.Math.ListN.{get_or}
 use Rattle.std.proofs.lemmas.Option.{get_or_from_slice_get}
 use Rattle.zk_turns.specs.Meaning.{Among}
-use Rattle.zk_nodes.specs.Path.{Text, path_of}
-use Rattle.zk_nodes.specs.History.{History, view as to_see}
+use Rattle.zk_nodes.specs.Path.{Text, Name, NodePath, path_of}
+use Rattle.zk_nodes.specs.History.{Node, Tree, History, children_of, view as to_see}
 use Rattle.zk_nodes.specs.declared.side.Side.TheVariants.{Data, Child}
 use Rattle.zk_cache.specs.declared.held.Kept.{Kept}
 use Rattle.zk_cache.specs.declared.held.Mark.{Mark}
@@ -73,6 +74,12 @@ data_fits h view path answer seen kept = (coherent h view seen).nodes path (as_g
 
 pub names_fit : (h : History) (view : View) (path : Text) (names : Names) → IsServedFrom h view → view.cache.children path ≡ good names → FitsNames names (to_see Child (tree_seen h view) (path_of path))
 names_fit h view path names seen kept = (coherent h view seen).children path (as_good names) kept refl
+
+-- a name that is there is one of those that fit
+pub names_there : (names : Names) (tree : Tree) (dir : NodePath) (found : Option Node) → FitsNames names (children_of (λ name. is_some (tree (name ∷ dir))) found)
+    → (name : Name) → is_some (tree (name ∷ dir)) ≡ true → set.contains names.names name ≡ true
+names_there names tree dir None fits name there = absurd fits
+names_there names tree dir (Some node) fits name there = fits.1 name ∙ there
 
 pub one_tree_here : WholeIsOfOneTree
 one_tree_here h view seen nodes parents whole =

@@ -1,3 +1,12 @@
 pub mod Seen
 pub mod Snapshots
+pub mod Looks
+pub mod Subtrees
+pub mod Walks
+pub mod Lacks
 pub mod Holders
+pub mod Numbers
+pub mod Kinds
+pub mod Standings
+pub mod Predecessors
+pub mod Tags

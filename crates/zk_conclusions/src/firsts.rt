@@ -4,14 +4,15 @@ ghost use Rattle.std.specs.Prelude.{◌≡◌, ◌↔◌, ◌∷◌, nat_eq, IsT
 ghost use Rattle.std.specs.List.{list_any, starts_with};
 ghost use Rattle.zk_cache.specs.Contents.{names_in};
 ghost use Rattle.zk_client.specs.Clients.{view_of};
-ghost use Rattle.zk_nodes.specs.Path.{Name, path_of, is_below};
+ghost use Rattle.zk_nodes.specs.Path.{Name, path_of};
 ghost use Rattle.zk_conclusions.specs.Holders.{is_before, is_rival, HasPrefix, IsFirstOf, IsShownFirst};
 
+use crate::below::name_below;
 use std::alloc::Allocator;
 use std::collections::BTreeSet;
 use zk_client::{Client, Mark, Names, Path};
 
-fn has_prefix(name: &str, prefix: &str) -> bool
+pub(crate) fn has_prefix(name: &str, prefix: &str) -> bool
     ensures test { result ≡ starts_with nat_eq name.now prefix.now }
     ensures rest { IsTrue result ↔ HasPrefix prefix.now name.now }
 {
@@ -58,18 +59,8 @@ pub(crate) fn is_shown_first<A: Allocator + Copy>(
     }
 }
 
-fn is_below<A: Allocator>(directory: &Path<A>, path: &Path<A>) -> bool
-    ensures { result ≡ is_below (path_of directory.now) (path_of path.now) }
-{
-    let directory = directory.as_str();
-    match path.parent() {
-        Some(parent) => parent == directory,
-        None => false,
-    }
-}
-
-/// The last name of the path, where it lies right below the directory and the name begins with the prefix.
-pub(crate) fn name_below<'a, A: Allocator>(
+/// The last name of the path, where it lies right below the directory and begins with the prefix.
+pub(crate) fn name_with<'a, A: Allocator>(
     directory: &Path<A>,
     prefix: &str,
     path: &'a Path<A>,
@@ -77,10 +68,7 @@ pub(crate) fn name_below<'a, A: Allocator>(
     ensures some { IfSome result (λ name. (path_of path.now ≡ name.now ∷ path_of directory.now) × HasPrefix prefix.now name.now) }
     ensures none { result ≡ None → (name : Name) → path_of path.now ≡ name ∷ path_of directory.now → ¬ (HasPrefix prefix.now name) }
 {
-    let name = path.name()?;
-    if !is_below(directory, path) {
-        return None;
-    }
+    let name = name_below(directory, path)?;
     if !has_prefix(name, prefix) {
         return None;
     }

@@ -1,6 +1,6 @@
 //! Whether the client's session holds the first place below a path.
 
-use crate::firsts::{is_shown_first, name_below};
+use crate::firsts::{is_shown_first, name_with};
 use crate::tokens::token_shown;
 use std::alloc::{Allocator, Global};
 use zk_client::{Client, Path};
@@ -43,7 +43,7 @@ impl<'a, A: Allocator + Copy> Holder<'a, A> {
         ensures client { IfSome result (λ holder. holder.client.now ≡ client.now) }
         ensures none { result ≡ None → (token : ℤ) → ¬ (ShowsHolder (view_of client.now) directory.now prefix.now path.now token) }
     {
-        let own = name_below(directory, prefix, path)?;
+        let own = name_with(directory, prefix, path)?;
         if !is_shown_first(client, directory, prefix, own) {
             return None;
         }

@@ -3,13 +3,43 @@
 //! hold beginnings of this history.
 
 ghost use Rattle.zk_conclusions.specs.Holders.{HeldIsTrue, LaterTokens, OneHolds, OneShows, TokensRise};
+ghost use Rattle.zk_conclusions.specs.Lacks.{WalkIsTheOnlyAnswer};
+ghost use Rattle.zk_conclusions.specs.Looks.{OneZxidIsOneTree};
 ghost use Rattle.zk_conclusions.specs.Snapshots.{WholeIsOfOneTree};
+ghost use Rattle.zk_conclusions.specs.Standings.{FirstStays, LaterStandings, ListingIsTrue, OneShowsStanding, OneStands, StandingIsTrue, StandingTokensRise};
+ghost use Rattle.zk_conclusions.specs.Subtrees.{PathsAreAll, WholeIsSubtree};
+ghost use Rattle.zk_conclusions.specs.Tags.{LostAreListed};
 
 /// Where each of some paths has a good answer, all of these are those of one tree: the history's at the client's last seen zxid.
 /// So reads that were answered one by one, with writes of others between them, are as if they had been made at once. Nothing is
 /// said of two views of a client, or of what the tree is now.
 pub fn one_tree()
     ensures { WholeIsOfOneTree }
+{}
+
+/// Good answers that were looked up at the same last seen zxid are of one tree, the history's at that zxid, whatever steps lay between
+/// the look-ups, and whichever clients of the ensemble were asked. So a program that can't look several up with no step between
+/// compares the zxids.
+pub fn equal_zxids()
+    ensures { OneZxidIsOneTree }
+{}
+
+/// Where each node that is reached from a root through kept names is kept with its data and its names, all of it good, these are the
+/// nodes of the history's tree at and below the root, at the client's last seen zxid: each as it is kept, and none is left out.
+pub fn one_subtree()
+    ensures { WholeIsSubtree }
+{}
+
+/// The same of a list of the paths that are reached: a path at or below the root is one of them exactly where the tree has a node. So
+/// where one is missing, no node is there.
+pub fn all_paths()
+    ensures { PathsAreAll }
+{}
+
+/// Where there is a subtree of at most so many nodes, neither refusal is true: all is whole, and there are no more nodes. So there is a
+/// [`Subtree`](crate::Subtree) exactly where nothing is [`Lacking`](crate::Lacking), unless memory runs out.
+pub fn no_refusal()
+    ensures { WalkIsTheOnlyAnswer }
 {}
 
 /// Whenever a client shows that its session holds, the session does in the history at the client's last seen zxid. It may have
@@ -31,4 +61,44 @@ pub fn one_holder()
 pub fn later_tokens()
     ensures tree { TokensRise }
     ensures clients { LaterTokens }
+{}
+
+/// Whoever stands first in one tree does so in each later one for as long as its node is there, where numbers rise with creation
+/// (`NumbersRise`). So one listing without a watch, and a watch on the own node, are enough to hold. The premise is for the program to
+/// see to: all names in the directory that end in a number behind a marker come from sequential creates.
+pub fn first_stays()
+    ensures { FirstStays }
+{}
+
+/// A getChildren that the client was answered, with a watch or without, lists each name that was in the directory at the zxid of the
+/// answer.
+pub fn listing_is_true()
+    ensures { ListingIsTrue }
+{}
+
+/// Whoever is shown to stand first does so in the history at the client's last seen zxid, where numbers rise with creation and the
+/// listing was true at its zxid.
+pub fn standing_is_true()
+    ensures { StandingIsTrue }
+{}
+
+/// Of two that are rivals of one another, both stand first in one tree only if they are one (`tree`); so two clients that show it at
+/// the same zxid are of the same session and node (`clients`). Readers are no rivals of one another, so several may stand.
+pub fn one_standing()
+    ensures tree { OneStands }
+    ensures clients { OneShowsStanding }
+{}
+
+/// A rival that stands first at a later zxid has a token that is not smaller: in the history (`tree`) and as two clients show it
+/// (`clients`).
+pub fn later_standings()
+    ensures tree { StandingTokensRise }
+    ensures clients { LaterStandings }
+{}
+
+/// Where servers take the requests of a session in the order in which it sent them, also over several connections (`AreMadeBy`), a
+/// listing at or above the zxid of the answer to the last create with a tag has each node that an earlier create with that tag made,
+/// if it is still there: then, and at each later zxid.
+pub fn lost_creates()
+    ensures { LostAreListed }
 {}

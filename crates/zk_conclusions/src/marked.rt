@@ -14,7 +14,7 @@ fn is_good<A: Allocator + Copy>(client: &Client<A>, path: &Path<A>) -> bool
     matches!(client.peek_data(path), Some((_, Mark::Good)))
 }
 
-fn has_good_names<A: Allocator + Copy>(client: &Client<A>, path: &Path<A>) -> bool
+pub(crate) fn has_good_names<A: Allocator + Copy>(client: &Client<A>, path: &Path<A>) -> bool
     ensures { result ≡ is_marked_good ((view_of client.now).cache.children path.now) }
 {
     matches!(client.peek_children(path), Some((_, Mark::Good)))

@@ -1,7 +1,7 @@
 use Rattle.std.proofs.Common.{ap, ◌∙◌}
 use Rattle.std.specs.Prelude.{bytes_eq}
 use Rattle.zk_nodes.proofs.PathTexts.{is_below-text}
-use Rattle.zk_conclusions.proofs.firsts.is_below.Goals as goal
+use Rattle.zk_conclusions.proofs.below.is_below.Goals as goal
 
 pub returns-in-Some : goal.returns-in-Some
 returns-in-Some g c =

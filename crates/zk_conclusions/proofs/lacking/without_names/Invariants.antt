@@ -1,0 +1,9 @@
+use Rattle.std.proofs.Common.{◌≡◌, ◌++◌, drop}
+use Rattle.std.specs.List.{filter}
+use Rattle.zk_client.specs.Clients.{view_of}
+use Rattle.zk_conclusions.specs.Lacks.{lacks_names}
+use Rattle.zk_conclusions.proofs.lacking.without_names.Given as goal
+
+-- what was found, with what is left to be found
+abbrev pub invariant-loop-path : goal.invariant-loop-path
+invariant-loop-path g l = l.lacking.items ++ filter (lacks_names (view_of l.client).cache) (drop l.path-index l.paths) ≡ filter (lacks_names (view_of l.client).cache) l.paths

@@ -1,0 +1,5 @@
+use Rattle.zk_conclusions.proofs.Reached.{paths_are_all}
+use Rattle.zk_conclusions.proofs.laws.all_paths.Goals as goal
+
+pub returns : goal.returns
+returns c = paths_are_all

@@ -1,0 +1,5 @@
+use Rattle.zk_conclusions.proofs.Looks.{one_zxid_here}
+use Rattle.zk_conclusions.proofs.laws.equal_zxids.Goals as goal
+
+pub returns : goal.returns
+returns c = one_zxid_here

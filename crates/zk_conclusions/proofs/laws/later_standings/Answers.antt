@@ -1,0 +1,9 @@
+use Rattle.zk_conclusions.proofs.Stays.{tokens_rise}
+use Rattle.zk_conclusions.proofs.Stands.{later_standings}
+use Rattle.zk_conclusions.proofs.laws.later_standings.Goals as goal
+
+pub returns-clause-tree : goal.returns-clause-tree
+returns-clause-tree c = tokens_rise
+
+pub returns-clause-clients : goal.returns-clause-clients
+returns-clause-clients c = later_standings

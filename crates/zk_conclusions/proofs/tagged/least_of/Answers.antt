@@ -1,0 +1,32 @@
+use Rattle.std.proofs.Common.{◌≡◌, ◌+◌, ◌≤◌, suc, true, length, map, string_bytes, sym, subst, arith}
+use Rattle.std.proofs.lemmas.List.{length-map}
+use Rattle.zk_nodes.specs.Path.{Name}
+use Rattle.zk_conclusions.specs.Standings.{IsFirstAmong}
+use Rattle.zk_conclusions.specs.Tags.{IsLeastOf, has_tag}
+use Rattle.zk_conclusions.proofs.Tags.{NoLeast, no_least_still, none_tagged, least_here}
+use Rattle.zk_conclusions.proofs.tagged.least_of.Goals as goal
+
+pub returns-then-is_least-clause-some : goal.returns-then-is_least-clause-some
+returns-then-is_least-clause-some g c =
+    let names = map string_bytes c.args.names.now in
+    let lt : suc c.loop-place.place ≤ length names = omega (arith, length-map c.args.names.now string_bytes) in
+    subst (IsLeastOf names c.args.tag.now) (sym c.name_at-name.ensures)
+    (least_here names c.args.tag.now c.loop-place.place lt
+    (subst (λ (n : Name). (has_tag c.args.tag.now n ≡ true) × IsFirstAmong (has_tag c.args.tag.now) names n) c.name_at-name.ensures (c.is_least.ensures.0 c.if-is_least.true)))
+
+pub loop-place-preserved : goal.loop-place-preserved
+loop-place-preserved g c =
+    let names = map string_bytes c.args.names.now in
+    let lt : suc c.loop-place.place ≤ length names = omega (arith, length-map c.args.names.now string_bytes) in
+    let next : suc c.loop-place.place ≡ c.loop-place.place + 1 = omega arith in
+    subst (NoLeast names c.args.tag.now) next (no_least_still names c.args.tag.now c.loop-place.place lt c.loop-place.invariant
+    (λ least. (
+    let k = c.is_least.ensures.1 (subst (λ (n : Name). (has_tag c.args.tag.now n ≡ true) × IsFirstAmong (has_tag c.args.tag.now) names n) (sym c.name_at-name.ensures) least) in
+    let l = c.if-is_least.false in
+    absurd cc)))
+
+pub returns-clause-none : goal.returns-clause-none
+returns-clause-none g c e =
+    let names = map string_bytes c.args.names.now in
+    let end : length names ≤ c.loop-place.place = omega (arith, length-map c.args.names.now string_bytes) in
+    none_tagged names c.args.tag.now c.loop-place.place end c.loop-place.invariant

@@ -1,0 +1,30 @@
+//! Whether a name is the first of a listing, by numbers.
+
+ghost use Rattle.std.specs.Prelude.{◌≡◌, ◌↔◌, ◌&&◌, IsTrue, map, string_bytes};
+ghost use Rattle.std.specs.List.{list_any};
+ghost use Rattle.zk_conclusions.specs.Numbers.{is_before, is_rival};
+ghost use Rattle.zk_conclusions.specs.Kinds.{kind_of};
+ghost use Rattle.zk_conclusions.specs.Standings.{IsFirstOf};
+
+use crate::numbers::{Kind, is_before, is_rival};
+use std::alloc::Allocator;
+
+/// Whether the name is a rival's and before the own one.
+pub(crate) fn stands_before(kind: &Kind<'_>, name: &str, own: &str) -> bool
+    ensures { result ≡ (is_rival (kind_of kind.now) name.now && is_before name.now own.now) }
+{
+    is_rival(kind, name) && is_before(name, own)
+}
+
+fn has_before<A: Allocator>(kind: &Kind<'_>, names: &[String<A>], own: &str) -> bool
+    ensures { result ≡ list_any (λ name. is_rival (kind_of kind.now) (string_bytes name) && is_before (string_bytes name) own.now) names.now }
+{
+    names.iter().any(|name| stands_before(kind, name, own))
+}
+
+/// Whether none of the names is a rival's that is before the own one.
+pub(crate) fn is_first<A: Allocator>(kind: &Kind<'_>, names: &[String<A>], own: &str) -> bool
+    ensures { IsTrue result ↔ IsFirstOf (kind_of kind.now) (map string_bytes names.now) own.now }
+{
+    !has_before(kind, names, own)
+}
