@@ -1,6 +1,6 @@
 #!/usr/bin/env bash
 # Runs `zk_shell live`, `zk_shell watch` and the examples `config_follower` and `conclusions_example` against real ZooKeeper servers: one
-# alone, and ensembles of three of which one stops. What is printed is checked line by line. All traffic stays on 127.0.0.1; servers and
+# alone, ensembles of three of which one stops, and one behind doors that are closed for a while. What is printed is checked line by line. All traffic stays on 127.0.0.1; servers and
 # folders are gone at the end, however it ends.
 #
 # usage: scripts/real_server.sh [ZK_SHELL CONFIG_FOLLOWER CONCLUSIONS_EXAMPLE]     the programs; without them, they are built first.
@@ -690,6 +690,46 @@ EOF
     done
 }
 
+all_have() {
+    local number
+    for number in 1 2 3 4 5 6; do
+        grep -q "$1" "$folder/outage$number.out" || return 1
+    done
+}
+
+# Six watches with sessions of ten seconds live through outages of 0.66, 0.75 and 0.9 of that, each of which begins when the server has just
+# heard them, and print what was changed after each.
+run_outages() {
+    local port number seconds before
+    local -a doors
+    port=$(free_ports 1)
+    configure outages 1 "$port" ""
+    start_server outages
+    within 60 serves "$port" || fail "the server does not serve"
+    outside "$port" create /outage begin
+    start_doors "$port"
+    read -ra doors <"$folder/doors.port"
+    for number in 1 2 3 4 5 6; do
+        begin "outage$number" "$program" watch "127.0.0.1:${doors[number - 1]}" --timeout 10000 --data /outage
+    done
+    within 40 has_six_sessions "$port" || fail "six watches have no six sessions of ten seconds"
+    before=$(sessions_at "$port")
+    for seconds in 6.6 7.5 9.0; do
+        echo "$seconds" >"$folder/doors.new"
+        mv "$folder/doors.new" "$folder/doors.close"
+        within 30 doors_are_open || fail "the doors stay closed"
+        outside "$port" set /outage "$seconds"
+        within 30 all_have " full $(printf %s "$seconds" | od -An -tx1 | tr -d ' ') " || fail "a watch does not print what was set after $seconds seconds"
+        [[ $(sessions_at "$port") == "$before" ]] || fail "an outage of $seconds seconds has lost a session"
+        echo "outage of $seconds seconds: six sessions of ten seconds live on"
+    done
+    for number in 1 2 3 4 5 6; do
+        seen[outage$number]=$(wc -l <"$folder/outage$number.out")
+        end_by_force "outage$number"
+    done
+    stop_server outages
+}
+
 install_server || {
     echo "skipped: the package zookeeper cannot be had"
     exit 0
@@ -700,4 +740,5 @@ run_alone
 run_ensemble follower
 run_ensemble leader
 run_stopped
+run_outages
 echo passed

@@ -128,3 +128,80 @@ start_three() {
         within 60 serves "${ports[number - 1]}" || fail "server $number does not serve"
     done
 }
+
+# Six doors to the server at a port; their ports are in doors.port. Where the file doors.close is there, each is closed for as many
+# seconds as that says, right after its client has sent something; and then the file is gone.
+start_doors() {
+    python3 - "$1" "$folder/doors" <<'EOF' &
+import asyncio, os, sys
+
+port, name = int(sys.argv[1]), sys.argv[2]
+
+
+class Door:
+    async def open(self, own=0):
+        self.listener = await asyncio.start_server(self.enter, "127.0.0.1", own)
+        self.port = self.listener.sockets[0].getsockname()[1]
+        self.connections = []
+        self.is_heard = asyncio.Event()
+
+    async def enter(self, reader, writer):
+        server_reader, server_writer = await asyncio.open_connection("127.0.0.1", port)
+        self.connections += [writer, server_writer]
+        await asyncio.gather(self.pass_on(reader, server_writer, True), self.pass_on(server_reader, writer, False))
+
+    async def pass_on(self, reader, writer, is_client):
+        try:
+            while data := await reader.read(65536):
+                writer.write(data)
+                await writer.drain()
+                if is_client:
+                    self.is_heard.set()
+        except ConnectionError:
+            pass
+        writer.close()
+
+    async def close(self, seconds):
+        self.is_heard.clear()
+        await self.is_heard.wait()
+        await asyncio.sleep(0.02)
+        self.listener.close()
+        for writer in self.connections:
+            writer.transport.abort()
+        await asyncio.sleep(seconds)
+        await self.open(self.port)
+
+
+async def main():
+    doors = [Door() for _ in range(6)]
+    for door in doors:
+        await door.open()
+    with open(name + ".new", "w") as file:
+        print(*(door.port for door in doors), file=file)
+    os.rename(name + ".new", name + ".port")
+    while True:
+        await asyncio.sleep(0.1)
+        if os.path.exists(name + ".close"):
+            seconds = float(open(name + ".close").read())
+            await asyncio.gather(*(door.close(seconds) for door in doors))
+            os.remove(name + ".close")
+
+
+asyncio.run(main())
+EOF
+    begun[doors]=$!
+    within 20 test -e "$folder/doors.port" || fail "no doors"
+}
+
+# The sessions of ten seconds that have connections to the server at a port.
+sessions_at() {
+    (exec 3<>"/dev/tcp/127.0.0.1/$1" && printf cons >&3 && timeout 5 sed -n '/,to=10000,/s/.*,sid=\([^,]*\),.*/\1/p' <&3 | sort) 2>/dev/null
+}
+
+has_six_sessions() {
+    [[ $(sessions_at "$1" | wc -l) == 6 ]]
+}
+
+doors_are_open() {
+    [[ ! -e $folder/doors.close ]]
+}

@@ -14,7 +14,7 @@ use swept::{close_at_each_byte, dial_nobody, refuse_each_request};
 use world::{Flaw, Plan, STEADY};
 
 /// The rows: what a partner does, and until which moment a link goes on.
-static ROWS: [Row; 14] = [
+static ROWS: [Row; 19] = [
     Row {
         name: "answers",
         plan: STEADY,
@@ -120,6 +120,46 @@ static ROWS: [Row; 14] = [
         },
         until: 2_000,
     },
+    Row {
+        name: "is stopped for longer than the silence that it bears, and a notice waits",
+        plan: Plan {
+            stopped: (1_000, 7_500),
+            ..STEADY
+        },
+        until: 8_000,
+    },
+    Row {
+        name: "is admitted a byte a second",
+        plan: Plan {
+            drips_after: 0,
+            ..STEADY
+        },
+        until: 7_000,
+    },
+    Row {
+        name: "is answered a byte a second",
+        plan: Plan {
+            drips_after: 45,
+            ..STEADY
+        },
+        until: 7_000,
+    },
+    Row {
+        name: "has its pings answered a byte a second",
+        plan: Plan {
+            drips_after: 133,
+            ..STEADY
+        },
+        until: 10_000,
+    },
+    Row {
+        name: "is told in a reply that the session is over",
+        plan: Plan {
+            code: -112,
+            ..STEADY
+        },
+        until: 1_000,
+    },
 ];
 
 /// Plays each row, and what is swept.
@@ -127,7 +167,8 @@ pub fn play_links<W: Write>(alloc: Global, out: &mut W) -> Result<()> {
     for row in &ROWS {
         play(alloc, row, out)?;
     }
-    play_late(alloc, out)?;
+    play_late(alloc, false, out)?;
+    play_late(alloc, true, out)?;
     close_at_each_byte(alloc, out)?;
     refuse_each_request(alloc, out)?;
     dial_nobody(alloc, out)?;

@@ -26,6 +26,23 @@ static CUT: [Event; 2] = [Event::Cuts, Event::Takes];
 /// The same with the end of the session.
 static EXPIRY: [Event; 3] = [Event::Expires, Event::Cuts, Event::Takes];
 
+/// The session ends, and nothing changes.
+static END: [Event; 2] = [Event::Expires, Event::Cuts];
+
+/// Nothing happens.
+static NOTHING: [Event; 0] = [];
+
+/// Rows of which each is played once.
+fn single_rows() -> [Row; 4] {
+    let data = |name, events| Row::new(name, Side::Data, "/config", events);
+    [
+        data("an expiry, after a change", &END).after(1),
+        data("a reply that the session is over", &NOTHING).refused(-112),
+        data("a reply that the session has moved", &NOTHING).refused(-118),
+        data("a node that is there and has no data", &NOTHING).refused(-101),
+    ]
+}
+
 /// The rows.
 fn rows() -> [Row; 6] {
     let later = "names below a node that comes later";
@@ -47,8 +64,11 @@ fn rows() -> [Row; 6] {
 /// The greatest message of the rows has fewer bytes.
 const MOST: usize = 120;
 
-/// Plays each row: whole, cut, and with an output and memory that fail.
+/// Plays each row: whole, and those that are not single also cut, and with an output and memory that fail.
 pub fn play_watches<W: Write>(alloc: Global, out: &mut W) -> Result<()> {
+    for row in &single_rows() {
+        play(alloc, row, out)?;
+    }
     let rows = rows();
     for row in &rows {
         play(alloc, row, out)?;

@@ -52,6 +52,14 @@ Printed:
 STAT is czxid mzxid ctime mtime version cversion aversion ephemeralOwner dataLength numChildren pzxid,
 SEVEN is czxid mzxid ctime mtime version ephemeralOwner dataLength.
 
+FAULT is D1 nothing was heard for two thirds of the timeout, D2 a reply is older than what was seen
+(both zxids), D3 the watches were refused (the code), F1 a length is below 0, F2 above 4194304, C1 a
+frame is too short, C2 nobody asked (its xid), C3 not the oldest request's (both xids), C4 a reply or C5
+a notice does not read: J1 cut off, J2 a bad length, J3 no boolean, J4 no UTF-8, at a byte.
+N of code N is -4 the server lost its connection, -101 no node, -102 no right to it, -103 another version,
+-108 the parent is ephemeral, -110 the node exists, -111 it has children, -112 the session is over, -118
+it moved to another connection, -127 the server throttles; others are in ZooKeeper's list.
+
 A line that is refused ends the script, with `line N: REASON` on standard error. REASON is unknown,
 place, words, number, hex, or the path's fault: path P1 where it is empty, P2 too long, P3 without a
 slash at its front, P4 with a character that no path has, P5 with an empty name, P6 with . or .. as one.

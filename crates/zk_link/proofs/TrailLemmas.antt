@@ -161,6 +161,22 @@ module _ (old before : Trail) (ticket : ℕ) (asked : call.Call) (new : Trail) (
       stops_behind stop old before new first
       (stops_then before before new (Call ticket asked) (call_takes before ticket asked) stop refl refl h)
 
+-- a call, after turns that came
+pub asks_behind : (old between : Trail) (input : Input) (new : Trail) → Comes old between → Asks between input new → Asks old input new
+asks_behind old between input new first a =
+    let came : Comes old a.before = behind old between a.before first a.first in
+    let turn : Turn = record { input = input; outputs = a.outputs } in
+    record {
+      before = a.before;
+      first = came;
+      outputs = a.outputs;
+      between = a.between;
+      takes = a.takes;
+      rest = a.rest;
+      stands = λ start items s. a.rest.stands start (Turned turn ∷ onto came.turns items)
+          (one_turn start (onto came.turns items) a.before.view a.between.view turn (came.stands start items s) a.takes.rule);
+    }
+
 -- ---- results of calls
 
 -- from one trail on, as from the same one

@@ -1,4 +1,6 @@
 pub mod Frames
+pub mod Replies
 pub mod StopText
 pub mod Trails
+pub mod Waiting
 pub mod Waits

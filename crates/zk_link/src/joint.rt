@@ -258,7 +258,7 @@ impl<A: Allocator + Copy, S: Stream> Joint<A, S> {
 
     /// The connection that is there is over.
     #[tactic(auto, using(crate::proofs::TrailLemmas::nothing))]
-    fn end(&mut self, outputs: &mut Vec<Output<A>, A>) -> Result<(), Stop>
+    pub(crate) fn end(&mut self, outputs: &mut Vec<Output<A>, A>) -> Result<(), Stop>
         ensures ok { OnOk result (Comes (trail_of self.old outputs.old.items) (trail_of self.new outputs.new.items)) }
         ensures err { IfErr result (λ stop. Stops stop (trail_of self.old outputs.old.items) (trail_of self.new outputs.new.items)) }
     {
@@ -356,6 +356,30 @@ impl<A: Allocator + Copy, S: Stream> Joint<A, S> {
         match self.client.deadline() {
             Some(first) => wait_between(self.latest, until.min(first)),
             None => wait_between(self.latest, until),
+        }
+    }
+
+    /// Whether something is due at this moment.
+    pub(crate) fn is_due(&self, now: u64) -> bool
+        ensures { result ≡ false → NothingIsDue (view_of self.now.client) now }
+    {
+        match self.client.deadline() {
+            Some(first) => first <= now,
+            None => false,
+        }
+    }
+
+    /// The moment that is told with bytes which are read at this one: this one, and where something was due before it, the last moment
+    /// before that. The program was stopped then, or was away: when the bytes came is not known, and a server that has sent something is
+    /// not silent.
+    pub(crate) fn moment_of_bytes(&self, now: u64) -> u64
+        ensures most { result ≤ now }
+        ensures quiet { 0 < result → NothingIsDue (view_of self.now.client) result }
+        ensures last { 0 < result → result < now → ¬ (NothingIsDue (view_of self.now.client) (result + 1)) }
+    {
+        match self.client.deadline() {
+            Some(first) => now.min(first.saturating_sub(1)),
+            None => now,
         }
     }
 

@@ -17,9 +17,12 @@ mod give;
 mod joint;
 mod link;
 mod pause;
+mod pongs;
+mod replies;
 mod send;
 mod stop;
 mod tcp;
+mod waiting;
 
 pub use bring::Brought;
 pub use clock::{Clock, SystemClock};

@@ -1,12 +1,16 @@
 //! The link.
 
-ghost use Rattle.std.specs.Prelude.{◌≡◌, ◌≤◌, ◌⊎◌, true, false, if◌then◌else◌, is_some, pos, ◌<ℤ◌, [], IfErr, OnErr, OnOk};
+ghost use Rattle.std.specs.Prelude.{◌≡◌, ◌≤◌, ◌<◌, ◌⊎◌, true, false, if◌then◌else◌, is_some, drop, length, min, pos, ◌<ℤ◌, [], IfErr, OnErr, OnOk};
 ghost use Rattle.zk_conversation.specs.Views.{call_view};
 ghost use Rattle.zk_turns.specs.Turns.{Call as Calls};
 ghost use Rattle.zk_turns.specs.Past.{is_final};
 ghost use Rattle.zk_turns.specs.View.{view_at};
 ghost use Rattle.zk_client.specs.Clients.{renewed_start, view_of};
 ghost use Rattle.zk_link.specs.Trails.{bare_of, trail_of, Asks, Comes, Stops};
+ghost use Rattle.std.specs.List.{list_any};
+ghost use Rattle.zk_client.specs.Views.{output_view};
+ghost use Rattle.zk_link.specs.Replies.{is_lost, is_reply};
+ghost use Rattle.zk_link.specs.Waiting.{waits_until};
 ghost use Rattle.zk_link.specs.Waits.{ends_row, is_settled, row_ended, HasCome};
 
 use crate::bring::Brought;
@@ -14,9 +18,11 @@ use crate::clock::Clock;
 use crate::dial::{Dial, Ring};
 use crate::joint::Joint;
 use crate::pause::Backoff;
+use crate::replies::{count_replies, has_lost, has_reply};
 use crate::stop::Stop;
+use crate::waiting::Waiting;
 use std::alloc::{AllocError, Allocator};
-use zk_client::{Call, Client, Outcome, Output, State};
+use zk_client::{Call, Client, Output, State};
 
 /// A connection to the next address, and none where none is made in time.
 fn dial_next<D: Dial>(dial: &mut D, ring: &mut Ring<'_>, within_ms: u64) -> Option<D::Stream> {
@@ -27,21 +33,8 @@ fn dial_next<D: Dial>(dial: &mut D, ring: &mut Ring<'_>, within_ms: u64) -> Opti
 /// The shortest time that an attempt to connect has, in milliseconds, whatever the timeout.
 const SHORTEST_DIAL_MS: u64 = 1_000;
 
-/// Whether one of the outputs from this place on is the reply to a call.
-fn has_reply<A: Allocator>(outputs: &[Output<A>], from: usize) -> bool {
-    let Some(later) = outputs.get(from..) else {
-        return false;
-    };
-    later.iter().any(|output| {
-        matches!(
-            output,
-            Output::Answer {
-                outcome: Outcome::Replied { .. },
-                ..
-            }
-        )
-    })
-}
+/// The most reads of what a connection has before the moment is told, where something was due before it.
+const MOST_PIECES: u32 = 64;
 
 /// A client, the connection that it has, and what it takes to have the next one.
 #[derive(Drop)]
@@ -51,6 +44,7 @@ pub struct Link<'a, A: Allocator + Copy, D: Dial + Drop, C: Clock + Drop> {
     clock: C,
     ring: Ring<'a>,
     backoff: Backoff,
+    waiting: Waiting<A>,
 }
 
 impl<'a, A: Allocator + Copy, D: Dial + Drop, C: Clock + Drop> Link<'a, A, D, C> {
@@ -74,6 +68,7 @@ impl<'a, A: Allocator + Copy, D: Dial + Drop, C: Clock + Drop> Link<'a, A, D, C>
             clock,
             ring: Ring::new(addresses),
             backoff: Backoff::new(seed),
+            waiting: Waiting::new(alloc),
         }
     }
 
@@ -116,8 +111,42 @@ impl<'a, A: Allocator + Copy, D: Dial + Drop, C: Clock + Drop> Link<'a, A, D, C>
         ensures ok { OnOk result (Asks (trail_of self.old.joint outputs.old.items) (Calls ticket (call_view call)) (trail_of self.new.joint outputs.new.items)) }
         ensures err { IfErr result (λ stop. Stops stop (trail_of self.old.joint outputs.old.items) (trail_of self.new.joint outputs.new.items)) }
     {
-        let now = self.clock.now();
-        self.joint.call_at(now, ticket, call, outputs)
+        self.catch_up(outputs)?;
+        self.call(ticket, call, outputs)
+    }
+
+    /// Hands in what the connection has, and tells the moment, where something is due.
+    #[tactic(auto, using(crate::proofs::TrailLemmas::nothing))]
+    fn catch_up(&mut self, outputs: &mut Vec<Output<A>, A>) -> Result<(), Stop>
+        ensures ok { OnOk result (Comes (trail_of self.old.joint outputs.old.items) (trail_of self.new.joint outputs.new.items)) }
+        ensures err { IfErr result (λ stop. Stops stop (trail_of self.old.joint outputs.old.items) (trail_of self.new.joint outputs.new.items)) }
+    {
+        if self.is_late() {
+            return self.listen(0, outputs);
+        }
+        Ok(())
+    }
+
+    /// Hands in a call, at the clock's moment. It waits from then on, unless it is answered at once.
+    fn call(
+        &mut self,
+        ticket: u64,
+        call: Call<A>,
+        outputs: &mut Vec<Output<A>, A>,
+    ) -> Result<(), Stop>
+        ensures ok { OnOk result (Asks (trail_of self.old.joint outputs.old.items) (Calls ticket (call_view call)) (trail_of self.new.joint outputs.new.items)) }
+        ensures err { IfErr result (λ stop. Stops stop (trail_of self.old.joint outputs.old.items) (trail_of self.new.joint outputs.new.items)) }
+    {
+        let now = self.clock.now().max(self.joint.latest);
+        if self.waiting.ask(now).is_err() {
+            return Err(Stop::Memory);
+        }
+        let before = outputs.len();
+        let outcome = self.joint.call_at(now, ticket, call, outputs);
+        if before < outputs.len() {
+            self.waiting.refuse();
+        }
+        outcome
     }
 
     /// Goes on until this moment of the clock, or until there is something for the caller, or the session is over.
@@ -172,6 +201,7 @@ impl<'a, A: Allocator + Copy, D: Dial + Drop, C: Clock + Drop> Link<'a, A, D, C>
         ensures { bare_of self.new.joint ≡ bare_of self.old.joint }
     {
         let gone = self.clock.now().saturating_sub(self.joint.latest);
+        let until = until.min(self.waits_until());
         let wait = self.joint.longest_wait(until).saturating_sub(gone);
         let brought = self.joint.exchange(wait.max(1));
         self.note_connected();
@@ -223,31 +253,148 @@ impl<'a, A: Allocator + Copy, D: Dial + Drop, C: Clock + Drop> Link<'a, A, D, C>
         }
     }
 
-    /// Hands the client what the connection brings next, at the moment at which it did.
-    fn hand(&mut self, brought: Brought<A>, outputs: &mut Vec<Output<A>, A>) -> Result<(), Stop>
+    /// When the connection is to be given up, unless an answer comes.
+    fn waits_until(&self) -> u64
+        ensures { result ≡ waits_until (view_of self.now.joint.client).standing.state (view_of self.now.joint.client).saved.session.timeout self.now.waiting }
+    {
+        let client = &self.joint.client;
+        self.waiting.until(client.state(), client.timeout_ms())
+    }
+
+    /// Whether something is due on the connection that is there: for the client, or since something has waited for too long.
+    fn is_late(&mut self) -> bool
+        ensures joint { self.new.joint ≡ self.old.joint }
+        ensures waiting { self.new.waiting ≡ self.old.waiting }
+        ensures backoff { self.new.backoff ≡ self.old.backoff }
+        ensures no { result ≡ false → is_some self.new.joint.stream ≡ true → self.new.joint.latest < waits_until (view_of self.new.joint.client).standing.state (view_of self.new.joint.client).saved.session.timeout self.new.waiting }
+    {
+        let now = self.clock.now().max(self.joint.latest);
+        self.joint.is_open() && (self.waits_until() <= now || self.joint.is_due(now))
+    }
+
+    /// Whether something was due on the connection before this moment.
+    fn is_overdue(&mut self) -> bool
+        ensures joint { self.new.joint ≡ self.old.joint }
+    {
+        let now = self.clock.now();
+        self.waits_until() < now || self.joint.is_due(now.saturating_sub(1))
+    }
+
+    /// Notes the replies among the outputs from this place on. Whether a server says in one that the session is not its own.
+    fn note_replies(&mut self, outputs: &[Output<A>], from: usize) -> bool
+        ensures joint { self.new.joint ≡ self.old.joint }
+        ensures lost { result ≡ list_any (λ output. is_lost (output_view output)) (drop (min from (length outputs.now)) outputs.now) }
+        ensures seen { result ≡ false → list_any (λ output. is_reply (output_view output)) (drop (min from (length outputs.now)) outputs.now) ≡ true → self.new.backoff ≡ row_ended self.old.backoff }
+    {
+        self.waiting.reply(count_replies(outputs, from));
+        if has_lost(outputs, from) {
+            return true;
+        }
+        self.note(has_reply(outputs, from));
+        false
+    }
+
+    /// Hands the client bytes, at a moment at which nothing is due. A connection ends whose server says that the session is not its own.
+    fn take_bytes(&mut self, bytes: Vec<u8, A>, outputs: &mut Vec<Output<A>, A>) -> Result<(), Stop>
         ensures ok { OnOk result (Comes (trail_of self.old.joint outputs.old.items) (trail_of self.new.joint outputs.new.items)) }
         ensures err { IfErr result (λ stop. Stops stop (trail_of self.old.joint outputs.old.items) (trail_of self.new.joint outputs.new.items)) }
     {
-        let now = self.clock.now();
+        let moment = self.joint.moment_of_bytes(self.clock.now());
+        self.waiting.hear(bytes.as_slice());
+        let before = outputs.len();
+        self.joint.bytes_at(moment, bytes, outputs)?;
+        if self.note_replies(outputs.as_slice(), before) {
+            return self.joint.end(outputs);
+        }
+        Ok(())
+    }
+
+    /// Hands the client what a read has brought, which began late or did not. Whether the connection is to be read once more before the
+    /// moment is told: bytes came, and something is due; or none came, and something was due since the read began, as where the program
+    /// was stopped.
+    #[tactic(auto, using(crate::proofs::TrailLemmas::nothing))]
+    fn hand(
+        &mut self,
+        brought: Brought<A>,
+        was_late: bool,
+        outputs: &mut Vec<Output<A>, A>,
+    ) -> Result<bool, Stop>
+        ensures ok { OnOk result (Comes (trail_of self.old.joint outputs.old.items) (trail_of self.new.joint outputs.new.items)) }
+        ensures err { IfErr result (λ stop. Stops stop (trail_of self.old.joint outputs.old.items) (trail_of self.new.joint outputs.new.items)) }
+    {
         match brought {
-            Brought::Piece(bytes) => self.joint.bytes_at(now, bytes, outputs),
-            Brought::Nothing => self.joint.tell(now, outputs),
-            Brought::End => self.joint.cut_at(now, outputs),
+            Brought::Piece(bytes) => {
+                self.take_bytes(bytes, outputs)?;
+                Ok(self.is_late())
+            }
+            Brought::Nothing => Ok(!was_late && self.is_overdue()),
+            Brought::End => {
+                self.joint.end(outputs)?;
+                Ok(false)
+            }
         }
     }
 
-    /// Listens until something comes, or is due.
+    /// Reads the connection once, until something is due at most, and hands the client what it brings. Whether it is to be read once more
+    /// before the moment is told.
+    fn receive(&mut self, until: u64, outputs: &mut Vec<Output<A>, A>) -> Result<bool, Stop>
+        ensures ok { OnOk result (Comes (trail_of self.old.joint outputs.old.items) (trail_of self.new.joint outputs.new.items)) }
+        ensures err { IfErr result (λ stop. Stops stop (trail_of self.old.joint outputs.old.items) (trail_of self.new.joint outputs.new.items)) }
+    {
+        let was_late = self.is_late();
+        let Ok(brought) = self.next_brought(until) else {
+            return Err(Stop::Memory);
+        };
+        self.hand(brought, was_late, outputs)
+    }
+
+    /// Notes the ping that is sent at this moment, where something is due then. A connection that is given up then needs no note.
+    fn note_ping(&mut self, now: u64) -> Result<(), AllocError>
+        ensures { self.new.joint ≡ self.old.joint }
+    {
+        if self.joint.is_due(now) {
+            return self.waiting.ping(now);
+        }
+        Ok(())
+    }
+
+    /// Tells the moment, and ends a connection on which something has waited for too long.
+    fn keep_time(&mut self, outputs: &mut Vec<Output<A>, A>) -> Result<(), Stop>
+        ensures ok { OnOk result (Comes (trail_of self.old.joint outputs.old.items) (trail_of self.new.joint outputs.new.items)) }
+        ensures err { IfErr result (λ stop. Stops stop (trail_of self.old.joint outputs.old.items) (trail_of self.new.joint outputs.new.items)) }
+    {
+        let now = self.clock.now().max(self.joint.latest);
+        let Ok(()) = self.note_ping(now) else {
+            return Err(Stop::Memory);
+        };
+        self.joint.tell(now, outputs)?;
+        self.note(false);
+        if self.waits_until() <= now {
+            return self.joint.end(outputs);
+        }
+        Ok(())
+    }
+
+    /// Listens until something comes, or is due. What the connection has is handed in before the moment is told, where something was due
+    /// before that.
     fn listen(&mut self, until: u64, outputs: &mut Vec<Output<A>, A>) -> Result<(), Stop>
         ensures ok { OnOk result (Comes (trail_of self.old.joint outputs.old.items) (trail_of self.new.joint outputs.new.items)) }
         ensures err { IfErr result (λ stop. Stops stop (trail_of self.old.joint outputs.old.items) (trail_of self.new.joint outputs.new.items)) }
     {
-        let Ok(brought) = self.next_brought(until) else {
-            return Err(Stop::Memory);
-        };
-        let before = outputs.len();
-        let outcome = self.hand(brought, outputs);
-        self.note(has_reply(outputs.as_slice(), before));
-        outcome
+        for _ in 0..MOST_PIECES {
+            if !self.receive(until, outputs)? {
+                return self.keep_time(outputs);
+            }
+        }
+        self.keep_time(outputs)
+    }
+
+    /// A connection has begun. Whatever the server sends, the session is admitted by the moment at which one that sends nothing is given up.
+    fn begin_waiting(&mut self)
+        ensures { self.new.joint ≡ self.old.joint }
+    {
+        let admission = self.joint.client.deadline().unwrap_or(u64::MAX);
+        self.waiting.begin(admission);
     }
 
     /// Dials the next address, for so many milliseconds at most: for a third of the timeout, and for a second where that is less.
@@ -266,7 +413,11 @@ impl<'a, A: Allocator + Copy, D: Dial + Drop, C: Clock + Drop> Link<'a, A, D, C>
         let now = self.clock.now().max(began);
         self.backoff.attempt(timeout, began, now);
         match stream {
-            Some(stream) => self.joint.open_at(now, stream, outputs),
+            Some(stream) => {
+                self.joint.open_at(now, stream, outputs)?;
+                self.begin_waiting();
+                Ok(())
+            }
             None => self.joint.tell(now, outputs),
         }
     }

@@ -3,7 +3,7 @@
 use std::alloc::{AllocError, Allocator};
 use zk_client::{CallResult, Code, Outcome};
 
-/// How long a subject that was refused waits, in milliseconds.
+/// How long a subject that was refused waits, in milliseconds, whatever happens to the connection.
 const PAUSE: u64 = 1_000;
 
 /// What is known of the reads of one subject.
@@ -17,7 +17,7 @@ pub(crate) struct Note<A: Allocator> {
     is_missing: bool,
     /// Whether the last reply was another refusal.
     is_refused: bool,
-    /// The moment before which it is not read again, after a refusal, and else 0.
+    /// The moment before which it is not read again, after a refusal, and where a node is there of which a read has found nothing; else 0.
     ask_at: u64,
 }
 
@@ -60,6 +60,9 @@ impl<A: Allocator> Note<A> {
         match reading {
             Reading::Lost => false,
             Reading::Found => {
+                if self.is_missing {
+                    self.ask_at = now.saturating_add(PAUSE);
+                }
                 self.is_missing = false;
                 self.is_refused = false;
                 false
@@ -106,11 +109,10 @@ pub(crate) fn new_notes<A: Allocator + Copy>(
     Ok(notes)
 }
 
-/// A connection begins or is over: nothing is pending, and no subject waits.
+/// A connection begins or is over: nothing is pending.
 pub(crate) fn end_reads<A: Allocator>(notes: &mut Vec<Note<A>, A>) {
     for note in notes.iter_mut() {
         note.is_pending = false;
-        note.ask_at = 0;
     }
 }
 

@@ -136,6 +136,18 @@ impl<'a, 'b, W: Write> Player<'a, 'b, W> {
         Ok(())
     }
 
+    /// Asks after longer than the silence that a connection bears, where the node has changed meanwhile, and goes on for a second.
+    fn ask_late(&mut self) -> Result<()> {
+        self.moments.pass(6_500);
+        if let Ok(mut world) = self.world.try_borrow_mut() {
+            world.change()?;
+        }
+        self.ask(2)?;
+        let until = self.link.now().saturating_add(1_000);
+        self.go_on(until)?;
+        Ok(())
+    }
+
     /// Goes on for a tenth of a second where the caller has taken two seconds for itself, three times: it is back when it said.
     fn pause(&mut self) -> Result<()> {
         for _ in 0..3 {
@@ -157,14 +169,19 @@ pub fn play<W: Write>(alloc: Global, row: &Row, out: &mut W) -> Result<()> {
     played
 }
 
-/// Plays a link whose caller takes its time between its calls.
-pub fn play_late<W: Write>(alloc: Global, out: &mut W) -> Result<()> {
-    writeln!(out, "== a caller that takes its time")?;
+/// Plays a link whose caller takes its time between its calls, and asks after that or goes on.
+pub fn play_late<W: Write>(alloc: Global, is_asked: bool, out: &mut W) -> Result<()> {
+    let then = if is_asked { " and then asks" } else { "" };
+    writeln!(out, "== a caller that takes its time{then}")?;
     let (world, moments) = (RefCell::new(World::new(alloc, STEADY)?), Moments::new());
     let mut player = Player::new(alloc, &world, &moments, out);
     let played = player.go_on_to(1_000);
-    let paused = player.pause();
+    let later = if is_asked {
+        player.ask_late()
+    } else {
+        player.pause()
+    };
     drop(player);
     played?;
-    paused
+    later
 }

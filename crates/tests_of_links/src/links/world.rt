@@ -5,7 +5,7 @@ use example_world::{Moments, Server};
 use std::alloc::Global;
 use std::io::{self, ErrorKind};
 use std::rc::Rc;
-use zk_bench::{Bench, History};
+use zk_bench::{Bench, Change, History};
 use zk_client::Path;
 
 /// The most requests that are processed after one write.
@@ -27,7 +27,8 @@ pub enum Flaw {
 
 /// What happens to connections: how many are refused at first, whether only once the attempt has lasted as long as it may, how many then
 /// are silent, how many bytes pass on the next one, and whether on each later one too, how many bytes a read brings and a write takes at
-/// most, what the first one does wrong, and between which moments nobody is there.
+/// most, what the first one does wrong, between which moments nobody is there, and between which the program is stopped while a node
+/// changes. On the first one a byte comes each second after so many bytes, and replies to calls have this code, but for 0.
 #[derive(Clone, Copy)]
 pub struct Plan {
     pub refusals: u32,
@@ -39,7 +40,19 @@ pub struct Plan {
     pub takes: usize,
     pub flaw: Flaw,
     pub away: (u64, u64),
+    pub stopped: (u64, u64),
+    pub drips_after: usize,
+    pub code: i32,
 }
+
+/// How many milliseconds lie between bytes that come one by one.
+const DRIP_MS: u64 = 1_000;
+
+/// How many bytes the frame has that admits a session. A reply to a read has more.
+const ADMISSION: usize = 40;
+
+/// Where in a reply its code begins.
+const CODE_AT: usize = 16;
 
 /// Connections that do as they should.
 pub const STEADY: Plan = Plan {
@@ -52,6 +65,9 @@ pub const STEADY: Plan = Plan {
     takes: usize::MAX,
     flaw: Flaw::Nothing,
     away: (0, 0),
+    stopped: (0, 0),
+    drips_after: usize::MAX,
+    code: 0,
 };
 
 /// A server that answers each request as it comes, and the connection to it.
@@ -63,13 +79,29 @@ pub struct World {
     held: Option<Rc<u32, Global>>,
     dials: u32,
     left: usize,
+    whole: usize,
+    drips_at: u64,
+    was_stopped: bool,
 }
 
-/// A history in which a node is there.
+/// A history in which a node is there, and changes.
 fn history(alloc: Global) -> Result<History<Global>> {
     let mut history = History::new(alloc);
     history.node(Path::new(alloc, "/a")?, None, 0)?;
+    history.begin(5, 5_000)?;
+    history.change(Change::Set(Path::new(alloc, "/a")?, None))?;
     Ok(history)
+}
+
+/// These bytes, and where they are the reply to a read, a reply with this code.
+fn with_code(alloc: Global, bytes: Vec<u8>, code: i32) -> io::Result<Vec<u8>> {
+    if code == 0 || bytes.len() <= ADMISSION {
+        return Ok(bytes);
+    }
+    let mut refusal = Vec::from_slice(alloc, &[0, 0, 0, 16])?;
+    refusal.extend_from_slice(&bytes[4..CODE_AT])?;
+    refusal.extend_from_slice(&code.to_be_bytes())?;
+    Ok(refusal)
 }
 
 impl World {
@@ -82,6 +114,9 @@ impl World {
             held: None,
             dials: 0,
             left: 0,
+            whole: plan.drips_after,
+            drips_at: 0,
+            was_stopped: false,
         })
     }
 
@@ -111,13 +146,60 @@ impl World {
 
     /// Whether the connection has this flaw.
     fn has(&self, flaw: Flaw) -> bool {
-        self.dials == 1 && self.plan.flaw == flaw
+        self.is_first() && self.plan.flaw == flaw
     }
 
     /// Whether nobody is there.
     fn is_away(&self, moments: &Moments) -> bool {
         let (first, end) = self.plan.away;
         first <= moments.now() && moments.now() < end
+    }
+
+    /// Whether the connection is the first one.
+    fn is_first(&self) -> bool {
+        self.dials == 1
+    }
+
+    /// How many bytes may come at this moment.
+    fn comes_at_most(&self, moments: &Moments) -> usize {
+        if !self.is_first() {
+            usize::MAX
+        } else if 0 < self.whole {
+            self.whole
+        } else {
+            usize::from(self.drips_at <= moments.now())
+        }
+    }
+
+    /// So many bytes came at this moment.
+    fn note_came(&mut self, count: usize, moments: &Moments) {
+        self.left = self.left.saturating_sub(count);
+        if 0 < count && self.is_first() {
+            self.whole = self.whole.saturating_sub(count);
+            self.drips_at = moments.now().saturating_add(DRIP_MS);
+        }
+    }
+
+    /// The node changes.
+    pub fn change(&mut self) -> io::Result<()> {
+        self.bench.take(1)?;
+        Ok(())
+    }
+
+    /// The moment at which a wait from this one on ends, which lasts for so long: where a byte comes before, and where the program is
+    /// stopped meanwhile, the one at which it goes on.
+    fn end_of_wait(&mut self, now: u64, ms: u64) -> io::Result<u64> {
+        let mut end = now.saturating_add(ms);
+        if self.is_first() && self.whole == 0 && now < self.drips_at {
+            end = end.min(self.drips_at);
+        }
+        let (first, last) = self.plan.stopped;
+        if self.was_stopped || last <= first || end < first {
+            return Ok(end);
+        }
+        self.was_stopped = true;
+        self.change()?;
+        Ok(end.max(last))
     }
 
     /// The first of these bytes go, as many as pass.
@@ -170,9 +252,11 @@ impl Server for World {
             moments.pass(1);
             return Err(ErrorKind::Interrupted.into());
         }
-        let bytes = self.bench.output(most.min(self.plan.piece).min(self.left))?;
-        self.left = self.left.saturating_sub(bytes.len());
-        Ok(Some(bytes))
+        let most = most.min(self.plan.piece).min(self.left);
+        let bytes = self.bench.output(most.min(self.comes_at_most(moments)))?;
+        self.note_came(bytes.len(), moments);
+        let code = if self.is_first() { self.plan.code } else { 0 };
+        Ok(Some(with_code(self.alloc, bytes, code)?))
     }
 
     fn write(&mut self, bytes: &[u8], moments: &Moments) -> io::Result<usize> {
@@ -190,7 +274,9 @@ impl Server for World {
     }
 
     fn wait(&mut self, ms: u64, moments: &Moments) -> io::Result<()> {
-        moments.pass(ms);
+        let now = moments.now();
+        let end = self.end_of_wait(now, ms)?;
+        moments.pass(end.saturating_sub(now));
         Ok(())
     }
 }

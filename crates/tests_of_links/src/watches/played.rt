@@ -20,13 +20,16 @@ const TIMEOUT: i32 = 9_000;
 /// How long is watched, in milliseconds.
 const FOR_MS: u64 = 2_000;
 
-/// A row of the test: what is watched, and what happens.
+/// A row of the test: what is watched, what happens, how many transactions have happened before, and with which code the data of /config
+/// are refused, but for 0.
 #[derive(Drop)]
 pub struct Row {
     name: &'static str,
     side: Side,
     path: &'static str,
     events: &'static [Event],
+    taken: u32,
+    code: i32,
 }
 
 impl Row {
@@ -42,7 +45,19 @@ impl Row {
             side,
             path,
             events,
+            taken: 0,
+            code: 0,
         }
+    }
+
+    /// The same after so many transactions.
+    pub fn after(self, taken: u32) -> Row {
+        Row { taken, ..self }
+    }
+
+    /// The same where the data of /config are refused with this code.
+    pub fn refused(self, code: i32) -> Row {
+        Row { code, ..self }
     }
 }
 
@@ -70,7 +85,7 @@ fn watched<A: Allocator + Copy, W: Write>(
     out: &mut W,
 ) -> Result<End> {
     let (world, moments) = (
-        RefCell::new(World::new(global, row.events, piece)?),
+        RefCell::new(World::new(global, row.events, row.taken, row.code, piece)?),
         Moments::new(),
     );
     let Ok(subjects) = subjects(alloc, row) else {

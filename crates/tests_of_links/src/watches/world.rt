@@ -36,6 +36,25 @@ pub struct World {
     is_expired: bool,
     is_answered: bool,
     piece: usize,
+    code: i32,
+    connections: u32,
+}
+
+/// How many bytes the frame has that answers a read of the data of /config.
+const CONFIG_READ: usize = 95;
+
+/// Where in a reply its code begins.
+const CODE_AT: usize = 16;
+
+/// These bytes, and where they are the answer to a read of the data of /config, one with this code.
+fn with_code(alloc: Global, bytes: Vec<u8>, code: i32) -> io::Result<Vec<u8>> {
+    if code == 0 || bytes.len() != CONFIG_READ {
+        return Ok(bytes);
+    }
+    let mut refusal = Vec::from_slice(alloc, &[0, 0, 0, 16])?;
+    refusal.extend_from_slice(&bytes[4..CODE_AT])?;
+    refusal.extend_from_slice(&code.to_be_bytes())?;
+    Ok(refusal)
 }
 
 /// Adds a node to the first tree.
@@ -86,19 +105,39 @@ fn history(alloc: Global) -> Result<History<Global>> {
 }
 
 impl World {
-    /// A world in which nothing has happened. A read brings so many bytes at most.
-    pub fn new(alloc: Global, events: &'static [Event], piece: usize) -> Result<World> {
-        Ok(World {
+    /// A world in which so many transactions have happened. A read brings so many bytes at most. On the first connection the data of
+    /// /config are refused with this code, but for 0; with -101 they are on each.
+    pub fn new(
+        alloc: Global,
+        events: &'static [Event],
+        taken: u32,
+        code: i32,
+        piece: usize,
+    ) -> Result<World> {
+        let mut world = World {
             alloc,
             bench: Bench::new(alloc, history(alloc)?),
             events,
             has_happened: false,
-            taken: 0,
+            taken,
             is_cut: false,
             is_expired: false,
             is_answered: false,
             piece,
-        })
+            code,
+            connections: 0,
+        };
+        world.begin_anew()?;
+        Ok(world)
+    }
+
+    /// With which code the data of /config are refused on this connection, and 0 where they are not.
+    fn code(&self) -> i32 {
+        if self.connections == 1 || self.code == -101 {
+            self.code
+        } else {
+            0
+        }
     }
 
     /// Lets all events happen where their moment has come, and they have not happened yet.
@@ -141,6 +180,7 @@ impl World {
     /// A connection is made.
     fn connect(&mut self) -> Result<()> {
         self.is_cut = false;
+        self.connections = self.connections.saturating_add(1);
         if self.is_expired {
             self.bench.expire();
             self.is_answered = true;
@@ -174,7 +214,8 @@ impl Server for World {
         if self.is_cut {
             return Ok(None);
         }
-        Ok(Some(self.bench.output(most.min(self.piece))?))
+        let bytes = self.bench.output(most.min(self.piece))?;
+        Ok(Some(with_code(self.alloc, bytes, self.code())?))
     }
 
     fn write(&mut self, bytes: &[u8], _moments: &Moments) -> io::Result<usize> {
