@@ -1,7 +1,8 @@
 #!/usr/bin/env bash
 # Runs `zk_shell live`, `zk_shell watch` and the examples `config_follower` and `conclusions_example` against real ZooKeeper servers: one
-# alone, ensembles of three of which one stops, and one behind doors that are closed for a while. What is printed is checked line by line. All traffic stays on 127.0.0.1; servers and
-# folders are gone at the end, however it ends.
+# alone, ensembles of three of which one stops, and one that is cut off
+# for a while. What is printed is checked line by line. All traffic stays on 127.0.0.1; servers and folders are gone at the end, however it
+# ends.
 #
 # usage: scripts/real_server.sh [ZK_SHELL CONFIG_FOLLOWER CONCLUSIONS_EXAMPLE]     the programs; without them, they are built first.
 # The last line is `passed`, or `skipped: ..` where there is no server to be had. Else the exit status is 1.

@@ -144,8 +144,7 @@ impl<'a, 'b, W: Write> Player<'a, 'b, W> {
         }
         self.ask(2)?;
         let until = self.link.now().saturating_add(1_000);
-        self.go_on(until)?;
-        Ok(())
+        self.go_on(until).map(drop)
     }
 
     /// Goes on for a tenth of a second where the caller has taken two seconds for itself, three times: it is back when it said.

@@ -28,7 +28,7 @@ pub enum Flaw {
 /// What happens to connections: how many are refused at first, whether only once the attempt has lasted as long as it may, how many then
 /// are silent, how many bytes pass on the next one, and whether on each later one too, how many bytes a read brings and a write takes at
 /// most, what the first one does wrong, between which moments nobody is there, and between which the program is stopped while a node
-/// changes. On the first one a byte comes each second after so many bytes, and replies to calls have this code, but for 0.
+/// changes. On the first one a byte comes each second after this many bytes, and replies to calls have this code, unless it is 0.
 #[derive(Clone, Copy)]
 pub struct Plan {
     pub refusals: u32,
@@ -171,7 +171,7 @@ impl World {
         }
     }
 
-    /// So many bytes came at this moment.
+    /// This many bytes came at this moment.
     fn note_came(&mut self, count: usize, moments: &Moments) {
         self.left = self.left.saturating_sub(count);
         if 0 < count && self.is_first() {
@@ -182,8 +182,7 @@ impl World {
 
     /// The node changes.
     pub fn change(&mut self) -> io::Result<()> {
-        self.bench.take(1)?;
-        Ok(())
+        self.bench.take(1).map_err(From::from)
     }
 
     /// The moment at which a wait from this one on ends, which lasts for so long: where a byte comes before, and where the program is

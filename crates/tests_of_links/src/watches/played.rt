@@ -21,7 +21,7 @@ const TIMEOUT: i32 = 9_000;
 const FOR_MS: u64 = 2_000;
 
 /// A row of the test: what is watched, what happens, how many transactions have happened before, and with which code the data of /config
-/// are refused, but for 0.
+/// are refused, unless it is 0.
 #[derive(Drop)]
 pub struct Row {
     name: &'static str,
@@ -50,7 +50,7 @@ impl Row {
         }
     }
 
-    /// The same after so many transactions.
+    /// The same after this many transactions.
     pub fn after(self, taken: u32) -> Row {
         Row { taken, ..self }
     }

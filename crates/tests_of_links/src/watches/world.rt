@@ -105,8 +105,8 @@ fn history(alloc: Global) -> Result<History<Global>> {
 }
 
 impl World {
-    /// A world in which so many transactions have happened. A read brings so many bytes at most. On the first connection the data of
-    /// /config are refused with this code, but for 0; with -101 they are on each.
+    /// A world in which this many transactions have happened. A read brings this many bytes at most. On the first connection the data of
+    /// /config are refused with this code, unless it is 0; with -101 they are on each.
     pub fn new(
         alloc: Global,
         events: &'static [Event],
