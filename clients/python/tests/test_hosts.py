@@ -135,7 +135,7 @@ class NamesTest(PartnerCase):
         within(lambda: client.connected)
         self.assertEqual(client.get("/a")[0], b"second")
         with self.assertRaises(ValueError):
-            client.set_hosts(second.host + "/root")
+            client.set_hosts(second.host + "/program")
         with self.assertRaises(ValueError):
             client.set_hosts("")
 
