@@ -51,7 +51,7 @@ pub record HasNoPath (cache : Cache) (root : Text) : Type 0 where
   pub shown : IsShown cache root below
   pub fault : HasFaultAt cache (text_below root below)
 
--- All that is reached is kept whole, and these are at most so many nodes: there is a subtree.
+-- All that is reached is kept whole, and these are no more nodes than that: there is a subtree.
 pub record HasWalk (cache : Cache) (root : Text) (most : ℕ) : Type 0 where
   pub paths : List Text
   pub walk : IsWalk cache root paths
@@ -72,6 +72,6 @@ pub record AreShown (cache : Cache) (root : Text) (paths : List Text) : Type 0 w
   pub begins : paths ≡ root ∷ rest
   pub order : AreBehind (root ∷ []) rest
 
--- Where there is a subtree of at most so many nodes, neither refusal is true.
+-- Where there is a subtree of no more nodes than that, neither refusal is true.
 abbrev pub WalkIsTheOnlyAnswer : Type 0
 WalkIsTheOnlyAnswer = (cache : Cache) (root : Text) (most : ℕ) → HasWalk cache root most → IsWholeBelow cache root × ¬ (HasMoreNodes cache root most)

@@ -41,6 +41,6 @@ pub record Kind : Type 0 where
 abbrev pub is_rival : Kind → Name → Bool
 is_rival kind name = list_any (λ marker. is_numbered marker name) kind.against
 
--- the name is a rival's or one of the own kind
+-- the name is a rival's or one of its own kind
 abbrev pub is_one : Kind → Name → Bool
 is_one kind name = is_numbered kind.own name || is_rival kind name

@@ -69,13 +69,13 @@ NumbersRise h dir kind =
     (zxid : ℕ) (one other : Name) (node its : Node) → tree_at h zxid (one ∷ dir) ≡ Some node → tree_at h zxid (other ∷ dir) ≡ Some its
     → is_one kind one ≡ true → is_one kind other ≡ true → is_before one other ≡ true → node.czxid ≤ its.czxid
 
--- Who stands first in one tree, does so in each later one for as long as its node is there.
+-- Whoever stands first in one tree, does so in each later one for as long as its node is there.
 abbrev pub FirstStays : Type 0
 FirstStays = (h : History) (dir : NodePath) (kind : Kind) (own : Name) (node : Node) (listed seen : ℕ)
     → IsHistory h → NumbersRise h dir kind → listed ≤ seen → is_numbered kind.own own ≡ true → IsFirstIn (tree_at h listed) dir kind own
     → tree_at h seen (own ∷ dir) ≡ Some node → node.czxid ≤ listed → IsFirstIn (tree_at h seen) dir kind own
 
--- Who is shown to stand first does so in the history at the last seen zxid, where the listing was true at its zxid.
+-- Whoever is shown to stand first does so in the history at the last seen zxid, where the listing was true at its zxid.
 abbrev pub StandingIsTrue : Type 0
 StandingIsTrue = (h : History) (view : View) (dir : Text) (kind : Kind) (names : List Name) (listed : ℤ) (path : Text) (token : ℤ)
     → IsServedFrom h view → NumbersRise h (path_of dir) kind → ListsAll (tree_at h (from_zero listed)) (path_of dir) names

@@ -69,14 +69,14 @@ abbrev pub AreDistinct : List Text → Type 0
 AreDistinct [] = ⊤
 AreDistinct (text ∷ texts) = ¬ (Among text texts) × AreDistinct texts
 
--- More nodes than so many are reached.
+-- More nodes than this number are reached.
 pub record HasMoreNodes (cache : Cache) (root : Text) (most : ℕ) : Type 0 where
   pub paths : List Text
   pub once : AreDistinct paths
   pub each : (path : Text) → Among path paths → IsOneReached cache root path
   pub more : most < length paths
 
--- What a refusal says: of what is not whole, what is lacking; of too many nodes, that there are; and of want of memory nothing.
+-- What a refusal says: of what is not whole, what is lacking; of too many nodes, that there are; and where memory ran out nothing.
 abbrev pub Says : NoSubtree → Type 0 → Type 0 → Type 0
 Says NotWhole lacking many = lacking
 Says TooMany lacking many = many

@@ -9,7 +9,7 @@ ghost use Rattle.zk_conclusions.specs.Standings.{IsFirstOf};
 use crate::numbers::{Kind, is_before, is_rival};
 use std::alloc::Allocator;
 
-/// Whether the name is a rival's and before the own one.
+/// Whether the name is a rival's and before `own`.
 pub(crate) fn stands_before(kind: &Kind<'_>, name: &str, own: &str) -> bool
     ensures { result ≡ (is_rival (kind_of kind.now) name.now && is_before name.now own.now) }
 {
@@ -22,7 +22,7 @@ fn has_before<A: Allocator>(kind: &Kind<'_>, names: &[String<A>], own: &str) -> 
     names.iter().any(|name| stands_before(kind, name, own))
 }
 
-/// Whether none of the names is a rival's that is before the own one.
+/// Whether none of the names is a rival's that is before `own`.
 pub(crate) fn is_first<A: Allocator>(kind: &Kind<'_>, names: &[String<A>], own: &str) -> bool
     ensures { IsTrue result ↔ IsFirstOf (kind_of kind.now) (map string_bytes names.now) own.now }
 {

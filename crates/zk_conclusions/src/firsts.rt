@@ -25,7 +25,7 @@ fn is_before(one: &str, other: &str) -> bool
     one < other
 }
 
-/// Whether the name begins with the prefix and is before the own one.
+/// Whether the name begins with the prefix and is before `own`.
 fn is_rival(name: &str, prefix: &str, own: &str) -> bool
     ensures { result ≡ is_rival prefix.now own.now name.now }
 {
@@ -44,7 +44,7 @@ fn is_first<A: Allocator>(names: &Names<A>, prefix: &str, own: &str) -> bool
     !has_rival(&names.names, prefix, own)
 }
 
-/// Whether the names below the directory are kept and good, and none of them that begins with the prefix is before the own one.
+/// Whether the names below the directory are kept and good, and none of them that begins with the prefix is before `own`.
 pub(crate) fn is_shown_first<A: Allocator + Copy>(
     client: &Client<A>,
     directory: &Path<A>,

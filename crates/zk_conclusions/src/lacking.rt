@@ -123,7 +123,7 @@ impl<A: Allocator + Copy> Lacking<A> {
     ghost use Rattle.zk_conclusions.specs.Subtrees.{HasMoreNodes, Says};
     ghost use Rattle.zk_conclusions.specs.Lacks.{AreLacking, HasNoPath, HasWalk, lacks_data, lacks_names};
 
-    /// What is lacking at and below the root, of at most so many nodes: of all paths that good names lead to, those whose data are not
+    /// What is lacking at and below the root, of at most `most` nodes: of all paths that good names lead to, those whose data are not
     /// kept and good (`data`), and those below which the names are not (`names`). Nothing is lacking exactly where there is a subtree
     /// (`empty`).
     ///

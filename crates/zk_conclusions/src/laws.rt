@@ -36,7 +36,7 @@ pub fn all_paths()
     ensures { PathsAreAll }
 {}
 
-/// Where there is a subtree of at most so many nodes, neither refusal is true: all is whole, and there are no more nodes. So there is a
+/// Where there is a subtree of at most `most` nodes, neither refusal is true: all is whole, and there are at most as many. So there is a
 /// [`Subtree`](crate::Subtree) exactly where nothing is [`Lacking`](crate::Lacking), unless memory runs out.
 pub fn no_refusal()
     ensures { WalkIsTheOnlyAnswer }
@@ -64,8 +64,8 @@ pub fn later_tokens()
 {}
 
 /// Whoever stands first in one tree does so in each later one for as long as its node is there, where numbers rise with creation
-/// (`NumbersRise`). So one listing without a watch, and a watch on the own node, are enough to hold. The premise is for the program to
-/// see to: all names in the directory that end in a number behind a marker come from sequential creates.
+/// (`NumbersRise`). So one listing without a watch, and a watch on its node, are enough to hold. The premise is for the program to
+/// see to: all names in the directory that end in a number after a marker come from sequential creates.
 pub fn first_stays()
     ensures { FirstStays }
 {}

@@ -36,7 +36,7 @@ fn is_after<A: Allocator>(names: &[String<A>], last: Option<usize>, name: &str) 
     }
 }
 
-/// Whether the name is a rival's, before the own one, and after the last one that was found.
+/// Whether the name is a rival's, before `own`, and after the last one that was found.
 fn is_later<A: Allocator>(
     kind: &Kind<'_>,
     names: &[String<A>],
@@ -68,7 +68,7 @@ fn found_with<A: Allocator>(
     Some(place)
 }
 
-/// The place of the last rival before the own name.
+/// The place of the last rival before `own`.
 fn last_before<A: Allocator>(kind: &Kind<'_>, names: &[String<A>], own: &str) -> Option<usize>
     ensures within { IfSome result (λ place. place < length names.now) }
     ensures some { IfSome result (λ place. IsPredecessor (kind_of kind.now) (map string_bytes names.now) own.now (name_at (map string_bytes names.now) place)) }

@@ -18,9 +18,9 @@ fn is_between(low: i64, zxid: i64, high: i64) -> bool
 }
 
 /// A client that shows that its session stands first: of the nodes in a directory whose names end in a number after the marker of a
-/// rival, none is before the session's own. One listing of the directory, without a watch, and a good answer about the own node are
+/// rival, none is before the session's own. One listing of the directory, without a watch, and a good answer about its node are
 /// enough, where numbers rise with creation. So it is in the history at the client's last seen zxid, and it stays so for as long as
-/// the own node is good.
+/// the answer about its node is good.
 ///
 /// It borrows from the client and takes no memory. It does not say that the session still stands so: hand the token to what is
 /// protected, and let that refuse a token that is smaller than one it has seen.
@@ -42,7 +42,7 @@ impl<'a, A: Allocator + Copy> Standing<'a, A> {
 
     /// The client with the node of this path, as the first of its kind by this listing: `Some` exactly where the answer about the node
     /// is kept and good, and the node's owner is the client's session; the path lies right below the directory, and its name ends in a
-    /// number after the own marker; no listed name of a rival is before it; and the zxid of the listing is neither below the node's
+    /// number after the marker `own`; no listed name of a rival is before it; and the zxid of the listing is neither below the node's
     /// czxid nor above the last seen one (`shows`, `none`). Under servers of a history it stands so there at the client's last seen
     /// zxid, where numbers rise with creation and the listing was true (`holds`), as one that a server answered is (`listing_is_true`
     /// of [`laws`](crate::laws)).

@@ -36,7 +36,7 @@ impl<'a, A: Allocator + Copy> Subtree<'a, A> {
     ghost use Rattle.zk_conclusions.specs.Subtrees.{AreAllBelow, HasMoreNodes, IsSubtreeOf, IsWholeBelow, Says};
     ghost use Rattle.zk_conclusions.specs.Walks.{IsWalk};
 
-    /// All nodes at and below the root, if there are at most so many: under servers of a history, a path at or below the root is one of
+    /// All nodes at and below the root, if there are at most `most`: under servers of a history, a path at or below the root is one of
     /// the subtree's exactly where the history has a node there, at the client's last seen zxid (`all`), and what is kept of it is that
     /// node (`holds`).
     ///
