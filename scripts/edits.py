@@ -5,7 +5,7 @@
   turns: what it turns, in words
   function: the function that has to fail, as a check names it below its crate; only where the edit lies in none
   file: src/lib.rt, or another file of the crate
-  old: a text that stands once in that file, as the pairs before leave it
+  old: a text that is once in that file, as the pairs before leave it
   new: what is put in its place
 """
 import re
@@ -149,7 +149,7 @@ def gate_names() -> list[str]:
 
 
 def crates_listed() -> dict[str, list[str]]:
-    """Each crate of crates.txt, lowest first, with all that stand in its line."""
+    """Each crate of crates.txt, lowest first, with all that are in its line."""
     lines = [line.split("#")[0] for line in (TOP / "crates.txt").read_text(encoding="utf-8").splitlines()]
     return {line.split(":")[0].split()[0]: line.split(":")[1].split() for line in lines if line.strip()}
 

@@ -26,7 +26,7 @@ fail() {
     exit 1
 }
 
-# Waits for up to so many seconds until a command succeeds.
+# Waits for up to this many seconds until a command succeeds.
 within() {
     local end=$((SECONDS + $1))
     shift
@@ -49,7 +49,7 @@ install_server() {
     has_server
 }
 
-# So many ports that nothing listens at.
+# This many ports that nothing listens at.
 free_ports() {
     python3 - "$1" <<'EOF'
 import socket, sys

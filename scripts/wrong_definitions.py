@@ -10,7 +10,7 @@ what refused it. There are three lists, in the folder wrong_definitions:
   weaker     promises that say less. Each law is still proved: they are refused by scripts/statements and scripts/definitions, which compare
              the code with STATEMENTS.md and docs/DEFINITIONS.md
 
-An edit is four lines: what it turns, the file below crates/, the old text and the new one, where \\n stands for the end of a line. Each
+An edit is four lines: what it turns, the file below crates/, the old text and the new one, where \\n is the end of a line. Each
 definition of sections 12 to 15 of docs/DEFINITIONS.md is to have an edit that is narrower or weaker, or a reason in EXCEPTIONS: --check says
 which has none. An edit that nothing refuses is a hole. So is one that stands no longer, or whose file cannot be read with it.
 The last line is `N seen, M unseen`, and the exit status is 1 where an edit is unseen or a definition has none.
@@ -63,7 +63,7 @@ def crates_below():
 
 
 def copy_repository(copy, libraries):
-    """Copies what git has or would take, as it stands in the work tree, and what was kept of these libraries."""
+    """Copies what git has or would take, as it is in the work tree, and what was kept of these libraries."""
     listed = ["git", "ls-files", "-z", "--cached", "--others", "--exclude-standard"]
     names = subprocess.run(listed, cwd=TOP, capture_output=True, text=True, check=True).stdout.split("\0")
     for name in {name for name in names if (TOP / name).is_file()}:
@@ -96,7 +96,7 @@ class Edit:
         self.crate, _, self.file = file.partition("/")
         whole = (TOP / "crates" / file).read_text(encoding="utf-8")
         self.count = whole.count(old)
-        # a field that stands behind a line is looked for from its last letter
+        # a field that is after a line is looked for from its last letter
         self.definition = definition_at(whole, whole.index(old) + len(old) - len(old.lstrip())) if self.count == 1 else ""
 
     def is_meant_by(self, words):
@@ -166,7 +166,7 @@ class Copy:
             subprocess.run(["cp", "-a", self.kept / crate, self.out(crate)], check=True)
 
     def refusal(self, edit):
-        """What refuses the edit that stands here, or None; and the crates that were checked."""
+        """What refuses the edit that is here, or None; and the crates that were checked."""
         if edit.kind == "weaker":
             checks = [f"scripts/{name} --check" for name in ("statements", "definitions")]
             return " and ".join(check for check in checks if subprocess.run(check.split(), cwd=self.folder, capture_output=True).returncode), []
