@@ -8,7 +8,7 @@ abbrev pub most_ms : (is_over : Bool) (timeout : ℕ) → ℕ
 most_ms false timeout = min 1000 (timeout / 10)
 most_ms true timeout = 10000
 
--- The longest pause after so many attempts that failed in a row: none after none, then 100, and twice as long after each further one.
+-- The longest pause after this many attempts that failed in a row: none after none, then 100, and twice as long after each further one.
 abbrev pub longest_ms : (failures most : ℕ) → ℕ
 longest_ms zero most = 0
 longest_ms (suc failures) most = min most (100 * 2 ^ failures)

@@ -1,12 +1,12 @@
 //! When to dial again.
 
-ghost use Rattle.std.specs.Prelude.{◌≡◌, None};
-ghost use Rattle.zk_dialler.specs.Backoffs.{connected_at, row_ended, Attempts};
+ghost use Rattle.std.specs.Prelude.{◌≡◌, None, Some};
+ghost use Rattle.zk_dialler.specs.Backoffs.{connected_at, has_lived, row_ended, Attempts};
 
 use crate::chance::Chance;
 use crate::pause::pause_after;
 
-/// No attempt begins within so many milliseconds after the one before has begun: three a second at most.
+/// No attempt begins within this many milliseconds after the one before has begun: three a second at most.
 const FLOOR_MS: u64 = 334;
 
 /// The first moment of the next attempt to connect. Moments are milliseconds of one clock.
@@ -58,19 +58,33 @@ impl Backoff {
         self.moment = ended.saturating_add(pause).max(self.least);
     }
 
+    /// The client was connected up to this moment. The row of failures goes on.
+    pub fn connect(&mut self, now: u64)
+        ensures { self.new ≡ record self.old { connected = Some now } }
+    {
+        self.connected = Some(now);
+    }
+
+    /// Whether the connection that the last attempt made has lived for a third of the timeout.
+    pub fn has_lived(&self, timeout_ms: u32, now: u64) -> bool
+        ensures { result ≡ has_lived timeout_ms self.now.ended now }
+    {
+        let third = u64::from(timeout_ms / 3);
+        self.ended <= now && third <= now - self.ended
+    }
+
     /// The client is connected at this moment. The row of failures ends where the connection that the last attempt made has lived for a third
     /// of the timeout.
     pub fn connected(&mut self, timeout_ms: u32, now: u64)
         ensures { self.new ≡ connected_at timeout_ms now self.old }
     {
-        self.connected = Some(now);
-        let third = u64::from(timeout_ms / 3);
-        if self.ended <= now && third <= now - self.ended {
+        self.connect(now);
+        if self.has_lived(timeout_ms, now) {
             self.end_row();
         }
     }
 
-    /// The row of failures ends: there is no pause before the next attempt, but for the third of a second between two. So it is after the
+    /// The row of failures ends: there is no pause before the next attempt, except the third of a second between two. So it is after the
     /// reply to a call, and after an expiry that a server has told.
     pub fn end_row(&mut self)
         ensures { self.new ≡ row_ended self.old }

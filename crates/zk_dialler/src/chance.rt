@@ -1,4 +1,4 @@
-//! Numbers by chance, from a seed.
+//! Random numbers from a seed.
 
 ghost use Rattle.std.specs.Prelude.{◌≡◌, ◌<◌};
 ghost use Rattle.zk_dialler.specs.Chances.{next_state, number_below};
@@ -8,10 +8,10 @@ const FACTOR: u64 = 6_364_136_223_846_793_005;
 
 const SUMMAND: u64 = 1_442_695_040_888_963_407;
 
-/// What the lower bits of a state are cut off by: they are less by chance than the higher ones.
+/// What the lower bits of a state are cut off by: they are less random than the higher ones.
 const CUT: u64 = 8_589_934_592;
 
-/// Numbers by chance, each by the one before. They keep no secret.
+/// Random numbers, each made of the one before. They keep no secret.
 #[derive(Clone, Copy)]
 pub struct Chance {
     pub(crate) state: u64,

@@ -29,7 +29,7 @@ pub(crate) enum Phase {
 /// What is to be done about the connection.
 #[derive(Clone, Copy)]
 pub enum Due {
-    /// Connect to the address at this place of the caller's list. After so many milliseconds the attempt will be given up.
+    /// Connect to the address at this place of the caller's list. After this many milliseconds the attempt will be given up.
     Dial { place: usize, within_ms: u64 },
     /// Give the attempt up.
     GiveUp,
@@ -44,7 +44,7 @@ pub struct Dialler<A: Allocator = Global> {
 }
 
 impl<A: Allocator> Dialler<A> {
-    /// With so many addresses, by this seed. There is no connection, and the first attempt may be made at once.
+    /// With this many addresses, by this seed. There is no connection, and the first attempt may be made at once.
     pub fn new(alloc: A, count: usize, seed: u64) -> Result<Dialler<A>, AllocError>
         ensures phase { IfOk result (λ dialler. dialler.phase ≡ Phase.Waiting) }
         ensures order { IfOk result (λ dialler. dialler.ring.order.items ≡ shuffled seed count (numbers count)) }
@@ -61,8 +61,8 @@ impl<A: Allocator> Dialler<A> {
         })
     }
 
-    /// Another list, of so many addresses, in a new order by the same chance. A connection or an attempt that is on goes on, and so does the
-    /// row of failures. An error is want of memory, and nothing has changed then.
+    /// Another list, of this many addresses, in a new order that goes on with the same random numbers. A connection or an attempt that is on goes on, and so does the
+    /// row of failures. An error means that memory ran out, and nothing has changed then.
     pub fn set_addresses(&mut self, alloc: A, count: usize) -> Result<(), AllocError>
         ensures order { OnOk result (self.new.ring.order.items ≡ shuffled self.old.backoff.chance.state count (numbers count)) }
         ensures each { OnOk result (IsPermutation (numbers count) self.new.ring.order.items) }

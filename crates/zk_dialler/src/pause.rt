@@ -16,7 +16,7 @@ fn most_ms(is_over: bool, timeout_ms: u32) -> u64
     u64::from(timeout_ms / 10).min(1_000)
 }
 
-/// The longest pause after so many attempts that failed in a row, by a table.
+/// The longest pause after this many attempts that failed in a row, by a table.
 #[tactic(auto, using(crate::proofs::PauseLemmas::longest))]
 fn longest_ms(failures: u32, most: u64) -> u64
     requires { most ≤ 10000 }
@@ -35,8 +35,8 @@ fn longest_ms(failures: u32, most: u64) -> u64
     }
 }
 
-/// The pause before the next attempt, in milliseconds, after so many attempts in a row that have failed. It is by chance between a half of
-/// the longest one and the whole. The longest is none after none, then 100, and from there twice as long after each further one: up to a
+/// The pause before the next attempt, in milliseconds, after this many attempts in a row that have failed. It is at random between a half
+/// of the longest one and the whole. The longest is none after none, then 100, and from there twice as long after each further one: up to a
 /// second, and to a tenth of the timeout, as long as the session may live, and up to ten seconds where the client was not connected for
 /// longer than the timeout, so that the session is over.
 #[tactic(auto, using(crate::proofs::PauseLemmas::at_most))]

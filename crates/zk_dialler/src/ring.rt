@@ -1,4 +1,4 @@
-//! The places of the addresses, in an order by chance.
+//! The places of the addresses, in a random order.
 
 ghost use Rattle.std.specs.Prelude.{◌≡◌, ◌+◌, length, is_some, not, IfSome, IfOk, IfErr, None, slice_index};
 ghost use Rattle.std.specs.List.Sorted.{IsPermutation};
@@ -8,7 +8,7 @@ ghost use Rattle.zk_dialler.specs.Orders.{is_empty_list, numbers, shuffled, turn
 use crate::chance::Chance;
 use std::alloc::{AllocError, Allocator, Global};
 
-/// The places of so many addresses in an order by chance, and whose turn it is. After the last the first comes again.
+/// The places of this many addresses in a random order, and whose turn it is. After the last the first comes again.
 #[derive(Drop)]
 pub(crate) struct Ring<A: Allocator = Global> {
     pub(crate) order: Vec<usize, A>,
@@ -27,7 +27,7 @@ fn numbers<A: Allocator>(alloc: A, count: usize) -> Result<Vec<usize, A>, AllocE
     Ok(order)
 }
 
-/// Shuffles them: each place from the last one on is exchanged with one up to it, by chance.
+/// Shuffles them: each place from the last one on is exchanged with a random one up to it.
 #[tactic(auto, using(crate::proofs::Shuffling::shuffled_step))]
 fn shuffle(order: &mut [usize], chance: &mut Chance)
     ensures exact { order.new ≡ shuffled chance.old.state (length order.old) order.old }
@@ -44,7 +44,7 @@ fn shuffle(order: &mut [usize], chance: &mut Chance)
 }
 
 impl<A: Allocator> Ring<A> {
-    /// So many addresses, in an order by chance.
+    /// So many addresses, in a random order.
     #[tactic(auto, using(crate::proofs::Shuffling::length_numbers))]
     pub(crate) fn new(alloc: A, count: usize, chance: &mut Chance) -> Result<Ring<A>, AllocError>
         ensures order { IfOk result (λ ring. ring.order.items ≡ shuffled chance.old.state count (numbers count)) }

@@ -11,18 +11,19 @@ ghost use Rattle.std.specs.List.{list_any};
 ghost use Rattle.zk_client.specs.Views.{output_view};
 ghost use Rattle.zk_link.specs.Replies.{is_lost, is_reply};
 ghost use Rattle.zk_link.specs.Waiting.{waits_until};
-ghost use Rattle.zk_link.specs.Waits.{ends_row, is_settled, row_ended, HasCome};
+ghost use Rattle.zk_dialler.specs.Backoffs.{row_ended};
+ghost use Rattle.zk_link.specs.Waits.{ends_row, is_settled, HasCome};
 
 use crate::bring::Brought;
 use crate::clock::Clock;
 use crate::dial::{Dial, Ring};
 use crate::joint::Joint;
-use crate::pause::Backoff;
 use crate::replies::{count_replies, has_lost, has_reply};
 use crate::stop::Stop;
 use crate::waiting::Waiting;
 use std::alloc::{AllocError, Allocator};
 use zk_client::{Call, Client, Output, State};
+use zk_dialler::{Backoff, Chance};
 
 /// A connection to the next address, and none where none is made in time.
 fn dial_next<D: Dial>(dial: &mut D, ring: &mut Ring<'_>, within_ms: u64) -> Option<D::Stream> {
@@ -67,7 +68,7 @@ impl<'a, A: Allocator + Copy, D: Dial + Drop, C: Clock + Drop> Link<'a, A, D, C>
             dial,
             clock,
             ring: Ring::new(addresses),
-            backoff: Backoff::new(seed),
+            backoff: Backoff::new(Chance::new(seed)),
             waiting: Waiting::new(alloc),
         }
     }
@@ -428,7 +429,7 @@ impl<'a, A: Allocator + Copy, D: Dial + Drop, C: Clock + Drop> Link<'a, A, D, C>
         ensures err { IfErr result (λ stop. Stops stop (trail_of self.old.joint outputs.old.items) (trail_of self.new.joint outputs.new.items)) }
     {
         let now = self.clock.now().max(self.joint.latest);
-        let moment = self.backoff.moment;
+        let moment = self.backoff.moment();
         if now < moment || until <= now {
             self.clock.pause(moment.min(until).saturating_sub(now));
             return self.joint.tell(self.clock.now(), outputs);
