@@ -44,7 +44,7 @@ fn shuffle(order: &mut [usize], chance: &mut Chance)
 }
 
 impl<A: Allocator> Ring<A> {
-    /// So many addresses, in a random order.
+    /// This many addresses, in a random order.
     #[tactic(auto, using(crate::proofs::Shuffling::length_numbers))]
     pub(crate) fn new(alloc: A, count: usize, chance: &mut Chance) -> Result<Ring<A>, AllocError>
         ensures order { IfOk result (λ ring. ring.order.items ≡ shuffled chance.old.state count (numbers count)) }

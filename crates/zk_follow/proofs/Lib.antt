@@ -1,0 +1,5 @@
+pub mod Waiting
+pub mod Reading
+pub mod Hearing
+pub mod Asking
+pub mod Visiting

@@ -1,0 +1,193 @@
+-- Subjects are visited one after the other: those before are followed, and those after it are as they were.
+use Rattle.std.proofs.Common.{◌≡◌, ◌≢◌, ◌≤◌, ◌<◌, ◌+◌, ◌++◌, append_assoc, ℕ, Bool, true, false, List, [], ◌∷◌, inl, inr, length, get_or, set, take, refl, sym, ap, subst, ◌∙◌, arith}
+use Rattle.std.proofs.lemmas.List.{append-nil, get_or_default, get_or-set_same, get_or-set_other}
+use Rattle.std.proofs.Math.Seq.{take-append_seam}
+use Rattle.std.proofs.lemmas.Grind.{flat_map-append}
+use Rattle.std.proofs.lemmas.Bool.Decides.{Decides-eqb}
+use Rattle.std.specs.Prelude.{◌==◌, All, slice_index_or}
+use Rattle.std.specs.List.{FoldsTo}
+use Rattle.zk_turns.specs.Turns.{Output, Turn, Input, Call}
+use Rattle.zk_turns.specs.View.{View}
+use Rattle.zk_turns.specs.Rule.{Rule, RuleAt}
+use Rattle.zk_follow.specs.declared.subject.Subject.{Subject}
+use Rattle.zk_follow.specs.declared.progress.Progress.TheVariants.{Due, Reading}
+use Rattle.zk_follow.specs.Following.{heard_all, outputs_in, read_of, AreReads, AreVisited, Asks, IsCounted, IsFollowed, IsReadOf, IsVisited, Reads, Steps, Visits, VisitsAnd}
+use Rattle.zk_follow.proofs.Waiting.{still_going}
+use Rattle.zk_follow.proofs.Hearing.{all_same_path, all_same_side, all_same_ticket, counted_at}
+use Rattle.zk_follow.proofs.Asking.{others_counted, others_followed}
+
+-- after this and that
+pub asks_on : (view between after : View) → Asks view between → Asks between after → Asks view after
+asks_on view between after first second = record {
+  standing = second.standing ∙ first.standing;
+  cache = second.cache ∙ first.cache;
+  more = first.more ++ second.more;
+  pending = second.pending ∙ ap (λ ps. ps ++ second.more) first.pending ∙ append_assoc view.pending first.more second.more;
+}
+
+-- of the first so many
+abbrev pub AllBefore : {X : Type 0} → ℕ → (X → Type 0) → List X → Type 0
+AllBefore {X} count P xs = (k : ℕ) (d : X) → k < count → P (get_or xs k d)
+
+-- from so many on they are the same
+abbrev pub SameFrom : {X : Type 0} → ℕ → List X → List X → Type 0
+SameFrom {X} count xs ys = (k : ℕ) (d : X) → count ≤ k → get_or xs k d ≡ get_or ys k d
+
+pub same_after : {X : Type 0} (xs ys : List X) (index : ℕ) (x : X) → SameFrom index xs ys → SameFrom (index + 1) (set xs index x) ys
+same_after xs ys index x same k d rest_of =
+    let other : k ≢ index = λ e. absurd (omega arith) in
+    let later : index ≤ k = omega arith in
+    get_or-set_other xs index k x d other ∙ same k d later
+
+abbrev pub StandsAt : {A : Type 0} → ℕ → View → Subject A → Type 0
+StandsAt now view subject = IsFollowed now view subject × IsCounted view subject
+
+module _ {A : Type 0} (now : ℕ) (view after : View) (asks : Asks view after) where
+  stands_on : (subject : Subject A) → StandsAt now view subject → StandsAt now after subject
+  stands_on subject stands = (others_followed view after asks now subject stands.0, others_counted view after asks subject stands.1)
+
+  pub more_visited : (subjects : List (Subject A)) (index : ℕ) (visited : Subject A) → index < length subjects → IsFollowed now after visited → IsCounted after visited
+      → AllBefore index (StandsAt now view) subjects → AllBefore (index + 1) (StandsAt now after) (set subjects index visited)
+  more_visited subjects index visited within followed counted before k d below = by (k == index) refl
+    where
+      by : (same : Bool) → (k == index) ≡ same → StandsAt now after (get_or (set subjects index visited) k d)
+      by true e =
+          let is : k ≡ index = (Decides-eqb k index).0 e in
+          subst (StandsAt now after) (sym (ap (λ n. get_or (set subjects index visited) n d) is ∙ get_or-set_same subjects index visited d within)) (followed, counted)
+      by false e =
+          let other : k ≢ index = λ same. let t : (k == index) ≡ true = (Decides-eqb k index).1 same in cc in
+          let earlier : k < index = omega arith in
+          subst (StandsAt now after) (sym (get_or-set_other subjects index k visited d other)) (stands_on (get_or subjects k d) (before k d earlier))
+
+  -- the subject that is visited next counts as it did, once it has heard the outputs
+  pub next_counted : (subjects first : List (Subject A)) (index : ℕ) (element : Subject A) (outputs : List Output) → index < length first
+      → All (λ subject. IsCounted view (heard_all now subject outputs)) first → element ≡ get_or subjects index element → SameFrom index subjects first
+      → IsCounted after (heard_all now element outputs)
+  next_counted subjects first index element outputs within all is same =
+      let whole : element ≡ get_or first index element = is ∙ same index element (omega arith) in
+      let counted : IsCounted view (heard_all now (get_or first index element) outputs) = all index element within in
+      others_counted view after asks (heard_all now element outputs) (subst (λ subject. IsCounted view (heard_all now subject outputs)) (sym whole) counted)
+
+-- ---- a turn
+
+pub all_counted : {A : Type 0} (now moment : ℕ) (view : View) (turn : Turn) (after : View) → RuleAt moment view turn after → (subjects : List (Subject A))
+    → All (IsCounted view) subjects → All (λ subject. IsCounted after (heard_all now subject turn.outputs)) subjects
+all_counted now moment view turn after rule subjects all = λ k d within. counted_at now moment view turn after rule (slice_index_or subjects k d) (all k d within)
+
+pub going_at : (moment : ℕ) (view : View) (turn : Turn) (after : View) → RuleAt moment view turn after → after.standing.halted ≡ false
+going_at moment view turn after rule = still_going rule.between _ after rule.takes
+
+-- ---- the list of subjects
+
+-- a slice of all of a list is written back
+pub written_back : {X : Type 0} (P : X → Type 0) (count : ℕ) (written rest : List X) → count ≡ length written → All P written → All P (take count (written ++ rest))
+written_back P count written rest size all = subst (All P) (sym (ap (λ n. take n (written ++ rest)) size ∙ take-append_seam written rest)) all
+
+-- a subject that is new is not being read
+pub new_counted : {A : Type 0} (view : View) (subject : Subject A) → subject.progress ≡ Due → IsCounted view subject
+new_counted view subject due going reads = absurd (let e : Due ≡ Reading = sym due ∙ reads in cc)
+
+-- ---- each was visited
+
+abbrev pub VisitedBefore : {A : Type 0} → (count now : ℕ) → List Output → (old new : List (Subject A)) → Type 0
+VisitedBefore {A} count now outputs old new = (k : ℕ) (d : Subject A) → k < count → IsVisited now (heard_all now (get_or old k d) outputs) (get_or new k d)
+
+pub one_more_visited : {A : Type 0} (now : ℕ) (outputs : List Output) (first subjects : List (Subject A)) (index : ℕ) (element new : Subject A) → index < length first → index < length subjects
+    → element ≡ get_or subjects index element → SameFrom index subjects first → IsVisited now (heard_all now element outputs) new
+    → VisitedBefore index now outputs first subjects → VisitedBefore (index + 1) now outputs first (set subjects index new)
+one_more_visited {A} now outputs first subjects index element new within fits is same visited before k d below = by (k == index) refl
+  where
+    here : element ≡ get_or first index d
+    here = is ∙ same index element (omega arith) ∙ get_or_default first index element d within
+
+    by : (equal : Bool) → (k == index) ≡ equal → IsVisited now (heard_all now (get_or first k d) outputs) (get_or (set subjects index new) k d)
+    by true e =
+        let at : k ≡ index = (Decides-eqb k index).0 e in
+        subst (λ n. IsVisited now (heard_all now (get_or first n d) outputs) (get_or (set subjects index new) n d)) (sym at)
+        (subst (IsVisited now (heard_all now (get_or first index d) outputs)) (sym (get_or-set_same subjects index new d fits))
+        (subst (λ subject. IsVisited now (heard_all now subject outputs) new) here visited))
+    by false e =
+        let other : k ≢ index = λ equal. let t : (k == index) ≡ true = (Decides-eqb k index).1 equal in cc in
+        let earlier : k < index = omega arith in
+        subst (IsVisited now (heard_all now (get_or first k d) outputs)) (sym (get_or-set_other subjects index k new d other)) (before k d earlier)
+
+pub whole_written : {X : Type 0} (count : ℕ) (written rest : List X) → count ≡ length written → take count (written ++ rest) ≡ written
+whole_written count written rest size = ap (λ n. take n (written ++ rest)) size ∙ take-append_seam written rest
+
+-- ---- the turns of the calls
+
+pub no_reads : {A : Type 0} (subjects : List (Subject A)) (view : View) (given : List Output) → Reads subjects view given view given
+no_reads subjects view given = record { calls = []; chain = refl; reads = tt; said = sym (append-nil given) }
+
+chain_on : (calls more : List Turn) (view between after : View) → FoldsTo Rule view calls between → FoldsTo Rule between more after → FoldsTo Rule view (calls ++ more) after
+chain_on [] more view between after same rest = rw same rest
+chain_on (turn ∷ calls) more view between after chain rest = (chain.0, chain.1, chain_on calls more chain.0 between after chain.2 rest)
+
+reads_on : {A : Type 0} (subjects : List (Subject A)) (calls more : List Turn) → AreReads subjects calls → AreReads subjects more → AreReads subjects (calls ++ more)
+reads_on subjects [] more reads rest = rest
+reads_on subjects (turn ∷ calls) more reads rest = (reads.0, reads_on subjects calls more reads.1 rest)
+
+outputs_on : (calls more : List Turn) → outputs_in (calls ++ more) ≡ outputs_in calls ++ outputs_in more
+outputs_on calls more = flat_map-append (λ (turn : Turn). turn.outputs) calls more
+
+-- what is asked by a visit of the subject at this place
+visit_calls : {A : Type 0} (now : ℕ) (subjects : List (Subject A)) (index : ℕ) (element : Subject A) (outputs : List Output) (view : View) (calls : List Turn) (after : View) (new : Subject A)
+    → index < length subjects → element ≡ get_or subjects index element → Visits now view (heard_all now element outputs) calls after new
+    → FoldsTo Rule view calls after × AreReads subjects calls
+visit_calls {A} now subjects index element outputs view calls after new within is (inl kept) =
+    (subst (λ cs. FoldsTo Rule view cs after) (sym kept.1) (sym kept.0), subst (AreReads subjects) (sym kept.1) tt)
+visit_calls {A} now subjects index element outputs view calls after new within is (inr asked) =
+    (subst (λ cs. FoldsTo Rule view cs after) (sym asked.1) (after, asked.3, refl), subst (AreReads subjects) (sym asked.1) ((index, element, heard.is_missing, within, read), tt))
+  where
+    heard : Subject A
+    heard = heard_all now element outputs
+
+    ticket : heard.ticket ≡ (get_or subjects index element).ticket
+    ticket = all_same_ticket now outputs element ∙ ap (λ (s : Subject A). s.ticket) is
+
+    side : heard.side ≡ (get_or subjects index element).side
+    side = all_same_side now outputs element ∙ ap (λ (s : Subject A). s.side) is
+
+    path : heard.path ≡ (get_or subjects index element).path
+    path = all_same_path now outputs element ∙ ap (λ (s : Subject A). s.path) is
+
+    read : IsReadOf (get_or subjects index element) heard.is_missing asked.0
+    read = (
+      asked.2.0,
+      asked.2.1 ∙ ap (λ t. Call t asked.2.0) ticket,
+      asked.2.2 ∙ ap (λ s. read_of s heard.is_missing heard.path) side ∙ ap (λ p. read_of (get_or subjects index element).side heard.is_missing p) path,
+    )
+
+pub more_reads : {A : Type 0} (now : ℕ) (first subjects : List (Subject A)) (index : ℕ) (element : Subject A) (outputs : List Output) (view0 view after : View) (given0 given given_after : List Output)
+    (new : Subject A) → index < length first → element ≡ get_or subjects index element → SameFrom index subjects first
+    → Reads first view0 given0 view given → VisitsAnd now view given (heard_all now element outputs) after given_after new → Reads first view0 given0 after given_after
+more_reads now first subjects index element outputs view0 view after given0 given given_after new within is same reads visits =
+    let whole : element ≡ get_or first index element = is ∙ same index element (omega arith) in
+    let asked = visit_calls now first index element outputs view visits.0 after new within whole visits.1 in
+    record {
+      calls = reads.calls ++ visits.0;
+      chain = chain_on reads.calls visits.0 view0 view after reads.chain asked.0;
+      reads = reads_on first reads.calls visits.0 reads.reads asked.1;
+      said = visits.2 ∙ ap (λ g. g ++ outputs_in visits.0) reads.said ∙ append_assoc given0 (outputs_in reads.calls) (outputs_in visits.0)
+          ∙ ap (λ os. given0 ++ os) (sym (outputs_on reads.calls visits.0));
+    }
+
+-- a visit, of which the turns are not asked about
+pub is_visited : {A : Type 0} (now : ℕ) (view : View) (given : List Output) (subject : Subject A) (after : View) (given_after : List Output) (new : Subject A)
+    → VisitsAnd now view given subject after given_after new → IsVisited now subject new
+is_visited now view given subject after given_after new visits = (view, visits.0, after, visits.1)
+
+-- ---- a whole step
+
+pub steps : {A : Type 0} (now : ℕ) (view : View) (input : Input) (outputs : List Output) (between : View) (old : List (Subject A)) (after : View) (made given : List Output) (new : List (Subject A))
+    → RuleAt now view (record { input = input; outputs = outputs }) between → Reads old between [] after made → AreVisited now outputs old new → given ≡ outputs ++ made
+    → Steps now view input old after given new
+steps now view input outputs between old after made given new rule reads visited said = record {
+  first = rule.first;
+  second = rule.second;
+  calls = reads.calls;
+  chain = (rule.between, rule.tells, (between, rule.takes, reads.chain));
+  reads = reads.reads;
+  said = said ∙ ap (λ os. os ++ made) rule.outputs ∙ ap (λ os. (rule.first ++ rule.second) ++ os) reads.said;
+  visited = subst (λ os. AreVisited now os old new) rule.outputs visited;
+}

@@ -1,0 +1,29 @@
+-- The slice of all subjects is written back.
+use Rattle.std.proofs.Common.{◌≡◌, arith, drop, length, sym, subst}
+use Rattle.zk_client.specs.Clients.{view_of}
+use Rattle.zk_client.specs.Views.{input_view, said}
+use Rattle.zk_follow.specs.Following.{IsCounted, IsFollowed, Steps}
+use Rattle.zk_follow.proofs.Visiting.{whole_written, written_back}
+use Rattle.zk_follow.proofs.follower.Follower.step.Goals as goal
+
+pub returns-in-Ok-clause-followed : goal.returns-in-Ok-clause-followed
+returns-in-Ok-clause-followed g c =
+    let size : c.args.self.now.subjects.len ≡ length c.advance.new.subjects = omega (arith, c.advance.auto.subjects, c.as_mut_slice-subjects.ensures.len) in
+    written_back (IsFollowed c.args.now (view_of c.advance.new.client)) c.args.self.now.subjects.len c.advance.new.subjects
+    (drop (length c.advance.new.subjects) c.args.self.now.subjects.items) size c.in-Ok.ensures.followed
+
+pub returns-in-Ok-clause-counted : goal.returns-in-Ok-clause-counted
+returns-in-Ok-clause-counted g c =
+    let size : c.args.self.now.subjects.len ≡ length c.advance.new.subjects = omega (arith, c.advance.auto.subjects, c.as_mut_slice-subjects.ensures.len) in
+    written_back (IsCounted (view_of c.advance.new.client)) c.args.self.now.subjects.len c.advance.new.subjects
+    (drop (length c.advance.new.subjects) c.args.self.now.subjects.items) size c.in-Ok.ensures.counted
+
+pub returns-in-Ok-clause-steps : goal.returns-in-Ok-clause-steps
+returns-in-Ok-clause-steps g c =
+    let size : c.args.self.now.subjects.len ≡ length c.advance.new.subjects = omega (arith, c.advance.auto.subjects, c.as_mut_slice-subjects.ensures.len) in
+    let old = view_of c.args.self.now.client in
+    let input = input_view c.args.input in
+    let given = said c.in-Ok.outputs.items in
+    subst (Steps c.args.now old input c.args.self.now.subjects.items (view_of c.advance.new.client) given)
+    (sym (whole_written c.args.self.now.subjects.len c.advance.new.subjects (drop (length c.advance.new.subjects) c.args.self.now.subjects.items) size))
+    (subst (λ before. Steps c.args.now old input before (view_of c.advance.new.client) given c.advance.new.subjects) c.as_mut_slice-subjects.ensures.value c.in-Ok.ensures.steps)

@@ -1,0 +1,194 @@
+-- What it is to follow a subject, and what becomes of its reading.
+use Rattle.std.specs.Prelude.{◌≡◌, ◌≢◌, ◌≤◌, ◌<◌, ◌⊎◌, ◌==◌, ◌+◌, ◌-◌, ◌^◌, ◌||◌, ◌&&◌, ⊤, min, ℕ, Bool, true, false, List, [], ◌∷◌, ◌++◌, fold, Option, Some, None, if◌then◌else◌, nat_le, length, slice_index_or, bytes_eq}
+use Rattle.std.specs.List.{list_any, flat_map, FoldsTo}
+use Rattle.zk_nodes.specs.Path.{Text}
+use Rattle.zk_nodes.specs.declared.side.Side.{Side}
+use Rattle.zk_nodes.specs.declared.side.Side.TheVariants.{Data, Child}
+use Rattle.zk_limits.specs.declared.limits.TheConstants.{MOST_PENDING}
+use Rattle.zk_conversation.specs.Pending.{Pending, Part_waits, Call_waits, calls_pending}
+use Rattle.zk_conversation.specs.Calls.{Call}
+use Rattle.zk_conversation.specs.Questions.{question_of, Question, Exists, GetData, GetChildren}
+use Rattle.zk_conversation.specs.Results.{Result, NoNode, Refused as Refused_by}
+use Rattle.zk_cache.specs.declared.held.Kept.{Kept}
+use Rattle.zk_cache.specs.Kept.{Answer, Absent, Known, Full, is_good, is_marked_good}
+use Rattle.zk_session.specs.declared.states.State.TheVariants.{Connected}
+use Rattle.zk_turns.specs.Turns.{Outcome, Replied, TooManyWatches as Too_many_watches, TooLarge as Too_large, SessionClosed as Session_closed, Output, Enters, Input, Now, Turn}
+use Rattle.zk_turns.specs.Turns as turns
+use Rattle.zk_turns.specs.View.{View, Cache}
+use Rattle.zk_turns.specs.Rule.{Rule}
+use Rattle.zk_follow.specs.declared.progress.Progress.{Progress}
+use Rattle.zk_follow.specs.declared.progress.Progress.TheVariants.{Due, Reading, Refused}
+use Rattle.zk_follow.specs.declared.progress.Refusal.TheVariants.{Code, TooManyWatches, TooLarge, SessionClosed}
+use Rattle.zk_follow.specs.declared.subject.Subject.{Subject}
+
+-- a second later, and never after the last moment that there is
+abbrev pub later : ℕ → ℕ
+later now = min (now + 1000) (2 ^ 64 - 1)
+
+-- How far the reading of a subject is once a read was answered. Where there is no node, it is read in another way; where the connection
+-- was lost, or the session is over, it is read once there is another one; where too many calls wait, once fewer do.
+abbrev pub after_code : ℕ → Result → Progress
+after_code now (Refused_by code) = Refused (Code code) (later now)
+after_code now _ = Due
+
+abbrev pub progress_after : ℕ → Outcome → Progress
+progress_after now (Replied zxid result) = after_code now result
+progress_after now Too_many_watches = Refused TooManyWatches (later now)
+progress_after now Too_large = Refused TooLarge (later now)
+progress_after now Session_closed = Refused SessionClosed (later now)
+progress_after now _ = Due
+
+-- whether the last reply said that there is no node
+abbrev pub missing_by : Bool → Result → Bool
+missing_by was NoNode = true
+missing_by was (Refused_by code) = was
+missing_by was _ = false
+
+abbrev pub missing_after : Bool → Outcome → Bool
+missing_after was (Replied zxid result) = missing_by was result
+missing_after was _ = was
+
+-- What one output makes of a subject. With another state no call waits any more.
+abbrev pub answered : {A : Type 0} → ℕ → Outcome → Subject A → Subject A
+answered now outcome subject = record subject { progress = progress_after now outcome; is_missing = missing_after subject.is_missing outcome }
+
+abbrev pub heard : {A : Type 0} → ℕ → Subject A → Output → Subject A
+heard now subject (turns.Answer ticket outcome) = if subject.ticket == ticket then answered now outcome subject else subject
+heard now subject (Enters state) = record subject { progress = Due }
+heard now subject _ = subject
+
+-- what outputs make of it, in order
+abbrev pub heard_all : {A : Type 0} → ℕ → Subject A → List Output → Subject A
+heard_all now subject outputs = fold (heard now) subject outputs
+
+-- A subject is good where its data are kept and good, or that there is no node; or the names below it are.
+abbrev pub is_whole : Answer → Bool
+is_whole Absent = true
+is_whole (Known fields) = false
+is_whole (Full bytes fields) = true
+
+abbrev pub says_none : Answer → Bool
+says_none Absent = true
+says_none _ = false
+
+abbrev pub is_kept : (Answer → Bool) → Option (Kept Answer) → Bool
+is_kept test None = false
+is_kept test (Some kept) = if is_good kept.mark then test kept.answer else false
+
+abbrev pub is_shown : Cache → Side → Text → Bool
+is_shown cache Data path = is_kept is_whole (cache.nodes path)
+is_shown cache Child path = is_marked_good (cache.children path) || is_kept says_none (cache.nodes path)
+
+-- the question that reads a subject, and asks for a watch: the other one where there is no node
+abbrev pub read_of : Side → Bool → Text → Question
+read_of Data false path = GetData path true
+read_of Child false path = GetChildren path true
+read_of _ true path = Exists path true
+
+-- whether a question is one of the two that read a subject
+abbrev pub reads : Side → Text → Question → Bool
+reads Data path (GetData at true) = bytes_eq at path
+reads Child path (GetChildren at true) = bytes_eq at path
+reads side path (Exists at true) = bytes_eq at path
+reads side path _ = false
+
+abbrev pub is_read_by : ℕ → Side → Text → Pending → Bool
+is_read_by ticket side path pending = elim pending.waiting [ Part_waits last ↦ false | Call_waits its question ↦ (ticket == its) && reads side path question ]
+
+-- whether a subject is to be read at this moment, where what is kept of it is not good
+abbrev pub is_due : (now : ℕ) → Progress → Bool
+is_due now Due = true
+is_due now Reading = false
+is_due now (Refused why until) = nat_le until now
+
+-- A read of a subject, with a watch, is on its way: the call waits for its reply.
+abbrev pub IsBeingRead : View → ℕ → Side → Text → Type 0
+IsBeingRead view ticket side path = list_any (is_read_by ticket side path) view.pending ≡ true
+
+-- Of a client that has not halted: where a subject counts as one that is being read, it is.
+abbrev pub IsCounted : {A : Type 0} → View → Subject A → Type 0
+IsCounted view subject = view.standing.halted ≡ false → subject.progress ≡ Reading → IsBeingRead view subject.ticket subject.side subject.path
+
+-- As many calls are on their way as may be, so that a read waits its turn.
+abbrev pub IsFull : View → Type 0
+IsFull view = MOST_PENDING ≤ calls_pending view.pending
+
+-- The last read of it was refused, and the moment to read it again has not passed.
+abbrev pub IsRefused : (now : ℕ) → Progress → Type 0
+IsRefused now (Refused why until) = now ≤ until
+IsRefused now _ = ⊥
+
+-- THE promise about a subject: what is kept of it is good; or else a read of it is on its way, or waits its turn, or no server has accepted
+-- the connection, or the last read was refused, and the moment to read it again has not passed.
+abbrev pub IsFollowed : {A : Type 0} → (now : ℕ) → View → Subject A → Type 0
+IsFollowed now view subject =
+    (is_shown view.cache subject.side subject.path ≡ true) ⊎ (IsBeingRead view subject.ticket subject.side subject.path
+    ⊎ (IsFull view ⊎ ((view.standing.state ≢ Connected) ⊎ IsRefused now subject.progress)))
+
+-- what becomes of a subject of which what is kept is good
+abbrev pub rested_progress : Progress → Progress
+rested_progress Reading = Reading
+rested_progress _ = Due
+
+abbrev pub rested : {A : Type 0} → Subject A → Subject A
+rested subject = record subject { progress = rested_progress subject.progress; is_missing = false }
+
+-- Calls were asked, and nothing else has happened to a client.
+pub record Asks (view after : View) : Type 0 where
+  pub standing : after.standing ≡ view.standing
+  pub cache : after.cache ≡ view.cache
+  pub more : List Pending
+  pub pending : after.pending ≡ view.pending ++ more
+
+-- A turn is a call that reads a subject, with a watch.
+abbrev pub IsReadOf : {A : Type 0} → Subject A → (is_missing : Bool) → Turn → Type 0
+IsReadOf subject is_missing turn =
+    (call : Call) × (turn.input ≡ turns.Call subject.ticket call) × (question_of call ≡ read_of subject.side is_missing subject.path)
+
+-- One visit: nothing is asked, and the subject is as it had heard, or it rests; or it is read by one call, and hears what came of that.
+abbrev pub Visits : {A : Type 0} → (now : ℕ) → View → Subject A → List Turn → View → Subject A → Type 0
+Visits now view subject calls after new =
+    ((after ≡ view) × (calls ≡ []) × ((new ≡ subject) ⊎ (new ≡ rested subject)))
+    ⊎ ((turn : Turn) × (calls ≡ turn ∷ []) × IsReadOf subject subject.is_missing turn × Rule view turn after
+    × (new ≡ heard_all now (record subject { progress = Reading }) turn.outputs))
+
+-- what turns said, the oldest first
+abbrev pub outputs_in : List Turn → List Output
+outputs_in calls = flat_map (λ turn. turn.outputs) calls
+
+-- a visit, and what is said by then
+abbrev pub VisitsAnd : {A : Type 0} → (now : ℕ) → View → List Output → Subject A → View → List Output → Subject A → Type 0
+VisitsAnd now view given subject after given_after new = (calls : List Turn) × Visits now view subject calls after new × (given_after ≡ given ++ outputs_in calls)
+
+-- So a subject counts as refused only where an answer said so.
+abbrev pub IsVisited : {A : Type 0} → (now : ℕ) → Subject A → Subject A → Type 0
+IsVisited now subject new = (view : View) × (calls : List Turn) × (after : View) × Visits now view subject calls after new
+
+-- each of these subjects has heard these outputs, and was visited
+abbrev pub AreVisited : {A : Type 0} → (now : ℕ) → List Output → (old new : List (Subject A)) → Type 0
+AreVisited {A} now outputs old new =
+    (k : ℕ) (d : Subject A) → k < length old → IsVisited now (heard_all now (slice_index_or old k d) outputs) (slice_index_or new k d)
+
+-- each of these turns is a call that reads one of these subjects
+abbrev pub AreReads : {A : Type 0} → List (Subject A) → List Turn → Type 0
+AreReads subjects [] = ⊤
+AreReads {A} subjects (turn ∷ more) =
+    ((k : ℕ) × (d : Subject A) × (is_missing : Bool) × (k < length subjects) × IsReadOf (slice_index_or subjects k d) is_missing turn) × AreReads subjects more
+
+-- Calls that read subjects, one after the other, and no other turn.
+pub record Reads {A : Type 0} (subjects : List (Subject A)) (view : View) (given : List Output) (after : View) (given_after : List Output) : Type 0 where
+  pub calls : List Turn
+  pub chain : FoldsTo Rule view calls after
+  pub reads : AreReads subjects calls
+  pub said : given_after ≡ given ++ outputs_in calls
+
+-- One step. The client takes its input at a moment; each subject hears what it says, and is visited. The turns are one chain from the client
+-- before to the client after it: the moment, the input, and the calls that read subjects. What is given is what they said, in order.
+pub record Steps {A : Type 0} (now : ℕ) (view : View) (input : Input) (old : List (Subject A)) (after : View) (given : List Output) (new : List (Subject A)) : Type 0 where
+  pub first : List Output
+  pub second : List Output
+  pub calls : List Turn
+  pub chain : FoldsTo Rule view (record { input = Now now; outputs = first } ∷ record { input = input; outputs = second } ∷ calls) after
+  pub reads : AreReads old calls
+  pub said : given ≡ (first ++ second) ++ outputs_in calls
+  pub visited : AreVisited now (first ++ second) old new

@@ -1,0 +1,18 @@
+//! Subjects that are kept good: the data of nodes, and the names below nodes.
+//!
+//! A [`Follower`] is a client with the subjects that its program follows. Each is read with a watch as soon as a server has accepted the
+//! session, and read again after each report, and after a pause where a server refused the read. Where there is no node it is asked
+//! whether there is one, with a watch, so that its making is reported.
+#![tactic(auto)]
+
+mod follower;
+mod kept;
+mod progress;
+mod reads;
+mod stop;
+mod subject;
+
+pub use follower::Follower;
+pub use progress::{Progress, Refusal};
+pub use stop::Stop;
+pub use subject::Subject;

@@ -1,0 +1,101 @@
+//! How far the reading of a subject is.
+
+ghost use Rattle.std.specs.Prelude.{◌≡◌};
+ghost use Rattle.zk_records.specs.Codes.{code_number};
+ghost use Rattle.zk_conversation.specs.Views.{code_result};
+ghost use Rattle.zk_client.specs.Views.{outcome_view};
+ghost use Rattle.zk_follow.specs.Following.{after_code, later, missing_after, progress_after};
+
+use std::alloc::Allocator;
+use zk_client::{CallResult, Code, Outcome};
+
+/// How long, in milliseconds, a subject waits whose read was refused.
+const PAUSE_MS: u64 = 1_000;
+
+/// What a server answers where there is no node.
+const NO_NODE: i32 = -101;
+
+/// Why a read was refused.
+#[derive(Clone, Copy)]
+pub enum Refusal {
+    /// The server answered with the code of this number, which is not that of a node that is not there.
+    Code(i32),
+    /// The client watches 65,536 paths of the side.
+    TooManyWatches,
+    /// The path is too long for a request.
+    TooLarge,
+    /// The session is being closed.
+    SessionClosed,
+}
+
+/// How far the reading of a subject is, where what is kept of it is not good.
+#[derive(Clone, Copy)]
+pub enum Progress {
+    /// It is to be read, as soon as a server has accepted the connection and fewer than 1,024 calls wait for their replies.
+    Due,
+    /// A read waits for its reply.
+    Reading,
+    /// The last read was refused. It is to be read again at this moment.
+    Refused { why: Refusal, until: u64 },
+}
+
+/// The moment after the pause.
+fn later(now: u64) -> u64
+    ensures { result ≡ later now }
+{
+    now.saturating_add(PAUSE_MS)
+}
+
+/// How far the reading is once a reply with this code has come.
+fn after_code(now: u64, code: Code) -> Progress
+    ensures { result ≡ after_code now (code_result (code_number code)) }
+{
+    let number = code.number();
+    if number == NO_NODE {
+        return Progress::Due;
+    }
+    Progress::Refused {
+        why: Refusal::Code(number),
+        until: later(now),
+    }
+}
+
+/// How far the reading is once a read was answered at this moment.
+pub(crate) fn progress_after<A: Allocator>(now: u64, outcome: &Outcome<A>) -> Progress
+    ensures { result ≡ progress_after now (outcome_view outcome.now) }
+{
+    let until = later(now);
+    match outcome {
+        Outcome::Replied {
+            result: CallResult::Code(code),
+            ..
+        } => after_code(now, *code),
+        Outcome::TooManyWatches => Progress::Refused {
+            why: Refusal::TooManyWatches,
+            until,
+        },
+        Outcome::TooLarge => Progress::Refused {
+            why: Refusal::TooLarge,
+            until,
+        },
+        Outcome::SessionClosed => Progress::Refused {
+            why: Refusal::SessionClosed,
+            until,
+        },
+        _ => Progress::Due,
+    }
+}
+
+/// Whether the last reply said that there is no node, once a read was answered.
+pub(crate) fn missing_after<A: Allocator>(was_missing: bool, outcome: &Outcome<A>) -> bool
+    ensures { result ≡ missing_after was_missing (outcome_view outcome.now) }
+{
+    match outcome {
+        Outcome::Replied {
+            result: CallResult::Code(code),
+            ..
+        } => { was_missing || code.number() == NO_NODE }
+        Outcome::Replied { .. } => false,
+        _ => was_missing,
+    }
+}

@@ -1,0 +1,174 @@
+//! One subject that is followed.
+
+ghost use Rattle.std.specs.Prelude.{◌≡◌, ◌≢◌, ◌++◌, true, false, Bool, List, IfOk, OnOk};
+ghost use Rattle.zk_session.specs.declared.states.State.TheVariants.{Connected};
+ghost use Rattle.zk_conversation.specs.Questions.{question_of};
+ghost use Rattle.zk_conversation.specs.Views.{call_view};
+ghost use Rattle.zk_turns.specs.Turns.{Call as Calls, Output as Said};
+ghost use Rattle.zk_turns.specs.Rule.{Rule};
+ghost use Rattle.zk_client.specs.Clients.{view_of};
+ghost use Rattle.zk_client.specs.Views.{output_view, said};
+ghost use Rattle.zk_follow.specs.Following.{heard, heard_all, is_due, read_of, rested, Asks, IsCounted, IsFollowed, IsFull, VisitsAnd};
+
+use crate::kept::is_shown;
+use crate::progress::{Progress, missing_after, progress_after};
+use crate::reads::read_of;
+use crate::stop::Stop;
+use std::alloc::Allocator;
+use zk_client::{Call, Client, Input, Output, Path, Side, State};
+
+/// A subject that is followed, and how far its reading is.
+#[derive(Drop)]
+pub struct Subject<A: Allocator> {
+    pub(crate) ticket: u64,
+    pub(crate) side: Side,
+    pub(crate) path: Path<A>,
+    pub(crate) progress: Progress,
+    pub(crate) is_missing: bool,
+}
+
+/// Whether a server has accepted the connection.
+fn is_connected<A: Allocator + Copy>(client: &Client<A>) -> bool
+    ensures yes { result ≡ true → (view_of client.now).standing.state ≡ Connected }
+    ensures no { result ≡ false → (view_of client.now).standing.state ≢ Connected }
+{
+    matches!(client.state(), State::Connected)
+}
+
+impl<A: Allocator> Subject<A> {
+    /// A subject that is to be read. The tickets of its reads are this number.
+    pub(crate) fn new(ticket: u64, side: Side, path: Path<A>) -> Subject<A>
+        ensures { result ≡ record { ticket = ticket; side = side; path = path; progress = Progress.Due; is_missing = false } }
+    {
+        Subject {
+            ticket,
+            side,
+            path,
+            progress: Progress::Due,
+            is_missing: false,
+        }
+    }
+
+    /// Takes what an output says of the reads of the subject.
+    fn hear_one(&mut self, now: u64, output: &Output<A>)
+        ensures { self.new ≡ heard now self.old (output_view output.now) }
+    {
+        match output {
+            Output::Answer { ticket, outcome } => {
+                if self.ticket == *ticket {
+                    self.progress = progress_after(now, outcome);
+                    self.is_missing = missing_after(self.is_missing, outcome);
+                }
+            }
+            Output::State(_) => self.progress = Progress::Due,
+            _ => {}
+        }
+    }
+
+    /// Takes what the client has said at this moment.
+    pub(crate) fn hear(&mut self, now: u64, outputs: &[Output<A>])
+        ensures { self.new ≡ heard_all now self.old (said outputs.now) }
+    {
+        for output in outputs {
+            self.hear_one(now, output);
+        }
+    }
+}
+
+impl<A: Allocator + Copy> Subject<A> {
+    /// Asks by this call, which reads the subject. The answer is whether as many calls wait for their replies as may.
+    fn ask(
+        &mut self,
+        client: &mut Client<A>,
+        now: u64,
+        call: Call<A>,
+        made: &mut Vec<Output<A>, A>,
+    ) -> Result<bool, Stop>
+        requires read { (is_missing : Bool) × (question_of (call_view call) ≡ read_of self.old.side is_missing self.old.path) }
+        requires connected { (view_of client.old).standing.state ≡ Connected }
+        ensures followed { OnOk result (IsFollowed now (view_of client.new) self.new) }
+        ensures counted { OnOk result (IsCounted (view_of client.new) self.new) }
+        ensures asks { OnOk result (Asks (view_of client.old) (view_of client.new)) }
+        ensures full { IfOk result (λ is_full. is_full ≡ true → IsFull (view_of client.new)) }
+        ensures asked { OnOk result ((outputs : List Said) × Rule (view_of client.old) (record { input = Calls self.old.ticket (call_view call); outputs = outputs }) (view_of client.new)
+            × (self.new ≡ heard_all now (record self.old { progress = Progress.Reading }) outputs) × (said made.new.items ≡ said made.old.items ++ outputs)) }
+    {
+        self.progress = Progress::Reading;
+        let Ok(mut outputs) = client.step(Input::Call(self.ticket, call)) else {
+            return Err(Stop::Halted);
+        };
+        self.hear(now, outputs.as_slice());
+        match made.append(&mut outputs) {
+            Ok(()) => Ok(self.is_unread()),
+            Err(_) => Err(Stop::Memory),
+        }
+    }
+
+    /// Whether the subject is to be read at once.
+    fn is_unread(&self) -> bool
+        ensures { result ≡ true → self.now.progress ≡ Progress.Due }
+    {
+        matches!(self.progress, Progress::Due)
+    }
+
+    /// Whether the subject is to be read at this moment, where what is kept of it is not good and the client is connected.
+    fn is_due(&self, now: u64) -> bool
+        ensures { result ≡ is_due now self.now.progress }
+    {
+        match self.progress {
+            Progress::Due => true,
+            Progress::Reading => false,
+            Progress::Refused { until, .. } => until <= now,
+        }
+    }
+
+    /// What is kept of the subject is good.
+    fn rest(&mut self)
+        ensures { self.new ≡ rested self.old }
+    {
+        self.is_missing = false;
+        if !matches!(self.progress, Progress::Reading) {
+            self.progress = Progress::Due;
+        }
+    }
+
+    /// Takes what the client has said at this moment, and reads the subject where it is to be read and fewer calls wait than may. The answer
+    /// is whether as many calls wait for their replies as may.
+    pub(crate) fn visit(
+        &mut self,
+        alloc: A,
+        client: &mut Client<A>,
+        now: u64,
+        is_full: bool,
+        outputs: &[Output<A>],
+        made: &mut Vec<Output<A>, A>,
+    ) -> Result<bool, Stop>
+        requires counted { IsCounted (view_of client.old) (heard_all now self.old (said outputs.now)) }
+        requires goes_on { (view_of client.old).standing.halted ≡ false }
+        requires full { is_full ≡ true → IsFull (view_of client.old) }
+        ensures followed { OnOk result (IsFollowed now (view_of client.new) self.new) }
+        ensures counted { OnOk result (IsCounted (view_of client.new) self.new) }
+        ensures asks { OnOk result (Asks (view_of client.old) (view_of client.new)) }
+        ensures full { IfOk result (λ is_full. is_full ≡ true → IsFull (view_of client.new)) }
+        ensures visits { OnOk result (VisitsAnd now (view_of client.old) (said made.old.items) (heard_all now self.old (said outputs.now)) (view_of client.new) (said made.new.items) self.new) }
+    {
+        self.hear(now, outputs);
+        if is_shown(client, self.side, &self.path) {
+            self.rest();
+            return Ok(is_full);
+        }
+        if is_full {
+            return Ok(true);
+        }
+        if !is_connected(client) {
+            return Ok(false);
+        }
+        if !self.is_due(now) {
+            return Ok(false);
+        }
+        match read_of(alloc, self.side, self.is_missing, &self.path) {
+            Ok(call) => self.ask(client, now, call, made),
+            Err(_) => Err(Stop::Memory),
+        }
+    }
+}
