@@ -13,7 +13,9 @@
  * 1, where standard output fails or memory runs out. */
 #define _POSIX_C_SOURCE 200809L
 #include "dirwolleu.h"
+#include "words.h"
 
+#include <ctype.h>
 #include <errno.h>
 #include <fcntl.h>
 #include <inttypes.h>
@@ -40,6 +42,7 @@ enum {
     BETWEEN_DIALS_MS = 334,       /* from an attempt to the next one, at least: no more than three begin in a second */
     BETWEEN_READS_MS = 1000,      /* from a read that was refused to the next one */
     LONGEST_NAME = 512,           /* of HOST:PORT */
+    LONGEST_LINE = 5120,          /* of a message with a path */
     MOST_PINGS = 4,               /* that wait for their answers */
     MOST_PIECES = 64,             /* that are read before the moment is told */
     PIECE = 65536                 /* the most bytes that are read at once */
@@ -109,7 +112,7 @@ static uint64_t now_ms(void)
 
 static void say(const char *what, const char *why)
 {
-    fprintf(stderr, "follow: %s: %s\n", what, why);
+    fprintf(stderr, "follow: %s: %c%s\n", what, tolower((unsigned char)why[0]), why + 1);
 }
 
 /* Says why the program ends, and has it end. */
@@ -120,16 +123,14 @@ static void fail(struct follower *f, const char *what, const char *why)
     f->is_over = true;
 }
 
-static const char *words_of(int32_t code)
+/* The same of what the library answered, about the path. */
+static void fail_by(struct follower *f, int32_t result)
 {
-    switch (code) {
-    case DW_HALTED: return "out of memory within a step";
-    case DW_NO_MEMORY: return "out of memory";
-    case DW_CLOSED: return "the handle holds no client";
-    case DW_NOT_TEXT: return "the path is no UTF-8";
-    case DW_NOT_PATH: return "this is no path of a node";
-    default: return "a number that the header does not have";
-    }
+    char line[LONGEST_LINE];
+    write_result(line, sizeof line, result, f->path);
+    fprintf(stderr, "follow: %s\n", line);
+    f->status = EXIT_FAILURE;
+    f->is_over = true;
 }
 
 /* Makes room for this many bytes in all. */
@@ -255,6 +256,14 @@ static void send_later(struct follower *f, size_t length)
     }
 }
 
+/* Says why the server refuses a read. It is made again. */
+static void say_code(const struct follower *f, int32_t code)
+{
+    char line[LONGEST_LINE];
+    write_code(line, sizeof line, code, f->path);
+    fprintf(stderr, "follow: %s\n", line);
+}
+
 static void take_answer(struct follower *f, const dw_output *output)
 {
     bool is_code = output->result == DW_CODE;
@@ -265,7 +274,7 @@ static void take_answer(struct follower *f, const dw_output *output)
         f->read_at_ms = f->now_ms + BETWEEN_READS_MS; /* there is a node, of which a read was refused, or found nothing */
     }
     if (f->is_refused) {
-        fprintf(stderr, "follow: %s: the server answers with the code %" PRId32 "\n", f->path, output->code);
+        say_code(f, output->code);
     } else if (output->detail == DW_REPLIED) {
         f->pause_ms = FIRST_PAUSE_MS;
     }
@@ -295,7 +304,7 @@ static void take_drop(struct follower *f)
     size_t length;
     int32_t code = dw_words(&f->client, (uint8_t *)words, sizeof words - 1, &length);
     words[length < sizeof words ? length : sizeof words - 1] = 0;
-    say(f->server, code == DW_OK ? words : words_of(code));
+    say(f->server, code == DW_OK ? words : words_of_result(code).reason);
     hang_up(f);
 }
 
@@ -320,7 +329,7 @@ static void act(struct follower *f, int32_t code)
         }
     }
     if (code != DW_NONE) {
-        fail(f, f->path, words_of(code));
+        fail_by(f, code);
     }
 }
 
@@ -485,7 +494,7 @@ static bool look(struct follower *f, dw_kept_data *kept, size_t room)
         code = dw_peek_data(&f->client, (const uint8_t *)f->path, strlen(f->path), kept, f->data.bytes, room);
     }
     if (code != DW_OK) {
-        fail(f, f->path, words_of(code));
+        fail_by(f, code);
     }
     return code == DW_OK;
 }
@@ -608,7 +617,7 @@ static void renew(struct follower *f)
     int32_t code = dw_renew(&f->client, TIMEOUT_MS); /* it keeps the last zxid, so it meets no server that is behind that */
     f->is_asked = f->is_missing = false;
     if (code != DW_OK) {
-        fail(f, f->path, words_of(code));
+        fail_by(f, code);
     }
 }
 
@@ -701,7 +710,7 @@ static void begin(struct follower *f)
         srand((unsigned)f->heard_ms ^ (unsigned)getpid());
         int32_t code = dw_open(&f->client, TIMEOUT_MS);
         if (code != DW_OK) {
-            fail(f, f->path, words_of(code));
+            fail_by(f, code);
         }
     }
     if (!f->is_over) {

@@ -52,7 +52,7 @@ int main(void)
             session_wait(&s);
         }
         if (why < 0) {
-            return EXIT_FAILURE; /* the server's code: there is no /lock */
+            return session_fail(&s, why);
         }
     }
 }

@@ -26,7 +26,7 @@ int main(void)
             session_wait(&s);
         }
         if (why < 0) {
-            return EXIT_FAILURE; /* the server's code: no such node */
+            return session_fail(&s, why);
         }
     }
 }

@@ -32,8 +32,10 @@ int main(void)
     static struct session s;
     char first[240], path[256];
     session_open(&s, "127.0.0.1:2181");
-    if (put(&s, "a1", "first") != 0 || put(&s, "a2", "second") != 0) {
-        return EXIT_FAILURE;
+    int32_t why = put(&s, "a1", "first");
+    why = why == 0 ? put(&s, "a2", "second") : why;
+    if (why != 0) {
+        return session_fail(&s, why);
     }
     while (session_children(&s, "/queue", true) == 0 && find_first(&s, first, sizeof first)) {
         snprintf(path, sizeof path, "/queue/%s", first);

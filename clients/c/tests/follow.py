@@ -1,9 +1,10 @@
 #!/usr/bin/env python3
-"""Runs the example `follow` against the server in memory, and sees each line that it prints.
+"""Runs the example `follow` against the server in memory, and sees each line that it prints; and a program of session.h, for its errors.
 
-  follow.py FOLLOW PARTNER
+  follow.py FOLLOW PARTNER ASKS
 """
 
+import concurrent.futures
 import contextlib
 import queue
 import signal
@@ -18,7 +19,8 @@ import unittest
 
 # Seconds that a line, or an end, is waited for; and that a busy machine may make something late.
 BOUND, SLACK = 20, 3
-PROGRAM, PARTNER = sys.argv[1:3] if len(sys.argv) == 3 else sys.exit(__doc__)
+AT_ONCE = 8
+PROGRAM, PARTNER, ASKS = sys.argv[1:4] if len(sys.argv) == 4 else sys.exit(__doc__)
 
 
 class Process:
@@ -365,6 +367,60 @@ class Follow(unittest.TestCase):
             done = subprocess.run([PROGRAM, *words], capture_output=True, timeout=BOUND, check=False)
             self.assertEqual((done.returncode, done.stdout), (status, b""), words)
 
+    def test_words_of_a_path_that_is_none(self):
+        done = subprocess.run([PROGRAM, "127.0.0.1:1", "/a//b"], capture_output=True, text=True, timeout=BOUND, check=False)
+        self.assertEqual(done.stderr, "follow: /a//b is no path: an empty name\n")
+
+
+class Asks(unittest.TestCase):
+    """What session.h says of a call that fails."""
+
+    def says(self, *words):
+        done = subprocess.run([ASKS, *words], capture_output=True, text=True, timeout=BOUND, check=False)
+        self.assertEqual(done.returncode, 1)
+        return done.stderr.removeprefix("session: ").removesuffix("\n")
+
+    def test_refusals(self):
+        partner = Partner()
+        self.addCleanup(partner.end)
+        partner.do("create /a one")
+        address = partner.address
+        self.assertEqual(self.says(address, "/nope"), "no node: /nope")
+        self.assertEqual(self.says(address, "/x/y", "one"), "no node: /x")
+        self.assertEqual(self.says(address, "/a", "two"), "there is a node already: /a")
+        for path, why in (
+            ("", '"" is no path: it is empty'),
+            ("a", "a is no path: no slash at its beginning"),
+            ("/a//b", "/a//b is no path: an empty name"),
+            ("/a/", "/a/ is no path: an empty name"),
+            ("/a/../b", "/a/../b is no path: a name that is . or .."),
+            ("/a\x7f", "/a\x7f is no path: a character that paths do not have"),
+            ("/\N{LATIN SMALL LETTER A WITH DIAERESIS}\ue000", "/\N{LATIN SMALL LETTER A WITH DIAERESIS}\ue000 is no path"),
+        ):
+            self.assertEqual(self.says(address, path), why)
+
+    def test_no_server(self):
+        address = unused_address()
+        asking = subprocess.Popen([ASKS, address, "/a"], stderr=subprocess.PIPE, text=True)
+        self.addCleanup(asking.stderr.close)
+        self.addCleanup(asking.wait, BOUND)
+        self.addCleanup(asking.kill)
+        wanted = f"session: no server of {address} accepted the session in 3 s; last: {address}: connection refused\n"
+        self.assertEqual(asking.stderr.readline(), wanted)
+
+
+def run_side_by_side():
+    """Runs each test in a thread of its own, since most of their time is waits. Answers whether all have passed."""
+    loader = unittest.defaultTestLoader
+    tests = [test for case in (Follow, Asks) for test in loader.loadTestsFromTestCase(case)]
+    with concurrent.futures.ThreadPoolExecutor(AT_ONCE) as pool:
+        results = list(pool.map(lambda test: test.run(), tests))
+    faults = [fault for result in results for fault in result.failures + result.errors]
+    for test, fault in faults:
+        print(f"{test.id()}:\n{fault}", file=sys.stderr)
+    print(f"follow: {len(tests)} tests, {len(faults)} failed")
+    return tests and not faults
+
 
 if __name__ == "__main__":
-    unittest.main(argv=sys.argv[:1])
+    sys.exit(0 if run_side_by_side() else 1)
