@@ -45,16 +45,16 @@ extern "C" {
 
 enum {
   DW_OK = 0,
-  DW_NONE = 1,         /* there is none */
-  DW_HALTED = -1,      /* out of memory within the step: the client has no use any more, each later step answers the same, nothing
-                          is kept or watched. Its state, zxid and session can still be asked for: take dw_saved, and dw_resume. */
-  DW_NO_MEMORY = -2,   /* no memory for what was given */
-  DW_CLOSED = -3,      /* the handle holds no client */
-  DW_NOT_TEXT = -4,    /* the path is no UTF-8 */
-  DW_NOT_PATH = -5,    /* the text is no path of a node */
+  DW_NONE = 1, /* there is none */
+  DW_HALTED = -1, /* out of memory within the step: the client has no use any more, each later step answers the same, nothing
+                     is kept or watched. Its state, zxid and session can still be asked for: take dw_saved, and dw_resume. */
+  DW_NO_MEMORY = -2, /* no memory for what was given */
+  DW_CLOSED = -3, /* the handle holds no client */
+  DW_NOT_TEXT = -4, /* the path is no UTF-8 */
+  DW_NOT_PATH = -5, /* the text is no path of a node */
   DW_BAD_TIMEOUT = -6, /* the timeout is not above 0 */
   DW_NO_SUCH_MODE = -7,
-  DW_NOT_SAVED = -8    /* the bytes are no saved session */
+  DW_NOT_SAVED = -8 /* the bytes are no saved session */
 };
 
 /* A handle: {0} before its first use. Its fields are the library's own. */
@@ -80,21 +80,21 @@ enum { DW_DATA_SIDE = 1, DW_CHILDREN_SIDE = 2 };
 /* A reply, or why there is none: K1 to K7. */
 enum {
   DW_REPLIED = 0,
-  DW_LOST = 1,         /* the connection was: the call may or may not have happened. With those below, nothing was sent */
+  DW_LOST = 1, /* the connection was: the call may or may not have happened. With those below, nothing was sent */
   DW_AFTER_EXPIRY = 2, /* the session has expired */
-  DW_AFTER_CLOSE = 3,  /* it is closed, or a call that closes it waits */
+  DW_AFTER_CLOSE = 3, /* it is closed, or a call that closes it waits */
   DW_NOT_CONNECTED = 4,
   DW_TOO_MANY_WATCHES = 5, /* 65,536 paths of the side are watched, with the reads that wait */
-  DW_TOO_LARGE = 6,        /* the request has more than 1,048,575 bytes */
-  DW_TOO_MANY_PENDING = 7  /* 1,024 calls wait */
+  DW_TOO_LARGE = 6, /* the request has more than 1,048,575 bytes */
+  DW_TOO_MANY_PENDING = 7 /* 1,024 calls wait */
 };
 
 /* Why a connection is given up. */
 enum {
   DW_BAD_FRAME = 1,
   DW_BAD_PAYLOAD = 2, /* one that does not read */
-  DW_SILENT = 3,      /* nothing was heard for two thirds of the timeout */
-  DW_BEHIND = 4,      /* the reply to a watched read is behind what was seen */
+  DW_SILENT = 3, /* nothing was heard for two thirds of the timeout */
+  DW_BEHIND = 4, /* the reply to a watched read is behind what was seen */
   DW_WATCHES_REFUSED = 5
 };
 
@@ -128,7 +128,7 @@ typedef struct dw_output {
   uint64_t ticket;
   int64_t zxid;
   size_t length; /* of the text, which dw_copy gives */
-  size_t names;  /* how many there are: dw_name gives each */
+  size_t names; /* how many there are: dw_name gives each */
   bool is_null, has_stat;
   dw_stat stat;
 } dw_output;

@@ -12,7 +12,6 @@ from dataclasses import dataclass
 from typing import Any, Callable, NamedTuple, Optional, Protocol
 
 from dirwolleu import _library as library
-from dirwolleu import _requests as requests
 from dirwolleu._frames import Frames, is_ping
 from dirwolleu._library import Answer, Closed, Drop, Found, Halted, Machine, Output, Report, Send
 from dirwolleu._requests import Request, Watcher
@@ -32,12 +31,14 @@ logger = logging.getLogger("dirwolleu")
 Listener = Callable[[State], object]
 Tell = Callable[[Callable[[Any], object], Any], None]
 
+# made by scripts/interface from include/interface.toml
 _EVENTS = {
     library.NODE_CREATED: EventType.CREATED,
     library.NODE_DELETED: EventType.DELETED,
     library.DATA_CHANGED: EventType.CHANGED,
     library.CHILDREN_CHANGED: EventType.CHILD,
 }
+# end of what is made
 _ENDING = (SessionExpiredError.code, SessionMovedError.code)
 _LONGEST_TIMEOUT_MS = 2_147_483_647
 
@@ -377,7 +378,7 @@ class Engine:
         asked = self._sent.pop(answer.ticket, None)
         if asked is None:
             return
-        if answer.lack in (requests.NOT_CONNECTED, requests.TOO_MANY_PENDING):
+        if answer.lack in (library.NOT_CONNECTED, library.TOO_MANY_PENDING):
             self._line.appendleft(asked)
             return
         if answer.code in _ENDING:

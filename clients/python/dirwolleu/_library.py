@@ -14,6 +14,7 @@ import os
 import pathlib
 import platform
 import sys
+from collections.abc import Collection
 from ctypes import POINTER, Structure, byref, string_at
 from ctypes import c_bool, c_char, c_char_p, c_int32, c_int64, c_size_t, c_uint32, c_uint64, c_void_p
 from operator import attrgetter
@@ -22,15 +23,84 @@ from typing import Any, Callable, Iterator, NamedTuple, Optional, TypeVar, Union
 from dirwolleu._root import Root
 from dirwolleu.types import DataStat, Stat
 
-OK, HALTED, NO_MEMORY, CLOSED, NOT_TEXT, NOT_PATH, BAD_TIMEOUT = 0, -1, -2, -3, -4, -5, -6
-NO_SUCH_MODE, NOT_SAVED = -7, -8
-SEND, ANSWER, REPORT, STATE, DROP = 1, 2, 3, 4, 5
-IDLE, CONNECTING, CONNECTED, EXPIRED, SESSION_CLOSED = 0, 1, 2, 3, 4
-CODE, STAT, DATA, NAMES, CREATED, DONE = 1, 2, 3, 4, 5, 6
-NODE_CREATED, NODE_DELETED, DATA_CHANGED, CHILDREN_CHANGED = 1, 2, 3, 4
-DATA_SIDE, CHILD_SIDE = 1, 2
-NOTHING, ABSENT, KNOWN, FULL = 0, 1, 2, 3
-EPHEMERAL, SEQUENTIAL = 1, 2
+# made by scripts/interface from include/interface.toml
+OK = 0
+NONE = 1
+HALTED = -1
+NO_MEMORY = -2
+CLOSED = -3
+NOT_TEXT = -4
+NOT_PATH = -5
+BAD_TIMEOUT = -6
+NO_SUCH_MODE = -7
+NOT_SAVED = -8
+
+SEND = 1
+ANSWER = 2
+REPORT = 3
+STATE = 4
+DROP = 5
+
+IDLE = 0
+CONNECTING = 1
+CONNECTED = 2
+EXPIRED = 3
+SESSION_CLOSED = 4
+
+CODE = 1
+STAT = 2
+DATA = 3
+NAMES = 4
+CREATED = 5
+DONE = 6
+
+NODE_CREATED = 1
+NODE_DELETED = 2
+DATA_CHANGED = 3
+CHILDREN_CHANGED = 4
+
+DATA_SIDE = 1
+CHILDREN_SIDE = 2
+
+REPLIED = 0
+LOST = 1
+AFTER_EXPIRY = 2
+AFTER_CLOSE = 3
+NOT_CONNECTED = 4
+TOO_MANY_WATCHES = 5
+TOO_LARGE = 6
+TOO_MANY_PENDING = 7
+
+BAD_FRAME = 1
+BAD_PAYLOAD = 2
+SILENT = 3
+BEHIND = 4
+WATCHES_REFUSED = 5
+
+CONNECTION_LOSS = -4
+UNIMPLEMENTED = -6
+BAD_ARGUMENTS = -8
+NO_NODE = -101
+NO_AUTH = -102
+BAD_VERSION = -103
+NO_CHILDREN_FOR_EPHEMERALS = -108
+NODE_EXISTS = -110
+NOT_EMPTY = -111
+SESSION_EXPIRED = -112
+INVALID_ACL = -114
+SESSION_MOVED = -118
+
+PERSISTENT = 0
+EPHEMERAL = 1
+SEQUENTIAL = 2
+
+GOOD = 1
+STALE = 2
+
+NOTHING = 0
+ABSENT = 1
+KNOWN = 2
+FULL = 3
 
 
 class _Slot(Structure):
@@ -38,19 +108,34 @@ class _Slot(Structure):
 
 
 class _Handle(Structure):
-    _fields_ = [("is_open", c_bool), ("slot", _Slot)]
+    _fields_ = [
+        ("is_open", c_bool),
+        ("slot", _Slot),
+    ]
 
 
 class _Stat(Structure):
     _fields_ = [
-        *((name, c_int64) for name in ("czxid", "mzxid", "ctime", "mtime", "ephemeral_owner", "pzxid")),
-        *((name, c_int32) for name in ("version", "cversion", "aversion", "data_length", "num_children")),
+        ("czxid", c_int64),
+        ("mzxid", c_int64),
+        ("ctime", c_int64),
+        ("mtime", c_int64),
+        ("ephemeral_owner", c_int64),
+        ("pzxid", c_int64),
+        ("version", c_int32),
+        ("cversion", c_int32),
+        ("aversion", c_int32),
+        ("data_length", c_int32),
+        ("num_children", c_int32),
     ]
 
 
 class _Output(Structure):
     _fields_ = [
-        *((name, c_int32) for name in ("kind", "detail", "result", "code")),
+        ("kind", c_int32),
+        ("detail", c_int32),
+        ("result", c_int32),
+        ("code", c_int32),
         ("ticket", c_uint64),
         ("zxid", c_int64),
         ("length", c_size_t),
@@ -63,52 +148,67 @@ class _Output(Structure):
 
 class _DataStat(Structure):
     _fields_ = [
-        *((name, c_int64) for name in ("czxid", "mzxid", "ctime", "mtime", "ephemeral_owner")),
-        *((name, c_int32) for name in ("version", "data_length")),
+        ("czxid", c_int64),
+        ("mzxid", c_int64),
+        ("ctime", c_int64),
+        ("mtime", c_int64),
+        ("ephemeral_owner", c_int64),
+        ("version", c_int32),
+        ("data_length", c_int32),
     ]
 
 
 class _KeptData(Structure):
-    _fields_ = [("kind", c_int32), ("mark", c_int32), ("length", c_size_t), ("is_null", c_bool), ("stat", _DataStat)]
+    _fields_ = [
+        ("kind", c_int32),
+        ("mark", c_int32),
+        ("length", c_size_t),
+        ("is_null", c_bool),
+        ("stat", _DataStat),
+    ]
 
 
 class _KeptNames(Structure):
-    _fields_ = [("mark", c_int32), ("count", c_size_t), ("pzxid", c_int64)]
+    _fields_ = [
+        ("mark", c_int32),
+        ("count", c_size_t),
+        ("pzxid", c_int64),
+    ]
 
 
-_HANDLE, _BYTES, _ROOM = POINTER(_Handle), (c_char_p, c_size_t), (POINTER(c_char), c_size_t)
-_STEP, _PATH_STEP = (_HANDLE, c_uint64), (_HANDLE, c_uint64, c_uint64, *_BYTES)
+_HANDLE = POINTER(_Handle)
 _FUNCTIONS: dict[str, tuple[Any, tuple[Any, ...]]] = {
     "dw_open": (c_int32, (_HANDLE, c_int32)),
-    "dw_resume": (c_int32, (_HANDLE, c_int32, *_BYTES)),
+    "dw_resume": (c_int32, (_HANDLE, c_int32, c_char_p, c_size_t)),
     "dw_renew": (c_int32, (_HANDLE, c_int32)),
     "dw_close": (None, (_HANDLE,)),
-    "dw_opened": (c_int32, _STEP),
-    "dw_cut": (c_int32, _STEP),
-    "dw_tick": (c_int32, _STEP),
-    "dw_bytes": (c_int32, (*_STEP, *_BYTES)),
-    "dw_exists": (c_int32, (*_PATH_STEP, c_bool)),
-    "dw_get_data": (c_int32, (*_PATH_STEP, c_bool)),
-    "dw_get_children": (c_int32, (*_PATH_STEP, c_bool)),
-    "dw_set_data": (c_int32, (*_PATH_STEP, *_BYTES, c_bool, c_int32)),
-    "dw_create": (c_int32, (*_PATH_STEP, *_BYTES, c_bool, c_uint32)),
-    "dw_delete": (c_int32, (*_PATH_STEP, c_int32)),
+    "dw_opened": (c_int32, (_HANDLE, c_uint64)),
+    "dw_cut": (c_int32, (_HANDLE, c_uint64)),
+    "dw_tick": (c_int32, (_HANDLE, c_uint64)),
+    "dw_bytes": (c_int32, (_HANDLE, c_uint64, c_char_p, c_size_t)),
+    "dw_exists": (c_int32, (_HANDLE, c_uint64, c_uint64, c_char_p, c_size_t, c_bool)),
+    "dw_get_data": (c_int32, (_HANDLE, c_uint64, c_uint64, c_char_p, c_size_t, c_bool)),
+    "dw_get_children": (c_int32, (_HANDLE, c_uint64, c_uint64, c_char_p, c_size_t, c_bool)),
+    "dw_set_data": (c_int32, (_HANDLE, c_uint64, c_uint64, c_char_p, c_size_t, c_char_p, c_size_t, c_bool, c_int32)),
+    "dw_create": (c_int32, (_HANDLE, c_uint64, c_uint64, c_char_p, c_size_t, c_char_p, c_size_t, c_bool, c_uint32)),
+    "dw_delete": (c_int32, (_HANDLE, c_uint64, c_uint64, c_char_p, c_size_t, c_int32)),
     "dw_close_session": (c_int32, (_HANDLE, c_uint64, c_uint64)),
     "dw_next": (c_int32, (_HANDLE, POINTER(_Output))),
-    "dw_copy": (c_size_t, (_HANDLE, c_size_t, *_ROOM)),
-    "dw_name": (c_size_t, (_HANDLE, c_size_t, *_ROOM)),
-    "dw_words": (c_int32, (_HANDLE, *_ROOM, POINTER(c_size_t))),
+    "dw_copy": (c_size_t, (_HANDLE, c_size_t, POINTER(c_char), c_size_t)),
+    "dw_name": (c_size_t, (_HANDLE, c_size_t, POINTER(c_char), c_size_t)),
+    "dw_words": (c_int32, (_HANDLE, POINTER(c_char), c_size_t, POINTER(c_size_t))),
     "dw_state": (c_int32, (_HANDLE,)),
     "dw_last_zxid": (c_int64, (_HANDLE,)),
     "dw_timeout_ms": (c_int64, (_HANDLE,)),
     "dw_deadline": (c_int32, (_HANDLE, POINTER(c_uint64))),
-    "dw_saved": (c_int32, (_HANDLE, *_ROOM, POINTER(c_size_t))),
-    "dw_peek_data": (c_int32, (_HANDLE, *_BYTES, POINTER(_KeptData), *_ROOM)),
-    "dw_peek_children": (c_int32, (_HANDLE, *_BYTES, POINTER(_KeptNames))),
-    "dw_peek_names": (c_int32, (_HANDLE, *_BYTES, *_ROOM, POINTER(c_size_t))),
+    "dw_saved": (c_int32, (_HANDLE, POINTER(c_char), c_size_t, POINTER(c_size_t))),
+    "dw_peek_data": (c_int32, (_HANDLE, c_char_p, c_size_t, POINTER(_KeptData), POINTER(c_char), c_size_t)),
+    "dw_peek_children": (c_int32, (_HANDLE, c_char_p, c_size_t, POINTER(_KeptNames))),
+    "dw_peek_name": (c_int32, (_HANDLE, c_char_p, c_size_t, c_size_t, POINTER(c_char), c_size_t, POINTER(c_size_t))),
+    "dw_peek_names": (c_int32, (_HANDLE, c_char_p, c_size_t, POINTER(c_char), c_size_t, POINTER(c_size_t))),
     "dw_forget": (c_int32, (_HANDLE,)),
 }
-
+# end of what is made
 
 _HERE = pathlib.Path(__file__).resolve().parent
 
@@ -140,7 +240,9 @@ def _check_machine() -> None:
 def _load(file: str) -> ctypes.PyDLL:
     library = ctypes.PyDLL(file)
     for name, (result, parameters) in _FUNCTIONS.items():
-        function = getattr(library, name)
+        function = getattr(library, name, None)
+        if function is None:
+            raise ImportError(f"{file} is of another version than this package: it has no {name}")
         function.restype, function.argtypes = result, parameters
     return library
 
@@ -216,6 +318,17 @@ class Closed(RuntimeError):
     """The machine is closed."""
 
 
+class UnknownNumber(RuntimeError):
+    """The library gives a number that this package does not know: it is of another version."""
+
+
+def _known(what: str, number: int, known: Collection[int]) -> int:
+    """The number, where it is one of those that there are."""
+    if number not in known:
+        raise UnknownNumber(f"the library gives the {what} {number}, which this package does not know: take both of one version")
+    return number
+
+
 def _checked(code: int) -> None:
     """Raises what a code below 0 says."""
     if code >= OK:
@@ -230,9 +343,10 @@ def _checked(code: int) -> None:
         {
             NOT_TEXT: "the path is no UTF-8",
             NOT_PATH: "this is no path of a node",
-            BAD_TIMEOUT: "the timeout is not above 0",
-            NOT_SAVED: "these bytes are no saved session",
-        }.get(code, f"the library answered {code}")
+            BAD_TIMEOUT: "the timeout is not 1 to 2147483647 milliseconds",
+            NO_SUCH_MODE: "the mode is no sum of EPHEMERAL and SEQUENTIAL",
+            NOT_SAVED: "these bytes are no saved session: take all of those that a client has saved",
+        }[_known("result", code, (NOT_TEXT, NOT_PATH, BAD_TIMEOUT, NO_SUCH_MODE, NOT_SAVED))]
     )
 
 
@@ -409,6 +523,7 @@ class Machine:
             given = room.bytes, len(room.bytes)
             _checked(_library.dw_peek_data(self._handle, spelled, len(spelled), byref(kept), *given))
             is_whole = not room.widen(kept.length)
+        _known("kind of what is kept", kept.kind, range(NOTHING, FULL + 1))
         stat = DataStat._make(_fields_of_data_stat(kept.stat)) if kept.kind in (KNOWN, FULL) else None
         data = string_at(room.bytes, kept.length) if kept.kind == FULL and not kept.is_null else None
         return KeptData(kept.kind, kept.mark, stat, data)
@@ -437,12 +552,17 @@ class Machine:
         if output.kind == ANSWER:
             return self._answer(output)
         if output.kind == REPORT:
-            return Report(output.detail, output.result, self._root.read(self._text()))
+            event = _known("event", output.detail, (NODE_CREATED, NODE_DELETED, DATA_CHANGED, CHILDREN_CHANGED))
+            return Report(event, _known("side", output.result, (DATA_SIDE, CHILDREN_SIDE)), self._root.read(self._text()))
         if output.kind == STATE:
-            return StateChange(output.detail)
+            return StateChange(_known("state", output.detail, (IDLE, CONNECTING, CONNECTED, EXPIRED, SESSION_CLOSED)))
+        _known("output", output.kind, (DROP,))
         return Drop(self._text().decode(), self._words())
 
     def _answer(self, output: _Output) -> Answer:
+        _known("outcome", output.detail, range(REPLIED, TOO_MANY_PENDING + 1))
+        if output.detail == REPLIED:
+            _known("result of a reply", output.result, range(CODE, DONE + 1))
         has_text = output.result == CREATED or output.result == DATA and not output.is_null
         text = self._text() if has_text else None
         if output.result == CREATED and text is not None:

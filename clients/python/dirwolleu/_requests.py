@@ -11,6 +11,7 @@ from dirwolleu.exceptions import (
     ConnectionClosedError,
     ConnectionLoss,
     NoNodeError,
+    NotConnectedError,
     SessionExpiredError,
     TooLargeError,
     TooManyWatchesError,
@@ -21,15 +22,24 @@ from dirwolleu.types import Stat, Watch, WatchedEvent
 
 Result = TypeVar("Result")
 
-# Why a call has no reply: K1 to K7.
-CONNECTION_LOSS, SESSION_EXPIRED, CLOSED, NOT_CONNECTED, TOO_MANY_WATCHES, TOO_LARGE, TOO_MANY_PENDING = range(1, 8)
+# made by scripts/interface from include/interface.toml
+_ERRORS: dict[int, type[ZookeeperError]] = {
+    library.LOST: ConnectionLoss,
+    library.AFTER_EXPIRY: SessionExpiredError,
+    library.AFTER_CLOSE: ConnectionClosedError,
+    library.NOT_CONNECTED: NotConnectedError,
+    library.TOO_MANY_WATCHES: TooManyWatchesError,
+    library.TOO_LARGE: TooLargeError,
+}
+# end of what is made
 
-_ERRORS: dict[int, ZookeeperError] = {
-    CONNECTION_LOSS: ConnectionLoss("the connection ended before the reply"),
-    SESSION_EXPIRED: SessionExpiredError("the session has expired"),
-    CLOSED: ConnectionClosedError("the session is closed"),
-    TOO_MANY_WATCHES: TooManyWatchesError("65,536 paths are watched"),
-    TOO_LARGE: TooLargeError("the request would have more than 1,048,575 bytes"),
+_LACKS = {
+    library.LOST: "the connection ended before the reply",
+    library.AFTER_EXPIRY: "the session has expired",
+    library.AFTER_CLOSE: "the session is closed",
+    library.NOT_CONNECTED: "no server has accepted the session",
+    library.TOO_MANY_WATCHES: "65,536 paths are watched",
+    library.TOO_LARGE: "the request would have more than 1,048,575 bytes",
 }
 
 
@@ -59,7 +69,7 @@ class Request(Generic[Result]):
     def result(self, answer: Answer) -> Any:
         """What the answer brings, or raises its error."""
         if answer.lack:
-            raise _fresh(_ERRORS[answer.lack])
+            raise _ERRORS[answer.lack](_LACKS[answer.lack])
         if answer.result == library.CODE:
             if self.is_exists and answer.code == NoNodeError.code:
                 return None
@@ -69,11 +79,6 @@ class Request(Generic[Result]):
         if answer.result == library.CREATED:
             return (answer.text or b"").decode()
         return answer.names if answer.result == library.NAMES else answer.stat
-
-
-def _fresh(error: ZookeeperError) -> ZookeeperError:
-    """A copy: what is raised carries the trace of where it was."""
-    return type(error)(*error.args)
 
 
 def _watcher(path: str, side: int, watch: Watch) -> Optional[Watcher]:
@@ -106,7 +111,7 @@ def get(path: str, watch: Watch) -> Request[tuple[Optional[bytes], Stat]]:
 def get_children(path: str, watch: Watch) -> Request[list[str]]:
     return Request(
         lambda machine, now, ticket: machine.get_children(now, ticket, path, bool(watch)),
-        watcher=_watcher(path, library.CHILD_SIDE, watch),
+        watcher=_watcher(path, library.CHILDREN_SIDE, watch),
     )
 
 

@@ -7,7 +7,6 @@ import ctypes
 import gc
 import os
 import pathlib
-import re
 import shutil
 import struct
 import subprocess
@@ -31,9 +30,6 @@ STRUCTS = {
     "dw_kept_data": library._KeptData,
     "dw_kept_names": library._KeptNames,
 }
-
-# A machine asks for all names at once.
-UNCALLED = "dw_peek_name"
 
 PASSWORD = bytes(range(16))
 STAT = Stat(2, 5, 1000, 2000, 3, 4, 0, 0, 5, 1, 6)
@@ -65,15 +61,6 @@ def connected() -> Machine:
 
 
 class LayoutTest(unittest.TestCase):
-    def test_each_function_of_the_header_but_one_is_declared(self) -> None:
-        declared = re.findall(r"^\w+ (dw_\w+)\(", HEADER.read_text(), re.MULTILINE)
-        self.assertEqual(sorted(declared), sorted([*library._FUNCTIONS, UNCALLED]))
-
-    def test_each_function_has_the_parameters_of_the_header(self) -> None:
-        found = re.findall(r"^\w+ (dw_\w+)\(([^)]*)\)", HEADER.read_text(), re.MULTILINE)
-        counts = {name: parameters.count(",") + 1 for name, parameters in found if name != UNCALLED}
-        self.assertEqual(counts, {name: len(types) for name, (_, types) in library._FUNCTIONS.items()})
-
     def test_structs_are_those_of_the_header(self) -> None:
         compiler = shutil.which("cc")
         if compiler is None:
@@ -95,6 +82,25 @@ class LayoutTest(unittest.TestCase):
             subprocess.run([compiler, str(source), "-o", str(program)], check=True, timeout=support.WAIT)
             printed = subprocess.run([str(program)], check=True, timeout=support.WAIT, capture_output=True, text=True)
         self.assertEqual([tuple(map(int, line.split())) for line in printed.stdout.splitlines()], wanted)
+
+
+class NumberTest(unittest.TestCase):
+    def test_a_number_that_nobody_knows_says_so(self) -> None:
+        wanted = "the library gives the {} 99, which this package does not know: take both of one version"
+        for field, what in (("kind", "output"), ("detail", "state")):
+            machine = Machine(6000)
+            output = library._Output(kind=library.STATE)
+            setattr(output, field, 99)
+            with self.assertRaises(library.UnknownNumber) as raised:
+                machine._read(output)
+            self.assertEqual(str(raised.exception), wanted.format(what))
+        with self.assertRaises(library.UnknownNumber):
+            library._checked(-99)
+
+    def test_a_library_of_another_version_is_told_as_that(self) -> None:
+        with mock.patch.dict(library._FUNCTIONS, {"dw_of_tomorrow": (None, ())}):
+            with self.assertRaisesRegex(ImportError, "of another version than this package: it has no dw_of_tomorrow"):
+                library._load(library._find())
 
 
 class FindTest(unittest.TestCase):

@@ -1,8 +1,8 @@
 //! The client.
 
-use crate::fault::Fault;
+use crate::fault::{unknown, Fault};
 use crate::ffi::{Call, Handle, KeptData};
-use crate::kept::{Children, DataAnswer, Kept, Mark};
+use crate::kept::{mark_of, Children, DataAnswer, Kept, Mark};
 use crate::moment::Moment;
 use crate::node::{Mode, Watch};
 use crate::output::Outputs;
@@ -57,16 +57,6 @@ pub enum State {
 }
 
 impl State {
-    pub(crate) fn of(number: i32) -> State {
-        match number {
-            0 => State::Idle,
-            1 => State::Connecting,
-            2 => State::Connected,
-            3 => State::Expired,
-            _ => State::Closed,
-        }
-    }
-
     /// Whether no other state comes after it.
     pub fn is_final(self) -> bool {
         matches!(self, State::Expired | State::Closed)
@@ -222,7 +212,8 @@ impl Client {
 impl Client {
     /// The state.
     pub fn state(&self) -> State {
-        State::of(self.handle.state())
+        let state = self.handle.state();
+        State::of(state).unwrap_or_else(|| unknown("state", state))
     }
 
     /// The greatest zxid seen, not below 0. A good answer is what the servers' history has at it.
@@ -260,14 +251,14 @@ impl Client {
     /// The mark of what is kept about the data of a path, and none where nothing is. It copies no data, and fails as
     /// [`peek_data`](Client::peek_data).
     pub fn data_mark(&self, path: &str) -> Result<Option<Mark>, Fault> {
-        Ok(Mark::of(self.handle.peek_data(path, &mut [])?.mark))
+        Ok(mark_of(self.handle.peek_data(path, &mut [])?.mark))
     }
 
     /// What is kept about the children of a path that were read with a watch, and none where nothing is. The names are copied. It fails
     /// as [`peek_data`](Client::peek_data).
     pub fn peek_children(&self, path: &str) -> Result<Option<Kept<Children>>, Fault> {
         let kept = self.handle.peek_children(path)?;
-        let Some(mark) = Mark::of(kept.mark) else {
+        let Some(mark) = mark_of(kept.mark) else {
             return Ok(None);
         };
         let spelled = whole(|room| self.handle.peek_names(path, room))?;
@@ -281,7 +272,7 @@ impl Client {
     /// The mark of what is kept about the children of a path, and none where nothing is. It copies no names, and fails as
     /// [`peek_data`](Client::peek_data).
     pub fn children_mark(&self, path: &str) -> Result<Option<Mark>, Fault> {
-        Ok(Mark::of(self.handle.peek_children(path)?.mark))
+        Ok(mark_of(self.handle.peek_children(path)?.mark))
     }
 
     /// Forgets all stale answers. What is kept is bounded by nothing but memory: who goes from path to path calls this now and then.

@@ -1,5 +1,6 @@
 //! Why something was not done: by the library, on the way to the server, or by the server.
 
+use crate::numbers::{code, result};
 use std::error;
 use std::fmt;
 
@@ -34,17 +35,22 @@ impl fmt::Display for Fault {
 
 impl error::Error for Fault {}
 
+/// Ends the program, since the library that is linked is of another version: what it gives, this crate does not know.
+pub(crate) fn unknown(what: &str, number: i32) -> ! {
+    panic!("the library gives the {what} {number}, which this crate does not know: take both of one version")
+}
+
 /// What a code of the library says. The other codes of the header have no cause here: a handle is open, texts are UTF-8, and a
 /// [`Mode`](crate::Mode) has its number.
 pub(crate) fn done(code: i32) -> Result<(), Fault> {
     match code {
-        0 => Ok(()),
-        -1 => Err(Fault::Halted),
-        -2 => Err(Fault::NoMemory),
-        -5 => Err(Fault::NotPath),
-        -6 => Err(Fault::BadTimeout),
-        -8 => Err(Fault::NotSaved),
-        _ => unreachable!("the library of this header does not answer {code} here"),
+        result::OK => Ok(()),
+        result::HALTED => Err(Fault::Halted),
+        result::NO_MEMORY => Err(Fault::NoMemory),
+        result::NOT_PATH => Err(Fault::NotPath),
+        result::BAD_TIMEOUT => Err(Fault::BadTimeout),
+        result::NOT_SAVED => Err(Fault::NotSaved),
+        _ => unknown("result", code),
     }
 }
 
@@ -65,20 +71,6 @@ pub enum NoReply {
     TooLarge,
     /// 1,024 calls wait for their reply.
     TooManyPending,
-}
-
-impl NoReply {
-    pub(crate) fn of(number: i32) -> NoReply {
-        match number {
-            1 => NoReply::ConnectionLoss,
-            2 => NoReply::SessionExpired,
-            3 => NoReply::SessionClosed,
-            4 => NoReply::NotConnected,
-            5 => NoReply::TooManyWatches,
-            6 => NoReply::TooLarge,
-            _ => NoReply::TooManyPending,
-        }
-    }
 }
 
 impl fmt::Display for NoReply {
@@ -103,27 +95,31 @@ pub struct Code(pub i32);
 
 impl Code {
     /// The connection was lost within the servers: the call may or may not have happened.
-    pub const CONNECTION_LOSS: Code = Code(-4);
+    pub const CONNECTION_LOSS: Code = Code(code::CONNECTION_LOSS);
+    /// The server does not know the request.
+    pub const UNIMPLEMENTED: Code = Code(code::UNIMPLEMENTED);
+    /// The server refuses the path, the mode or the data.
+    pub const BAD_ARGUMENTS: Code = Code(code::BAD_ARGUMENTS);
     /// There is no node; for a create, no parent.
-    pub const NO_NODE: Code = Code(-101);
+    pub const NO_NODE: Code = Code(code::NO_NODE);
     /// The node's ACL does not admit this client, which has no credentials.
-    pub const NO_AUTH: Code = Code(-102);
+    pub const NO_AUTH: Code = Code(code::NO_AUTH);
     /// The node's version is another one than the call says.
-    pub const BAD_VERSION: Code = Code(-103);
+    pub const BAD_VERSION: Code = Code(code::BAD_VERSION);
     /// The parent is an ephemeral node.
-    pub const NO_CHILDREN_FOR_EPHEMERALS: Code = Code(-108);
+    pub const NO_CHILDREN_FOR_EPHEMERALS: Code = Code(code::NO_CHILDREN_FOR_EPHEMERALS);
     /// There is a node already.
-    pub const NODE_EXISTS: Code = Code(-110);
+    pub const NODE_EXISTS: Code = Code(code::NODE_EXISTS);
     /// The node has children.
-    pub const NOT_EMPTY: Code = Code(-111);
+    pub const NOT_EMPTY: Code = Code(code::NOT_EMPTY);
     /// The session has expired, by the word of this reply; the state of the client tells it by the next connection.
-    pub const SESSION_EXPIRED: Code = Code(-112);
+    pub const SESSION_EXPIRED: Code = Code(code::SESSION_EXPIRED);
     /// The server does not take this ACL.
-    pub const INVALID_ACL: Code = Code(-114);
+    pub const INVALID_ACL: Code = Code(code::INVALID_ACL);
     /// The server does not take these credentials, or does not know their scheme.
     pub const AUTH_FAILED: Code = Code(-115);
     /// The session was taken up over another connection.
-    pub const SESSION_MOVED: Code = Code(-118);
+    pub const SESSION_MOVED: Code = Code(code::SESSION_MOVED);
     /// The server has more requests to do than it admits at a time.
     pub const THROTTLED: Code = Code(-127);
 

@@ -5,9 +5,11 @@
 use crate::fault::{done, Fault};
 use crate::moment::Moment;
 use crate::node::{DataStat, Mode, Stat, Watch};
+use crate::numbers::result;
 use std::cell::UnsafeCell;
 use std::ptr;
 
+// made by scripts/interface from include/interface.toml
 /// `dw_client`.
 #[repr(C)]
 struct Raw {
@@ -23,6 +25,7 @@ struct Slot {
 /// `dw_output`.
 #[repr(C)]
 #[derive(Default)]
+#[allow(dead_code)]
 pub(crate) struct Output {
     pub(crate) kind: i32,
     pub(crate) detail: i32,
@@ -33,13 +36,14 @@ pub(crate) struct Output {
     pub(crate) length: usize,
     pub(crate) names: usize,
     pub(crate) is_null: bool,
-    _has_stat: bool,
+    pub(crate) has_stat: bool,
     pub(crate) stat: Stat,
 }
 
 /// `dw_kept_data`.
 #[repr(C)]
 #[derive(Default)]
+#[allow(dead_code)]
 pub(crate) struct KeptData {
     pub(crate) kind: i32,
     pub(crate) mark: i32,
@@ -51,16 +55,15 @@ pub(crate) struct KeptData {
 /// `dw_kept_names`.
 #[repr(C)]
 #[derive(Default)]
+#[allow(dead_code)]
 pub(crate) struct KeptNames {
     pub(crate) mark: i32,
     pub(crate) count: usize,
     pub(crate) pzxid: i64,
 }
 
-/// The code of a function that did what it was asked, or has something to tell.
-pub(crate) const OK: i32 = 0;
-
 #[rustfmt::skip]
+#[allow(dead_code)]
 extern "C" {
     fn dw_open(handle: *mut Raw, timeout_ms: i32) -> i32;
     fn dw_resume(handle: *mut Raw, timeout_ms: i32, saved: *const u8, saved_length: usize) -> i32;
@@ -88,9 +91,14 @@ extern "C" {
     fn dw_saved(handle: *mut Raw, out: *mut u8, room: usize, count: *mut usize) -> i32;
     fn dw_peek_data(handle: *mut Raw, path: *const u8, path_length: usize, kept: *mut KeptData, out: *mut u8, room: usize) -> i32;
     fn dw_peek_children(handle: *mut Raw, path: *const u8, path_length: usize, kept: *mut KeptNames) -> i32;
+    fn dw_peek_name(handle: *mut Raw, path: *const u8, path_length: usize, index: usize, out: *mut u8, room: usize, count: *mut usize) -> i32;
     fn dw_peek_names(handle: *mut Raw, path: *const u8, path_length: usize, out: *mut u8, room: usize, count: *mut usize) -> i32;
     fn dw_forget(handle: *mut Raw) -> i32;
 }
+// end of what is made
+
+/// The code of a function that did what it was asked, or has something to tell.
+pub(crate) const OK: i32 = result::OK;
 
 /// A function of the library that reads a node.
 type Read = unsafe extern "C" fn(*mut Raw, u64, u64, *const u8, usize, bool) -> i32;

@@ -1,7 +1,9 @@
 //! What a client keeps of the paths that were read with a watch.
 
+use crate::fault::unknown;
 use crate::ffi;
 use crate::node::DataStat;
+use crate::numbers::kept;
 
 /// Whether anything that the client was told has ended what is kept. It tells of a zxid, and not of a time.
 #[derive(Clone, Copy, Debug, PartialEq, Eq, Hash)]
@@ -12,15 +14,9 @@ pub enum Mark {
     Stale,
 }
 
-impl Mark {
-    /// The mark of a number, and none where nothing is kept.
-    pub(crate) fn of(number: i32) -> Option<Mark> {
-        match number {
-            1 => Some(Mark::Good),
-            2 => Some(Mark::Stale),
-            _ => None,
-        }
-    }
+/// The mark of a number, and none where nothing is kept.
+pub(crate) fn mark_of(number: i32) -> Option<Mark> {
+    (number != 0).then(|| Mark::of(number).unwrap_or_else(|| unknown("mark", number)))
 }
 
 /// An answer that is kept, and its mark.
@@ -58,15 +54,16 @@ pub struct Children {
 }
 
 impl Kept<DataAnswer> {
-    pub(crate) fn of_data(kept: &ffi::KeptData, data: Vec<u8>) -> Option<Kept<DataAnswer>> {
-        let mark = Mark::of(kept.mark)?;
-        let answer = match kept.kind {
-            1 => DataAnswer::Absent,
-            2 => DataAnswer::Known(kept.stat),
-            _ => DataAnswer::Full {
-                data: (!kept.is_null).then_some(data),
-                stat: kept.stat,
+    pub(crate) fn of_data(found: &ffi::KeptData, data: Vec<u8>) -> Option<Kept<DataAnswer>> {
+        let mark = mark_of(found.mark)?;
+        let answer = match found.kind {
+            kept::ABSENT => DataAnswer::Absent,
+            kept::KNOWN => DataAnswer::Known(found.stat),
+            kept::FULL => DataAnswer::Full {
+                data: (!found.is_null).then_some(data),
+                stat: found.stat,
             },
+            other => unknown("kind of what is kept", other),
         };
         Some(Kept { answer, mark })
     }

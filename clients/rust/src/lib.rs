@@ -36,6 +36,7 @@ mod kept;
 mod local;
 mod moment;
 mod node;
+mod numbers;
 mod options;
 mod output;
 mod pauses;

@@ -109,15 +109,6 @@ pub enum Side {
     Children,
 }
 
-impl Side {
-    pub(crate) fn of(number: i32) -> Side {
-        match number {
-            1 => Side::Data,
-            _ => Side::Children,
-        }
-    }
-}
-
 /// What has happened to a node whose watch has fired.
 #[derive(Clone, Copy, Debug, PartialEq, Eq, Hash)]
 pub enum NodeEvent {
@@ -129,15 +120,4 @@ pub enum NodeEvent {
     DataChanged,
     /// The set of its children was changed.
     ChildrenChanged,
-}
-
-impl NodeEvent {
-    pub(crate) fn of(number: i32) -> NodeEvent {
-        match number {
-            1 => NodeEvent::Created,
-            2 => NodeEvent::Deleted,
-            3 => NodeEvent::DataChanged,
-            _ => NodeEvent::ChildrenChanged,
-        }
-    }
 }

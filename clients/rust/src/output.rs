@@ -1,9 +1,10 @@
 //! What a client says at a step.
 
 use crate::client::{whole, whole_text, Client, State};
-use crate::fault::{Code, Fault, NoReply};
+use crate::fault::{unknown, Code, Fault, NoReply};
 use crate::ffi::{self, Handle};
 use crate::node::{NodeEvent, Side, Stat};
+use crate::numbers::{brought, cause, kind, outcome};
 use std::convert::Infallible;
 use std::fmt;
 
@@ -79,21 +80,24 @@ impl<'a> Output<'a> {
             length: flat.length,
         };
         match flat.kind {
-            1 => Output::Send(bytes),
-            2 => Output::Answer {
+            kind::SEND => Output::Send(bytes),
+            kind::ANSWER => Output::Answer {
                 ticket: flat.ticket,
                 outcome: Reply::of(handle, flat, bytes),
             },
-            3 => Output::Report {
+            kind::REPORT => Output::Report {
                 path: Text { bytes },
-                side: Side::of(flat.result),
-                event: NodeEvent::of(flat.detail),
+                side: Side::of(flat.result).unwrap_or_else(|| unknown("side", flat.result)),
+                event: NodeEvent::of(flat.detail).unwrap_or_else(|| unknown("event", flat.detail)),
             },
-            4 => Output::State(State::of(flat.detail)),
-            _ => Output::Drop(GivenUp {
+            kind::STATE => Output::State(
+                State::of(flat.detail).unwrap_or_else(|| unknown("state", flat.detail)),
+            ),
+            kind::DROP => Output::Drop(GivenUp {
                 cause: Cause::of(flat),
                 code: Text { bytes },
             }),
+            other => unknown("output", other),
         }
     }
 
@@ -117,8 +121,9 @@ pub struct Reply<'a> {
 
 impl<'a> Reply<'a> {
     fn of(handle: &'a Handle, flat: &ffi::Output, bytes: Bytes<'a>) -> Result<Reply<'a>, NoReply> {
-        if flat.detail != 0 {
-            return Err(NoReply::of(flat.detail));
+        if flat.detail != outcome::REPLIED {
+            let reason = NoReply::of(flat.detail);
+            return Err(reason.unwrap_or_else(|| unknown("outcome", flat.detail)));
         }
         Ok(Reply {
             zxid: flat.zxid,
@@ -156,21 +161,22 @@ impl<'a> Brought<'a> {
     fn of(handle: &'a Handle, flat: &ffi::Output, bytes: Bytes<'a>) -> Result<Brought<'a>, Code> {
         let stat = flat.stat;
         match flat.result {
-            1 => Err(Code(flat.code)),
-            2 => Ok(Brought::Stat(stat)),
-            3 => Ok(Brought::Data {
+            brought::CODE => Err(Code(flat.code)),
+            brought::STAT => Ok(Brought::Stat(stat)),
+            brought::DATA => Ok(Brought::Data {
                 data: (!flat.is_null).then_some(bytes),
                 stat,
             }),
-            4 => Ok(Brought::Names {
+            brought::NAMES => Ok(Brought::Names {
                 names: Names {
                     handle,
                     count: flat.names,
                 },
                 stat,
             }),
-            5 => Ok(Brought::Created(Text { bytes })),
-            _ => Ok(Brought::Done),
+            brought::CREATED => Ok(Brought::Created(Text { bytes })),
+            brought::DONE => Ok(Brought::Done),
+            other => unknown("result of a reply", other),
         }
     }
 }
@@ -314,13 +320,14 @@ pub enum Cause {
 impl Cause {
     fn of(flat: &ffi::Output) -> Cause {
         match flat.detail {
-            1 => Cause::Frame,
-            2 => Cause::Payload,
-            3 => Cause::Silence,
-            4 => Cause::Behind { zxid: flat.zxid },
-            _ => Cause::WatchesRefused {
+            cause::BAD_FRAME => Cause::Frame,
+            cause::BAD_PAYLOAD => Cause::Payload,
+            cause::SILENT => Cause::Silence,
+            cause::BEHIND => Cause::Behind { zxid: flat.zxid },
+            cause::WATCHES_REFUSED => Cause::WatchesRefused {
                 code: Code(flat.code),
             },
+            other => unknown("cause", other),
         }
     }
 }
