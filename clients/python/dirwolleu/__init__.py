@@ -16,4 +16,4 @@ from dirwolleu.types import __all__ as _types
 
 __all__ = ["Client", "aio", *_exceptions, *_types]
 
-logging.getLogger(__name__).addHandler(logging.NullHandler())
+logging.getLogger("dirwolleu.connection").addHandler(logging.NullHandler())  # what callbacks raise is seen all the same

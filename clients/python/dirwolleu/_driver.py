@@ -13,7 +13,7 @@ from dirwolleu._engine import Engine
 from dirwolleu._hosts import Place, Servers
 from dirwolleu._pauses import BETWEEN_DIALS, Pauses
 
-logger = logging.getLogger("dirwolleu")
+logger = logging.getLogger("dirwolleu.connection")
 
 SHORTEST_DIAL = 1.0
 """How long an attempt to connect has at least, in seconds, however short the timeout is."""

@@ -26,7 +26,7 @@ from dirwolleu.exceptions import (
 )
 from dirwolleu.types import EventType, Kept, KeptChildren, Mark, State, WatchedEvent
 
-logger = logging.getLogger("dirwolleu")
+logger = logging.getLogger("dirwolleu.connection")
 
 Listener = Callable[[State], object]
 Tell = Callable[[Callable[[Any], object], Any], None]

@@ -180,7 +180,14 @@ class Client(Shown):
         if inspect.isawaitable(told):
             callback = asyncio.ensure_future(told)
             self._callbacks.add(callback)
-            callback.add_done_callback(self._callbacks.discard)
+            callback.add_done_callback(self._end_callback)
+
+    def _end_callback(self, callback: asyncio.Future[Any]) -> None:
+        self._callbacks.discard(callback)
+        error = None if callback.cancelled() else callback.exception()
+        if error is not None:
+            context = {"message": "a callback failed", "exception": error, "future": callback}
+            asyncio.get_running_loop().call_exception_handler(context)
 
     def _end_driver(self, end: Callable[[], None]) -> None:
         driver, self._driver = self._driver, None
