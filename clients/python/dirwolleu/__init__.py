@@ -7,13 +7,30 @@ this at this zxid, and nothing that the client was told has ended it.
 
 import logging
 
-from dirwolleu import aio
+from dirwolleu import aio, security
+from dirwolleu._lane import Created
+from dirwolleu._retry import Retry
 from dirwolleu.client import Client
 from dirwolleu.exceptions import *  # noqa: F403
 from dirwolleu.exceptions import __all__ as _exceptions
+from dirwolleu.security import AuthFailedError
+from dirwolleu.tls import tls_context
+from dirwolleu.transaction import AsyncTransaction, Transaction
 from dirwolleu.types import *  # noqa: F403
 from dirwolleu.types import __all__ as _types
 
-__all__ = ["Client", "aio", *_exceptions, *_types]
+__all__ = [
+    "AsyncTransaction",
+    "AuthFailedError",
+    "Client",
+    "Created",
+    "Retry",
+    "Transaction",
+    "aio",
+    "security",
+    "tls_context",
+    *_exceptions,
+    *_types,
+]
 
 logging.getLogger("dirwolleu.connection").addHandler(logging.NullHandler())  # what callbacks raise is seen all the same

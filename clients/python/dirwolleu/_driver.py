@@ -6,6 +6,7 @@ import asyncio
 import errno
 import functools
 import logging
+import ssl
 import time
 from typing import Any, Callable, Optional, cast
 
@@ -45,16 +46,16 @@ class Link(asyncio.Protocol):
         if not self._is_over:
             self._driver.bring(data)
 
-    def connection_lost(self, _: Optional[Exception]) -> None:
-        self.end()
+    def connection_lost(self, error: Optional[Exception]) -> None:
+        self.end(str(error) if error is not None else "the server has closed it")
 
-    def end(self) -> None:
+    def end(self, why: str = "") -> None:
         """Ends the connection at once."""
         if self.transport is not None:
             self.transport.abort()
         if not self._is_over:
             self._is_over = True
-            self._driver.leave()
+            self._driver.leave(why)
 
 
 class Driver:
@@ -64,8 +65,8 @@ class Driver:
     It is made of the loop's callbacks, and not of a task: whoever cancels all tasks of a loop does not end it.
     """
 
-    def __init__(self, servers: Servers, engine: Engine) -> None:
-        self._servers = servers
+    def __init__(self, servers: Servers, engine: Engine, tls: Optional[ssl.SSLContext] = None) -> None:
+        self._servers, self._tls = servers, tls
         self._place: Optional[Place] = None
         self._engine = engine
         self._pauses = Pauses()
@@ -131,13 +132,13 @@ class Driver:
         if not self._is_stopped:
             self._wake_by(self._engine.deadline())
 
-    def leave(self) -> None:
+    def leave(self, why: str = "") -> None:
         """The connection is over, or none came to be. The next attempt comes after a pause."""
         self._link = None
         if self._dialing is not None:
             self._dialing.cancel()
         now = moment()
-        self._engine.cut(now)
+        self._engine.cut(now, why)
         self.act()
         if self._is_stopped or not self._engine.is_running:
             return self._end()
@@ -152,6 +153,7 @@ class Driver:
         """Begins an attempt to connect. It has a third of the timeout, and a second at least."""
         self._next = None
         self._dialed_at = moment()
+        self._engine.contact.dials += 1
         link = self._link = Link(self)
         dialing = self._dialing = self._loop.create_task(self._connect(link))
         limit = self._loop.call_later(max(self._engine.timeout() / 3, SHORTEST_DIAL), dialing.cancel)
@@ -160,7 +162,12 @@ class Driver:
     async def _connect(self, link: Link) -> None:
         """Connects to the place that is next, or once more to the one that was kept."""
         place = self._place = self._place or await self._servers.next()
-        await self._loop.create_connection(lambda: link, place.address, place.port)
+        logger.debug("dials %s", place)
+        self._engine.place = str(place)
+        name = place.name if self._tls is not None else None
+        await self._loop.create_connection(
+            lambda: link, place.address, place.port, ssl=self._tls, server_hostname=name
+        )
 
     def _dialed(self, link: Link, limit: asyncio.Handle, dialing: asyncio.Future[Any]) -> None:
         """An attempt to connect has ended."""
@@ -174,7 +181,7 @@ class Driver:
         if link is self._link:
             where = f"{self._place}: " if self._place is not None else ""
             self._engine.trouble = f"{where}{error or 'no connection in time'}"
-            is_ours = isinstance(error, OSError) and error.errno in _NO_DESCRIPTOR
+            is_ours = isinstance(error, ssl.SSLError) or isinstance(error, OSError) and error.errno in _NO_DESCRIPTOR
             logger.log(logging.WARNING if is_ours else logging.INFO, "no connection to %s", self._engine.trouble)
         link.end()
 

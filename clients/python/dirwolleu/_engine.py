@@ -4,19 +4,26 @@ from __future__ import annotations
 
 import collections
 import contextlib
+import functools
+import heapq
 import itertools
 import logging
+import os
 import struct
-from collections.abc import Iterator
+from collections.abc import Iterable, Iterator
 from dataclasses import dataclass
-from typing import Any, Callable, NamedTuple, Optional, Protocol
+from typing import Any, Callable, NamedTuple, Optional, Protocol, Union
 
+from dirwolleu import _lane as lane
 from dirwolleu import _library as library
-from dirwolleu._frames import Frames, is_ping
+from dirwolleu._frames import Frames, Kind, is_ping
+from dirwolleu._jute import Malformed
+from dirwolleu._lane import Lane, LaneRequest, Reply
 from dirwolleu._library import Answer, Closed, Drop, Found, Halted, Machine, Output, Report, Send
 from dirwolleu._requests import Request, Watcher
 from dirwolleu._root import Root
 from dirwolleu.exceptions import (
+    CallTimeoutError,
     ConnectionClosedError,
     ConnectionLoss,
     NotConnectedError,
@@ -24,12 +31,13 @@ from dirwolleu.exceptions import (
     SessionMovedError,
     ZookeeperError,
 )
-from dirwolleu.types import EventType, Kept, KeptChildren, Mark, State, WatchedEvent
+from dirwolleu.security import AuthFailedError
+from dirwolleu.types import EventType, Kept, KeptChildren, Mark, State, Stats, WatchedEvent
 
 logger = logging.getLogger("dirwolleu.connection")
 
 Listener = Callable[[State], object]
-Tell = Callable[[Callable[[Any], object], Any], None]
+Tell = Callable[[Callable[[Any], object], Any], object]
 
 # made by scripts/interface from include/interface.toml
 _EVENTS = {
@@ -41,10 +49,21 @@ _EVENTS = {
 # end of what is made
 _ENDING = (SessionExpiredError.code, SessionMovedError.code)
 _LONGEST_TIMEOUT_MS = 2_147_483_647
+_SESSION = 0xFFFF_FFFF_FFFF_FFFF
+
+
+class Credential(NamedTuple):
+    """What a session says of who it is. It is a secret."""
+
+    scheme: str
+    credential: bytes
 
 
 class Waiter(Protocol):
     """What waits for an answer: a future. It is done also where it waits no longer."""
+
+    def begin(self) -> bool:
+        """Is told that the request is sent next, and answers whether it is still waited for."""
 
     def cancel(self) -> object: ...
     def done(self) -> bool: ...
@@ -63,22 +82,48 @@ class News(Protocol):
 class _Asked:
     """A request, who waits for its answer, and the moment at which it is given up if it could not be sent."""
 
-    request: Request[Any]
+    request: Union[Request[Any], LaneRequest[Any]]
     waiter: Waiter
     until: int
+    ends_at: Optional[int] = None
+    """The moment at which it is given up, sent or not."""
     sent_at: int = 0
+    is_sent: bool = False
 
     def fail(self, error: BaseException) -> None:
-        if not self.waiter.done():
-            self.waiter.set_exception(error)
-
-    def answer(self, answer: Answer) -> None:
         if self.waiter.done():
             return
+        if isinstance(error, ZookeeperError) and self.request.is_repeatable:
+            error.may_have_happened = False
+        self.waiter.set_exception(error)
+
+    def answer(self, answer: Answer) -> None:
+        assert isinstance(self.request, Request)
+        if not self.waiter.done():
+            self._settle(functools.partial(self.request.result, answer))
+
+    def reply(self, reply: Reply, root: Root) -> None:
+        """Takes the answer of the lane. Raises `Malformed` where it does not read."""
+        assert isinstance(self.request, LaneRequest)
+        if not self.waiter.done():
+            self._settle(functools.partial(self.request.result, reply.code, reply.body, root))
+
+    def give_up(self) -> None:
+        """The time of its caller is over."""
+        fate = "it may still happen" if self.is_sent else "it was not sent, and is not sent any more"
+        error = CallTimeoutError(f"no answer in time: {fate}")
+        error.may_have_happened = self.is_sent
+        self.fail(error)
+
+    def _settle(self, result: Callable[[], Any]) -> None:
         try:
-            self.waiter.set_result(self.request.result(answer))
+            self.waiter.set_result(result())
         except ZookeeperError as error:
-            self.waiter.set_exception(error)
+            self.fail(error)
+
+
+def _is_auth(asked: _Asked) -> bool:
+    return isinstance(asked.request, LaneRequest) and asked.request.operation is lane.Operation.AUTH
 
 
 class _Listening(NamedTuple):
@@ -93,8 +138,17 @@ class _Listening(NamedTuple):
 class Contact:
     """What was heard of servers, for whoever decides when to dial again. Moments are milliseconds."""
 
+    dials: int = 0
+    """How many attempts to connect there were."""
+
+    admissions: int = 0
+    """How many connections had a server that accepted the session."""
+
     answers: int = 0
     """How many calls a server has answered, without answers that end the connection."""
+
+    losses: int = 0
+    """How many calls have ended without an answer."""
 
     expiries: int = 0
     """How many sessions have expired."""
@@ -108,6 +162,18 @@ class Contact:
     heard_at: int = 0
     """The last moment at which a server that had accepted the session was heard, or at which dialling began."""
 
+    proved_at: Optional[int] = None
+    """When the newest call or ping was sent that a server has answered: what it told before that answer is in."""
+
+    round_trip: Optional[float] = None
+    """How long answers take of late, in milliseconds."""
+
+    def answered(self, sent_at: int, now: int) -> None:
+        """A call or a ping was answered."""
+        took = float(now - sent_at)
+        self.proved_at = max(self.proved_at or 0, sent_at)
+        self.round_trip = took if self.round_trip is None else self.round_trip + (took - self.round_trip) / 8
+
 
 class Engine:
     """A machine with its callers.
@@ -117,7 +183,14 @@ class Engine:
     does not go back. `tell` is handed a function and its argument: it calls the function later, not within the call.
     """
 
-    def __init__(self, timeout: float, saved: Optional[bytes], tell: Tell, root: Root = Root()) -> None:
+    def __init__(
+        self,
+        timeout: float,
+        saved: Optional[bytes],
+        tell: Tell,
+        root: Root = Root(),
+        credentials: Iterable[Credential] = (),
+    ) -> None:
         self._timeout_ms = int(timeout * 1000)
         if not 0 < self._timeout_ms <= _LONGEST_TIMEOUT_MS:
             raise ValueError(f"a timeout is 0.001 to {_LONGEST_TIMEOUT_MS / 1000} seconds")
@@ -129,6 +202,10 @@ class Engine:
         self._handed: collections.deque[_Asked] = collections.deque()
         self._line: collections.deque[_Asked] = collections.deque()
         self._sent: dict[int, _Asked] = {}
+        self._lane: Lane[_Asked] = Lane()
+        self._lane_zxid = 0
+        self._credentials = list(credentials)
+        self._timed: list[tuple[int, int, _Asked]] = []
         self._watchers: dict[tuple[str, int], dict[Watcher, None]] = {}
         self._listening: dict[object, _Listening] = {}
         self._listeners: list[Listener] = []
@@ -136,12 +213,17 @@ class Engine:
         self._pinged: collections.deque[int] = collections.deque()
         self._opened_at: Optional[int] = None
         self._admitted_at: Optional[int] = None
-        self._now = 0
-        self._is_over = False
+        self._now = self._written = 0
+        self._is_over, self._why = False, ""
         self._saved_at_close: Optional[bytes] = None
         self.contact = Contact()
         self.trouble = ""
         """Why the last attempt to connect has failed, in words."""
+        self.place = ""
+        """Where the connection leads, in words."""
+        self.refused: Optional[AuthFailedError] = None
+        """Why credentials were refused on the last connection, if they were."""
+        self._process: Optional[int] = None
         self.is_running = False
         self.state = State.LOST
 
@@ -151,7 +233,9 @@ class Engine:
         if self._saved_at_close is not None:
             raise ConnectionClosedError("the client is closed")
         if not self.is_running:
+            self._process = os.getpid()
             self._refuse_handed(ConnectionClosedError("the client was not started"))
+            self.refused = None
             self.is_running = True
 
     def end(self) -> None:
@@ -159,6 +243,10 @@ class Engine:
         self.is_running = False
         self._frames.clear()
         self._begin_anew(ConnectionClosedError("the client was stopped"))
+
+    def leave(self) -> None:
+        """Takes no request any more, at the end of the program: the session goes on for its timeout."""
+        self.is_running = False
 
     def close(self) -> None:
         """Takes no request any more, and frees the machine. It ends no session."""
@@ -177,8 +265,15 @@ class Engine:
         self._opened_at = now
         self._step(now, lambda machine: machine.tick(now))
         self._step(now, lambda machine: machine.opened(now))
+        self._frames = [self._with_zxid_of_lane(frame) for frame in self._frames]
 
-    def cut(self, now: int) -> None:
+    def cut(self, now: int, why: str = "") -> None:
+        """The connection is over, or none came to be."""
+        if self._admitted_at is not None:
+            where, reason = self.place or "the server", self._why or why or "it was closed"
+            logger.log(
+                logging.WARNING if self.is_running else logging.INFO, "the connection to %s is over: %s", where, reason
+            )
         self._step(now, lambda machine: machine.cut(now))
         self.contact.lived = 0 if self._admitted_at is None else now - self._admitted_at
         self._leave_connection()
@@ -187,19 +282,22 @@ class Engine:
         self._step(now, lambda machine: machine.tick(now))
         ends = self._patience_ends()
         if ends is not None and ends <= now and not self._is_over:
-            logger.warning("the connection is given up: an answer has taken more than two thirds of the timeout")
-            self._is_over = True
+            self._give_up("an answer has taken more than two thirds of the timeout")
+        self._end_timed(now)
         while self._line and self._is_given_up(self._line[0], now):
             trouble = f": {self.trouble}" if self.trouble else ""
-            self._line.popleft().fail(NotConnectedError(f"no server accepted the session in time{trouble}"))
+            error = NotConnectedError(f"no server accepted the session in time{trouble}")
+            self._count_loss(self._line.popleft(), error)
 
     def received(self, now: int, data: bytes) -> None:
         """Bytes came. Each frame is a step of its own, so that what is kept can be looked up as it was with the frame.
         """
-        for piece, is_ping_answered in self._came.cut(data):
-            self._step(now, lambda machine: machine.received(now, piece))
-            if is_ping_answered and self._pinged:
-                self._pinged.popleft()
+        for piece in self._came.cut(data):
+            if piece.kind is Kind.LANE and self._reply(now, piece.data):
+                continue
+            self._step(now, lambda machine: machine.received(now, piece.data))
+            if piece.kind is Kind.PONG and self._pinged:
+                self.contact.answered(self._pinged.popleft(), now)
         if self.state is State.CONNECTED:
             self.contact.heard_at = now
         self._send_line(now)
@@ -217,16 +315,27 @@ class Engine:
         moments = [self._machine.deadline(), self._patience_ends()]
         if self._line and self.state is not State.CONNECTED:
             moments.append(self._line[0].until)
+        if self._timed:
+            moments.append(self._timed[0][0])
         return min((moment for moment in moments if moment is not None), default=None)
 
     # What a program asks.
 
-    def ask(self, now: int, request: Request[Any], waiter: Waiter) -> None:
+    def ask(
+        self,
+        now: int,
+        request: Union[Request[Any], LaneRequest[Any]],
+        waiter: Waiter,
+        timeout: Optional[float] = None,
+    ) -> None:
         """Hands a request in. `take_handed` sends it, or keeps it until it can be sent.
 
-        Where no server accepts the session, that is for its timeout at most.
+        Where no server accepts the session, that is for its timeout at most. Where the caller has a timeout of its own,
+        in seconds, it is told no later than that.
         """
-        self._handed.append(_Asked(request, waiter, now + self._timeout_ms))
+        self.check_process()
+        ends_at = None if timeout is None else now + int(min(max(timeout, 0) * 1000, _LONGEST_TIMEOUT_MS))
+        self._handed.append(_Asked(request, waiter, now + self._timeout_ms, ends_at))
         if not self.is_running:
             waiter.cancel()
             raise ConnectionClosedError("the client is not started")
@@ -236,8 +345,33 @@ class Engine:
         if not self.is_running:
             self._refuse_handed(ConnectionClosedError("the client was stopped"))
         while self._handed:
-            self._line.append(self._handed.popleft())
+            asked = self._handed.popleft()
+            self._line.append(asked)
+            if asked.ends_at is not None:
+                heapq.heappush(self._timed, (asked.ends_at, next(self._tickets), asked))
         self._send_line(now)
+
+    def check_process(self) -> None:
+        """Raises where this is a forked child of the process in which the client was started."""
+        if self._process not in (None, os.getpid()):
+            raise ConnectionClosedError("the client was started in another process, before a fork: make one here")
+
+    def is_introduced(self) -> bool:
+        """Whether a server has accepted the session, and answered for all credentials."""
+        return self.state is State.CONNECTED and not self._lane.introduces() and self.refused is None
+
+    def stats(self) -> Stats:
+        contact = self.contact
+        return Stats(
+            dials=contact.dials,
+            connections=contact.admissions,
+            expiries=contact.expiries,
+            answered=contact.answers,
+            lost=contact.losses,
+            waiting=len(self._line) + len(self._handed),
+            in_flight=len(self._sent) + len(self._lane.pending()),
+            round_trip=None if contact.round_trip is None else contact.round_trip / 1000,
+        )
 
     def kept(self, path: str) -> Optional[Kept]:
         looked = self._look(lambda machine: machine.peek_data(path))
@@ -264,14 +398,17 @@ class Engine:
     def saved(self) -> bytes:
         """The session, as the library puts it away. It is a secret."""
         saved = self._look(Machine.saved)
-        return saved if saved is not None else self._saved_at_close or b""
+        saved = saved if saved is not None else self._saved_at_close or b""
+        return saved[:-8] + struct.pack(">q", max(self._lane_zxid, *struct.unpack(">q", saved[-8:])))
 
     def session_id(self) -> int:
         """The number of the session, 0 where none was begun."""
         return int(struct.unpack(">q", self.saved()[:8])[0])
 
     def last_zxid(self) -> int:
-        return int(struct.unpack(">q", self.saved()[-8:])[0])
+        """The greatest zxid that the core has seen. What the lane has seen may be greater."""
+        looked = self._look(Machine.last_zxid)
+        return looked if looked is not None else int(struct.unpack(">q", (self._saved_at_close or b"")[-8:])[0])
 
     def timeout(self) -> float:
         """The timeout of the session in seconds: the one that a server granted last, or the one to ask for."""
@@ -313,6 +450,7 @@ class Engine:
         if self._saved_at_close is not None:
             return
         self._now = now
+        self._written = len(self._frames)
         try:
             self._take(step(self._machine))
         except Halted:
@@ -332,13 +470,17 @@ class Engine:
             elif isinstance(output, Report):
                 self._report(output)
             elif isinstance(output, Drop):
-                logger.warning("the connection is given up: %s %s", output.fault, output.words)
-                self._is_over = True
+                self._give_up(f"{output.fault} {output.words}")
             else:
                 self._change(output.state)
 
+    def _give_up(self, why: str) -> None:
+        self._is_over, self._why = True, why
+
     def _leave_connection(self) -> None:
         """Forgets what was of one connection."""
+        self._lose_lane("the connection ended before the reply")
+        self._why = ""
         self._frames.clear()
         self._came = Frames()
         self._pinged.clear()
@@ -349,30 +491,108 @@ class Engine:
         if self._opened_at is not None:
             return self._opened_at + 2 * self._timeout_ms // 3
         waiting = [asked.sent_at for asked in itertools.islice(self._sent.values(), 1)] + list(self._pinged)[:1]
+        of_lane = self._lane.oldest()
+        waiting += [] if of_lane is None else [of_lane]
         return min(waiting) + 2 * self._machine.timeout_ms() // 3 if waiting else None
 
     def _is_given_up(self, asked: _Asked, now: int) -> bool:
         return self.state is not State.CONNECTED and asked.until <= now
 
     def _send_line(self, now: int) -> None:
-        """Sends what waits to be sent, as far as the machine takes it, except what nobody waits for any more."""
+        """Sends what waits to be sent, as far as the machine takes it, but for what nobody waits for any more."""
         while self._line and self.state is State.CONNECTED:
             asked = self._line.popleft()
-            if not asked.waiter.done():
+            if asked.waiter.begin():
                 self._send(asked, now)
             if self._line and self._line[0] is asked:
                 return
 
     def _send(self, asked: _Asked, now: int) -> None:
-        """Sends a request. Where the machine does not take it yet, it is the first of the line again."""
-        ticket = next(self._tickets)
+        """Sends a request. Where that can't be yet, it is the first of the line again."""
         asked.sent_at = now
+        request = asked.request
+        if isinstance(request, LaneRequest):
+            return self._send_in_lane(asked, request)
+        ticket, call = next(self._tickets), request.call
+        asked.is_sent = True
         self._sent[ticket] = asked
         try:
-            self._step(now, lambda machine: asked.request.call(machine, now, ticket))
+            self._step(now, lambda machine: call(machine, now, ticket))
         except (ValueError, MemoryError) as error:
             self._sent.pop(ticket, None)
             asked.fail(error)
+
+    def _send_in_lane(self, asked: _Asked, request: LaneRequest[Any]) -> None:
+        """Writes a frame of the lane, whole, after those of the core that there are."""
+        if self._lane.is_full():
+            self._line.appendleft(asked)
+            return
+        try:
+            self._frames.append(self._lane.frame(request, self._root, asked))
+            asked.is_sent = True
+        except (ValueError, ZookeeperError) as error:
+            asked.fail(error)
+
+    def _reply(self, now: int, frame: bytes) -> bool:
+        """Takes a frame that answers a request of the lane, and tells whether it is one."""
+        found = self._lane.take(frame)
+        if found is None:
+            return False
+        asked, reply = found
+        self._lane_zxid = max(self._lane_zxid, reply.zxid)
+        if reply.code in _ENDING:
+            self._give_up(f"the server answered {reply.code}")
+        else:
+            self.contact.answers += 1
+        self.contact.answered(asked.sent_at, now)
+        try:
+            asked.reply(reply, self._root)
+        except Malformed:
+            self._give_up("an answer does not read")
+            self._count_loss(asked, ConnectionLoss("the answer does not read"))
+        if _is_auth(asked):
+            self._wake(None)
+        return True
+
+    def _with_zxid_of_lane(self, frame: bytes) -> bytes:
+        """A ConnectRequest that also asks for a server which has all that the lane has seen."""
+        zxid = max(self._lane_zxid, *struct.unpack(">q", frame[8:16]))
+        return frame[:8] + struct.pack(">q", zxid) + frame[16:]
+
+    def _introduce(self) -> None:
+        """Has the credentials sent before all else on a connection whose session a server has accepted."""
+        self.refused = None
+        frames = []
+        for credential in self._credentials:
+            request = lane.auth(*credential)
+            asked = _Asked(request, _Introduction(self, credential), self._now, sent_at=self._now, is_sent=True)
+            frames.append(self._lane.frame(request, self._root, asked))
+        self._frames[self._written : self._written] = frames
+
+    def add_credential(self, credential: Credential) -> None:
+        """Has each connection from the next one on introduce itself by this credential too."""
+        if credential not in self._credentials:
+            self._credentials.append(credential)
+
+    def _lose_lane(self, why: str) -> None:
+        lost, self._lane = self._lane.pending(), Lane()
+        for asked in lost:
+            self._count_loss(asked, ConnectionLoss(why))
+
+    def _count_loss(self, asked: _Asked, error: ZookeeperError) -> None:
+        self.contact.losses += 1
+        asked.fail(error)
+
+    def _end_timed(self, now: int) -> None:
+        """Gives up the calls whose own time is over."""
+        while self._timed and (self._timed[0][0] <= now or self._timed[0][2].waiter.done()):
+            asked = heapq.heappop(self._timed)[2]
+            if not asked.waiter.done():
+                self.contact.losses += 1
+                asked.give_up()
+        if len(self._timed) > 1024 + 2 * (len(self._sent) + len(self._line)):
+            self._timed = [timed for timed in self._timed if not timed[2].waiter.done()]
+            heapq.heapify(self._timed)
 
     def _answer(self, answer: Answer) -> None:
         asked = self._sent.pop(answer.ticket, None)
@@ -382,9 +602,14 @@ class Engine:
             self._line.appendleft(asked)
             return
         if answer.code in _ENDING:
-            self._is_over = True
+            self._give_up(f"the server answered {answer.code}")
         elif answer.lack == 0:
             self.contact.answers += 1
+        if answer.lack == 0:
+            self.contact.answered(asked.sent_at, self._now)
+        else:
+            self.contact.losses += 1
+        assert isinstance(asked.request, Request)
         watcher = asked.request.watcher
         if watcher is not None and asked.request.leaves_watch(answer):
             self._watchers.setdefault((watcher.path, watcher.side), {})[watcher] = None
@@ -412,14 +637,22 @@ class Engine:
         if state == library.CONNECTED:
             self._opened_at = None
             self._admitted_at = self.contact.heard_at = self._now
+            self.contact.admissions += 1
             self.contact.has_expired = False
+            logger.info(
+                "connected to %s: session %#x with a timeout of %s seconds",
+                self.place or "a server", self.session_id() & _SESSION, self.timeout(),
+            )  # fmt: skip
+            self._introduce()
             self._enter(State.CONNECTED)
         elif state == library.EXPIRED:
             self._is_over = True
             self.contact.expiries += 1
             self.contact.has_expired = True
+            logger.warning("the session %#x has expired: a new one begins", self.session_id() & _SESSION)
             self._begin_anew(SessionExpiredError("the session has expired"))
         elif state == library.SESSION_CLOSED:
+            logger.info("the session %#x is closed", self.session_id() & _SESSION)
             self.is_running = False
             self._is_over = True
             self._begin_anew(ConnectionClosedError("the session is closed"))
@@ -436,14 +669,15 @@ class Engine:
         """Has a machine of the same session, which keeps nothing, where the old one is of no use any more."""
         old, self._machine = self._machine, Machine(self._timeout_ms, self._machine.saved(), self._root)
         old.close()
-        self._is_over = True
+        self._give_up(why)
         self._forget_callers(ConnectionLoss(why), State.SUSPENDED)
 
     def _forget_callers(self, error: ZookeeperError, state: State) -> None:
         """Fails all that waits for an answer, ends all watches, and enters a state."""
         self._refuse_handed(error)
-        for asked in [*self._sent.values(), *self._line]:
-            asked.fail(type(error)(*error.args))
+        for asked in [*self._sent.values(), *self._lane.pending(), *self._line]:
+            self._count_loss(asked, type(error)(*error.args))
+        self._lane = Lane()
         self._sent.clear()
         self._line.clear()
         watchers = list(itertools.chain.from_iterable(self._watchers.values()))
@@ -468,3 +702,26 @@ class Engine:
         for listening in list(self._listening.values()):
             if path is None or listening.path == path:
                 listening.wake()
+
+
+class _Introduction:
+    """Who waits for the answer to a credential that is sent on each connection."""
+
+    def __init__(self, engine: Engine, credential: Credential) -> None:
+        self._engine, self._scheme = engine, credential.scheme
+
+    def begin(self) -> bool:
+        return True
+
+    def cancel(self) -> None: ...
+
+    def done(self) -> bool:
+        return False
+
+    def set_result(self, _: Any) -> None: ...
+
+    def set_exception(self, error: BaseException) -> None:
+        if isinstance(error, AuthFailedError):
+            self._engine.refused = AuthFailedError(f"the server refuses the credentials of the scheme {self._scheme}")
+            self._engine.trouble = str(self._engine.refused)
+            logger.error("%s", self._engine.refused)

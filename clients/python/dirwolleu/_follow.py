@@ -8,20 +8,12 @@ from collections.abc import Generator, Iterator
 from typing import Callable, NamedTuple, Optional, Union
 
 from dirwolleu._engine import Engine, News
-from dirwolleu.exceptions import (
-    ConnectionClosedError,
-    ConnectionLoss,
-    SessionExpiredError,
-    SessionMovedError,
-    ZookeeperError,
-)
+from dirwolleu._retry import is_passing
+from dirwolleu.exceptions import ConnectionClosedError, ZookeeperError
 from dirwolleu.types import Kept, State
 
 BETWEEN_REFUSED_READS = 1.0
 """The least number of seconds from a read that brought no good answer to the next one."""
-
-_THROTTLED = -127
-_PASSING = (ConnectionLoss.code, SessionExpiredError.code, SessionMovedError.code, _THROTTLED)
 
 
 class Need(enum.Enum):
@@ -47,7 +39,7 @@ def passing() -> Iterator[None]:
     try:
         yield
     except ZookeeperError as error:
-        if not isinstance(error, ConnectionClosedError) and error.code not in _PASSING:
+        if not is_passing(error):
             raise
 
 

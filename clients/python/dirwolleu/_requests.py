@@ -56,6 +56,8 @@ class Request(Generic[Result]):
     """A call of a machine, at a moment and with a ticket, whose answer brings a result of this type."""
 
     call: Callable[[Machine, int, int], list[Output]]
+    is_repeatable: bool = False
+    """Whether it does no harm to ask it again where it may have happened."""
     is_exists: bool = False
     watcher: Optional[Watcher] = None
     node: Optional[str] = None
@@ -94,6 +96,7 @@ def _data(value: Optional[bytes]) -> Optional[bytes]:
 def exists(path: str, watch: Watch) -> Request[Optional[Stat]]:
     return Request(
         lambda machine, now, ticket: machine.exists(now, ticket, path, bool(watch)),
+        is_repeatable=True,
         is_exists=True,
         watcher=_watcher(path, library.DATA_SIDE, watch),
         node=path,
@@ -103,6 +106,7 @@ def exists(path: str, watch: Watch) -> Request[Optional[Stat]]:
 def get(path: str, watch: Watch) -> Request[tuple[Optional[bytes], Stat]]:
     return Request(
         lambda machine, now, ticket: machine.get_data(now, ticket, path, bool(watch)),
+        is_repeatable=True,
         watcher=_watcher(path, library.DATA_SIDE, watch),
         node=path,
     )
@@ -111,6 +115,7 @@ def get(path: str, watch: Watch) -> Request[tuple[Optional[bytes], Stat]]:
 def get_children(path: str, watch: Watch) -> Request[list[str]]:
     return Request(
         lambda machine, now, ticket: machine.get_children(now, ticket, path, bool(watch)),
+        is_repeatable=True,
         watcher=_watcher(path, library.CHILDREN_SIDE, watch),
     )
 

@@ -2,19 +2,30 @@
 
 from __future__ import annotations
 
-from typing import Optional
+import math
+from collections.abc import Iterable
+from typing import Optional, Union
 
-from dirwolleu._engine import Engine, Listener
+from dirwolleu._driver import moment
+from dirwolleu._engine import Credential, Engine, Listener
 from dirwolleu._hosts import Servers
-from dirwolleu.types import Kept, KeptChildren, State
+from dirwolleu._retry import Retry
+from dirwolleu.types import Kept, KeptChildren, Mark, State, Stats
+
+AuthData = Iterable[tuple[str, Union[str, bytes]]]
+
+
+def credential_of(scheme: str, credential: Union[str, bytes]) -> Credential:
+    return Credential(scheme, credential.encode() if isinstance(credential, str) else credential)
 
 
 class Shown:
     """What a client shows of its session, and of what it keeps."""
 
-    def __init__(self, servers: Servers, engine: Engine) -> None:
+    def __init__(self, servers: Servers, engine: Engine, retry: Optional[Retry]) -> None:
         self._servers = servers
         self._engine = engine
+        self._retry = retry
 
     @property
     def chroot(self) -> str:
@@ -72,13 +83,50 @@ class Shown:
         """Stops calling the listener. Raises `ValueError` where it was not added."""
         self._engine.remove_listener(listener)
 
-    def kept(self, path: str) -> Optional[Kept]:
-        """What is kept of a node that `get`, `exists` or `follow` read with a watch, or None. It asks no server."""
-        return self._engine.kept(path)
+    def stats(self) -> Stats:
+        """What the client has counted since it was made: dials, connections, calls, the time that answers take.
 
-    def kept_children(self, path: str) -> Optional[KeptChildren]:
-        """What is kept of the children of a node that `get_children` read with a watch, or None. It asks no server."""
-        return self._engine.kept_children(path)
+            stats = client.stats()
+            print(stats.connections - 1, "reconnects,", stats.waiting, "calls wait")
+        """
+        return self._engine.stats()
+
+    def age(self) -> float:
+        """How old what is kept can be, in seconds: infinity where no server has answered yet.
+
+        So long ago the newest ping or call was sent that the server has answered. Whatever that server knew by then of
+        the nodes that the client watches, it has told. The server may itself be behind the others.
+        """
+        proved_at = self._engine.contact.proved_at
+        return math.inf if proved_at is None else max(moment() - proved_at, 0) / 1000
+
+    def kept(self, path: str, within: Optional[float] = None) -> Optional[Kept]:
+        """What is kept of a node that `get`, `exists` or `follow` read with a watch, or None. It asks no server.
+
+        With `within` it is only what is good and of this age at most: what the server of this client held so many
+        seconds ago, or later. An idle client hears its server every third of the timeout.
+
+            kept = client.kept("/config", within=5.0)
+            data = kept.data if kept is not None else client.get("/config", watch=True)[0]
+        """
+        self._engine.check_process()
+        age = self.age()  # before the look-up: what is good later was good by then
+        kept = self._engine.kept(path)
+        if within is None or kept is None:
+            return kept
+        return kept if kept.mark is Mark.GOOD and age <= within else None
+
+    def kept_children(self, path: str, within: Optional[float] = None) -> Optional[KeptChildren]:
+        """What is kept of the children of a node that `get_children` read with a watch, or None. It asks no server.
+
+        `within` is that of `kept`.
+        """
+        self._engine.check_process()
+        age = self.age()
+        kept = self._engine.kept_children(path)
+        if within is None or kept is None:
+            return kept
+        return kept if kept.mark is Mark.GOOD and age <= within else None
 
     def forget_stale(self) -> None:
         """Forgets all kept answers that are stale. Until then, what was read with a watch takes memory."""

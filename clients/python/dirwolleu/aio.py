@@ -5,25 +5,42 @@ from __future__ import annotations
 import asyncio
 import contextlib
 import inspect
+import ssl as _ssl
 import time
-from collections.abc import AsyncGenerator
+from collections.abc import AsyncGenerator, Awaitable, Sequence
 from types import TracebackType
-from typing import Any, Callable, Optional
+from typing import Any, Callable, Optional, TypeVar, Union
 
+from dirwolleu import _lane as lane
+from dirwolleu import _plans as plans
 from dirwolleu import _requests as requests
 from dirwolleu._driver import Driver, moment
 from dirwolleu._engine import Engine
 from dirwolleu._follow import Follower, Need, Wait, passing
 from dirwolleu._hosts import Servers
-from dirwolleu._requests import Request, Result
-from dirwolleu._shown import Shown
+from dirwolleu._lane import Created
+from dirwolleu._plans import Acls, AnyRequest, Plan
+from dirwolleu._requests import Result
+from dirwolleu._retry import ONCE, Retry
+from dirwolleu._shown import AuthData, Shown, credential_of
 from dirwolleu.exceptions import ConnectionClosedError, NoNodeError, ZookeeperError
+from dirwolleu.security import ACL
+from dirwolleu.transaction import AsyncTransaction
 from dirwolleu.types import Kept, Stat, Watch
 
 __all__ = ["Client"]
 
+Returned = TypeVar("Returned")
+
 LONGEST_FAREWELL = 2.0
 """How long `stop` waits for a server to end the session, in seconds."""
+
+
+class _Waiter(asyncio.Future[Any]):
+    """What waits for an answer. It belongs to the event loop, which also sends."""
+
+    def begin(self) -> bool:
+        return not self.done()
 
 
 class Client(Shown):
@@ -36,10 +53,20 @@ class Client(Shown):
     """
 
     def __init__(
-        self, hosts: str, timeout: float = 10.0, saved: Optional[bytes] = None, *, randomize_hosts: bool = True
+        self,
+        hosts: str,
+        timeout: float = 10.0,
+        saved: Optional[bytes] = None,
+        *,
+        auth_data: AuthData = (),
+        ssl: Optional[_ssl.SSLContext] = None,
+        retry: Optional[Retry] = None,
+        randomize_hosts: bool = True,
     ) -> None:
         servers = Servers(hosts, randomize_hosts)
-        super().__init__(servers, Engine(timeout, saved, self._tell, servers.hosts.root))
+        credentials = [credential_of(scheme, credential) for scheme, credential in auth_data]
+        super().__init__(servers, Engine(timeout, saved, self._tell, servers.hosts.root, credentials), retry)
+        self._tls = ssl
         self._driver: Optional[Driver] = None
         self._callbacks: set[asyncio.Future[Any]] = set()
 
@@ -59,11 +86,12 @@ class Client(Shown):
     async def start(self, timeout: Optional[float] = 15.0) -> None:
         """Begins to connect, and waits until a server has accepted the session.
 
-        Raises `TimeoutError`, and stops, where that takes longer than `timeout` seconds; None is no bound.
+        Raises `TimeoutError`, and stops, where that takes longer than `timeout` seconds; None is no bound. Raises
+        `AuthFailedError`, and stops, where the server refuses credentials.
         """
         self._engine.begin()
         if self._driver is None:
-            self._driver = Driver(self._servers, self._engine)
+            self._driver = Driver(self._servers, self._engine, self._tls)
             self._driver.start()
         try:
             await asyncio.wait_for(self._wait_until_connected(), timeout)
@@ -99,41 +127,134 @@ class Client(Shown):
         """
         self._end_driver(self._engine.close)
 
-    async def exists(self, path: str, watch: Watch = None) -> Optional[Stat]:
+    async def exists(self, path: str, watch: Watch = None, *, timeout: Optional[float] = None) -> Optional[Stat]:
         """What is known of a node, or None where there is none. A watch is left also where there is none."""
-        return await self._ask(requests.exists(path, watch))
+        return await self._call(requests.exists(path, watch), timeout)
 
-    async def get(self, path: str, watch: Watch = None) -> tuple[Optional[bytes], Stat]:
+    async def get(
+        self, path: str, watch: Watch = None, *, timeout: Optional[float] = None
+    ) -> tuple[Optional[bytes], Stat]:
         """The data of a node, None where they are null, and what is known of it.
 
         Raises `NoNodeError`; then no watch is left.
         """
-        return await self._ask(requests.get(path, watch))
+        return await self._call(requests.get(path, watch), timeout)
 
-    async def get_children(self, path: str, watch: Watch = None) -> list[str]:
+    async def get_children(self, path: str, watch: Watch = None, *, timeout: Optional[float] = None) -> list[str]:
         """The names of a node's children, in no order. Raises `NoNodeError`; then no watch is left."""
-        return await self._ask(requests.get_children(path, watch))
+        return await self._call(requests.get_children(path, watch), timeout)
 
     async def create(
-        self, path: str, value: Optional[bytes] = b"", *, ephemeral: bool = False, sequence: bool = False
+        self,
+        path: str,
+        value: Optional[bytes] = b"",
+        *,
+        acl: Acls = None,
+        ephemeral: bool = False,
+        sequence: bool = False,
+        makepath: bool = False,
+        timeout: Optional[float] = None,
     ) -> str:
-        """Makes a node, open to all, and tells its path. None as value is null data.
+        """Makes a node, open to all unless an ACL is given, and tells its path. None as value is null data.
 
-        An ephemeral node goes with the session. Where `sequence` is true, ten digits are added to the path. Raises
-        `NodeExistsError`, `NoNodeError` where there is no parent, `NoChildrenForEphemeralsError`.
+        An ephemeral node goes with the session. Where `sequence` is true, ten digits are added to the path. With
+        `makepath` the nodes above it are made too, as far as they are not there. Raises `NodeExistsError`,
+        `NoNodeError` where there is no parent, `NoChildrenForEphemeralsError`, `InvalidACLError`.
+
+            path = await client.create("/queue/job-", b"one", sequence=True, makepath=True)
         """
-        return await self._ask(requests.create(path, value, ephemeral, sequence))
+        request = plans.create_request(path, value, acl, ephemeral, sequence)
+        return await self._run(plans.create(request, path, acl, makepath), timeout)
 
-    async def set(self, path: str, value: Optional[bytes], version: int = -1) -> Stat:
+    async def create2(
+        self,
+        path: str,
+        value: Optional[bytes] = b"",
+        *,
+        acl: Acls = None,
+        ephemeral: bool = False,
+        sequence: bool = False,
+        makepath: bool = False,
+        timeout: Optional[float] = None,
+    ) -> Created:
+        """Makes a node as `create` does, and tells its `path` and its `stat`."""
+        request = lane.create2(path, value, acl, ephemeral, sequence)
+        return await self._run(plans.create(request, path, acl, makepath), timeout)
+
+    async def ensure_path(self, path: str, *, acl: Acls = None, timeout: Optional[float] = None) -> None:
+        """Makes a node and those above it, as far as they are not there. It does no harm to ask it again."""
+        await self._run(plans.ensure_path(path, acl), timeout)
+
+    async def set(
+        self, path: str, value: Optional[bytes], version: int = -1, *, timeout: Optional[float] = None
+    ) -> Stat:
         """Sets the data of a node of this version, where -1 is any. Raises `NoNodeError` and `BadVersionError`."""
-        return await self._ask(requests.set(path, value, version))
+        return await self._call(requests.set(path, value, version), timeout)
 
-    async def delete(self, path: str, version: int = -1) -> None:
+    async def delete(
+        self, path: str, version: int = -1, *, recursive: bool = False, timeout: Optional[float] = None
+    ) -> None:
         """Deletes a node of this version, where -1 is any.
 
-        Raises `NoNodeError`, `BadVersionError`, `NotEmptyError`.
+        Raises `NoNodeError`, `BadVersionError`, `NotEmptyError`. With `recursive` all below it is deleted too, one node
+        after the other, and it is no error where there is no node; another client may see a part of it.
         """
-        await self._ask(requests.delete(path, version))
+        await self._run(plans.delete(path, version, recursive), timeout)
+
+    async def sync(self, path: str = "/", *, timeout: Optional[float] = None) -> str:
+        """Has the server take in all that was done before it answers, and tells the path.
+
+        A read after it sees each write that any client had an answer to before `sync` was called. It marks no kept
+        answer: what is kept has those writes once a later read or ping is answered.
+        """
+        return await self._call(lane.sync(path), timeout)
+
+    async def get_acls(self, path: str, *, timeout: Optional[float] = None) -> tuple[list[ACL], Stat]:
+        """The ACL of a node, and what is known of it. Raises `NoNodeError`."""
+        return await self._call(lane.get_acls(path), timeout)
+
+    async def set_acls(
+        self, path: str, acls: Sequence[ACL], version: int = -1, *, timeout: Optional[float] = None
+    ) -> Stat:
+        """Sets the ACL of a node whose `aversion` is this one, where -1 is any.
+
+        Raises `NoNodeError`, `BadVersionError`, `InvalidACLError`, `NoAuthError`.
+        """
+        return await self._call(lane.set_acls(path, acls, version), timeout)
+
+    async def add_auth(self, scheme: str, credential: Union[str, bytes], *, timeout: Optional[float] = None) -> None:
+        """Says who the session is, now and on each later connection.
+
+        Raises `AuthFailedError` where the server refuses it or does not know the scheme; then it is forgotten, and the
+        server ends the connection. The scheme `digest` takes any `username:password`.
+
+            await client.add_auth("digest", "bob:secret")
+            await client.create("/bobs", acl=dirwolleu.security.CREATOR_ALL_ACL)
+        """
+        known = credential_of(scheme, credential)
+        await self._call(lane.auth(*known), timeout)
+        self._engine.add_credential(known)
+
+    def transaction(self) -> AsyncTransaction:
+        """Several changes that happen together or not at all: see `AsyncTransaction`."""
+        return AsyncTransaction(self._call)
+
+    async def retry(
+        self, function: Callable[..., Awaitable[Returned]], *arguments: Any, **keywords: Any
+    ) -> Returned:
+        """Awaits a coroutine function again while it raises an error after which that is safe.
+
+        That is by the policy of the client; without one it is `Retry()`.
+
+            stat = await client.retry(client.exists, "/config")
+        """
+        attempts = (self._retry or Retry()).attempts()
+        while True:
+            try:
+                return await function(*arguments, **keywords)
+            except ZookeeperError as error:
+                pause = attempts.after(error)
+            await asyncio.sleep(pause)
 
     async def follow(self, path: str) -> AsyncGenerator[Kept, None]:
         """Yields what a node holds, and again whenever that has changed, as `follow` of `dirwolleu.Client` does."""
@@ -156,26 +277,60 @@ class Client(Shown):
             except NoNodeError:
                 await self.exists(path, watch=True)
 
-    async def _ask(self, request: Request[Result]) -> Result:
-        waiter: asyncio.Future[Result] = asyncio.get_running_loop().create_future()
-        self._engine.ask(moment(), request, waiter)
+    async def _call(self, request: AnyRequest[Result], timeout: Optional[float] = None) -> Result:
+        return await self._run(plans.one(request), timeout)
+
+    async def _run(self, plan: Plan[Result], timeout: Optional[float] = None) -> Result:
+        """Asks what a plan asks for, one request after the other, within so many seconds in all."""
+        until = None if timeout is None else time.monotonic() + timeout
+        try:
+            request = next(plan)
+            while True:
+                try:
+                    answer = await self._ask_by_policy(request, until)
+                except ZookeeperError as error:
+                    request = plan.throw(error)
+                else:
+                    request = plan.send(answer)
+        except StopIteration as end:
+            result: Result = end.value
+            return result
+
+    async def _ask_by_policy(self, request: AnyRequest[Any], until: Optional[float]) -> Any:
+        attempts = (self._retry or ONCE).attempts()
+        while True:
+            left = None if until is None else until - time.monotonic()
+            try:
+                return await self._ask(request, left)
+            except ZookeeperError as error:
+                pause = attempts.after(error)
+                if until is not None and time.monotonic() + pause > until:
+                    raise
+            await asyncio.sleep(pause)
+
+    async def _ask(self, request: AnyRequest[Result], timeout: Optional[float] = None) -> Result:
+        waiter = _Waiter(loop=asyncio.get_running_loop())
+        self._engine.ask(moment(), request, waiter, timeout)
         if self._driver is not None:
             self._driver.act_soon()
-        return await waiter
+        result: Result = await waiter
+        return result
 
     async def _wait_until_connected(self) -> None:
         news = asyncio.Event()
         with self._engine.news(news.set):
-            while not self.connected:
+            while not self._engine.is_introduced():
+                if self._engine.refused is not None:
+                    raise self._engine.refused
                 if not self._engine.is_running:
                     raise ConnectionClosedError("the client was stopped")
                 await news.wait()
                 news.clear()
 
     def _tell(self, function: Callable[[Any], object], argument: Any) -> None:
-        asyncio.get_running_loop().call_soon(self._call, function, argument)
+        asyncio.get_running_loop().call_soon(self._call_back, function, argument)
 
-    def _call(self, function: Callable[[Any], object], argument: Any) -> None:
+    def _call_back(self, function: Callable[[Any], object], argument: Any) -> None:
         told = function(argument)
         if inspect.isawaitable(told):
             callback = asyncio.ensure_future(told)

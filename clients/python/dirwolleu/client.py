@@ -3,25 +3,38 @@
 from __future__ import annotations
 
 import asyncio
+import atexit
+import concurrent.futures
 import contextlib
 import logging
 import os
 import queue
+import ssl as _ssl
 import threading
 import time
-from collections.abc import Generator
+import weakref
+from collections.abc import Generator, Sequence
 from types import TracebackType
-from typing import Any, Callable, Optional
+from typing import Any, Callable, Optional, TypeVar, Union
 
+from dirwolleu import _lane as lane
+from dirwolleu import _plans as plans
 from dirwolleu import _requests as requests
 from dirwolleu._driver import Driver, moment
 from dirwolleu._engine import Engine
 from dirwolleu._follow import Follower, Need, Wait, passing
 from dirwolleu._hosts import Servers
-from dirwolleu._requests import Request, Result
-from dirwolleu._shown import Shown
+from dirwolleu._lane import Created
+from dirwolleu._plans import Acls, AnyRequest, Plan
+from dirwolleu._requests import Result
+from dirwolleu._retry import ONCE, Retry
+from dirwolleu._shown import AuthData, Shown, credential_of
 from dirwolleu.exceptions import ConnectionClosedError, NoNodeError, ZookeeperError
+from dirwolleu.security import ACL
+from dirwolleu.transaction import Transaction
 from dirwolleu.types import Kept, Stat, State, Watch
+
+Returned = TypeVar("Returned")
 
 logger = logging.getLogger("dirwolleu")
 
@@ -29,6 +42,8 @@ LONGEST_FAREWELL = 2.0
 """How long `stop` waits for a server to end the session, in seconds."""
 LONGEST_CALLBACK = 5.0
 """How long `stop` waits for a callback that runs, in seconds."""
+LONGEST_LEAVING = 1.0
+"""How long the end of the program waits for the thread of a client that was not stopped, in seconds."""
 LONGEST_END = 5.0
 """How long `stop` waits for its own threads, in seconds: they end at once, unless the process is held up."""
 
@@ -63,6 +78,9 @@ class _Waiter:
         self._answer: Optional[tuple[Any, Optional[BaseException]]] = None
         self._is_given_up = False
 
+    def begin(self) -> bool:
+        return not self.done()
+
     def cancel(self) -> None:
         """Waits no longer. What was not sent yet is not sent."""
         self._is_given_up = True
@@ -88,6 +106,27 @@ class _Waiter:
         return result
 
 
+class _Future(concurrent.futures.Future[Any]):
+    """What a call that ends in `_async` answers. `cancel` answers true only where the call is not sent.
+
+    Its callbacks run where those of watches do, so that they may call the client.
+    """
+
+    def __init__(self, tell: Callable[[Callable[[Any], object], Any], bool]) -> None:
+        super().__init__()
+        self._tell = tell
+
+    def begin(self) -> bool:
+        return self.running() or not self.done() and self.set_running_or_notify_cancel()
+
+    def add_done_callback(self, function: Callable[[Any], object]) -> None:
+        def tell(done: Any) -> None:
+            if not self._tell(function, done):
+                function(done)
+
+        super().add_done_callback(tell)
+
+
 class _Loop(threading.Thread):
     """The thread of the event loop that keeps a client connected. It makes each step of the engine."""
 
@@ -108,12 +147,12 @@ class _Loop(threading.Thread):
         """Lets the driver do what was asked."""
         self._soon(self._driver.act)
 
-    def stop(self, end: Callable[[], None]) -> None:
+    def stop(self, end: Callable[[], None], longest: float = LONGEST_END) -> None:
         """Does what ends the engine, and ends. Where the thread has ended already, `end` is not called."""
         if self.ident is None:
             return self._loop.close()
         self._soon(lambda: self._driver.stop(end))
-        self.join(LONGEST_END)
+        self.join(longest)
 
     def _soon(self, call: Callable[[], object]) -> None:
         with contextlib.suppress(RuntimeError):  # the loop is closed
@@ -151,8 +190,8 @@ class _Callbacks(threading.Thread):
 class _Threads:
     """The threads of a client that is started, in one process."""
 
-    def __init__(self, servers: Servers, engine: Engine) -> None:
-        self.loop = _Loop(Driver(servers, engine))
+    def __init__(self, servers: Servers, engine: Engine, tls: Optional[_ssl.SSLContext]) -> None:
+        self.loop = _Loop(Driver(servers, engine, tls))
         self.callbacks = _Callbacks()
         self._process = os.getpid()
 
@@ -175,10 +214,24 @@ class Client(Shown):
     asked for; a server grants what lies between its own bounds. `saved` takes up the session of another client, as its
     `saved_session` told it.
 
+    `auth_data` are credentials, each a scheme and its text, which are sent on each connection before anything else.
+    With `ssl` the connections are TLS: see `dirwolleu.tls_context`. By `retry`, a policy, each call is asked again
+    where that is safe; without it none is.
+
     What all calls may raise: `ConnectionLoss` where the connection ended before the reply; `NotConnectedError`, which
-    is one, where there was no connection for the timeout of the session; `SessionExpiredError`; `ConnectionClosedError`
-    where the client is not started; `ValueError` where the path is none; and another `ZookeeperError` where the server
-    answers with an error.
+    is one, where there was no connection for the timeout of the session; `CallTimeoutError` where the call has a
+    `timeout` in seconds, which counts all tries, and no answer came in it; `SessionExpiredError`;
+    `ConnectionClosedError` where the client is not started; `ValueError` where the path is none; and another
+    `ZookeeperError` where the server answers with an error. `may_have_happened` of an error says whether a change may
+    have happened, or may still happen.
+
+    Each call has a second one whose name ends in `_async`, which sends and does not wait: it answers a
+    `concurrent.futures.Future`. It is not asked again.
+
+        with dirwolleu.Client("zk1:2181,zk2:2181,zk3:2181/app", retry=dirwolleu.Retry()) as client:
+            client.ensure_path("/config")
+            data, stat = client.get("/config", timeout=2.0)
+            client.set("/config", b"new", version=stat.version)
 
     Functions that it calls (watches and listeners) run one after the other in a thread of their own, and may call the
     client. So may a signal handler, and a call that an exception of a handler ends, such as KeyboardInterrupt, leaves
@@ -187,10 +240,20 @@ class Client(Shown):
     """
 
     def __init__(
-        self, hosts: str, timeout: float = 10.0, saved: Optional[bytes] = None, *, randomize_hosts: bool = True
+        self,
+        hosts: str,
+        timeout: float = 10.0,
+        saved: Optional[bytes] = None,
+        *,
+        auth_data: AuthData = (),
+        ssl: Optional[_ssl.SSLContext] = None,
+        retry: Optional[Retry] = None,
+        randomize_hosts: bool = True,
     ) -> None:
         servers = Servers(hosts, randomize_hosts)
-        super().__init__(servers, Engine(timeout, saved, self._tell, servers.hosts.root))
+        credentials = [credential_of(scheme, credential) for scheme, credential in auth_data]
+        super().__init__(servers, Engine(timeout, saved, self._tell, servers.hosts.root, credentials), retry)
+        self._tls = ssl
         self._running: dict[str, _Threads] = {}  # a dict's functions are single steps of the interpreter: no lock
 
     def __enter__(self) -> Client:
@@ -209,7 +272,8 @@ class Client(Shown):
     def start(self, timeout: Optional[float] = 15.0) -> None:
         """Begins to connect, and waits until a server has accepted the session.
 
-        Raises `TimeoutError`, and stops, where that takes longer than `timeout` seconds; None is no bound.
+        Raises `TimeoutError`, and stops, where that takes longer than `timeout` seconds; None is no bound. Raises
+        `AuthFailedError`, and stops, where the server refuses credentials.
         """
         self._check_process()
         self._engine.begin()
@@ -222,7 +286,8 @@ class Client(Shown):
                 self.stop()
         if not is_connected:
             trouble = f" ({self._engine.trouble})" if self._engine.trouble else ""
-            raise TimeoutError(f"no server of {self._servers.hosts.text} accepted the session in {timeout} seconds{trouble}")
+            hosts = self._servers.hosts.text
+            raise TimeoutError(f"no server of {hosts} accepted the session in {timeout} seconds{trouble}")
 
     def stop(self) -> None:
         """Ends the session, with its ephemeral nodes and its watches, and the threads of the client.
@@ -245,41 +310,184 @@ class Client(Shown):
         if self._is_here():
             self._end_threads(self._engine.close)
 
-    def exists(self, path: str, watch: Watch = None) -> Optional[Stat]:
+    def exists(self, path: str, watch: Watch = None, *, timeout: Optional[float] = None) -> Optional[Stat]:
         """What is known of a node, or None where there is none. A watch is left also where there is none."""
-        return self._ask(requests.exists(path, watch))
+        return self._call(requests.exists(path, watch), timeout)
 
-    def get(self, path: str, watch: Watch = None) -> tuple[Optional[bytes], Stat]:
+    def get(
+        self, path: str, watch: Watch = None, *, timeout: Optional[float] = None
+    ) -> tuple[Optional[bytes], Stat]:
         """The data of a node, None where they are null, and what is known of it.
 
         Raises `NoNodeError`; then no watch is left.
         """
-        return self._ask(requests.get(path, watch))
+        return self._call(requests.get(path, watch), timeout)
 
-    def get_children(self, path: str, watch: Watch = None) -> list[str]:
+    def get_children(self, path: str, watch: Watch = None, *, timeout: Optional[float] = None) -> list[str]:
         """The names of a node's children, in no order. Raises `NoNodeError`; then no watch is left."""
-        return self._ask(requests.get_children(path, watch))
+        return self._call(requests.get_children(path, watch), timeout)
 
     def create(
-        self, path: str, value: Optional[bytes] = b"", *, ephemeral: bool = False, sequence: bool = False
+        self,
+        path: str,
+        value: Optional[bytes] = b"",
+        *,
+        acl: Acls = None,
+        ephemeral: bool = False,
+        sequence: bool = False,
+        makepath: bool = False,
+        timeout: Optional[float] = None,
     ) -> str:
-        """Makes a node, open to all, and tells its path. None as value is null data.
+        """Makes a node, open to all unless an ACL is given, and tells its path. None as value is null data.
 
-        An ephemeral node goes with the session. Where `sequence` is true, ten digits are added to the path. Raises
-        `NodeExistsError`, `NoNodeError` where there is no parent, `NoChildrenForEphemeralsError`.
+        An ephemeral node goes with the session. Where `sequence` is true, ten digits are added to the path. With
+        `makepath` the nodes above it are made too, as far as they are not there. Raises `NodeExistsError`,
+        `NoNodeError` where there is no parent, `NoChildrenForEphemeralsError`, `InvalidACLError`.
+
+            path = client.create("/queue/job-", b"one", sequence=True, makepath=True)
         """
-        return self._ask(requests.create(path, value, ephemeral, sequence))
+        request = plans.create_request(path, value, acl, ephemeral, sequence)
+        return self._run(plans.create(request, path, acl, makepath), timeout)
 
-    def set(self, path: str, value: Optional[bytes], version: int = -1) -> Stat:
+    def create2(
+        self,
+        path: str,
+        value: Optional[bytes] = b"",
+        *,
+        acl: Acls = None,
+        ephemeral: bool = False,
+        sequence: bool = False,
+        makepath: bool = False,
+        timeout: Optional[float] = None,
+    ) -> Created:
+        """Makes a node as `create` does, and tells its `path` and its `stat`."""
+        request = lane.create2(path, value, acl, ephemeral, sequence)
+        return self._run(plans.create(request, path, acl, makepath), timeout)
+
+    def ensure_path(self, path: str, *, acl: Acls = None, timeout: Optional[float] = None) -> None:
+        """Makes a node and those above it, as far as they are not there. It does no harm to ask it again."""
+        self._run(plans.ensure_path(path, acl), timeout)
+
+    def set(
+        self, path: str, value: Optional[bytes], version: int = -1, *, timeout: Optional[float] = None
+    ) -> Stat:
         """Sets the data of a node of this version, where -1 is any. Raises `NoNodeError` and `BadVersionError`."""
-        return self._ask(requests.set(path, value, version))
+        return self._call(requests.set(path, value, version), timeout)
 
-    def delete(self, path: str, version: int = -1) -> None:
+    def delete(
+        self, path: str, version: int = -1, *, recursive: bool = False, timeout: Optional[float] = None
+    ) -> None:
         """Deletes a node of this version, where -1 is any.
 
-        Raises `NoNodeError`, `BadVersionError`, `NotEmptyError`.
+        Raises `NoNodeError`, `BadVersionError`, `NotEmptyError`. With `recursive` all below it is deleted too, one node
+        after the other, and it is no error where there is no node; another client may see a part of it.
         """
-        self._ask(requests.delete(path, version))
+        self._run(plans.delete(path, version, recursive), timeout)
+
+    def sync(self, path: str = "/", *, timeout: Optional[float] = None) -> str:
+        """Has the server take in all that was done before it answers, and tells the path.
+
+        A read after it sees each write that any client had an answer to before `sync` was called. It marks no kept
+        answer: what is kept has those writes once a later read or ping is answered.
+        """
+        return self._call(lane.sync(path), timeout)
+
+    def get_acls(self, path: str, *, timeout: Optional[float] = None) -> tuple[list[ACL], Stat]:
+        """The ACL of a node, and what is known of it. Raises `NoNodeError`."""
+        return self._call(lane.get_acls(path), timeout)
+
+    def set_acls(
+        self, path: str, acls: Sequence[ACL], version: int = -1, *, timeout: Optional[float] = None
+    ) -> Stat:
+        """Sets the ACL of a node whose `aversion` is this one, where -1 is any.
+
+        Raises `NoNodeError`, `BadVersionError`, `InvalidACLError`, `NoAuthError`.
+        """
+        return self._call(lane.set_acls(path, acls, version), timeout)
+
+    def add_auth(self, scheme: str, credential: Union[str, bytes], *, timeout: Optional[float] = None) -> None:
+        """Says who the session is, now and on each later connection.
+
+        Raises `AuthFailedError` where the server refuses it or does not know the scheme; then it is forgotten, and the
+        server ends the connection. The scheme `digest` takes any `username:password`.
+
+            client.add_auth("digest", "bob:secret")
+            client.create("/bobs", acl=dirwolleu.security.CREATOR_ALL_ACL)
+        """
+        known = credential_of(scheme, credential)
+        self._call(lane.auth(*known), timeout)
+        self._engine.add_credential(known)
+
+    def transaction(self) -> Transaction:
+        """Several changes that happen together or not at all: see `Transaction`."""
+        return Transaction(self._call)
+
+    def retry(self, function: Callable[..., Returned], *arguments: Any, **keywords: Any) -> Returned:
+        """Calls a function again while it raises an error after which that is safe, by the policy of the client.
+
+        Without a policy it is `Retry()`. The function is to be safe to call again up to each of its writes.
+
+            version = client.retry(client.exists, "/config").version
+        """
+        attempts = (self._retry or Retry()).attempts()
+        while True:
+            try:
+                return function(*arguments, **keywords)
+            except ZookeeperError as error:
+                pause = attempts.after(error)
+            time.sleep(pause)
+
+    def exists_async(self, path: str, watch: Watch = None) -> concurrent.futures.Future[Optional[Stat]]:
+        """`exists`, which does not wait."""
+        return self._send(requests.exists(path, watch))
+
+    def get_async(self, path: str, watch: Watch = None) -> concurrent.futures.Future[tuple[Optional[bytes], Stat]]:
+        """`get`, which does not wait.
+
+            futures = [client.get_async(f"/config/{name}") for name in names]
+            data = [future.result()[0] for future in futures]
+        """
+        return self._send(requests.get(path, watch))
+
+    def get_children_async(self, path: str, watch: Watch = None) -> concurrent.futures.Future[list[str]]:
+        """`get_children`, which does not wait."""
+        return self._send(requests.get_children(path, watch))
+
+    def create_async(
+        self,
+        path: str,
+        value: Optional[bytes] = b"",
+        *,
+        acl: Acls = None,
+        ephemeral: bool = False,
+        sequence: bool = False,
+    ) -> concurrent.futures.Future[str]:
+        """`create`, which does not wait."""
+        return self._send(plans.create_request(path, value, acl, ephemeral, sequence))
+
+    def set_async(
+        self, path: str, value: Optional[bytes], version: int = -1
+    ) -> concurrent.futures.Future[Stat]:
+        """`set`, which does not wait."""
+        return self._send(requests.set(path, value, version))
+
+    def delete_async(self, path: str, version: int = -1) -> concurrent.futures.Future[None]:
+        """`delete`, which does not wait."""
+        return self._send(requests.delete(path, version))
+
+    def sync_async(self, path: str = "/") -> concurrent.futures.Future[str]:
+        """`sync`, which does not wait."""
+        return self._send(lane.sync(path))
+
+    def get_acls_async(self, path: str) -> concurrent.futures.Future[tuple[list[ACL], Stat]]:
+        """`get_acls`, which does not wait."""
+        return self._send(lane.get_acls(path))
+
+    def set_acls_async(
+        self, path: str, acls: Sequence[ACL], version: int = -1
+    ) -> concurrent.futures.Future[Stat]:
+        """`set_acls`, which does not wait."""
+        return self._send(lane.set_acls(path, acls, version))
 
     def follow(self, path: str) -> Generator[Kept, None, None]:
         """Yields what a node holds, and again whenever that has changed, through reconnects and new sessions.
@@ -308,25 +516,69 @@ class Client(Shown):
             except NoNodeError:
                 self.exists(path, watch=True)
 
-    def _ask(self, request: Request[Result], timeout: Optional[float] = None) -> Result:
+    def _call(self, request: AnyRequest[Result], timeout: Optional[float] = None) -> Result:
+        return self._run(plans.one(request), timeout)
+
+    def _run(self, plan: Plan[Result], timeout: Optional[float] = None) -> Result:
+        """Asks what a plan asks for, one request after the other, within so many seconds in all."""
+        until = None if timeout is None else time.monotonic() + timeout
+        try:
+            request = next(plan)
+            while True:
+                try:
+                    answer = self._ask_by_policy(request, until)
+                except ZookeeperError as error:
+                    request = plan.throw(error)
+                else:
+                    request = plan.send(answer)
+        except StopIteration as end:
+            result: Result = end.value
+            return result
+
+    def _ask_by_policy(self, request: AnyRequest[Any], until: Optional[float]) -> Any:
+        attempts = (self._retry or ONCE).attempts()
+        while True:
+            left = None if until is None else until - time.monotonic()
+            try:
+                return self._ask(request, timeout=left)
+            except ZookeeperError as error:
+                pause = attempts.after(error)
+                if until is not None and time.monotonic() + pause > until:
+                    raise
+            time.sleep(pause)
+
+    def _ask(
+        self, request: AnyRequest[Result], patience: Optional[float] = None, timeout: Optional[float] = None
+    ) -> Result:
         self._check_process()
         waiter = _Waiter()
         try:
-            self._engine.ask(moment(), request, waiter)
+            self._engine.ask(moment(), request, waiter, timeout)
             threads = self._threads()
             if threads is not None:
                 threads.loop.act()
-            result: Result = waiter.result(timeout)
+            result: Result = waiter.result(patience)
             return result
         except BaseException:
             waiter.cancel()
             raise
 
+    def _send(self, request: AnyRequest[Any]) -> _Future:
+        self._check_process()
+        future = _Future(self._tell)
+        self._engine.ask(moment(), request, future)
+        threads = self._threads()
+        if threads is not None:
+            threads.loop.act()
+        return future
+
     def _wait_until_connected(self, timeout: Optional[float]) -> bool:
         until = None if timeout is None else time.monotonic() + timeout
         news = _News()
         with self._engine.news(news.set):
-            while not self.connected:
+            while not self._engine.is_introduced():
+                if self._engine.refused is not None:
+                    raise self._engine.refused
                 if not self._engine.is_running:
                     raise ConnectionClosedError("the client was stopped")
                 left = None if until is None else until - time.monotonic()
@@ -346,15 +598,24 @@ class Client(Shown):
         if not self._is_here():
             raise ConnectionClosedError("the client was started in another process, before a fork: make one here")
 
-    def _tell(self, function: Callable[[Any], object], argument: Any) -> None:
+    def _tell(self, function: Callable[[Any], object], argument: Any) -> bool:
+        """Has the thread of the callbacks call a function, if there is one."""
         threads = self._threads()
         if threads is not None:
             threads.callbacks.tell(function, argument)
+        return threads is not None
+
+    def _leave(self) -> None:
+        """Ends the threads and the connection, at the end of the program. The session goes on for its timeout."""
+        threads = self._threads()
+        if threads is not None and threads.are_here():
+            threads.loop.stop(self._engine.leave, LONGEST_LEAVING)
 
     def _begin_threads(self) -> None:
         if self._threads() is None:
-            threads = _Threads(self._servers, self._engine)
+            threads = _Threads(self._servers, self._engine, self._tls)
             if self._running.setdefault("threads", threads) is threads:
+                _started.add(self)
                 threads.start()
             else:
                 threads.loop.stop(lambda: None)
@@ -368,3 +629,12 @@ class Client(Shown):
         if threads is not None:
             self._running.pop("threads", None)
             threads.callbacks.stop()
+
+
+_started: weakref.WeakSet[Client] = weakref.WeakSet()
+
+
+@atexit.register
+def _leave_all() -> None:
+    for client in list(_started):
+        client._leave()

@@ -7,6 +7,7 @@ from typing import Optional
 __all__ = [
     "BadArgumentsError",
     "BadVersionError",
+    "CallTimeoutError",
     "ConnectionClosedError",
     "ConnectionLoss",
     "InvalidACLError",
@@ -20,6 +21,7 @@ __all__ = [
     "SessionMovedError",
     "TooLargeError",
     "TooManyWatchesError",
+    "TransactionFailedError",
     "UnimplementedError",
     "ZookeeperError",
 ]
@@ -33,15 +35,25 @@ class ZookeeperError(Exception):
 
     code: Optional[int] = None
 
+    may_have_happened: bool = False
+    """Whether a change that was asked for may have happened, or may still: to ask again might do it twice."""
+
 
 class ConnectionLoss(ZookeeperError):
     """The connection ended before the reply. A read has changed nothing; a write may or may not have happened."""
 
     code = -4
+    may_have_happened = True
 
 
 class NotConnectedError(ConnectionLoss):
     """No server accepted the session within its timeout. Nothing was sent, so nothing has happened."""
+
+    may_have_happened = False
+
+
+class CallTimeoutError(ZookeeperError, TimeoutError):
+    """No answer came within the `timeout` of the call. Where `may_have_happened` is true, it may still happen."""
 
 
 class UnimplementedError(ZookeeperError):
@@ -63,7 +75,7 @@ class NoNodeError(ZookeeperError):
 
 
 class NoAuthError(ZookeeperError):
-    """The node's ACL does not admit this client, which has no credentials."""
+    """The node's ACL does not admit this client with the credentials that it has."""
 
     code = -102
 
@@ -99,7 +111,7 @@ class SessionExpiredError(ZookeeperError):
 
 
 class InvalidACLError(ZookeeperError):
-    """The server refuses the ACL, which is always the open one."""
+    """The server refuses the ACL."""
 
     code = -114
 
@@ -118,22 +130,30 @@ class TooManyWatchesError(ZookeeperError):
     """65,536 paths are watched for their data, or as many for their children. Nothing was sent."""
 
 
+class TransactionFailedError(ZookeeperError):
+    """An operation of a transaction was refused, so that none of them has happened."""
+
+    def __init__(self, message: str, index: int = 0, error: Optional[ZookeeperError] = None) -> None:
+        super().__init__(message, index, error)
+        self.index = index
+        """Which operation was refused, from 0 on."""
+        self.error = error
+        """Why it was."""
+        self.code = error.code if error is not None else None
+
+    def __str__(self) -> str:
+        return str(self.args[0])
+
+
 class TooLargeError(ZookeeperError):
     """The request would have more than 1,048,575 bytes. Nothing was sent."""
 
 
-_BY_CODE: dict[int, type[ZookeeperError]] = {
-    kind.code: kind
-    for kind in ZookeeperError.__subclasses__()
-    if kind.code is not None
-}
-
-
 def error_of(code: int) -> ZookeeperError:
     """The error of a code that a server answered. One without a class of its own is a plain `ZookeeperError`."""
-    kind = _BY_CODE.get(code)
-    if kind is not None:
-        return kind(f"the server answered {code}")
+    for kind in ZookeeperError.__subclasses__():
+        if kind.code == code:
+            return kind(f"the server answered {code}")
     error = ZookeeperError(f"the server answered {code}")
     error.code = code
     return error

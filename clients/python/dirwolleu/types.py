@@ -6,7 +6,7 @@ import enum
 from dataclasses import dataclass
 from typing import Callable, NamedTuple, Optional, Union
 
-__all__ = ["DataStat", "EventType", "Kept", "KeptChildren", "Mark", "Stat", "State", "Watch", "WatchedEvent"]
+__all__ = ["DataStat", "EventType", "Kept", "KeptChildren", "Mark", "Stat", "State", "Stats", "Watch", "WatchedEvent"]
 
 
 class State(str, enum.Enum):
@@ -89,6 +89,34 @@ class DataStat(NamedTuple):
     version: int
     ephemeral_owner: int
     data_length: int
+
+
+class Stats(NamedTuple):
+    """What a client has counted since it was made, and how it is now."""
+
+    dials: int
+    """How many attempts to connect there were."""
+
+    connections: int
+    """How many connections had a server that accepted the session."""
+
+    expiries: int
+    """How many sessions have expired."""
+
+    answered: int
+    """How many calls a server has answered, with a result or an error."""
+
+    lost: int
+    """How many calls have ended without an answer: a connection or a session went, or their own timeout."""
+
+    waiting: int
+    """How many calls wait to be sent now."""
+
+    in_flight: int
+    """How many calls were sent and wait for their answers now."""
+
+    round_trip: Optional[float]
+    """How long answers to calls and pings take of late, in seconds, or None where none came yet."""
 
 
 @dataclass(frozen=True)

@@ -24,11 +24,17 @@ from dirwolleu import (
 )
 from dirwolleu import _requests as requests
 from dirwolleu._engine import Engine
-from dirwolleu._frames import Frames
+from dirwolleu._frames import Frames, Kind, Piece
 from dirwolleu._library import Answer, Halted, Machine
 from dirwolleu.exceptions import error_of
 
-Future = concurrent.futures.Future
+
+
+class Future(concurrent.futures.Future[Any]):
+    """What waits for an answer here."""
+
+    def begin(self) -> bool:
+        return not self.done()
 
 
 class EngineTest(support.PartnerCase):
@@ -41,8 +47,8 @@ class EngineTest(support.PartnerCase):
         self.engine.received(100, CONNECT_RESPONSE)
         self.engine.take_frames()
 
-    def ask(self, request: requests.Request[Any]) -> Future[Any]:
-        waiter: Future[Any] = Future()
+    def ask(self, request: requests.Request[Any]) -> Future:
+        waiter: Future = Future()
         self.engine.ask(200, request, waiter)
         self.engine.take_handed(200)
         return waiter
@@ -94,22 +100,32 @@ class EngineTest(support.PartnerCase):
         self.assertEqual((kept.mark, kept.data, kept.last_zxid), (Mark.GOOD, b"one", 9))
 
     def test_a_request_that_is_given_up_before_it_is_sent_is_not_sent(self) -> None:
-        waiter: Future[Any] = Future()
+        waiter: Future = Future()
         self.engine.ask(200, requests.get("/a", None), waiter)
         waiter.cancel()
         self.engine.take_handed(200)
         self.assertEqual(self.engine.take_frames()[0], b"")
 
     def test_frames_are_cut_however_they_come(self) -> None:
-        answers = [reply(1, 9, 0, buffer(b"one") + STAT_BYTES), reply(-2, 9), reply(-1, -1, 0, b"short"), reply(-2, 9)]
+        answers = [
+            CONNECT_RESPONSE, reply(1, 9, 0, buffer(b"one") + STAT_BYTES), reply(-2, 9), reply(-1001, 9, 0, b"lane"),
+            reply(-1, -1, 0, b"short"), reply(-4, 0), reply(-2, 9), struct.pack(">i", 2) + b"ab", reply(-1002, 9),
+        ]  # fmt: skip
+        whole = b"".join(answers)
         for size in range(1, 60):
-            frames, came = Frames(), list[tuple[bytes, bool]]()
-            whole = b"".join(answers)
+            frames, came = Frames(), list[Piece]()
             for begin in range(0, len(whole), size):
                 came.extend(frames.cut(whole[begin : begin + size]))
-            self.assertEqual(b"".join(piece for piece, _ in came), whole)
-            self.assertEqual(sum(is_ping_answered for _, is_ping_answered in came), 2)
-        self.assertEqual([piece for piece, _ in Frames().cut(whole)], answers)
+            self.assertEqual(b"".join(piece.data for piece in came), whole)
+            self.assertEqual(sum(piece.kind is Kind.PONG for piece in came), 2)
+            of_lane = [piece.data for piece in came if piece.kind is Kind.LANE]
+            self.assertEqual(of_lane, [answers[3], answers[5], answers[8]])
+        self.assertEqual([piece.data for piece in Frames().cut(whole)], answers)
+
+    def test_a_frame_that_is_too_long_goes_on_at_once(self) -> None:
+        for length in (-1, 4_194_305, 2_147_483_647):
+            data = reply(1, 9) + struct.pack(">ii", length, -1001) + b"more"
+            self.assertEqual(b"".join(piece.data for piece in Frames().cut(data)), data)
 
     def test_an_interrupt_within_a_step_leaves_the_session(self) -> None:
         lost, session = self.ask(requests.get("/b", None)), self.engine.session_id()

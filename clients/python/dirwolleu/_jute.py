@@ -1,0 +1,86 @@
+"""Records as zookeeper.jute spells them, as far as the lane needs them."""
+
+from __future__ import annotations
+
+import struct
+from collections.abc import Iterable
+from typing import Callable, Optional, TypeVar
+
+from dirwolleu.security import ACL, Id
+from dirwolleu.types import Stat
+
+Item = TypeVar("Item")
+_STAT = struct.Struct(">qqqqiiiqiiq")
+
+
+class Malformed(Exception):
+    """The bytes of an answer do not read."""
+
+
+def integer(value: int) -> bytes:
+    try:
+        return struct.pack(">i", value)
+    except struct.error:
+        raise ValueError(f"{value} does not fit into 32 bits") from None
+
+
+def boolean(value: bool) -> bytes:
+    return b"\1" if value else b"\0"
+
+
+def buffer(value: Optional[bytes]) -> bytes:
+    return integer(-1) if value is None else integer(len(value)) + value
+
+
+def text(value: str) -> bytes:
+    return buffer(value.encode())
+
+
+def acls(values: Iterable[ACL]) -> bytes:
+    spelled = [integer(acl.perms) + text(acl.id.scheme) + text(acl.id.id) for acl in values]
+    return integer(len(spelled)) + b"".join(spelled)
+
+
+class Reader:
+    """Takes the fields of a record, from left to right. Each function raises `Malformed`."""
+
+    def __init__(self, payload: bytes) -> None:
+        self._payload, self._place = payload, 0
+
+    def _take(self, count: int) -> bytes:
+        taken = self._payload[self._place : self._place + max(count, 0)]
+        if count < 0 or len(taken) < count:
+            raise Malformed
+        self._place += count
+        return taken
+
+    def integer(self) -> int:
+        return int(struct.unpack(">i", self._take(4))[0])
+
+    def long(self) -> int:
+        return int(struct.unpack(">q", self._take(8))[0])
+
+    def boolean(self) -> bool:
+        return self._take(1) != b"\0"
+
+    def text(self) -> str:
+        try:
+            return self._take(self.integer()).decode()
+        except UnicodeDecodeError:
+            raise Malformed from None
+
+    def stat(self) -> Stat:
+        czxid, mzxid, ctime, mtime, version, cversion, aversion, owner, length, children, pzxid = _STAT.unpack(
+            self._take(_STAT.size)
+        )
+        return Stat(czxid, mzxid, ctime, mtime, version, cversion, aversion, owner, length, children, pzxid)
+
+    def acl(self) -> ACL:
+        return ACL(self.integer(), Id(self.text(), self.text()))
+
+    def items(self, take: Callable[[], Item]) -> list[Item]:
+        """A vector, each item of which is taken by a function."""
+        count = self.integer()
+        if count > len(self._payload):
+            raise Malformed
+        return [take() for _ in range(count)]

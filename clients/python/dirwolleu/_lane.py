@@ -1,0 +1,204 @@
+"""The lane: requests that the host writes beside those of the core, and takes the answers to out of the stream.
+
+What the core says of the servers' history stays exact, since no request of the lane leaves, moves or removes a watch,
+and none ends the session: `Operation` names all that there are. README.md says more.
+"""
+
+from __future__ import annotations
+
+import collections
+import enum
+import itertools
+import struct
+from collections.abc import Sequence
+from dataclasses import dataclass
+from typing import Any, Callable, Generic, NamedTuple, Optional, Protocol, TypeVar
+
+from dirwolleu import _jute as jute
+from dirwolleu._frames import AUTH_XID, LANE_XID
+from dirwolleu._jute import Reader
+from dirwolleu._requests import Result
+from dirwolleu._root import Root
+from dirwolleu.exceptions import TooLargeError, error_of
+from dirwolleu.security import ACL, OPEN_ACL_UNSAFE
+from dirwolleu.types import Stat
+
+LONGEST_REQUEST = 1_048_575
+MOST_PENDING = 1024
+"""How many requests of the lane wait for their answers at most; the others wait to be sent."""
+_EPHEMERAL, _SEQUENTIAL = 1, 2
+
+
+class Operation(enum.IntEnum):
+    """What the lane lets through, with ZooKeeper's numbers."""
+
+    CREATE = 1
+    GET_ACL = 6
+    SET_ACL = 7
+    SYNC = 9
+    MULTI = 14
+    CREATE2 = 15
+    AUTH = 100
+
+
+class Created(NamedTuple):
+    """A node that was made."""
+
+    path: str
+    stat: Stat
+
+
+@dataclass(frozen=True)
+class LaneRequest(Generic[Result]):
+    """A request of the lane, whose answer brings a result of this type."""
+
+    operation: Operation
+    body: Callable[[Root], bytes]
+    read: Callable[[Reader, Root], Result]
+    is_repeatable: bool = False
+    """Whether it does no harm to ask it again where it may have happened."""
+
+    def payload(self, xid: int, root: Root) -> bytes:
+        """The request's bytes, without their length. Raises `ValueError` and `TooLargeError`."""
+        payload = struct.pack(">ii", xid, self.operation) + self.body(root)
+        if len(payload) > LONGEST_REQUEST:
+            raise TooLargeError(f"the request would have more than {LONGEST_REQUEST:,} bytes")
+        return payload
+
+    def result(self, code: int, body: bytes, root: Root) -> Result:
+        """What an answer brings, or raises its error. Raises `Malformed` where it does not read."""
+        if code:
+            raise error_of(code)
+        return self.read(Reader(body), root)
+
+
+class Waiting(Protocol):
+    """One who has asked."""
+
+    sent_at: int
+
+
+Asker = TypeVar("Asker", bound=Waiting)
+
+
+class Reply(NamedTuple):
+    """An answer to a request of the lane, without its xid."""
+
+    zxid: int
+    code: int
+    body: bytes
+
+
+class Lane(Generic[Asker]):
+    """The requests of the lane on one connection, in the order in which they were written."""
+
+    def __init__(self) -> None:
+        self._xids = itertools.count(LANE_XID, -1)
+        self._waiting: collections.deque[tuple[int, Asker]] = collections.deque()
+        self._introduced: collections.deque[tuple[int, Asker]] = collections.deque()
+
+    def is_full(self) -> bool:
+        return len(self._waiting) >= MOST_PENDING
+
+    def frame(self, request: LaneRequest[Any], root: Root, asker: Asker) -> bytes:
+        """The frame of a request, which waits for its answer from now on."""
+        is_auth = request.operation is Operation.AUTH
+        xid = AUTH_XID if is_auth else next(self._xids)
+        payload = request.payload(xid, root)
+        (self._introduced if is_auth else self._waiting).append((xid, asker))
+        return struct.pack(">i", len(payload)) + payload
+
+    def take(self, frame: bytes) -> Optional[tuple[Asker, Reply]]:
+        """Who waits for the answer that a frame is, and the answer. None where it answers no request of the lane."""
+        xid, zxid, code = struct.unpack(">iqi", frame[4:20])
+        waiting = self._introduced if xid == AUTH_XID else self._waiting
+        if not waiting or waiting[0][0] != xid:
+            return None
+        return waiting.popleft()[1], Reply(zxid, code, frame[20:])
+
+    def pending(self) -> list[Asker]:
+        """Who waits for an answer, those with credentials first, and else in the order in which they asked."""
+        return [asker for _, asker in [*self._introduced, *self._waiting]]
+
+    def oldest(self) -> Optional[int]:
+        """When the request was sent that waits longest."""
+        heads = [waiting[0][1].sent_at for waiting in (self._introduced, self._waiting) if waiting]
+        return min(heads, default=None)
+
+    def introduces(self) -> bool:
+        """Whether credentials wait for their answer."""
+        return bool(self._introduced)
+
+
+def _full(root: Root, path: str) -> bytes:
+    return jute.text(root.full(path))
+
+
+def _nothing(*_: object) -> None:
+    return None
+
+
+def auth(scheme: str, credential: bytes) -> LaneRequest[None]:
+    spelled = jute.integer(0) + jute.text(scheme) + jute.buffer(credential)
+    return LaneRequest(Operation.AUTH, lambda root: spelled, _nothing, is_repeatable=True)
+
+
+def sync(path: str) -> LaneRequest[str]:
+    return LaneRequest(
+        Operation.SYNC,
+        lambda root: _full(root, path),
+        lambda reader, root: root.own(reader.text()),
+        is_repeatable=True,
+    )
+
+
+def get_acls(path: str) -> LaneRequest[tuple[list[ACL], Stat]]:
+    return LaneRequest(
+        Operation.GET_ACL,
+        lambda root: _full(root, path),
+        lambda reader, _: (reader.items(reader.acl), reader.stat()),
+        is_repeatable=True,
+    )
+
+
+def set_acls(path: str, acls: Sequence[ACL], version: int) -> LaneRequest[Stat]:
+    spelled = jute.acls(acls) + jute.integer(version)
+    return LaneRequest(
+        Operation.SET_ACL, lambda root: _full(root, path) + spelled, lambda reader, _: reader.stat()
+    )
+
+
+def flags_of(ephemeral: bool, sequence: bool) -> int:
+    return _EPHEMERAL * ephemeral + _SEQUENTIAL * sequence
+
+
+def create_body(
+    path: str, value: Optional[bytes], acl: Optional[Sequence[ACL]], ephemeral: bool, sequence: bool
+) -> Callable[[Root], bytes]:
+    """What a request that makes a node says, after its header."""
+    if value is not None and not isinstance(value, bytes):
+        raise TypeError(f"data are bytes or None, and not {type(value).__name__}")
+    spelled = (
+        jute.buffer(value)
+        + jute.acls(OPEN_ACL_UNSAFE if acl is None else acl)
+        + jute.integer(flags_of(ephemeral, sequence))
+    )
+    if sequence and path == "/":
+        raise ValueError("the digits would be part of the root's own name")
+    return lambda root: _full(root, path) + spelled
+
+
+def create(
+    path: str, value: Optional[bytes], acl: Optional[Sequence[ACL]], ephemeral: bool, sequence: bool
+) -> LaneRequest[str]:
+    body = create_body(path, value, acl, ephemeral, sequence)
+    return LaneRequest(Operation.CREATE, body, lambda reader, root: root.own(reader.text()))
+
+
+def create2(
+    path: str, value: Optional[bytes], acl: Optional[Sequence[ACL]], ephemeral: bool, sequence: bool
+) -> LaneRequest[Created]:
+    body = create_body(path, value, acl, ephemeral, sequence)
+    return LaneRequest(
+        Operation.CREATE2, body, lambda reader, root: Created(root.own(reader.text()), reader.stat())
+    )

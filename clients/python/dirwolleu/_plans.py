@@ -1,0 +1,91 @@
+"""What is more than one request: each plan yields requests, and is sent their results or thrown their errors."""
+
+from __future__ import annotations
+
+import dataclasses
+from collections.abc import Generator, Sequence
+from typing import Any, Optional, Union
+
+from dirwolleu import _lane as lane
+from dirwolleu import _requests as requests
+from dirwolleu._lane import LaneRequest
+from dirwolleu._requests import Request, Result
+from dirwolleu.exceptions import NodeExistsError, NoNodeError, NotEmptyError
+from dirwolleu.security import ACL
+
+AnyRequest = Union[Request[Result], LaneRequest[Result]]
+Plan = Generator[Union[Request[Any], LaneRequest[Any]], Any, Result]
+Acls = Optional[Sequence[ACL]]
+
+
+def parent_of(path: str) -> str:
+    return path.rpartition("/")[0] or "/"
+
+
+def child_of(path: str, name: str) -> str:
+    return f"/{name}" if path == "/" else f"{path}/{name}"
+
+
+def one(request: AnyRequest[Result]) -> Plan[Result]:
+    """A request alone."""
+    result: Result = yield request
+    return result
+
+
+def create_request(path: str, value: Optional[bytes], acl: Acls, ephemeral: bool, sequence: bool) -> AnyRequest[str]:
+    """A node that is open to all is made by the core, and one with an ACL by the lane."""
+    if acl is None:
+        return requests.create(path, value, ephemeral, sequence)
+    return lane.create(path, value, acl, ephemeral, sequence)
+
+
+def ensure_path(path: str, acl: Acls) -> Plan[None]:
+    """Makes a node and those above it, as far as they are not there."""
+    missing: list[str] = []
+    while (yield requests.exists(path, None)) is None:
+        missing.append(path)
+        if path == "/":
+            break
+        path = parent_of(path)
+    for path in reversed(missing):
+        try:
+            yield dataclasses.replace(create_request(path, b"", acl, False, False), is_repeatable=True)
+        except NodeExistsError:
+            pass
+
+
+def create(request: AnyRequest[Result], path: str, acl: Acls, makepath: bool) -> Plan[Result]:
+    """Makes a node, and those above it where `makepath` is true."""
+    result: Result
+    try:
+        result = yield request
+    except NoNodeError:
+        if not makepath or path == "/":
+            raise
+        yield from ensure_path(parent_of(path), acl)
+        result = yield request
+    return result
+
+
+def delete(path: str, version: int, recursive: bool) -> Plan[None]:
+    """Deletes a node, and all below it where `recursive` is true."""
+    if recursive:
+        return (yield from _delete_all(path, version))
+    yield requests.delete(path, version)
+
+
+def _delete_all(path: str, version: int) -> Plan[None]:
+    while True:
+        try:
+            yield dataclasses.replace(requests.delete(path, version), is_repeatable=version == -1)
+            return
+        except NoNodeError:
+            return
+        except NotEmptyError:
+            pass
+        try:
+            names: list[str] = yield requests.get_children(path, None)
+        except NoNodeError:
+            return
+        for name in names:
+            yield from _delete_all(child_of(path, name), -1)

@@ -1,0 +1,99 @@
+"""When a call is asked again."""
+
+from __future__ import annotations
+
+import itertools
+import random
+import time
+from collections.abc import Iterator
+from dataclasses import dataclass
+from typing import Optional
+
+from dirwolleu.exceptions import (
+    ConnectionClosedError,
+    ConnectionLoss,
+    SessionExpiredError,
+    SessionMovedError,
+    ZookeeperError,
+)
+
+_THROTTLED = -127
+_PASSING = (ConnectionLoss.code, SessionExpiredError.code, SessionMovedError.code, _THROTTLED)
+
+
+def is_passing(error: ZookeeperError) -> bool:
+    """Whether a later try may bring what this one did not: the connection or the session went, or the server is busy.
+    """
+    return not isinstance(error, ConnectionClosedError) and error.code in _PASSING
+
+
+@dataclass(frozen=True)
+class Retry:
+    """A policy: how often a call is asked, and how long it pauses between two tries.
+
+    A call is asked again where its connection or its session went, or the server was busy, and only where that can't
+    do a change twice: what reads, what was surely not sent, and what is the same when it is done twice, such as
+    `ensure_path`. A write whose connection ended before its answer is not asked again: `ConnectionLoss` is raised, with
+    `may_have_happened` true. After an expiry a call goes on in the new session.
+
+        retry = Retry(tries=5, deadline=30.0)
+        client = Client("127.0.0.1:2181", retry=retry)           # for each call
+        stat = client.retry(client.exists, "/config")            # or for these alone
+    """
+
+    tries: Optional[int] = 5
+    """How often a call is asked at most; None is no bound."""
+
+    deadline: Optional[float] = None
+    """For how many seconds tries begin; None is no bound."""
+
+    pause: float = 0.1
+    """The first pause in seconds. Each one is twice the one before."""
+
+    chance: float = 0.5
+    """Which part of a pause is left to chance, from 0 to 1, so that many clients do not come back at one moment."""
+
+    longest_pause: float = 10.0
+    """The longest pause, in seconds."""
+
+    def __post_init__(self) -> None:
+        if self.tries is not None and self.tries < 1:
+            raise ValueError("a call is asked once at least")
+        if not 0 <= self.chance <= 1 or self.pause < 0 or self.longest_pause < 0:
+            raise ValueError("pauses are not below 0, and the part that is left to chance is 0 to 1")
+
+    def attempts(self) -> Attempts:
+        """The tries of one call, which begin now."""
+        return Attempts(self)
+
+    def pauses(self) -> Iterator[float]:
+        """The pauses between tries, with their chance.
+
+        >>> list(Retry(tries=4, pause=1.0, chance=0.0).pauses())
+        [1.0, 2.0, 4.0]
+        """
+        count = itertools.count() if self.tries is None else range(self.tries - 1)
+        for number in count:
+            pause = min(self.pause * 2.0 ** min(number, 64), self.longest_pause)
+            yield pause * (1 - self.chance * random.random())
+
+
+class Attempts:
+    """The tries of one call."""
+
+    def __init__(self, retry: Retry) -> None:
+        self._pauses = retry.pauses()
+        self._until = None if retry.deadline is None else time.monotonic() + retry.deadline
+
+    def after(self, error: ZookeeperError) -> float:
+        """How many seconds to wait before the call is asked again. Raises the error where it is not."""
+        if error.may_have_happened or not is_passing(error):
+            raise error
+        pause = next(self._pauses, None)
+        if pause is None or self._until is not None and time.monotonic() + pause > self._until:
+            raise error
+        return pause
+
+
+ONCE = Retry(tries=1)
+"""Nothing is asked again."""

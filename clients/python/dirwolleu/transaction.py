@@ -1,0 +1,171 @@
+"""Several changes that happen together or not at all."""
+
+from __future__ import annotations
+
+from collections.abc import Awaitable
+from types import TracebackType
+from typing import Callable, NamedTuple, Optional, Union
+
+from dirwolleu import _jute as jute
+from dirwolleu import _lane as lane
+from dirwolleu._jute import Malformed, Reader
+from dirwolleu._lane import LaneRequest, Operation
+from dirwolleu._plans import Acls
+from dirwolleu._root import Root
+from dirwolleu.exceptions import TransactionFailedError, error_of
+from dirwolleu.types import Stat
+
+__all__ = ["AsyncTransaction", "Outcome", "Transaction"]
+
+Outcome = Union[str, Stat, None]
+"""What an operation brings: the path of a node that was made, the Stat of one that was set, else None."""
+
+_DELETE, _SET_DATA, _CHECK, _ERROR = 2, 5, 13, -1
+_ROLLED_BACK, _NOT_TRIED = 0, -2
+
+
+class _Part(NamedTuple):
+    """One operation: its number, its body, and what takes its result."""
+
+    operation: int
+    body: Callable[[Root], bytes]
+    read: Callable[[Reader, Root], Outcome]
+
+
+def _header(operation: int, is_last: bool) -> bytes:
+    return jute.integer(operation) + jute.boolean(is_last) + jute.integer(-1)
+
+
+def _full(path: str, more: bytes) -> Callable[[Root], bytes]:
+    return lambda root: jute.text(root.full(path)) + more
+
+
+class _Operations:
+    """The operations of a transaction, which both kinds have."""
+
+    def __init__(self) -> None:
+        self._parts: list[_Part] = []
+
+    def create(
+        self,
+        path: str,
+        value: Optional[bytes] = b"",
+        *,
+        acl: Acls = None,
+        ephemeral: bool = False,
+        sequence: bool = False,
+    ) -> None:
+        """Makes a node. Its result is its path."""
+        body = lane.create_body(path, value, acl, ephemeral, sequence)
+        self._parts.append(_Part(Operation.CREATE, body, lambda reader, root: root.own(reader.text())))
+
+    def delete(self, path: str, version: int = -1) -> None:
+        """Deletes a node of this version, where -1 is any. Its result is None."""
+        self._parts.append(_Part(_DELETE, _full(path, jute.integer(version)), lambda *_: None))
+
+    def set_data(self, path: str, value: Optional[bytes], version: int = -1) -> None:
+        """Sets the data of a node of this version, where -1 is any. Its result is the node's `Stat`."""
+        body = _full(path, jute.buffer(value) + jute.integer(version))
+        self._parts.append(_Part(_SET_DATA, body, lambda reader, _: reader.stat()))
+
+    def check(self, path: str, version: int) -> None:
+        """Lets the transaction happen only if the node has this version, where -1 is any. Its result is None."""
+        self._parts.append(_Part(_CHECK, _full(path, jute.integer(version)), lambda *_: None))
+
+    def __len__(self) -> int:
+        return len(self._parts)
+
+    def request(self) -> LaneRequest[list[Outcome]]:
+        """All of it, as one request."""
+        parts = list(self._parts)
+
+        def body(root: Root) -> bytes:
+            spelled = [_header(part.operation, False) + part.body(root) for part in parts]
+            return b"".join(spelled) + _header(-1, True)
+
+        return LaneRequest(Operation.MULTI, body, lambda reader, root: _outcomes(parts, reader, root))
+
+
+def _outcomes(parts: list[_Part], reader: Reader, root: Root) -> list[Outcome]:
+    """What each operation has brought. Raises the error of the one that was refused."""
+    outcomes: list[Outcome] = []
+    codes: list[int] = []
+    for part in parts:
+        operation, _, _ = reader.integer(), reader.boolean(), reader.integer()
+        if operation == _ERROR:
+            codes.append(reader.integer())
+        elif operation == part.operation:
+            outcomes.append(part.read(reader, root))
+        else:
+            raise Malformed
+    if codes:
+        _raise(codes)
+    return outcomes
+
+
+def _raise(codes: list[int]) -> None:
+    refused = [index for index, code in enumerate(codes) if code not in (_ROLLED_BACK, _NOT_TRIED)]
+    index = refused[0] if refused else 0
+    error = error_of(codes[index])
+    raise TransactionFailedError(f"operation {index} was refused: {error}", index, error) from error
+
+
+class Transaction(_Operations):
+    """Several changes that happen together or not at all, in their order.
+
+    `commit` sends them. Within `with`, the end of the block does, unless an error leaves it.
+
+        with client.transaction() as transaction:
+            transaction.check("/config", version=3)
+            transaction.set_data("/config", b"new")
+            transaction.create("/log/n-", b"changed", sequence=True)
+        path = transaction.results[2]
+    """
+
+    def __init__(self, ask: Callable[[LaneRequest[list[Outcome]], Optional[float]], list[Outcome]]) -> None:
+        super().__init__()
+        self._ask = ask
+        self.results: list[Outcome] = []
+        """What each operation has brought, in their order; nothing before `commit`."""
+
+    def commit(self, timeout: Optional[float] = None) -> list[Outcome]:
+        """Does all of it, and tells what each operation has brought.
+
+        Raises `TransactionFailedError` where one is refused; then nothing has happened. `ConnectionLoss` and
+        `CallTimeoutError` say that all of it may have happened.
+        """
+        self.results = self._ask(self.request(), timeout)
+        return self.results
+
+    def __enter__(self) -> Transaction:
+        return self
+
+    def __exit__(
+        self, kind: Optional[type[BaseException]], error: Optional[BaseException], trace: Optional[TracebackType]
+    ) -> None:
+        if error is None:
+            self.commit()
+
+
+class AsyncTransaction(_Operations):
+    """A `Transaction` of the client for asyncio: `commit` is a coroutine, and `async with` does it at its end."""
+
+    def __init__(self, ask: Callable[[LaneRequest[list[Outcome]], Optional[float]], Awaitable[list[Outcome]]]) -> None:
+        super().__init__()
+        self._ask = ask
+        self.results: list[Outcome] = []
+        """What each operation has brought, in their order; nothing before `commit`."""
+
+    async def commit(self, timeout: Optional[float] = None) -> list[Outcome]:
+        """Does all of it, as `Transaction.commit` does."""
+        self.results = await self._ask(self.request(), timeout)
+        return self.results
+
+    async def __aenter__(self) -> AsyncTransaction:
+        return self
+
+    async def __aexit__(
+        self, kind: Optional[type[BaseException]], error: Optional[BaseException], trace: Optional[TracebackType]
+    ) -> None:
+        if error is None:
+            await self.commit()

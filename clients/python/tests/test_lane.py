@@ -1,0 +1,340 @@
+"""Tests of the lane, with frames as ZooKeeper 3.8.0 has answered them, and as zookeeper.jute spells them."""
+
+from __future__ import annotations
+
+import concurrent.futures
+import queue
+import struct
+import threading
+import unittest
+from typing import Any, Callable
+
+from support import GET_DATA, SET_WATCHES, STAT, WAIT, Asked, PartnerCase, Peer, data_reply, notice, reply, within
+
+from dirwolleu import (
+    AuthFailedError,
+    BadVersionError,
+    Client,
+    ConnectionLoss,
+    Mark,
+    NoAuthError,
+    NodeExistsError,
+    TooLargeError,
+    TransactionFailedError,
+    UnimplementedError,
+    WatchedEvent,
+    security,
+)
+from dirwolleu._lane import Operation
+from dirwolleu.types import Stat
+
+CREATE, GET_ACL, SET_ACL, SYNC, MULTI, CREATE2, AUTH = 1, 6, 7, 9, 14, 15, 100
+
+
+def text(value: str) -> bytes:
+    return struct.pack(">i", len(value.encode())) + value.encode()
+
+
+def header(kind: int, is_last: bool = False, code: int = -1) -> bytes:
+    return struct.pack(">ib", kind, is_last) + struct.pack(">i", code)
+
+
+END = header(-1, True)
+OPEN_ACL = struct.pack(">ii", 1, 31) + text("world") + text("anyone")
+
+
+class LaneCase(PartnerCase):
+    def client(self, host: str, timeout: float = 6.0, auth_data: Any = ()) -> Client:
+        client = Client(host, timeout, auth_data=auth_data)
+        self.addCleanup(client.close)
+        self.addCleanup(client._end_threads, client._engine.end)
+        client.start(WAIT)
+        return client
+
+    def serve(self, answer: Callable[[Peer, Asked], None]) -> str:
+        """A server that answers each request by a function."""
+
+        def serve(peer: Peer) -> None:
+            peer.admit()
+            while True:
+                answer(peer, peer.take())
+
+        return self.raw_server(serve).host
+
+    def answering(self, body: bytes = b"", code: int = 0) -> tuple[str, list[Asked]]:
+        """A server that answers each request alike, and what it is asked."""
+        asked: list[Asked] = []
+
+        def answer(peer: Peer, one: Asked) -> None:
+            asked.append(one)
+            peer.send(reply(one, body, code))
+
+        return self.serve(answer), asked
+
+
+class SpellingTest(LaneCase):
+    def test_sync(self) -> None:
+        host, asked = self.answering(text("/app/a"))
+        self.assertEqual(self.client(host + "/app").sync("/a"), "/a")
+        self.assertEqual(asked[0], (-1001, SYNC, text("/app/a")))
+
+    def test_get_acls(self) -> None:
+        body = struct.pack(">ii", 1, 31) + text("digest") + text("bob:x") + STAT
+        host, asked = self.answering(body)
+        acls, stat = self.client(host).get_acls("/a")
+        self.assertEqual(acls, [security.ACL(31, security.Id("digest", "bob:x"))])
+        self.assertEqual(stat, Stat._make(struct.unpack(">qqqqiiiqiiq", STAT)))
+        self.assertEqual(asked[0], (-1001, GET_ACL, text("/a")))
+
+    def test_set_acls(self) -> None:
+        host, asked = self.answering(STAT)
+        self.client(host).set_acls("/a", security.OPEN_ACL_UNSAFE, 7)
+        self.assertEqual(asked[0], (-1001, SET_ACL, text("/a") + OPEN_ACL + struct.pack(">i", 7)))
+
+    def test_create_with_an_acl_and_create2(self) -> None:
+        acl = struct.pack(">ii", 1, 31) + text("auth") + text("")
+        host, asked = self.answering(text("/app/a"))
+        client = self.client(host + "/app")
+        self.assertEqual(client.create("/a", b"x", acl=security.CREATOR_ALL_ACL, ephemeral=True), "/a")
+        self.assertEqual(asked[0], (-1001, CREATE, text("/app/a") + text("x") + acl + struct.pack(">i", 1)))
+        host, asked = self.answering(text("/a0000000000") + STAT)
+        created = self.client(host).create2("/a", None, sequence=True)
+        self.assertEqual((created.path, created.stat.czxid), ("/a0000000000", 5))
+        null = struct.pack(">i", -1)
+        self.assertEqual(asked[0], (-1001, CREATE2, text("/a") + null + OPEN_ACL + struct.pack(">i", 2)))
+
+    def test_a_transaction(self) -> None:
+        body = header(1, code=0) + text("/app/a") + header(5, code=0) + STAT + header(13, code=0) + header(2, code=0)
+        body += END
+        host, asked = self.answering(body)
+        client = self.client(host + "/app")
+        with client.transaction() as transaction:
+            transaction.create("/a", b"x")
+            transaction.set_data("/b", b"y", 3)
+            transaction.check("/c", 4)
+            transaction.delete("/d")
+        self.assertEqual(transaction.results, ["/a", Stat._make(struct.unpack(">qqqqiiiqiiq", STAT)), None, None])
+        spelled = (
+            header(1) + text("/app/a") + text("x") + OPEN_ACL + struct.pack(">i", 0)
+            + header(5) + text("/app/b") + text("y") + struct.pack(">i", 3)
+            + header(13) + text("/app/c") + struct.pack(">i", 4)
+            + header(2) + text("/app/d") + struct.pack(">i", -1) + END
+        )  # fmt: skip
+        self.assertEqual(asked[0], (-1001, MULTI, spelled))
+
+    def test_a_transaction_that_is_refused(self) -> None:
+        codes = (0, -103, -2)
+        body = b"".join(header(-1, code=code) + struct.pack(">i", code) for code in codes) + END
+        host, _ = self.answering(body)
+        transaction = self.client(host).transaction()
+        for path in ("/a", "/b", "/c"):
+            transaction.check(path, 1)
+        with self.assertRaises(TransactionFailedError) as caught:
+            transaction.commit()
+        self.assertEqual((caught.exception.index, caught.exception.code), (1, -103))
+        self.assertIsInstance(caught.exception.error, BadVersionError)
+        self.assertEqual(transaction.results, [])
+
+    def test_what_a_server_refuses(self) -> None:
+        for code, kind in ((-110, NodeExistsError), (-102, NoAuthError), (-6, UnimplementedError)):
+            host, _ = self.answering(code=code)
+            with self.raises(kind, code):
+                self.client(host).create2("/a")
+
+    def test_what_is_not_sent(self) -> None:
+        host, asked = self.answering()
+        client = self.client(host + "/app")
+        with self.raises(TooLargeError, None):
+            client.create2("/a", bytes(1_048_576))
+        for path in ("a", ""):
+            with self.raises(ValueError, None):
+                client.sync(path)
+        with self.raises(TypeError, None):
+            client.create2("/a", "text")  # type: ignore[arg-type]
+        self.assertEqual(asked, [])
+
+    def test_nothing_that_moves_watches_or_ends_the_session_goes_through(self) -> None:
+        self.assertEqual({int(one) for one in Operation}, {CREATE, GET_ACL, SET_ACL, SYNC, MULTI, CREATE2, AUTH})
+
+
+class OrderTest(LaneCase):
+    def test_replies_come_in_the_order_of_both(self) -> None:
+        def answer(peer: Peer, asked: Asked) -> None:
+            data = struct.pack(">i", asked.xid)
+            peer.send(data_reply(asked, data) if asked.kind == GET_DATA else reply(asked, text(str(asked.xid))))
+
+        client, ended = self.client(self.serve(answer)), list[int]()
+        futures: list[Any] = []
+        for number in range(400):
+            future: Any = client.get_async("/a") if number % 3 else client.sync_async("/a")
+            future.add_done_callback(lambda _, number=number: ended.append(number))
+            futures.append(future)
+        concurrent.futures.wait(futures, WAIT)
+        within(lambda: len(ended) == 400)
+        self.assertEqual(ended, list(range(400)))
+        of_lane = [int(future.result()) for future in futures[::3]]
+        self.assertEqual(of_lane, [-1001 - number for number in range(len(of_lane))])
+
+    def test_more_at_once_than_the_lane_takes(self) -> None:
+        host, asked = self.answering(text("/"))
+        client = self.client(host, 60.0)
+        futures = [client.sync_async("/") for _ in range(2500)]
+        self.assertEqual(len(concurrent.futures.wait(futures, 3 * WAIT).done), 2500)
+        self.assertEqual([one.xid for one in asked], [-1001 - number for number in range(2500)])
+
+    def test_what_a_write_of_the_lane_ended_is_stale_when_its_caller_goes_on(self) -> None:
+        def answer(peer: Peer, asked: Asked) -> None:
+            if asked.kind == GET_DATA:
+                peer.send(data_reply(asked, b"one"))
+            else:
+                peer.send(notice("/a"), reply(asked, header(5, code=0) + STAT + END, zxid=6))
+
+        client, events = self.client(self.serve(answer)), queue.Queue[WatchedEvent]()
+        client.get("/a", watch=events.put)
+        with client.transaction() as transaction:
+            transaction.set_data("/a", b"two")
+        kept = client.kept("/a")
+        assert kept is not None
+        self.assertEqual((kept.mark, kept.last_zxid, client.last_zxid), (Mark.STALE, 5, 5))
+        self.assertEqual(events.get(timeout=WAIT).path, "/a")
+
+    def test_a_cut_is_told_to_each_call_of_the_lane(self) -> None:
+        asked, may_end = queue.Queue[Asked](), threading.Event()
+        self.addCleanup(may_end.set)
+
+        def serve(peer: Peer) -> None:
+            peer.admit()
+            for _ in range(3):
+                asked.put(peer.take())
+            may_end.wait(WAIT)
+
+        client = self.client(self.raw_server(serve).host)
+        futures: list[Any] = [client.sync_async("/"), client.get_async("/"), client.sync_async("/b")]
+        for _ in range(3):
+            asked.get(timeout=WAIT)
+        may_end.set()
+        for future in futures:
+            self.assertIsInstance(future.exception(WAIT), ConnectionLoss)
+            self.assertFalse(future.exception().may_have_happened)
+
+    def test_a_write_of_the_lane_that_was_cut_may_have_happened(self) -> None:
+        def serve(peer: Peer) -> None:
+            peer.admit()
+            peer.take()
+
+        client = self.client(self.raw_server(serve).host)
+        with self.assertRaises(ConnectionLoss) as caught:
+            client.create2("/a")
+        self.assertTrue(caught.exception.may_have_happened)
+
+    def test_an_answer_of_another_xid_ends_the_connection(self) -> None:
+        def answer(peer: Peer, asked: Asked) -> None:
+            peer.send(struct.pack(">iqi", -1007, 5, 0) + text("/"))
+
+        client = self.client(self.serve(answer))
+        with self.raises(ConnectionLoss, -4):
+            client.sync("/")
+
+    def test_an_answer_that_does_not_read_ends_the_connection(self) -> None:
+        for body in (b"", b"\0\0\0\5ab", struct.pack(">i", -1), struct.pack(">i", 2) + b"\xff\xfe"):
+            host, _ = self.answering(body)
+            client = self.client(host)
+            with self.subTest(body=body), self.raises(ConnectionLoss, -4):
+                client.sync("/")
+            within(lambda: client.stats().connections == 2)
+
+    def test_a_silent_server_is_left_for_the_sake_of_the_lane(self) -> None:
+        def answer(peer: Peer, asked: Asked) -> None:
+            if asked.kind != SYNC:
+                peer.send(reply(asked))
+
+        client = self.client(self.serve(answer), 1.5)
+        with self.raises(ConnectionLoss, -4):
+            client.sync("/")
+
+    def test_what_the_lane_has_seen_binds_the_next_server(self) -> None:
+        seen: list[int] = []
+
+        def serve(peer: Peer) -> None:
+            seen.append(peer.admit().last_zxid)
+            if len(seen) == 1:
+                peer.send(reply(peer.take(), text("/"), zxid=77))
+                return
+            peer.take()
+
+        client = self.client(self.raw_server(serve).host)
+        client.sync("/")
+        within(lambda: len(seen) == 2)
+        self.assertEqual(seen, [0, 77])
+        saved = client.saved_session
+        assert saved is not None
+        self.assertEqual(struct.unpack(">q", saved[-8:])[0], 77)
+
+
+class AuthTest(LaneCase):
+    def server(self, refuses: bool = False) -> tuple[str, list[list[Asked]]]:
+        """A server that answers credentials and reads, and ends the first connection after a read."""
+        connections: list[list[Asked]] = []
+
+        def serve(peer: Peer) -> None:
+            peer.admit()
+            asked: list[Asked] = []
+            connections.append(asked)
+            while True:
+                asked.append(peer.take())
+                if asked[-1].kind == AUTH and refuses:
+                    return peer.send(struct.pack(">iqi", -4, 0, -115))
+                if asked[-1].kind == GET_DATA:
+                    peer.send(data_reply(asked[-1], b"one"))
+                    if len(connections) == 1:
+                        return
+                else:
+                    peer.send(reply(asked[-1]))
+
+        return self.raw_server(serve).host, connections
+
+    def test_credentials_come_before_anything_else_on_each_connection(self) -> None:
+        host, connections = self.server()
+        client = self.client(host, auth_data=[("digest", "bob:secret"), ("x509", b"\1")])
+        client.get("/a", watch=True)
+        within(lambda: len(connections) == 2 and len(connections[1]) == 3)
+        bob = Asked(-4, AUTH, struct.pack(">i", 0) + text("digest") + text("bob:secret"))
+        x509 = Asked(-4, AUTH, struct.pack(">i", 0) + text("x509") + struct.pack(">i", 1) + b"\1")
+        self.assertEqual(connections[0][:2], [bob, x509])
+        self.assertEqual(connections[1][:2], [bob, x509])
+        self.assertEqual(connections[1][2].kind, SET_WATCHES)
+
+    def test_credentials_that_are_added_are_sent_on_later_connections(self) -> None:
+        host, connections = self.server()
+        client = self.client(host)
+        client.add_auth("digest", "bob:secret")
+        client.get("/a", watch=True)
+        within(lambda: len(connections) == 2 and len(connections[1]) == 2)
+        self.assertEqual([one.kind for one in connections[1]], [AUTH, SET_WATCHES])
+
+    def test_credentials_that_are_refused(self) -> None:
+        host, connections = self.server(refuses=True)
+        client = Client(host, 6.0, auth_data=[("none", "x")])
+        self.addCleanup(client.close)
+        with self.assertLogs("dirwolleu", "ERROR"), self.raises(AuthFailedError, -115):
+            client.start(WAIT)
+        client = self.client(host)
+        with self.raises(AuthFailedError, -115):
+            client.add_auth("none", "x")
+        count = len(connections)
+        within(lambda: len(connections) > count and client.connected)
+        self.assertEqual(connections[-1], [])
+
+
+class SecurityTest(unittest.TestCase):
+    def test_a_digest_is_what_zookeeper_makes_of_it(self) -> None:
+        # from the documentation of ZooKeeper's DigestAuthenticationProvider: super:test
+        self.assertEqual(security.make_digest_acl_credential("super", "test"), "super:D/InIHSb7yEEbrWz8b9l71RjZJU=")
+
+    def test_names_of_permissions(self) -> None:
+        self.assertEqual(security.make_digest_acl("bob", "x", all=True).acl_list, ["ALL"])
+        self.assertEqual(security.make_digest_acl("bob", "x", create=True, admin=True).acl_list, ["CREATE", "ADMIN"])
+
+
+if __name__ == "__main__":
+    unittest.main()
