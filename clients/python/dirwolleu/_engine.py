@@ -499,7 +499,7 @@ class Engine:
         return self.state is not State.CONNECTED and asked.until <= now
 
     def _send_line(self, now: int) -> None:
-        """Sends what waits to be sent, as far as the machine takes it, but for what nobody waits for any more."""
+        """Sends what waits to be sent, as far as the machine takes it, except what nobody waits for any more."""
         while self._line and self.state is State.CONNECTED:
             asked = self._line.popleft()
             if asked.waiter.begin():
@@ -705,7 +705,7 @@ class Engine:
 
 
 class _Introduction:
-    """Who waits for the answer to a credential that is sent on each connection."""
+    """What waits for the answer to a credential that is sent on each connection."""
 
     def __init__(self, engine: Engine, credential: Credential) -> None:
         self._engine, self._scheme = engine, credential.scheme

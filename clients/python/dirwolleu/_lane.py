@@ -109,7 +109,7 @@ class Lane(Generic[Asker]):
         return struct.pack(">i", len(payload)) + payload
 
     def take(self, frame: bytes) -> Optional[tuple[Asker, Reply]]:
-        """Who waits for the answer that a frame is, and the answer. None where it answers no request of the lane."""
+        """The one that waits for the answer that a frame is, and the answer. None where it answers no request of the lane."""
         xid, zxid, code = struct.unpack(">iqi", frame[4:20])
         waiting = self._introduced if xid == AUTH_XID else self._waiting
         if not waiting or waiting[0][0] != xid:
@@ -117,7 +117,7 @@ class Lane(Generic[Asker]):
         return waiting.popleft()[1], Reply(zxid, code, frame[20:])
 
     def pending(self) -> list[Asker]:
-        """Who waits for an answer, those with credentials first, and else in the order in which they asked."""
+        """Those that wait for an answer: those with credentials first, and else in the order in which they asked."""
         return [asker for _, asker in [*self._introduced, *self._waiting]]
 
     def oldest(self) -> Optional[int]:

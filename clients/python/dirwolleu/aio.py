@@ -281,7 +281,7 @@ class Client(Shown):
         return await self._run(plans.one(request), timeout)
 
     async def _run(self, plan: Plan[Result], timeout: Optional[float] = None) -> Result:
-        """Asks what a plan asks for, one request after the other, within so many seconds in all."""
+        """Asks what a plan asks for, one request after the other, within a number of seconds in all."""
         until = None if timeout is None else time.monotonic() + timeout
         try:
             request = next(plan)

@@ -53,7 +53,7 @@ class Authority:
 
 
 class Wrapper:
-    """A port at which TLS is spoken, and behind which a partner is."""
+    """A port at which TLS is spoken, in front of a partner."""
 
     def __init__(self, partner: Partner, context: ssl.SSLContext) -> None:
         self._partner, self._context = partner, context

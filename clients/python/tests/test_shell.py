@@ -1,0 +1,112 @@
+"""Tests of `python3 -m dirwolleu` against the partner."""
+
+from __future__ import annotations
+
+import contextlib
+import io
+import json
+import os
+import re
+import signal
+import subprocess
+import sys
+import unittest
+from typing import Any
+from unittest import mock
+
+from support import CLIENTS, WAIT, Partner, PartnerCase
+
+from dirwolleu.__main__ import EPILOG, main
+
+
+class ShellTest(PartnerCase):
+    def begin(self, partner: Partner, *words: str) -> subprocess.Popen[str]:
+        environment = {**os.environ, "PYTHONPATH": str(CLIENTS / "python"), "DIRWOLLEU_HOSTS": partner.host}
+        command = [sys.executable, "-m", "dirwolleu", *words]
+        return subprocess.Popen(command, stdout=subprocess.PIPE, stderr=subprocess.PIPE, text=True, env=environment)
+
+    def run_words(self, partner: Partner, *words: str) -> tuple[int, str, str]:
+        """The exit status of a command, what it prints, and what it says besides. It is run in this process."""
+        printed, said = io.StringIO(), io.StringIO()
+        with contextlib.redirect_stdout(printed), contextlib.redirect_stderr(said):
+            with mock.patch.dict(os.environ, {"DIRWOLLEU_HOSTS": partner.host}):
+                try:
+                    status = main(list(words))
+                except SystemExit as end:
+                    status = int(end.code or 0)
+        return status, printed.getvalue(), said.getvalue()
+
+    def printed(self, partner: Partner, *words: str) -> str:
+        status, printed, said = self.run_words(partner, *words)
+        self.assertEqual((status, said), (0, ""))
+        return printed
+
+    def test_the_session_of_the_help(self) -> None:
+        partner = self.partner()
+        for shown in re.findall(r"^  \$ python3 -m dirwolleu (.*)\n((?:  [^$\n].*\n)*)", EPILOG, re.M):
+            words, expected = shown[0].split(), re.sub("^  ", "", shown[1], flags=re.M)
+            if words[0] != "watch":
+                printed = self.printed(partner, *words)
+                self.assertTrue(printed == expected or "..." in expected, (words, printed, expected))
+
+    def test_the_module_is_a_program(self) -> None:
+        process = self.begin(self.partner(), "--help")
+        printed, _ = process.communicate(timeout=3 * WAIT)
+        self.assertIn("--makepath /app/config one", printed)
+        self.assertEqual(process.returncode, 0)
+
+    def test_each_command(self) -> None:
+        partner = self.partner()
+        partner.do("create /a one", "create /a/b", "create /a/c three")
+        self.assertEqual(self.printed(partner, "ls", "/a"), "b\nc\n")
+        self.assertEqual(self.printed(partner, "get", "/a"), "one\n")
+        self.assertEqual(self.printed(partner, "set", "/a", "two"), "version 1\n")
+        self.assertEqual(self.printed(partner, "tree", "/a"), "/a  two\n  b\n  c  three\n")
+        self.assertEqual(self.printed(partner, "create", "/a/n-", "--sequence"), "/a/n-0000000002\n")
+        self.assertRegex(self.printed(partner, "stat", "/a"), r"(?m)^version +1$")
+        self.assertEqual(self.printed(partner, "delete", "/a", "--recursive"), "")
+        self.assertEqual(self.printed(partner, "--hosts", partner.host + "/x", "create", "/"), "/\n")
+        self.assertEqual(self.printed(partner, "ls", "/"), "x\n")
+
+    def test_json(self) -> None:
+        partner = self.partner()
+        partner.do("create /a one", "create /a/b")
+
+        def told(*words: str) -> Any:
+            return json.loads(self.printed(partner, "--json", *words))
+
+        self.assertEqual(told("ls", "/a"), ["b"])
+        self.assertEqual({**told("get", "/a"), "ctime": 0, "mtime": 0}["data"], "one")
+        self.assertEqual(told("stat", "/a")["num_children"], 1)
+        self.assertEqual(told("tree", "/a"), [{"path": "/a", "data": "one"}, {"path": "/a/b", "data": ""}])
+        self.assertEqual(told("create", "/a/c"), {"path": "/a/c"})
+
+    def test_exit_statuses(self) -> None:
+        partner = self.partner()
+        for words in (("get", "/none"), ("stat", "/none"), ("create", "/"), ("set", "/", "x", "--version", "7")):
+            status, printed, said = self.run_words(partner, *words)
+            self.assertEqual((status, printed, said.count("\n")), (1, "", 1))
+        for wrong in (("nonsense", "/"), ("get",), ("get", "no-path"), ("--hosts", "a:x", "get", "/")):
+            status, printed, said = self.run_words(partner, *wrong)
+            self.assertEqual((status, printed, bool(said)), (2, "", True))
+        partner.do("down")
+        status, printed, said = self.run_words(partner, "--timeout", "0.5", "get", "/")
+        self.assertEqual((status, printed), (3, ""))
+
+    def test_a_node_is_watched_until_it_is_interrupted(self) -> None:
+        partner = self.partner()
+        partner.do("create /a one")
+        process = self.begin(partner, "watch", "/a")
+        assert process.stdout is not None
+        self.assertRegex(process.stdout.readline(), r"^zxid \d+  good  one$")
+        partner.do("set /a two")
+        self.assertRegex(process.stdout.readline(), r"^zxid \d+  good  two$")
+        partner.do("delete /a")
+        self.assertRegex(process.stdout.readline(), r"^zxid \d+  good  \(no node\)$")
+        process.send_signal(signal.SIGINT)
+        process.communicate(timeout=3 * WAIT)
+        self.assertEqual(process.returncode, 130)
+
+
+if __name__ == "__main__":
+    unittest.main()
