@@ -174,7 +174,9 @@ def parser() -> argparse.ArgumentParser:
     )
     made.add_argument("--timeout", type=float, default=10.0, help="for how many seconds to wait (default: 10)")
     made.add_argument("--json", action="store_true", help="tell it as JSON, one value a line")
-    made.add_argument("--auth", action="append", default=[], metavar="SCHEME:TEXT", help="credentials, as digest:bob:secret")
+    made.add_argument(
+        "--auth", action="append", default=[], metavar="SCHEME:TEXT", help="credentials, as digest:bob:secret"
+    )
     made.add_argument("--ca", metavar="FILE", help="speak TLS, and trust these certificates")
     made.add_argument("--cert", metavar="FILE", help="the client's own certificate, for TLS")
     made.add_argument("--key", metavar="FILE", help="the key of that certificate")

@@ -103,8 +103,8 @@ class Shown:
     def kept(self, path: str, within: Optional[float] = None) -> Optional[Kept]:
         """What is kept of a node that `get`, `exists` or `follow` read with a watch, or None. It asks no server.
 
-        With `within` it is only what is good and of this age at most: what the server of this client held that number of
-        seconds ago, or later. An idle client hears its server every third of the timeout.
+        With `within`, in seconds, it is only what is good and of this age at most: what the server of this client held
+        so long ago, or later. An idle client hears its server every third of the timeout.
 
             kept = client.kept("/config", within=5.0)
             data = kept.data if kept is not None else client.get("/config", watch=True)[0]
