@@ -10,6 +10,8 @@ from __future__ import annotations
 
 import argparse
 import asyncio
+import contextlib
+import copy
 import itertools
 import os
 import random
@@ -17,20 +19,23 @@ import struct
 import sys
 import threading
 import time
+from collections.abc import Iterator
 from dataclasses import dataclass, field
 from typing import Callable, Iterable, Optional
 
 # Types of requests, in zookeeper.jute's terms.
 CREATE, DELETE, EXISTS, GET_DATA, SET_DATA, GET_CHILDREN, PING, GET_CHILDREN2 = 1, 2, 3, 4, 5, 8, 11, 12
 SET_WATCHES, CLOSE_SESSION = 101, -11
+GET_ACL, SET_ACL, SYNC, CHECK, MULTI, CREATE2, AUTH, ERROR = 6, 7, 9, 13, 14, 15, 100, -1
 
 # Types of watch events, and the state and the xid of every notice.
 NODE_CREATED, NODE_DELETED, NODE_DATA_CHANGED, NODE_CHILDREN_CHANGED = 1, 2, 3, 4
 SYNC_CONNECTED, NOTICE_XID = 3, -1
 
 # Error codes.
-OK, UNIMPLEMENTED, BAD_ARGUMENTS, NO_NODE, BAD_VERSION = 0, -6, -8, -101, -103
-NO_CHILDREN_FOR_EPHEMERALS, NODE_EXISTS, NOT_EMPTY = -108, -110, -111
+OK, RUNTIME_INCONSISTENCY, UNIMPLEMENTED, BAD_ARGUMENTS, NO_NODE, BAD_VERSION = 0, -2, -6, -8, -101, -103
+NO_CHILDREN_FOR_EPHEMERALS, NODE_EXISTS, NOT_EMPTY, AUTH_FAILED = -108, -110, -111, -115
+OPEN_ACL = struct.pack(">ii", 1, 31) + struct.pack(">i", 5) + b"world" + struct.pack(">i", 6) + b"anyone"
 
 # Flags of a create request, and the greatest length of a frame that is taken.
 EPHEMERAL, SEQUENTIAL = 1, 2
@@ -84,6 +89,27 @@ class Record:
     def take_texts(self) -> list[str]:
         return [self.take_text() for _ in range(self.take_int())]
 
+    def take_acl(self) -> bytes:
+        """The bytes of an ACL."""
+        begin = self._place
+        for _ in range(self.take_int()):
+            self.take_int(), self.take_text(), self.take_text()
+        return self._payload[begin : self._place]
+
+    def take_part(self, kind: int) -> bytes:
+        """The bytes of an operation of a transaction."""
+        begin = self._place
+        self.take_text()
+        if kind in (CREATE, CREATE2):
+            self.take_buffer(), self.take_acl(), self.take_int()
+        elif kind in (DELETE, CHECK):
+            self.take_int()
+        elif kind == SET_DATA:
+            self.take_buffer(), self.take_int()
+        else:
+            raise Malformed
+        return self._payload[begin : self._place]
+
 
 def put_buffer(data: Optional[bytes]) -> bytes:
     return struct.pack(">i", -1) if data is None else struct.pack(">i", len(data)) + data
@@ -91,6 +117,14 @@ def put_buffer(data: Optional[bytes]) -> bytes:
 
 def put_text(text: str) -> bytes:
     return put_buffer(text.encode())
+
+
+def put_header(kind: int, code: int, is_last: bool = False) -> bytes:
+    """The header of an operation's result in a transaction."""
+    return struct.pack(">i?i", kind, is_last, code)
+
+
+MULTI_END = put_header(ERROR, -1, True)
 
 
 def put_texts(texts: Iterable[str]) -> bytes:
@@ -112,12 +146,14 @@ class Node:
     version: int = 0
     children_made: int = 0
     children: set[str] = field(default_factory=set)
+    acl: bytes = OPEN_ACL
+    acl_version: int = 0
 
     def stat(self) -> bytes:
         changes_of_children = 2 * self.children_made - len(self.children)
         return struct.pack(
-            ">qqqqiiiqiiq", self.czxid, self.mzxid, self.ctime, self.mtime, self.version, changes_of_children, 0,
-            self.owner, len(self.data or b""), len(self.children), self.pzxid)  # fmt: skip
+            ">qqqqiiiqiiq", self.czxid, self.mzxid, self.ctime, self.mtime, self.version, changes_of_children,
+            self.acl_version, self.owner, len(self.data or b""), len(self.children), self.pzxid)  # fmt: skip
 
 
 class Watches:
@@ -160,8 +196,27 @@ class Tree:
 
     def __init__(self) -> None:
         self.zxid = 0
+        self._is_joint = False
         self.data_watches, self.child_watches = Watches(), Watches()
         self._nodes = {"/": Node(b"", 0, 0, 0, 0, 0, 0)}
+
+    def trial(self) -> Tree:
+        """A copy that nobody watches."""
+        tree = Tree()
+        tree.zxid, tree._nodes = self.zxid, copy.deepcopy(self._nodes)
+        return tree
+
+    @contextlib.contextmanager
+    def joint(self) -> Iterator[None]:
+        """The changes within it are one transaction."""
+        self.zxid, self._is_joint = self.zxid + 1, True
+        try:
+            yield
+        finally:
+            self._is_joint = False
+
+    def _advance(self) -> None:
+        self.zxid += not self._is_joint
 
     def find(self, path: str) -> Optional[Node]:
         return self._nodes.get(path)
@@ -185,7 +240,7 @@ class Tree:
             raise Refused(NODE_EXISTS)
         if parent.owner != 0:
             raise Refused(NO_CHILDREN_FOR_EPHEMERALS)
-        self.zxid += 1
+        self._advance()
         now = int(time.time() * 1000)
         self._nodes[path] = Node(data, owner, self.zxid, self.zxid, self.zxid, now, now)
         parent.children.add(split(path)[1])
@@ -197,7 +252,7 @@ class Tree:
 
     def set(self, path: str, data: Optional[bytes], version: int = -1) -> Node:
         node = self.get(path, version)
-        self.zxid += 1
+        self._advance()
         node.data, node.mzxid, node.mtime = data, self.zxid, int(time.time() * 1000)
         node.version += 1
         self.data_watches.fire(path, NODE_DATA_CHANGED)
@@ -208,8 +263,16 @@ class Tree:
             raise Refused(BAD_ARGUMENTS)
         if self.get(path, version).children:
             raise Refused(NOT_EMPTY)
-        self.zxid += 1
+        self._advance()
         self._remove(path)
+
+    def set_acl(self, path: str, acl: bytes, version: int) -> Node:
+        node = self.get(path)
+        if version not in (-1, node.acl_version):
+            raise Refused(BAD_VERSION)
+        self._advance()
+        node.acl, node.acl_version = acl, node.acl_version + 1
+        return node
 
     def missed(self, path: str, event: int, zxid: int) -> Optional[int]:
         """What a watch for changes of the data or of the children, which was left at this zxid, has missed."""
@@ -425,7 +488,8 @@ class Connection(asyncio.Protocol):
         try:
             body = self._answer(kind, record)
         except Refused as refused:
-            return self._reply(xid, refused.code)
+            self._reply(xid, refused.code)
+            return self._close() if kind == AUTH else None
         self._reply(xid, OK, body)
         if kind == CLOSE_SESSION:
             self._close()
@@ -433,14 +497,51 @@ class Connection(asyncio.Protocol):
     def _answer(self, kind: int, record: Record) -> bytes:
         if kind in (EXISTS, GET_DATA, GET_CHILDREN, GET_CHILDREN2):
             return self._read(kind, record.take_text(), record.take_boolean())
-        if kind in (CREATE, DELETE, SET_DATA):
-            return self._write(kind, record)
+        if kind in (CREATE, CREATE2, DELETE, SET_DATA, SET_ACL):
+            return self._write(kind, record, self._tree)
+        if kind == MULTI:
+            return self._multi(record)
+        if kind == SYNC:
+            return put_text(record.take_text())
+        if kind == GET_ACL:
+            node = self._tree.get(record.take_text())
+            return node.acl + node.stat()
         if kind == SET_WATCHES:
             self._set_watches(record.take_long(), record.take_texts(), record.take_texts(), record.take_texts())
         elif kind == CLOSE_SESSION and self._session is not None:
             self._partner.end(self._session)
+        elif kind == AUTH:
+            record.take_int()
+            if record.take_text() != "digest":
+                raise Refused(AUTH_FAILED)
         elif kind != PING:
             raise Refused(UNIMPLEMENTED)
+        return b""
+
+    def _multi(self, record: Record) -> bytes:
+        """Does all operations in one transaction, where each is admitted after those before it."""
+        parts, kind = [], record.take_int()
+        record.take_boolean(), record.take_int()
+        while kind != ERROR:
+            parts.append((kind, record.take_part(kind)))
+            kind = record.take_int()
+            record.take_boolean(), record.take_int()
+        trial = self._tree.trial()
+        for place, (kind, part) in enumerate(parts):
+            try:
+                self._operate(kind, part, trial)
+            except Refused as refused:
+                codes = [OK] * place + [refused.code] + [RUNTIME_INCONSISTENCY] * (len(parts) - place - 1)
+                return b"".join(put_header(ERROR, code) + struct.pack(">i", code) for code in codes) + MULTI_END
+        with self._tree.joint():
+            results = [put_header(kind, OK) + self._operate(kind, part, self._tree) for kind, part in parts]
+        return b"".join(results) + MULTI_END
+
+    def _operate(self, kind: int, part: bytes, tree: Tree) -> bytes:
+        if kind != CHECK:
+            return self._write(kind, Record(part), tree)
+        record = Record(part)
+        tree.get(record.take_text(), record.take_int())
         return b""
 
     def _read(self, kind: int, path: str, is_watched: bool) -> bytes:
@@ -457,21 +558,24 @@ class Connection(asyncio.Protocol):
             return put_buffer(node.data) + node.stat()
         return put_texts(node.children) + (node.stat() if kind == GET_CHILDREN2 else b"")
 
-    def _write(self, kind: int, record: Record) -> bytes:
+    def _write(self, kind: int, record: Record, tree: Tree) -> bytes:
         path = record.take_text()
         if kind == DELETE:
-            self._tree.delete(path, record.take_int())
+            tree.delete(path, record.take_int())
             return b""
+        if kind == SET_ACL:
+            return tree.set_acl(path, record.take_acl(), record.take_int()).stat()
         data = record.take_buffer()
         if kind == SET_DATA:
-            return self._tree.set(path, data, record.take_int()).stat()
-        for _ in range(record.take_int()):  # the ACL, which is open to all whatever it says
-            record.take_int(), record.take_text(), record.take_text()
-        flags = record.take_int()
+            return tree.set(path, data, record.take_int()).stat()
+        acl, flags = record.take_acl(), record.take_int()
         if flags & ~(EPHEMERAL | SEQUENTIAL) or self._session is None:
             raise Refused(BAD_ARGUMENTS)
         owner = self._session.number if flags & EPHEMERAL else 0
-        return put_text(self._tree.create(path, data, owner, bool(flags & SEQUENTIAL)))
+        path = tree.create(path, data, owner, bool(flags & SEQUENTIAL))
+        node = tree.get(path)
+        node.acl = acl
+        return put_text(path) + (node.stat() if kind == CREATE2 else b"")
 
     def _set_watches(self, zxid: int, data: list[str], absent: list[str], children: list[str]) -> None:
         """Sets the watches of another connection again, and tells what has changed since this zxid."""

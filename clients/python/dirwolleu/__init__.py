@@ -13,6 +13,7 @@ from dirwolleu._retry import Retry
 from dirwolleu.client import Client
 from dirwolleu.exceptions import *  # noqa: F403
 from dirwolleu.exceptions import __all__ as _exceptions
+from dirwolleu.recipes import Election, Held, Lock, Registration
 from dirwolleu.security import AuthFailedError
 from dirwolleu.tls import tls_context
 from dirwolleu.transaction import AsyncTransaction, Transaction
@@ -24,6 +25,10 @@ __all__ = [
     "AuthFailedError",
     "Client",
     "Created",
+    "Election",
+    "Held",
+    "Lock",
+    "Registration",
     "Retry",
     "Transaction",
     "aio",

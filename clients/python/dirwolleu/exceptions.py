@@ -11,6 +11,8 @@ __all__ = [
     "ConnectionClosedError",
     "ConnectionLoss",
     "InvalidACLError",
+    "LockLostError",
+    "LockTimeout",
     "NoAuthError",
     "NoChildrenForEphemeralsError",
     "NoNodeError",
@@ -114,6 +116,14 @@ class InvalidACLError(ZookeeperError):
     """The server refuses the ACL."""
 
     code = -114
+
+
+class LockLostError(ZookeeperError):
+    """It is not shown any more that a lock is held."""
+
+
+class LockTimeout(ZookeeperError, TimeoutError):
+    """A lock was not taken in time. No contender is left."""
 
 
 class SessionMovedError(ZookeeperError):

@@ -1,0 +1,340 @@
+"""Tests of the lock, the election and the registration, against the partner, with cuts, expiries and lost answers."""
+
+from __future__ import annotations
+
+import asyncio
+import functools
+import queue
+import threading
+import time
+import unittest
+from typing import Any, Callable, Optional
+from unittest import mock
+
+from support import WAIT, PartnerCase, within
+
+import dirwolleu
+from dirwolleu import (
+    Client,
+    ConnectionClosedError,
+    ConnectionLoss,
+    Election,
+    Held,
+    Lock,
+    LockLostError,
+    LockTimeout,
+    Registration,
+    State,
+    aio,
+)
+from dirwolleu import _requests as requests
+from dirwolleu._contending import in_line
+
+
+class RecipeCase(PartnerCase):
+    def client(self, host: str, timeout: float = 6.0) -> Client:
+        client = Client(host, timeout)
+        self.addCleanup(client.close)
+        self.addCleanup(client.stop)
+        client.start(WAIT)
+        return client
+
+    def in_thread(self, call: Callable[[], Any]) -> queue.Queue[Any]:
+        """The outcome of a call that a thread makes."""
+        outcome: queue.Queue[Any] = queue.Queue()
+
+        def run() -> None:
+            try:
+                outcome.put(call())
+            except BaseException as error:
+                outcome.put(error)
+
+        threading.Thread(target=run, daemon=True).start()
+        return outcome
+
+
+class LockTest(RecipeCase):
+    def setUp(self) -> None:
+        self.server = self.partner()
+        self.one, self.other = self.client(self.server.host), self.client(self.server.host)
+
+    def test_one_holds_and_the_next_has_a_greater_token(self) -> None:
+        first, second = Lock(self.one, "/locks/x", "one"), Lock(self.other, "/locks/x", "other")
+        with first as held:
+            held.check()
+            held.check(within=WAIT)
+            self.assertTrue(held.is_held)
+            with self.assertRaises(LockTimeout):
+                second.acquire(0)
+            waits = self.in_thread(lambda: second.acquire(3 * WAIT))
+            within(lambda: first.contenders() == ["one", "other"])
+            self.assertTrue(waits.empty())
+        self.assertFalse(held.is_held)
+        later: Held = waits.get(timeout=WAIT)
+        self.assertGreater(later.token, held.token)
+        later.release()
+        later.release()
+        self.assertEqual(first.contenders(), [])
+
+    def test_a_wait_that_ends_leaves_no_contender(self) -> None:
+        with Lock(self.one, "/locks/x", "one"):
+            lock = Lock(self.other, "/locks/x", "other")
+            with self.assertRaises(LockTimeout):
+                lock.acquire(0.3)
+            self.assertEqual(lock.contenders(), ["one"])
+
+    def test_names_of_kazoo_and_curator_are_in_one_line(self) -> None:
+        curator = "_c_6fbbe9d5-8b1c-4b8a-a8a7-f9c1a1b0f3e5-lock-0000000003"
+        kazoo = "b5a4f3dc0e0f4f4b8b9c3e2a1d0c9b8a__lock__0000000002"
+        older = "x-lock--000000001"
+        self.assertEqual(in_line([curator, "other", kazoo, older]), [kazoo, curator])
+        self.assertEqual(in_line([curator, "x-lock--0000000001"]), ["x-lock--0000000001", curator])
+
+    def test_one_of_kazoo_that_is_first_is_waited_for(self) -> None:
+        self.server.do("create /locks", "create /locks/other", "create /locks/b5a4__lock__0000000000 k")
+        waits = self.in_thread(lambda: Lock(self.one, "/locks", "one").acquire(3 * WAIT))
+        within(lambda: Lock(self.other, "/locks").contenders() == ["k", "one"])
+        time.sleep(0.1)
+        self.assertTrue(waits.empty())
+        self.server.do("delete /locks/b5a4__lock__0000000000")
+        waits.get(timeout=WAIT).release()
+
+    def test_each_watches_the_one_before_it_alone(self) -> None:
+        clients = self.one, self.other, self.client(self.server.host)
+        first, second, third = (Lock(client, "/locks") for client in clients)
+        held = first.acquire(WAIT)
+        waits = self.in_thread(lambda: second.acquire(3 * WAIT))
+        within(lambda: len(first.contenders()) == 2)
+        last = self.in_thread(lambda: third.acquire(3 * WAIT))
+        within(lambda: len(first.contenders()) == 3)
+        answered = third._client.stats().answered
+        within(lambda: third._client.stats().in_flight == 0)
+        held.release()
+        later: Held = waits.get(timeout=WAIT)
+        time.sleep(0.1)
+        self.assertTrue(last.empty())
+        self.assertLessEqual(third._client.stats().answered - answered, 4)
+        later.release()
+        last.get(timeout=WAIT).release()
+
+    def check_lost(self, lock: Lock, lost: queue.Queue[Held], lose: Callable[[Held], None], why: str) -> None:
+        held = lock.acquire(WAIT)
+        lose(held)
+        within(lambda: not held.is_held)
+        with self.assertRaisesRegex(LockLostError, why):
+            held.check()
+        self.assertIs(lost.get(timeout=WAIT), held)
+        within(lambda: self.one.connected)
+        self.assertFalse(held.is_held)
+        held.release()
+        self.assertTrue(lost.empty())
+
+    def test_what_ends_a_lock(self) -> None:
+        lost: queue.Queue[Held] = queue.Queue()
+        lock = Lock(self.one, "/locks", on_lost=lost.put)
+        self.check_lost(lock, lost, lambda held: self.other.delete(held.path), "not known to be there")
+        self.check_lost(lock, lost, lambda held: self.server.do("drop"), "connection was lost")
+        self.check_lost(lock, lost, lambda held: self.server.do("expire"), "connection was lost|session is over")
+
+    def test_a_lock_that_is_kept_while_suspended(self) -> None:
+        lost: queue.Queue[Held] = queue.Queue()
+        lock = Lock(self.one, "/locks", on_lost=lost.put, keeps_while_suspended=True)
+        held = lock.acquire(WAIT)
+        self.server.do("down")
+        within(lambda: self.one.state is State.SUSPENDED)
+        held.check()
+        with self.assertRaisesRegex(LockLostError, "not heard"):
+            time.sleep(0.05)
+            held.check(within=0.04)
+        self.server.do("up")
+        within(lambda: self.one.connected)
+        held.check()
+        self.assertTrue(lost.empty())
+        held.release()
+        self.check_lost(lock, lost, lambda held: self.server.do("expire"), "session is over|not known to be there")
+
+    def test_a_lost_create_is_settled(self) -> None:
+        for happens in (True, False):
+            with self.subTest(happens=happens):
+                self.check_lost_create(happens)
+
+    def check_lost_create(self, happens: bool) -> None:
+        """The answer to the first create of a contender is lost, which has happened or not."""
+        ask, count = self.one._ask, [0]
+        creates: list[Any] = []
+        create = requests.create
+
+        def made(path: str, *words: Any) -> Any:
+            request = create(path, *words)
+            if "-lock-" in path:
+                creates.append(request)
+            return request
+
+        def asked(request: Any, *words: Any, **named: Any) -> Any:
+            if request not in creates:
+                return ask(request, *words, **named)
+            count[0] += 1
+            if count[0] == 1 and not happens:
+                raise ConnectionLoss("the connection ended before the reply")
+            answer = ask(request, *words, **named)
+            if count[0] == 1:
+                raise ConnectionLoss("the connection ended before the reply")
+            return answer
+
+        lock = Lock(self.one, "/locks", "one")
+        with mock.patch.object(requests, "create", made), mock.patch.object(self.one, "_ask", asked):
+            with lock as held:
+                self.assertEqual(lock.contenders(), ["one"])
+                held.check()
+        self.assertEqual(count[0], 1 if happens else 2)
+        self.assertEqual(lock.contenders(), [])
+
+    def test_an_expiry_is_waited_through(self) -> None:
+        held = Lock(self.one, "/locks", "one", on_lost=lambda held: held.release()).acquire(WAIT)
+        waits = self.in_thread(lambda: Lock(self.other, "/locks", "other").acquire(3 * WAIT))
+        within(lambda: len(Lock(self.one, "/locks").contenders()) == 2)
+        session = self.other.session_id
+        self.server.do("expire")
+        later: Held = waits.get(timeout=3 * WAIT)
+        self.assertNotEqual(self.other.session_id, session)
+        later.check()
+        self.assertFalse(held.is_held)
+        later.release()
+
+    def test_a_client_that_is_stopped_waits_no_longer(self) -> None:
+        with Lock(self.one, "/locks", "one"):
+            waits = self.in_thread(lambda: Lock(self.other, "/locks", "other").acquire())
+            within(lambda: len(Lock(self.one, "/locks").contenders()) == 2)
+            self.other.stop()
+            self.assertIsInstance(waits.get(timeout=WAIT), ConnectionClosedError)
+
+    def test_no_two_hold_at_once(self) -> None:
+        holders, most, tokens = [0], [0], list[int]()
+
+        def work(client: Client) -> None:
+            lock = Lock(client, "/locks")
+            for _ in range(5):
+                with lock as held:
+                    holders[0] += 1
+                    most[0] = max(most[0], holders[0])
+                    tokens.append(held.token)
+                    time.sleep(0.001)
+                    holders[0] -= 1
+
+        ends = [self.in_thread(functools.partial(work, client)) for client in 3 * (self.one, self.other)]
+        for end in ends:
+            self.assertIsNone(end.get(timeout=6 * WAIT))
+        self.assertEqual((most[0], tokens), (1, sorted(tokens)))
+        self.assertEqual(len(set(tokens)), 30)
+
+
+class ElectionTest(RecipeCase):
+    def test_a_leader_and_the_next(self) -> None:
+        partner = self.partner()
+        one, other = self.client(partner.host), self.client(partner.host)
+        leads, may_end = queue.Queue[str](), threading.Event()
+        self.addCleanup(may_end.set)
+
+        def lead(held: Held) -> int:
+            leads.put("one")
+            may_end.wait(WAIT)
+            return held.token
+
+        first = self.in_thread(lambda: Election(one, "/leader", "one").run(lead))
+        self.assertEqual(leads.get(timeout=WAIT), "one")
+        election = Election(other, "/leader", "other")
+        second = self.in_thread(lambda: election.run(lambda held: held.token))
+        within(lambda: election.contenders() == ["one", "other"])
+        may_end.set()
+        self.assertLess(first.get(timeout=WAIT), second.get(timeout=WAIT))
+
+
+class RegistrationTest(RecipeCase):
+    def test_a_node_is_made_again_in_each_new_session(self) -> None:
+        partner = self.partner()
+        client, other = self.client(partner.host), self.client(partner.host)
+        with Registration(client, "/workers/one", b"first") as registration:
+            self.assertTrue(registration.wait(WAIT))
+            self.assertTrue(registration.is_registered)
+            self.assertEqual(other.get("/workers/one")[0], b"first")
+            registration.set(b"second")
+            session = client.session_id
+            partner.do("expire")
+            within(lambda: client.session_id != session and registration.wait(0) and registration.is_registered)
+            data, stat = other.retry(other.get, "/workers/one")
+            self.assertEqual((data, stat.ephemeral_owner), (b"second", client.session_id))
+            other.delete("/workers/one")
+            within(lambda: other.exists("/workers/one"))
+        self.assertIsNone(other.exists("/workers/one"))
+        self.assertFalse(registration.wait(0))
+
+    def test_a_node_of_another_session_is_waited_for(self) -> None:
+        partner = self.partner()
+        client, other = self.client(partner.host), self.client(partner.host)
+        other.create("/one", b"other", ephemeral=True)
+        registration = Registration(client, "/one", b"own")
+        self.assertFalse(registration.wait(0.2))
+        other.stop()
+        self.assertTrue(registration.wait(WAIT))
+        self.assertEqual(client.get("/one")[0], b"own")
+        registration.withdraw()
+        self.assertIsNone(client.exists("/one"))
+
+    def test_a_client_may_start_later(self) -> None:
+        client = Client(self.partner().host)
+        self.addCleanup(client.close)
+        self.addCleanup(client.stop)
+        registration = Registration(client, "/one")
+        client.start(WAIT)
+        self.assertTrue(registration.wait(WAIT))
+
+
+class AioTest(PartnerCase):
+    def test_locks_of_asyncio(self) -> None:
+        partner = self.partner()
+        lost: list[Optional[aio.Held]] = []
+
+        async def within_loop(condition: Callable[[], Any]) -> None:
+            until = time.monotonic() + WAIT
+            while not condition():
+                self.assertLess(time.monotonic(), until)
+                await asyncio.sleep(0.005)
+
+        async def run() -> None:
+            async with aio.Client(partner.host) as one, aio.Client(partner.host) as other:
+                lock, second = aio.Lock(one, "/locks", "one", on_lost=lost.append), aio.Lock(other, "/locks", "other")
+                async with lock as held:
+                    held.check(within=WAIT)
+                    with self.assertRaises(LockTimeout):
+                        await second.acquire(0.1)
+                    waits = asyncio.ensure_future(second.acquire())
+                    while await lock.contenders() != ["one", "other"]:
+                        await asyncio.sleep(0.01)
+                    waits.cancel()
+                    with self.assertRaises(asyncio.CancelledError):
+                        await waits
+                    self.assertEqual(await lock.contenders(), ["one"])
+                    await other.delete(held.path)
+                    await within_loop(lambda: lost)
+                    with self.assertRaises(LockLostError):
+                        held.check()
+                    async with second as later:
+                        self.assertGreater(later.token, held.token)
+
+                async def lead(held: aio.Held) -> bool:
+                    return held.is_held
+
+                self.assertTrue(await aio.Election(one, "/leader").run(lead))
+
+        asyncio.run(run())
+
+
+class NamesTest(unittest.TestCase):
+    def test_each_name_is_there(self) -> None:
+        for module in (dirwolleu.aio, dirwolleu.recipes, dirwolleu.security):
+            for name in module.__all__:
+                self.assertTrue(hasattr(module, name))
+
+
+if __name__ == "__main__":
+    unittest.main()
