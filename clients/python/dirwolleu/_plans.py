@@ -26,12 +26,6 @@ def child_of(path: str, name: str) -> str:
     return f"/{name}" if path == "/" else f"{path}/{name}"
 
 
-def one(request: AnyRequest[Result]) -> Plan[Result]:
-    """A request alone."""
-    result: Result = yield request
-    return result
-
-
 def create_request(path: str, value: Optional[bytes], acl: Acls, ephemeral: bool, sequence: bool) -> AnyRequest[str]:
     """A node that is open to all is made by the core, and one with an ACL by the lane."""
     if acl is None:

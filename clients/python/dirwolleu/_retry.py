@@ -93,7 +93,3 @@ class Attempts:
         if pause is None or self._until is not None and time.monotonic() + pause > self._until:
             raise error
         return pause
-
-
-ONCE = Retry(tries=1)
-"""Nothing is asked again."""

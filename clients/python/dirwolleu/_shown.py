@@ -37,7 +37,7 @@ class Shown:
 
         Raises `ValueError` where the text is no list of hosts, or has another root than before.
 
-            client.set_hosts("new-1:2181,new-2:2181/app")
+            client.set_hosts("new-1:2181,new-2:2181")
         """
         self._servers.replace(hosts)
 

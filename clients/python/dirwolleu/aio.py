@@ -22,7 +22,7 @@ from dirwolleu._hosts import Servers
 from dirwolleu._lane import Created
 from dirwolleu._plans import Acls, AnyRequest, Plan
 from dirwolleu._requests import Result
-from dirwolleu._retry import ONCE, Retry
+from dirwolleu._retry import Retry
 from dirwolleu._shown import AuthData, Shown, credential_of
 from dirwolleu.exceptions import ConnectionClosedError, NoNodeError, ZookeeperError
 from dirwolleu.security import ACL
@@ -279,7 +279,7 @@ class Client(Shown):
                 await self.exists(path, watch=True)
 
     async def _call(self, request: AnyRequest[Result], timeout: Optional[float] = None) -> Result:
-        return await self._run(plans.one(request), timeout)
+        return await self._ask_by_policy(request, None if timeout is None else time.monotonic() + timeout)
 
     async def _run(self, plan: Plan[Result], timeout: Optional[float] = None) -> Result:
         """Asks what a plan asks for, one request after the other, within a number of seconds in all."""
@@ -297,8 +297,10 @@ class Client(Shown):
             result: Result = end.value
             return result
 
-    async def _ask_by_policy(self, request: AnyRequest[Any], until: Optional[float]) -> Any:
-        attempts = (self._retry or ONCE).attempts()
+    async def _ask_by_policy(self, request: AnyRequest[Result], until: Optional[float]) -> Result:
+        if self._retry is None:
+            return await self._ask(request, None if until is None else until - time.monotonic())
+        attempts = self._retry.attempts()
         while True:
             left = None if until is None else until - time.monotonic()
             try:

@@ -27,7 +27,7 @@ from dirwolleu._hosts import Servers
 from dirwolleu._lane import Created
 from dirwolleu._plans import Acls, AnyRequest, Plan
 from dirwolleu._requests import Result
-from dirwolleu._retry import ONCE, Retry
+from dirwolleu._retry import Retry
 from dirwolleu._shown import AuthData, Shown, credential_of
 from dirwolleu.exceptions import ConnectionClosedError, NoNodeError, ZookeeperError
 from dirwolleu.security import ACL
@@ -517,7 +517,7 @@ class Client(Shown):
                 self.exists(path, watch=True)
 
     def _call(self, request: AnyRequest[Result], timeout: Optional[float] = None) -> Result:
-        return self._run(plans.one(request), timeout)
+        return self._ask_by_policy(request, None if timeout is None else time.monotonic() + timeout)
 
     def _run(self, plan: Plan[Result], timeout: Optional[float] = None) -> Result:
         """Asks what a plan asks for, one request after the other, within a number of seconds in all."""
@@ -535,8 +535,10 @@ class Client(Shown):
             result: Result = end.value
             return result
 
-    def _ask_by_policy(self, request: AnyRequest[Any], until: Optional[float]) -> Any:
-        attempts = (self._retry or ONCE).attempts()
+    def _ask_by_policy(self, request: AnyRequest[Result], until: Optional[float]) -> Result:
+        if self._retry is None:
+            return self._ask(request, timeout=None if until is None else until - time.monotonic())
+        attempts = self._retry.attempts()
         while True:
             left = None if until is None else until - time.monotonic()
             try:
