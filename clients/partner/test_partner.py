@@ -128,6 +128,37 @@ class PartnerTest(unittest.TestCase):
         self.assertEqual(self.command("fly"), "unknown: fly")
         self.assertEqual(header(self.connected().ask(1, 77)), (1, 3, -6))
 
+    def test_a_transaction_happens_as_a_whole_or_not_at_all(self) -> None:
+        self.start()
+        self.assertEqual(self.command("create /a x"), "done")
+        peer = self.connected()
+        self.assertEqual(header(peer.ask(1, 4, text("/a") + b"\1")), (1, 2, 0))
+        any_version, end = struct.pack(">i", -1), struct.pack(">i?i", -1, True, -1)
+        create = struct.pack(">i?i", 1, False, -1) + text("/b") + text("y") + OPEN_ACL + struct.pack(">i", 0)
+        delete = struct.pack(">i?i", 2, False, -1) + text("/a") + any_version
+        refused = struct.pack(">i?i", 13, False, -1) + text("/none") + any_version
+        codes = (0, 0, -101)
+        said = b"".join(struct.pack(">i?ii", -1, False, code, code) for code in codes) + end
+        self.assertEqual(peer.ask(-1001, 14, create + delete + refused + end), struct.pack(">iqi", -1001, 2, 0) + said)
+        notice = struct.pack(">iqiii", -1, -1, 0, 2, 3) + text("/a")
+        self.assertEqual(peer.ask(-1002, 14, create + delete + end), notice)
+        done = struct.pack(">i?i", 1, False, 0) + text("/b") + struct.pack(">i?i", 2, False, 0) + end
+        self.assertEqual(peer.take(), struct.pack(">iqi", -1002, 3, 0) + done)
+
+    def test_acls_sync_and_credentials(self) -> None:
+        self.start()
+        self.assertEqual(self.command("create /a x"), "done")
+        peer = self.connected()
+        self.assertEqual((peer.ask(1, 6, text("/a")) or b"")[16:].startswith(OPEN_ACL), True)
+        acl = struct.pack(">ii", 1, 1) + text("auth") + text("")
+        self.assertEqual(header(peer.ask(2, 7, text("/a") + acl + struct.pack(">i", 0))), (2, 3, 0))
+        self.assertEqual(header(peer.ask(3, 7, text("/a") + acl + struct.pack(">i", 0))), (3, 3, -103))
+        self.assertEqual((peer.ask(4, 6, text("/a")) or b"")[16:].startswith(acl), True)
+        self.assertEqual(peer.ask(5, 9, text("/a")), struct.pack(">iqi", 5, 3, 0) + text("/a"))
+        self.assertEqual(header(peer.ask(-4, 100, struct.pack(">i", 0) + text("digest") + text("a:b"))), (-4, 3, 0))
+        self.assertEqual(header(peer.ask(-4, 100, struct.pack(">i", 0) + text("none") + text("x"))), (-4, 3, -115))
+        self.assertIsNone(peer.take())
+
     def test_a_sequential_ephemeral_node_goes_with_its_session(self) -> None:
         self.start()
         peer, other = self.connected(), self.connected()

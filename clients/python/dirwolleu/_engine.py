@@ -369,7 +369,7 @@ class Engine:
             answered=contact.answers,
             lost=contact.losses,
             waiting=len(self._line) + len(self._handed),
-            in_flight=len(self._sent) + len(self._lane.pending()),
+            in_flight=len(self._sent) + len(self._lane),
             round_trip=None if contact.round_trip is None else contact.round_trip / 1000,
         )
 
@@ -528,9 +528,11 @@ class Engine:
             self._line.appendleft(asked)
             return
         try:
+            for path in request.paths:
+                self._machine.peek_data(path)  # a ValueError where it is none
             self._frames.append(self._lane.frame(request, self._root, asked))
             asked.is_sent = True
-        except (ValueError, ZookeeperError) as error:
+        except (ValueError, MemoryError, ZookeeperError) as error:
             asked.fail(error)
 
     def _reply(self, now: int, frame: bytes) -> bool:

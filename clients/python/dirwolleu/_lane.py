@@ -53,6 +53,8 @@ class LaneRequest(Generic[Result]):
     """A request of the lane, whose answer brings a result of this type."""
 
     operation: Operation
+    paths: Sequence[str]
+    """The paths that it names, which have to be paths of nodes."""
     body: Callable[[Root], bytes]
     read: Callable[[Reader, Root], Result]
     is_repeatable: bool = False
@@ -116,6 +118,10 @@ class Lane(Generic[Asker]):
             return None
         return waiting.popleft()[1], Reply(zxid, code, frame[20:])
 
+    def __len__(self) -> int:
+        """How many wait for an answer."""
+        return len(self._introduced) + len(self._waiting)
+
     def pending(self) -> list[Asker]:
         """Those that wait for an answer: those with credentials first, and else in the order in which they asked."""
         return [asker for _, asker in [*self._introduced, *self._waiting]]
@@ -140,12 +146,13 @@ def _nothing(*_: object) -> None:
 
 def auth(scheme: str, credential: bytes) -> LaneRequest[None]:
     spelled = jute.integer(0) + jute.text(scheme) + jute.buffer(credential)
-    return LaneRequest(Operation.AUTH, lambda root: spelled, _nothing, is_repeatable=True)
+    return LaneRequest(Operation.AUTH, (), lambda root: spelled, _nothing, is_repeatable=True)
 
 
 def sync(path: str) -> LaneRequest[str]:
     return LaneRequest(
         Operation.SYNC,
+        (path,),
         lambda root: _full(root, path),
         lambda reader, root: root.own(reader.text()),
         is_repeatable=True,
@@ -155,6 +162,7 @@ def sync(path: str) -> LaneRequest[str]:
 def get_acls(path: str) -> LaneRequest[tuple[list[ACL], Stat]]:
     return LaneRequest(
         Operation.GET_ACL,
+        (path,),
         lambda root: _full(root, path),
         lambda reader, _: (reader.items(reader.acl), reader.stat()),
         is_repeatable=True,
@@ -164,7 +172,7 @@ def get_acls(path: str) -> LaneRequest[tuple[list[ACL], Stat]]:
 def set_acls(path: str, acls: Sequence[ACL], version: int) -> LaneRequest[Stat]:
     spelled = jute.acls(acls) + jute.integer(version)
     return LaneRequest(
-        Operation.SET_ACL, lambda root: _full(root, path) + spelled, lambda reader, _: reader.stat()
+        Operation.SET_ACL, (path,), lambda root: _full(root, path) + spelled, lambda reader, _: reader.stat()
     )
 
 
@@ -192,7 +200,7 @@ def create(
     path: str, value: Optional[bytes], acl: Optional[Sequence[ACL]], ephemeral: bool, sequence: bool
 ) -> LaneRequest[str]:
     body = create_body(path, value, acl, ephemeral, sequence)
-    return LaneRequest(Operation.CREATE, body, lambda reader, root: root.own(reader.text()))
+    return LaneRequest(Operation.CREATE, (path,), body, lambda reader, root: root.own(reader.text()))
 
 
 def create2(
@@ -200,5 +208,5 @@ def create2(
 ) -> LaneRequest[Created]:
     body = create_body(path, value, acl, ephemeral, sequence)
     return LaneRequest(
-        Operation.CREATE2, body, lambda reader, root: Created(root.own(reader.text()), reader.stat())
+        Operation.CREATE2, (path,), body, lambda reader, root: Created(root.own(reader.text()), reader.stat())
     )

@@ -28,6 +28,7 @@ class _Part(NamedTuple):
     """One operation: its number, its body, and what takes its result."""
 
     operation: int
+    path: str
     body: Callable[[Root], bytes]
     read: Callable[[Reader, Root], Outcome]
 
@@ -57,20 +58,20 @@ class _Operations:
     ) -> None:
         """Makes a node. Its result is its path."""
         body = lane.create_body(path, value, acl, ephemeral, sequence)
-        self._parts.append(_Part(Operation.CREATE, body, lambda reader, root: root.own(reader.text())))
+        self._parts.append(_Part(Operation.CREATE, path, body, lambda reader, root: root.own(reader.text())))
 
     def delete(self, path: str, version: int = -1) -> None:
         """Deletes a node of this version, where -1 is any. Its result is None."""
-        self._parts.append(_Part(_DELETE, _full(path, jute.integer(version)), lambda *_: None))
+        self._parts.append(_Part(_DELETE, path, _full(path, jute.integer(version)), lambda *_: None))
 
     def set_data(self, path: str, value: Optional[bytes], version: int = -1) -> None:
         """Sets the data of a node of this version, where -1 is any. Its result is the node's `Stat`."""
         body = _full(path, jute.buffer(value) + jute.integer(version))
-        self._parts.append(_Part(_SET_DATA, body, lambda reader, _: reader.stat()))
+        self._parts.append(_Part(_SET_DATA, path, body, lambda reader, _: reader.stat()))
 
     def check(self, path: str, version: int) -> None:
         """Lets the transaction happen only if the node has this version, where -1 is any. Its result is None."""
-        self._parts.append(_Part(_CHECK, _full(path, jute.integer(version)), lambda *_: None))
+        self._parts.append(_Part(_CHECK, path, _full(path, jute.integer(version)), lambda *_: None))
 
     def __len__(self) -> int:
         return len(self._parts)
@@ -83,7 +84,8 @@ class _Operations:
             spelled = [_header(part.operation, False) + part.body(root) for part in parts]
             return b"".join(spelled) + _header(-1, True)
 
-        return LaneRequest(Operation.MULTI, body, lambda reader, root: _outcomes(parts, reader, root))
+        paths = [part.path for part in parts]
+        return LaneRequest(Operation.MULTI, paths, body, lambda reader, root: _outcomes(parts, reader, root))
 
 
 def _outcomes(parts: list[_Part], reader: Reader, root: Root) -> list[Outcome]:

@@ -143,12 +143,18 @@ class SpellingTest(LaneCase):
 
     def test_what_is_not_sent(self) -> None:
         host, asked = self.answering()
-        client = self.client(host + "/app")
+        for root in ("", "/app"):
+            client = self.client(host + root)
+            for path in ("a", "", "/a/", "//a", "/a/../b", "/\0"):
+                with self.subTest(root=root, path=path), self.raises(ValueError, None):
+                    client.sync(path)
+                transaction = client.transaction()
+                transaction.check("/b", 1)
+                transaction.delete(path)
+                with self.subTest(root=root, path=path), self.raises(ValueError, None):
+                    transaction.commit()
         with self.raises(TooLargeError, None):
             client.create2("/a", bytes(1_048_576))
-        for path in ("a", ""):
-            with self.raises(ValueError, None):
-                client.sync(path)
         with self.raises(TypeError, None):
             client.create2("/a", "text")  # type: ignore[arg-type]
         self.assertEqual(asked, [])
