@@ -20,7 +20,7 @@ if TYPE_CHECKING:
 
 __all__ = ["Election", "Held", "Lock"]
 
-logger = logging.getLogger("dirwolleu")
+logger = logging.getLogger("dirwolleu.connection")
 
 Returned = TypeVar("Returned")
 OnLost = Callable[["Held"], object]

@@ -23,7 +23,7 @@ from dirwolleu.types import EventType, Mark, State, WatchedEvent
 
 __all__ = ["Election", "Held", "Lock", "Registration"]
 
-logger = logging.getLogger("dirwolleu")
+logger = logging.getLogger("dirwolleu.connection")
 
 Returned = TypeVar("Returned")
 OnLost = Callable[["Held"], object]
