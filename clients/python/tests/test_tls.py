@@ -28,7 +28,7 @@ class Authority:
         self._key = str(folder / f"{name}.key")
         self._openssl(
             "req", "-x509", "-newkey", "ec", "-pkeyopt", "ec_paramgen_curve:P-256", "-nodes", "-days", "2", "-subj",
-            f"/CN={name}", "-keyout", self._key, "-out", self.certificate,
+            f"/CN={name}", "-addext", "keyUsage=critical,keyCertSign", "-keyout", self._key, "-out", self.certificate,
         )  # fmt: skip
 
     def sign(self, name: str, password: Optional[str] = None) -> tuple[str, str]:
@@ -36,7 +36,7 @@ class Authority:
         key, request, certificate = (str(self._folder / f"{self._name}-{name}.{end}") for end in ("key", "csr", "pem"))
         names = self._folder / f"{self._name}-{name}.txt"
         address = ",IP:127.0.0.1" if name == "localhost" else ""
-        names.write_text(f"subjectAltName=DNS:{name}{address}\n")
+        names.write_text(f"subjectAltName=DNS:{name}{address}\nauthorityKeyIdentifier=keyid\n")
         secret = ["-passout", f"pass:{password}"] if password else ["-nodes"]
         self._openssl(
             "req", "-new", "-newkey", "ec", "-pkeyopt", "ec_paramgen_curve:P-256", *secret, "-subj", f"/CN={name}",
