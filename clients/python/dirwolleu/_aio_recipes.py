@@ -1,4 +1,4 @@
-"""The lock and the election of `dirwolleu.recipes` as coroutines. They are tested, and not proved."""
+"""The recipes of `dirwolleu.recipes` as coroutines. They are tested, and not proved."""
 
 from __future__ import annotations
 
@@ -13,12 +13,14 @@ from typing import TYPE_CHECKING, Any, Callable, Optional, TypeVar
 from dirwolleu import _contending as contending
 from dirwolleu._contending import Contender, Holding, Steps, Wait
 from dirwolleu._driver import moment
-from dirwolleu.exceptions import LockLostError, LockTimeout
+from dirwolleu._retry import is_passing
+from dirwolleu.exceptions import LockLostError, LockTimeout, NodeExistsError, NoNodeError, ZookeeperError
+from dirwolleu.types import EventType, Mark, State, WatchedEvent
 
 if TYPE_CHECKING:
     from dirwolleu.aio import Client
 
-__all__ = ["Election", "Held", "Lock"]
+__all__ = ["Election", "Held", "Lock", "Registration"]
 
 logger = logging.getLogger("dirwolleu.connection")
 
@@ -178,3 +180,102 @@ class Election:
     async def contenders(self) -> list[str]:
         """The identifiers of the candidates, that of the leader first."""
         return await self._lock.contenders()
+
+
+class Registration:
+    """An ephemeral node that is made again in each new session, as `dirwolleu.recipes.Registration` is.
+
+        async with dirwolleu.aio.Registration(client, "/workers/host-1", b"10.0.0.1:80") as registration:
+            await registration.wait(10.0)
+    """
+
+    def __init__(self, client: Client, path: str, value: bytes = b"") -> None:
+        self._client, self._path, self._value = client, path, value
+        self._is_there, self._turn = asyncio.Event(), asyncio.Lock()
+        self._is_wanted = True
+        client.add_listener(self._told_state)
+        client._tell(self._make, None)
+
+    async def __aenter__(self) -> Registration:
+        return self
+
+    async def __aexit__(
+        self, kind: Optional[type[BaseException]], error: Optional[BaseException], trace: Optional[TracebackType]
+    ) -> None:
+        await self.withdraw()
+
+    @property
+    def is_registered(self) -> bool:
+        """Whether the node is known to be there, as one of this session: at the last seen zxid, not now."""
+        kept = self._client.kept(self._path)
+        if kept is None or kept.mark is not Mark.GOOD or kept.stat is None:
+            return False
+        return kept.stat.ephemeral_owner == self._client.session_id
+
+    async def wait(self, timeout: Optional[float] = None) -> bool:
+        """Waits until the node is there, for at most this many seconds, and answers whether it is."""
+        with contextlib.suppress(asyncio.TimeoutError):
+            await asyncio.wait_for(self._is_there.wait(), timeout)
+        return self._is_there.is_set()
+
+    async def set(self, value: bytes) -> None:
+        """Gives the node other data, now and in later sessions."""
+        self._value = value
+        try:
+            await self._client.set(self._path, value)
+        except ZookeeperError as error:
+            if not is_passing(error) and not isinstance(error, NoNodeError):
+                raise  # else it is made with these data, or set when the connection is back
+            await self._make()
+
+    async def withdraw(self) -> None:
+        """Deletes the node, and makes it no more. Where its session is over, so is the node."""
+        if self._is_wanted:
+            self._is_wanted = False
+            self._client.remove_listener(self._told_state)
+        async with self._turn:
+            if self._client.state is not State.LOST:
+                await self._remove()
+
+    async def _remove(self) -> None:
+        """Deletes the node, if it is one of this session."""
+        stat = await self._client.retry(self._client.exists, self._path)
+        if stat is not None and stat.ephemeral_owner == self._client.session_id:
+            steps = contending.release(self._client._engine, self._path)
+            await _drive(self._client, steps, asyncio.Event(), None, self._path)
+        self._is_there.clear()
+
+    async def _told_state(self, state: State) -> None:
+        if state is State.LOST:
+            self._is_there.clear()
+        elif state is State.CONNECTED:
+            await self._make()
+
+    async def _told(self, event: WatchedEvent) -> None:
+        if event.type is EventType.DELETED:
+            self._is_there.clear()
+        if event.type is not EventType.NONE:
+            await self._make()
+
+    async def _make(self, _: object = None) -> None:
+        """Sees to it that the node is there, and watches it."""
+        async with self._turn:
+            try:
+                while self._is_wanted and self._client.connected and not await self._is_settled():
+                    pass
+            except ZookeeperError as error:
+                if not is_passing(error):
+                    logger.error("the registration %s failed: %s", self._path, error)
+
+    async def _is_settled(self) -> bool:
+        """Whether nothing is left to do before the next news of the node: it is there, or another session's is."""
+        with contextlib.suppress(NodeExistsError):
+            await self._client.create(self._path, self._value, ephemeral=True, makepath=True)
+        stat = await self._client.exists(self._path, watch=self._told)
+        if stat is None:
+            return False
+        if stat.ephemeral_owner == self._client.session_id:
+            if (await self._client.get(self._path))[0] != self._value:
+                await self._client.set(self._path, self._value)
+            self._is_there.set()
+        return True

@@ -14,7 +14,7 @@ from typing import Any, Callable, Optional, TypeVar, Union
 from dirwolleu import _lane as lane
 from dirwolleu import _plans as plans
 from dirwolleu import _requests as requests
-from dirwolleu._aio_recipes import Election, Held, Lock
+from dirwolleu._aio_recipes import Election, Held, Lock, Registration
 from dirwolleu._driver import Driver, moment
 from dirwolleu._engine import Engine
 from dirwolleu._follow import Follower, Need, Wait, passing
@@ -29,7 +29,7 @@ from dirwolleu.security import ACL
 from dirwolleu.transaction import AsyncTransaction
 from dirwolleu.types import Kept, Stat, Watch
 
-__all__ = ["Client", "Election", "Held", "Lock"]
+__all__ = ["Client", "Election", "Held", "Lock", "Registration"]
 
 Returned = TypeVar("Returned")
 

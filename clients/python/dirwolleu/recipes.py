@@ -12,8 +12,6 @@ from types import TracebackType
 from typing import Any, Callable, Optional, TypeVar
 
 from dirwolleu import _contending as contending
-from dirwolleu import _plans as plans
-from dirwolleu import _requests as requests
 from dirwolleu._contending import Contender, Holding, Steps, Wait
 from dirwolleu._driver import moment
 from dirwolleu._retry import is_passing
@@ -293,8 +291,7 @@ class Registration:
     def _is_settled(self) -> bool:
         """Whether nothing is left to do before the next news of the node: it is there, or another session's is."""
         try:
-            plan = plans.create(requests.create(self._path, self._value, True, False), self._path, None, True)
-            self._client._run(plan)
+            self._client.create(self._path, self._value, ephemeral=True, makepath=True)
         except NodeExistsError:
             pass
         stat = self._client.exists(self._path, watch=self._told)

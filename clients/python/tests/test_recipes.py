@@ -329,6 +329,28 @@ class AioTest(PartnerCase):
         asyncio.run(run())
 
 
+    def test_a_registration_of_asyncio(self) -> None:
+        partner = self.partner()
+
+        async def run() -> None:
+            async with aio.Client(partner.host) as client, aio.Client(partner.host) as other:
+                async with aio.Registration(client, "/workers/one", b"first") as registration:
+                    self.assertTrue(await registration.wait(WAIT))
+                    self.assertTrue(registration.is_registered)
+                    await registration.set(b"second")
+                    session = client.session_id
+                    partner.do("expire")
+                    until = time.monotonic() + WAIT
+                    while client.session_id == session or not registration.is_registered:
+                        self.assertLess(time.monotonic(), until)
+                        await asyncio.sleep(0.01)
+                    data, stat = await other.retry(other.get, "/workers/one")
+                    self.assertEqual((data, stat.ephemeral_owner), (b"second", client.session_id))
+                self.assertIsNone(await other.exists("/workers/one"))
+
+        asyncio.run(run())
+
+
 class NamesTest(unittest.TestCase):
     def test_each_name_is_there(self) -> None:
         for module in (dirwolleu.aio, dirwolleu.recipes, dirwolleu.security):
