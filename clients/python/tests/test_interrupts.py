@@ -42,6 +42,7 @@ class ClientCase(PartnerCase):
         try:
             yield
         finally:
+            signal.signal(signal.SIGALRM, signal.SIG_IGN)  # a handler that is still to run may set the timer again
             signal.setitimer(signal.ITIMER_REAL, 0)
             signal.signal(signal.SIGALRM, before)
 
@@ -94,9 +95,10 @@ class SignalTest(ClientCase):
             read.append(client.get("/a", watch=True)[0])
             kept = client.kept("/a")
             read.append(kept.data if kept is not None else None)
+            signal.setitimer(signal.ITIMER_REAL, 0.003)  # once more, when this one has ended
 
         with self.on_alarm(handle):
-            signal.setitimer(signal.ITIMER_REAL, 0.001, 0.003)
+            signal.setitimer(signal.ITIMER_REAL, 0.001)
             for _ in range(300):
                 self.assertEqual(client.get("/a", watch=True)[0], b"one")
                 self.assertIsNotNone(client.kept("/a"))
