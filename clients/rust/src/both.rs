@@ -91,6 +91,39 @@ macro_rules! calls {
             $this.call(Request::create(path, data, mode))
         }
 
+        /// Makes a node with this ACL. As [`create`](Self::create) says otherwise.
+        pub fn create_with_acls(
+            $($receiver)+,
+            path: &str,
+            data: &[u8],
+            mode: Mode,
+            acls: &[Acl],
+        ) -> Result<String, Error> {
+            $this.call(Request::create_with_acls(path, data, mode, acls))
+        }
+
+        /// The ACL of a node, and what is known of it.
+        pub fn acls($($receiver)+, path: &str) -> Result<(Vec<Acl>, Stat), Error> {
+            $this.call(Request::acls(path))
+        }
+
+        /// Sets the ACL of a node whose ACL has this version ([`Stat::aversion`]); [`ANY_VERSION`](crate::ANY_VERSION) is that of each.
+        pub fn set_acls($($receiver)+, path: &str, acls: &[Acl], version: i32) -> Result<Stat, Error> {
+            $this.call(Request::set_acls(path, acls, version))
+        }
+
+        /// Tells the server who the session is, in the words of a scheme, as `digest` and `user:password`: now, and on each later
+        /// connection. It fails with [`Code::AUTH_FAILED`](crate::Code::AUTH_FAILED) where the server does not take it.
+        pub fn add_auth($($receiver)+, scheme: &str, credentials: &[u8]) -> Result<(), Error> {
+            $this.call(Request::auth(scheme, credentials))
+        }
+
+        /// Has the server that the session is connected to catch up with the leader: a read that is asked after it is of no state that
+        /// is older than what the leader had when this was asked.
+        pub fn sync($($receiver)+, path: &str) -> Result<(), Error> {
+            $this.call(Request::sync(path))
+        }
+
         /// Deletes a node that has this version and no children; [`ANY_VERSION`](crate::ANY_VERSION) is that of each node.
         pub fn delete($($receiver)+, path: &str, version: i32) -> Result<(), Error> {
             $this.call(Request::delete(path, version))

@@ -62,16 +62,17 @@ impl Calls {
         self.queue.iter().map(|queued| queued.until).min()
     }
 
-    /// A call is asked now: its ticket, which is above each one before.
-    pub(crate) fn begin(&mut self, slot: Arc<Slot>) -> u64 {
+    /// The ticket of a call whose answer nobody waits for. Each ticket is above those before.
+    pub(crate) fn next_ticket(&mut self) -> u64 {
         self.last_ticket += 1;
-        self.slots.insert(self.last_ticket, slot);
         self.last_ticket
     }
 
-    /// Whether a call has no answer yet.
-    pub(crate) fn is_pending(&self, ticket: u64) -> bool {
-        self.slots.contains_key(&ticket)
+    /// The ticket of a call that is asked now.
+    pub(crate) fn begin(&mut self, slot: Arc<Slot>) -> u64 {
+        let ticket = self.next_ticket();
+        self.slots.insert(ticket, slot);
+        ticket
     }
 
     /// A call has its answer.

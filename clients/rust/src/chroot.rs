@@ -3,6 +3,11 @@
 use crate::fault::Fault;
 use std::borrow::Cow;
 
+/// Whether a character is none that the path of a node may have, as the Programmer's Guide says.
+fn is_no_letter(one: char) -> bool {
+    matches!(one, '\0'..='\u{1f}' | '\u{7f}'..='\u{9f}' | '\u{e000}'..='\u{f8ff}' | '\u{fff0}'..='\u{ffff}')
+}
+
 /// The prefix of all paths at the servers: nothing, or a path that is not `/`.
 #[derive(Clone, Debug, Default, PartialEq, Eq, Hash)]
 pub(crate) struct Chroot {
@@ -31,6 +36,15 @@ impl Chroot {
             _ if path.starts_with('/') => Ok(Cow::Owned(self.prefix.clone() + path)),
             _ => Err(Fault::NotPath),
         }
+    }
+
+    /// The same, of a text that nobody else looks at: it has to be the path of a node.
+    pub(crate) fn checked<'a>(&self, path: &'a str) -> Result<Cow<'a, str>, Fault> {
+        let is_path = path == "/" || !path.is_empty() && Chroot::of(path).is_some();
+        if !is_path || path.chars().any(is_no_letter) {
+            return Err(Fault::NotPath);
+        }
+        self.outer(path)
     }
 
     /// The program's path, of one that the servers know.
@@ -70,6 +84,27 @@ mod tests {
         let app = Chroot::of("/app").unwrap();
         for text in ["", "a", "-1/a"] {
             assert_eq!(app.outer(text), Err(Fault::NotPath), "{text}");
+        }
+    }
+
+    #[test]
+    fn a_path_that_only_the_lane_sees_is_checked() {
+        let app = Chroot::of("/app").unwrap();
+        for (path, outer) in [("/", "/app"), ("/a", "/app/a"), ("/a/b c", "/app/a/b c")] {
+            assert_eq!(app.checked(path).as_deref(), Ok(outer));
+        }
+        for text in [
+            "",
+            "a",
+            "/a/",
+            "//",
+            "/a//b",
+            "/../a",
+            "/a\0",
+            "/\u{85}",
+            "/\u{fff0}",
+        ] {
+            assert_eq!(app.checked(text), Err(Fault::NotPath), "{text:?}");
         }
     }
 

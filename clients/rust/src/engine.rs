@@ -3,13 +3,16 @@
 use crate::calls::{Calls, Queued};
 use crate::chroot::Chroot;
 use crate::client::{Client, State};
-use crate::fault::{Code, Error, Fault};
+use crate::fault::{Code, Error, Fault, NoReply};
 use crate::hosts::Hosts;
+use crate::introductions::Introductions;
+use crate::lane::{Credentials, Lane, LaneCall};
 use crate::moment::{Clock, Moment};
+use crate::node::Watch;
 use crate::output::Outputs;
 use crate::pauses::{longest_dial, Pauses};
 use crate::refusals::Refusals;
-use crate::request::Asked;
+use crate::request::{Asked, Call, CoreCall};
 use crate::stream::Outgoing;
 use crate::ticket::Slot;
 use crate::told::{Event, Outcome, Told};
@@ -42,12 +45,25 @@ pub(crate) enum Plan {
     HandIn,
 }
 
+/// Whether a session goes on, whatever its state is.
+#[derive(Clone, Copy, Debug, PartialEq, Eq)]
+enum Standing {
+    GoesOn,
+    /// Memory ran out within a step.
+    Halted,
+    /// The servers do not take its credentials.
+    Barred,
+    /// Its program has let it go.
+    Stopped,
+}
+
 /// How a session begins.
 pub(crate) struct Beginning {
     pub(crate) client: Client,
     pub(crate) timeout: Duration,
     pub(crate) hosts: Hosts,
     pub(crate) renews: bool,
+    pub(crate) credentials: Vec<Credentials>,
 }
 
 /// A client, its connection, and the calls that wait.
@@ -65,8 +81,11 @@ pub(crate) struct Engine {
     refusals: Refusals,
     line: Option<Box<dyn Outgoing>>,
     inbox: Vec<u8>,
-    is_halted: bool,
-    is_stopped: bool,
+    lane: Lane,
+    answers: Vec<(u64, Outcome)>,
+    introductions: Introductions,
+    is_closing: bool,
+    standing: Standing,
 }
 
 /// How it begins, goes on with another client, and ends.
@@ -87,8 +106,11 @@ impl Engine {
             refusals: Refusals::default(),
             line: None,
             inbox: Vec::new(),
-            is_halted: false,
-            is_stopped: false,
+            lane: Lane::default(),
+            answers: Vec::new(),
+            introductions: Introductions::of(beginning.credentials),
+            is_closing: false,
+            standing: Standing::GoesOn,
         }
     }
 
@@ -103,7 +125,9 @@ impl Engine {
             self.client = renewed;
         }
         self.hang_up();
-        self.is_halted = false;
+        if self.standing != Standing::Stopped {
+            self.standing = Standing::GoesOn;
+        }
         Ok(())
     }
 
@@ -118,7 +142,7 @@ impl Engine {
 
     /// It is over with everything: each call is answered.
     pub(crate) fn stop(&mut self) {
-        self.is_stopped = true;
+        self.standing = Standing::Stopped;
         // Memory that ran out leaves calls without an answer.
         let _ = self.end();
         while let Some(queued) = self.calls.dequeue() {
@@ -153,12 +177,12 @@ impl Engine {
     pub(crate) fn is_over(&self) -> bool {
         let state = self.client.state();
         let is_renewed = self.renews && state == State::Expired;
-        self.is_stopped || self.is_halted || state.is_final() && !is_renewed
+        self.standing != Standing::GoesOn || state.is_final() && !is_renewed
     }
 
     /// It fails where the client has halted.
     pub(crate) fn halt(&self) -> Result<(), Fault> {
-        if self.is_halted {
+        if self.standing == Standing::Halted {
             return Err(Fault::Halted);
         }
         Ok(())
@@ -198,7 +222,13 @@ impl Engine {
         };
         let patience = self.client.timeout().max(SHORTEST_PATIENCE);
         let until = self.clock.now().saturating_add(patience);
-        if is_waiting && !self.is_stopped && !self.is_halted {
+        if self.standing == Standing::Barred {
+            let ticket = self.calls.begin(slot);
+            self.calls
+                .end(ticket, Err(Error::Server(Code::AUTH_FAILED)));
+            return false;
+        }
+        if is_waiting && self.standing == Standing::GoesOn {
             self.calls.enqueue(asked, slot, until);
             return true;
         }
@@ -211,22 +241,93 @@ impl Engine {
         self.calls.take_back(slot)
     }
 
-    /// Asks the client.
+    /// Asks, by the core or by the lane.
     fn put(&mut self, call: &Queued) {
-        let now = self.clock.now();
         let ticket = self.calls.begin(Arc::clone(&call.slot));
-        let path = self.chroot.outer(&call.asked.path);
-        let asked = path.and_then(|path| {
-            self.step(self.in_time(now), |client, now| {
-                call.asked.call.ask(client, now, ticket, &path)
-            })
-        });
+        self.waiting.asks(self.clock.now(), ticket);
+        let path = &call.asked.path;
+        let asked = match &call.asked.call {
+            Call::Core(core) => self.put_core(ticket, path, core),
+            Call::Lane(lane) => self.put_lane(ticket, path, lane),
+        };
         if let Err(fault) = asked {
-            self.calls.end(ticket, Err(fault.into()));
+            self.waiting.is_answered(ticket);
+            self.calls.end(ticket, Err(fault));
         }
-        if self.calls.is_pending(ticket) {
-            self.waiting.asks(now, ticket);
+    }
+
+    fn put_core(&mut self, ticket: u64, path: &str, call: &CoreCall) -> Result<(), Error> {
+        let path = self.chroot.outer(path)?;
+        let now = self.in_time(self.clock.now());
+        self.is_closing |= *call == CoreCall::Close;
+        self.step(now, |client, now| call.ask(client, now, ticket, &path))?;
+        Ok(())
+    }
+
+    fn put_lane(&mut self, ticket: u64, path: &str, call: &LaneCall) -> Result<(), Error> {
+        if let Some(refusal) = self.refusal_of_lane() {
+            return Err(refusal);
         }
+        let frame = self.lane.frame(ticket, path, call, &self.chroot)?;
+        if let LaneCall::Auth(credentials) = call {
+            self.introductions.adds(ticket, credentials.clone());
+        }
+        if !self.write(&frame) {
+            self.end()?;
+        } else if !call.is_read() {
+            self.raise_zxid();
+        }
+        Ok(())
+    }
+
+    /// Why the lane may not write now.
+    fn refusal_of_lane(&self) -> Option<Error> {
+        let reason = match self.client.state() {
+            _ if self.standing == Standing::Halted => return Some(Fault::Halted.into()),
+            State::Connected if !self.is_closing => return None,
+            State::Idle | State::Connecting => NoReply::NotConnected,
+            State::Expired => NoReply::SessionExpired,
+            State::Connected | State::Closed => NoReply::SessionClosed,
+        };
+        Some(reason.into())
+    }
+
+    /// Reads once by the core after a write of the lane, so that no server that is behind it is gone to later.
+    fn raise_zxid(&mut self) {
+        let (now, ticket) = (self.clock.now(), self.calls.next_ticket());
+        self.waiting.asks(now, ticket);
+        let asked = self.step(self.in_time(now), |client, now| {
+            client.exists(now, ticket, "/", Watch::No)
+        });
+        if asked.is_err() {
+            self.waiting.is_answered(ticket);
+        }
+    }
+
+    /// Tells a connection that begins who the session is.
+    fn introduce(&mut self) -> Result<(), Fault> {
+        for credentials in self.introductions.known() {
+            let ticket = self.calls.next_ticket();
+            let call = LaneCall::Auth(credentials);
+            // Credentials that are too large were refused when they were given.
+            let Ok(frame) = self.lane.frame(ticket, "/", &call, &self.chroot) else {
+                continue;
+            };
+            self.introductions.sends(ticket);
+            if !self.write(&frame) {
+                return self.end();
+            }
+        }
+        Ok(())
+    }
+
+    /// The servers do not take the credentials: nothing more happens.
+    fn bar(&mut self) {
+        if self.standing == Standing::GoesOn {
+            self.standing = Standing::Barred;
+        }
+        self.told.tell(Event::CredentialsRefused);
+        self.calls.end_all(Error::Server(Code::AUTH_FAILED));
     }
 
     /// Asks what waited for a connection.
@@ -243,21 +344,20 @@ impl Engine {
         }
     }
 
-    /// Hands out what the client has answered.
-    fn end_answered(&mut self) -> Result<(), Fault> {
-        let answers = mem::take(&mut self.told.answers);
-        let moved = Error::Server(Code::SESSION_MOVED);
-        let is_moved = answers
-            .iter()
-            .any(|(_, outcome)| matches!(outcome, Err(fault) if *fault == moved));
-        for (ticket, outcome) in answers {
+    /// Hands out what the core and the lane have answered. Whether the connection is to be ended: the session was moved away from it, or
+    /// its credentials are refused.
+    fn end_answered(&mut self) -> bool {
+        let mut is_end = false;
+        for (ticket, outcome) in mem::take(&mut self.told.answers) {
+            is_end |= matches!(outcome, Err(Error::Server(Code::SESSION_MOVED)));
+            if self.introductions.are_refused(ticket, &outcome) {
+                self.bar();
+                is_end = true;
+            }
             self.waiting.is_answered(ticket);
             self.calls.end(ticket, outcome);
         }
-        if is_moved {
-            return self.end();
-        }
-        Ok(())
+        is_end
     }
 }
 
@@ -290,13 +390,17 @@ impl Engine {
             self.hang_up();
         }
         if has_halted {
-            self.is_halted = true;
+            if self.standing == Standing::GoesOn {
+                self.standing = Standing::Halted;
+            }
             self.calls.end_all(Fault::Halted.into());
         }
         if !is_sent {
             self.step(now, Client::cut)?;
         }
-        self.end_answered()?;
+        if self.end_answered() {
+            self.end()?;
+        }
         if is_admitted || self.is_over() {
             self.put_queued();
         }
@@ -319,17 +423,21 @@ impl Engine {
         news.is_admitted
     }
 
-    /// Writes the frames that go to the server. Whether all was written, or there is nobody to write to.
+    /// Writes the frames of the core. Whether all was written, or there is nobody to write to.
     fn send(&mut self, now: Moment) -> bool {
         let frames = mem::take(&mut self.told.frames);
-        let Some(line) = &mut self.line else {
-            return true;
-        };
-        if frames.is_empty() {
-            return true;
+        if self.line.is_some() {
+            self.waiting.sends(now, &frames);
         }
-        self.waiting.sends(now, &frames);
-        line.write_all(&frames).is_ok()
+        self.write(&frames)
+    }
+
+    /// Writes whole frames. Whether all was written, or there is nobody to write to.
+    fn write(&mut self, frames: &[u8]) -> bool {
+        match &mut self.line {
+            Some(line) if !frames.is_empty() => line.write_all(frames).is_ok(),
+            _ => true,
+        }
     }
 }
 
@@ -337,7 +445,7 @@ impl Engine {
 impl Engine {
     /// What is to be done next, until this moment at most.
     pub(crate) fn plan(&mut self, until: Moment) -> Plan {
-        if self.is_stopped {
+        if self.standing == Standing::Stopped {
             return Plan::Stop;
         }
         self.put_late();
@@ -388,7 +496,8 @@ impl Engine {
         let now = self.clock.now();
         self.line = Some(outgoing);
         self.waiting = Waiting::since(now);
-        self.step(now, Client::opened)
+        self.step(now, Client::opened)?;
+        self.introduce()
     }
 
     /// Whether there is a connection.
@@ -396,18 +505,26 @@ impl Engine {
         self.line.is_some()
     }
 
-    /// Hands in what came from the server, and before it what there was no memory for.
+    /// Hands in what came from the server, and before it what there was no memory for. Answers to the lane are handed out after what stood
+    /// before them in the stream has been heard.
     pub(crate) fn hand_in(&mut self, bytes: &[u8]) -> Result<(), Fault> {
-        self.inbox.extend_from_slice(bytes);
         let now = self.clock.now();
         self.pauses.hears(now);
+        let read = self
+            .lane
+            .take(bytes, &self.chroot, &mut self.inbox, &mut self.answers);
         let outputs = self.client.bytes(self.in_time(now), &self.inbox);
         let taken = outputs.map(|outputs| self.told.take(outputs));
         if taken.is_ok() {
             self.waiting.hears(&self.inbox);
             self.inbox.clear();
+            self.told.answers.append(&mut self.answers);
         }
-        self.settle(now, taken)
+        self.settle(now, taken)?;
+        if read.is_err() {
+            return self.end();
+        }
+        Ok(())
     }
 
     /// Tells the moment that it is. The connection ends where the server leaves something without an answer for too long.
@@ -447,6 +564,11 @@ impl Engine {
     fn hang_up(&mut self) {
         self.waiting = Waiting::default();
         self.inbox.clear();
+        self.is_closing = false;
+        self.told.answers.append(&mut self.answers);
+        let lost = self.lane.end().into_iter();
+        let lost = lost.map(|ticket| (ticket, Err(NoReply::ConnectionLoss.into())));
+        self.told.answers.extend(lost);
         if let Some(mut line) = self.line.take() {
             line.close();
             self.pauses.ends(self.clock.now(), self.client.timeout());

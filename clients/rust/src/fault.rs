@@ -170,6 +170,13 @@ pub enum Error {
     Fault(Fault),
     /// The caller's limit has passed before there was an answer. The call is on its way: a write may still happen.
     TimedOut,
+    /// A transaction has not happened: the server refuses the operation at this place, from 0 on.
+    RolledBack {
+        /// The place of the operation.
+        index: usize,
+        /// Why it is refused.
+        code: Code,
+    },
 }
 
 impl Error {
@@ -193,7 +200,7 @@ impl Error {
                 NoReply::ConnectionLoss | NoReply::NotConnected | NoReply::TooManyPending
             ),
             Error::TimedOut => true,
-            Error::Fault(_) => false,
+            Error::Fault(_) | Error::RolledBack { .. } => false,
         }
     }
 }
@@ -206,6 +213,12 @@ impl fmt::Display for Error {
             Error::Fault(fault) => fault.fmt(f),
             Error::TimedOut => {
                 f.write_str("no answer has come in time, and the call may still happen")
+            }
+            Error::RolledBack { index, code } => {
+                write!(
+                    f,
+                    "nothing has happened, since of operation {index}: {code}"
+                )
             }
         }
     }

@@ -11,7 +11,11 @@
 //! - [`Client`] is the core itself, a machine without socket and clock, for an event loop.
 //!
 //! **Proved** is the core: what each function of its header says. **Tested** is all that is above it, in this crate: connections,
-//! pauses, tickets, retries, chroots, hosts.
+//! pauses, tickets, retries, chroots, hosts, and what is asked beside the core.
+//!
+//! A session asks beside the core what the core does not know: transactions, ACLs, credentials and `sync`. It writes these requests
+//! between those of the core, and takes their answers out of the stream before the core is handed it. So for the core, what they change
+//! is changed by others: marks stay right, and what a transaction made stale is stale when its caller goes on. They leave no watch.
 //!
 //! The core takes its memory by `malloc`. Use no client in the forked child of a process with threads.
 #![deny(missing_docs, unsafe_op_in_unsafe_fn, unsafe_code)]
@@ -21,6 +25,7 @@
 // A look-up whose value is dropped does no harm, and an attribute at each would hide those where one matters.
 #![allow(clippy::must_use_candidate)]
 
+mod acl;
 mod both;
 mod calls;
 mod chroot;
@@ -31,8 +36,11 @@ mod fault;
 mod ffi;
 mod follow;
 mod hosts;
+mod introductions;
+mod jute;
 mod keeper;
 mod kept;
+mod lane;
 mod local;
 mod moment;
 mod node;
@@ -48,9 +56,11 @@ mod session;
 mod stream;
 mod ticket;
 mod told;
+mod transaction;
 mod view;
 mod waiting;
 
+pub use acl::{Acl, Permissions};
 pub use client::{Client, State};
 pub use fault::{Code, Error, Fault, NoReply};
 pub use follow::Follow;
@@ -68,6 +78,7 @@ pub use session::{Session, SharedSession};
 pub use stream::{Connection, Dial, Incoming, Outgoing, Server, Tcp};
 pub use ticket::Ticket;
 pub use told::Event;
+pub use transaction::{Change, Operations, Transaction};
 pub use view::View;
 
 /// The lines of the page, as a test that they compile.

@@ -1,5 +1,6 @@
 //! A session without a thread.
 
+use crate::acl::Acl;
 use crate::both::{calls, look_ups, watch, Asks};
 use crate::client::State;
 use crate::engine::{Engine, NEVER};

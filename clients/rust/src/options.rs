@@ -5,6 +5,7 @@ use crate::engine::{Beginning, Engine};
 use crate::fault::Fault;
 use crate::hosts::{Hosts, HostsFault, Order};
 use crate::keeper::{Keeper, Shared};
+use crate::lane::Credentials;
 use crate::local::LocalSession;
 use crate::retry::Retry;
 use crate::saved::SavedSession;
@@ -81,6 +82,7 @@ pub struct SessionOptions {
     pub(crate) retry: Retry,
     pub(crate) limit: Option<Duration>,
     saved: Option<SavedSession>,
+    credentials: Vec<Credentials>,
     dial: Box<dyn Dial>,
 }
 
@@ -94,6 +96,7 @@ impl SessionOptions {
             retry: Retry::never(),
             limit: None,
             saved: None,
+            credentials: Vec::new(),
             dial: Box::new(Tcp),
         }
     }
@@ -126,6 +129,14 @@ impl SessionOptions {
     /// [`Ticket::wait_for`](crate::Ticket::wait_for).
     pub fn limit(mut self, limit: Duration) -> SessionOptions {
         self.limit = Some(limit);
+        self
+    }
+
+    /// Who the session is, in the words of a scheme, as `digest` and `user:password`: told on each connection before anything else. Where a
+    /// server does not take it, [`Event::CredentialsRefused`](crate::Event::CredentialsRefused) comes, and each call fails with
+    /// [`Code::AUTH_FAILED`](crate::Code::AUTH_FAILED). Credentials cross the network as they are: use TLS.
+    pub fn auth(mut self, scheme: &str, credentials: &[u8]) -> SessionOptions {
+        self.credentials.push(Credentials::new(scheme, credentials));
         self
     }
 
@@ -180,6 +191,7 @@ impl SessionOptions {
             timeout: self.timeout,
             hosts,
             renews: self.renews,
+            credentials: self.credentials,
         });
         Ok(Keeper::new(Shared::new(engine), self.dial, self.order))
     }

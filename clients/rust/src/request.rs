@@ -1,7 +1,9 @@
 //! What a program asks of the servers.
 
+use crate::acl::Acl;
 use crate::client::Client;
 use crate::fault::{Code, Error, Fault};
+use crate::lane::{Credentials, LaneCall};
 use crate::moment::Moment;
 use crate::node::{Mode, Node, Stat, Watch};
 use crate::output::Outputs;
@@ -9,8 +11,8 @@ use crate::told::{Found, Outcome};
 use std::fmt;
 
 /// A call of the core, without its path.
-#[derive(Clone, Debug, PartialEq, Eq)]
-pub(crate) enum Call {
+#[derive(Clone, PartialEq, Eq)]
+pub(crate) enum CoreCall {
     Exists(Watch),
     Data(Watch),
     Children(Watch),
@@ -20,12 +22,7 @@ pub(crate) enum Call {
     Close,
 }
 
-impl Call {
-    /// Whether the servers are as they were after it.
-    pub(crate) fn is_read(&self) -> bool {
-        matches!(self, Call::Exists(_) | Call::Data(_) | Call::Children(_))
-    }
-
+impl CoreCall {
     /// Asks the client, about the node of this path at the servers.
     pub(crate) fn ask<'a>(
         &self,
@@ -35,13 +32,33 @@ impl Call {
         path: &str,
     ) -> Result<Outputs<'a>, Fault> {
         match self {
-            Call::Exists(watch) => client.exists(now, ticket, path, *watch),
-            Call::Data(watch) => client.get_data(now, ticket, path, *watch),
-            Call::Children(watch) => client.get_children(now, ticket, path, *watch),
-            Call::Set { data, version } => client.set_data(now, ticket, path, Some(data), *version),
-            Call::Create { data, mode } => client.create(now, ticket, path, Some(data), *mode),
-            Call::Delete { version } => client.delete(now, ticket, path, *version),
-            Call::Close => client.close_session(now, ticket),
+            CoreCall::Exists(watch) => client.exists(now, ticket, path, *watch),
+            CoreCall::Data(watch) => client.get_data(now, ticket, path, *watch),
+            CoreCall::Children(watch) => client.get_children(now, ticket, path, *watch),
+            CoreCall::Set { data, version } => {
+                client.set_data(now, ticket, path, Some(data), *version)
+            }
+            CoreCall::Create { data, mode } => client.create(now, ticket, path, Some(data), *mode),
+            CoreCall::Delete { version } => client.delete(now, ticket, path, *version),
+            CoreCall::Close => client.close_session(now, ticket),
+        }
+    }
+}
+
+/// A call, without its path.
+#[derive(Clone, PartialEq, Eq)]
+pub(crate) enum Call {
+    Core(CoreCall),
+    Lane(LaneCall),
+}
+
+impl Call {
+    /// Whether the servers are as they were after it.
+    fn is_read(&self) -> bool {
+        match self {
+            Call::Core(CoreCall::Exists(_) | CoreCall::Data(_) | CoreCall::Children(_)) => true,
+            Call::Core(_) => false,
+            Call::Lane(call) => call.is_read(),
         }
     }
 }
@@ -78,7 +95,7 @@ pub struct Request<T> {
 }
 
 impl<T> Request<T> {
-    fn new(path: &str, call: Call, read: fn(Outcome) -> Result<T, Error>) -> Request<T> {
+    pub(crate) fn new(path: &str, call: Call, read: fn(Outcome) -> Result<T, Error>) -> Request<T> {
         let path = String::from(path);
         Request {
             asked: Asked { path, call },
@@ -100,16 +117,20 @@ impl<T> Request<T> {
 impl Request<Option<Stat>> {
     /// What is known of a node, and none where there is none.
     pub fn exists(path: &str) -> Request<Option<Stat>> {
-        Request::new(path, Call::Exists(Watch::No), |outcome| match outcome {
-            Ok(found) => Ok(Some(found.stat)),
-            Err(Error::Server(Code::NO_NODE)) => Ok(None),
-            Err(fault) => Err(fault),
-        })
+        Request::new(
+            path,
+            Call::Core(CoreCall::Exists(Watch::No)),
+            |outcome| match outcome {
+                Ok(found) => Ok(Some(found.stat)),
+                Err(Error::Server(Code::NO_NODE)) => Ok(None),
+                Err(fault) => Err(fault),
+            },
+        )
     }
 
     /// The same, and a watch is left, also where there is no node.
     pub fn watched(mut self) -> Request<Option<Stat>> {
-        self.asked.call = Call::Exists(Watch::Yes);
+        self.asked.call = Call::Core(CoreCall::Exists(Watch::Yes));
         self
     }
 }
@@ -117,7 +138,7 @@ impl Request<Option<Stat>> {
 impl Request<Node> {
     /// The data of a node. Where there is none the answer is [`Code::NO_NODE`].
     pub fn get(path: &str) -> Request<Node> {
-        Request::new(path, Call::Data(Watch::No), |outcome| {
+        Request::new(path, Call::Core(CoreCall::Data(Watch::No)), |outcome| {
             let Found { data, stat, .. } = outcome?;
             Ok(Node { data, stat })
         })
@@ -125,7 +146,7 @@ impl Request<Node> {
 
     /// The same, and a watch is left where there is a node.
     pub fn watched(mut self) -> Request<Node> {
-        self.asked.call = Call::Data(Watch::Yes);
+        self.asked.call = Call::Core(CoreCall::Data(Watch::Yes));
         self
     }
 }
@@ -134,14 +155,14 @@ impl Request<(Vec<String>, Stat)> {
     /// The names of the children of a node, in an order that means nothing, and what is known of it. Where there is none the answer is
     /// [`Code::NO_NODE`].
     pub fn children(path: &str) -> Request<(Vec<String>, Stat)> {
-        Request::new(path, Call::Children(Watch::No), |outcome| {
+        Request::new(path, Call::Core(CoreCall::Children(Watch::No)), |outcome| {
             outcome.map(|found| (found.names, found.stat))
         })
     }
 
     /// The same, and a watch is left where there is a node.
     pub fn watched(mut self) -> Request<(Vec<String>, Stat)> {
-        self.asked.call = Call::Children(Watch::Yes);
+        self.asked.call = Call::Core(CoreCall::Children(Watch::Yes));
         self
     }
 }
@@ -150,8 +171,26 @@ impl Request<Stat> {
     /// Sets the data of a node that has this version; [`ANY_VERSION`](crate::ANY_VERSION) is that of each node.
     pub fn set(path: &str, data: &[u8], version: i32) -> Request<Stat> {
         let data = data.to_vec();
-        Request::new(path, Call::Set { data, version }, |outcome| {
-            outcome.map(|found| found.stat)
+        Request::new(
+            path,
+            Call::Core(CoreCall::Set { data, version }),
+            |outcome| outcome.map(|found| found.stat),
+        )
+    }
+
+    /// Sets the ACL of a node whose ACL has this version ([`Stat::aversion`]); [`ANY_VERSION`](crate::ANY_VERSION) is that of each node.
+    pub fn set_acls(path: &str, acls: &[Acl], version: i32) -> Request<Stat> {
+        let acls = acls.to_vec();
+        let call = Call::Lane(LaneCall::SetAcls { acls, version });
+        Request::new(path, call, |outcome| outcome.map(|found| found.stat))
+    }
+}
+
+impl Request<(Vec<Acl>, Stat)> {
+    /// The ACL of a node, and what is known of it.
+    pub fn acls(path: &str) -> Request<(Vec<Acl>, Stat)> {
+        Request::new(path, Call::Lane(LaneCall::Acls), |outcome| {
+            outcome.map(|found| (found.acls, found.stat))
         })
     }
 }
@@ -160,21 +199,48 @@ impl Request<String> {
     /// Makes a node, and tells its path, which ends in ten digits more where it is sequential.
     pub fn create(path: &str, data: &[u8], mode: Mode) -> Request<String> {
         let data = data.to_vec();
-        Request::new(path, Call::Create { data, mode }, |outcome| {
-            outcome.map(|found| found.path)
-        })
+        Request::new(
+            path,
+            Call::Core(CoreCall::Create { data, mode }),
+            |outcome| outcome.map(|found| found.path),
+        )
+    }
+
+    /// The same, of a node with this ACL.
+    pub fn create_with_acls(path: &str, data: &[u8], mode: Mode, acls: &[Acl]) -> Request<String> {
+        let (data, acls) = (data.to_vec(), acls.to_vec());
+        let call = Call::Lane(LaneCall::Create { data, mode, acls });
+        Request::new(path, call, |outcome| outcome.map(|found| found.path))
     }
 }
 
 impl Request<()> {
     /// Deletes a node that has this version and no children; [`ANY_VERSION`](crate::ANY_VERSION) is that of each node.
     pub fn delete(path: &str, version: i32) -> Request<()> {
-        Request::new(path, Call::Delete { version }, |outcome| outcome.map(drop))
+        Request::new(path, Call::Core(CoreCall::Delete { version }), |outcome| {
+            outcome.map(drop)
+        })
+    }
+
+    /// Has the server that the session is connected to catch up with the leader, as far as it was when that was asked: a read that is
+    /// asked after it is of no older state.
+    pub fn sync(path: &str) -> Request<()> {
+        Request::new(path, Call::Lane(LaneCall::Sync), |outcome| {
+            outcome.map(drop)
+        })
+    }
+
+    /// Tells the server who the session is, now and on each later connection.
+    pub fn auth(scheme: &str, credentials: &[u8]) -> Request<()> {
+        let call = LaneCall::Auth(Credentials::new(scheme, credentials));
+        Request::new("/", Call::Lane(call), |outcome| outcome.map(drop))
     }
 
     /// Ends the session.
     pub(crate) fn close() -> Request<()> {
-        Request::new("/", Call::Close, |outcome| outcome.map(drop))
+        Request::new("/", Call::Core(CoreCall::Close), |outcome| {
+            outcome.map(drop)
+        })
     }
 }
 

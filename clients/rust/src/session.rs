@@ -1,5 +1,6 @@
 //! A session that a thread of its own keeps alive.
 
+use crate::acl::Acl;
 use crate::both::{calls, look_ups, watch, Asks};
 use crate::client::State;
 use crate::engine::Engine;
@@ -16,6 +17,7 @@ use crate::retry::Retry;
 use crate::saved::SavedSession;
 use crate::ticket::Ticket;
 use crate::told::Event;
+use crate::transaction::Transaction;
 use crate::view::View;
 use std::fmt;
 use std::io;
@@ -160,6 +162,11 @@ impl Session {
             }
         }
         self.wait(request, left())
+    }
+
+    /// Begins a transaction: operations that happen together or not at all.
+    pub fn transaction(&self) -> Transaction<'_> {
+        Transaction::new(self)
     }
 
     fn wait<T>(&self, request: Request<T>, limit: Option<Duration>) -> Result<T, Error> {

@@ -1,10 +1,12 @@
 //! What the client of a session has said, until it is taken.
 
+use crate::acl::Acl;
 use crate::chroot::Chroot;
 use crate::client::State;
 use crate::fault::{Error, NoReply};
 use crate::node::{NodeEvent, Side, Stat};
 use crate::output::{Brought, Cause, GivenUp, Output, Outputs, Reply};
+use crate::transaction::Change;
 use std::collections::VecDeque;
 use std::mem;
 
@@ -13,6 +15,7 @@ const MOST_EVENTS: usize = 1_024;
 
 /// What a session hears without having asked.
 #[derive(Clone, Debug, PartialEq, Eq)]
+#[non_exhaustive]
 pub enum Event {
     /// The state is another one.
     State(State),
@@ -25,6 +28,9 @@ pub enum Event {
         /// What has happened.
         event: NodeEvent,
     },
+    /// The servers do not take the credentials that the session was opened with. It dials no more, and its calls fail with
+    /// [`Code::AUTH_FAILED`](crate::Code::AUTH_FAILED), until it is renewed.
+    CredentialsRefused,
     /// The connection was given up. The next one is dialled.
     Dropped {
         /// Why.
@@ -44,6 +50,8 @@ pub(crate) struct Found {
     pub(crate) path: String,
     pub(crate) names: Vec<String>,
     pub(crate) stat: Stat,
+    pub(crate) acls: Vec<Acl>,
+    pub(crate) changes: Vec<Change>,
 }
 
 /// How a call ends.

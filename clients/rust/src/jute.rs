@@ -1,0 +1,113 @@
+//! Records of `zookeeper.jute`, as the lane spells and reads them.
+
+use crate::acl::{Acl, Permissions};
+use crate::node::Stat;
+
+/// Spells fields, one after the other.
+#[derive(Default)]
+pub(crate) struct Writer {
+    bytes: Vec<u8>,
+}
+
+impl Writer {
+    pub(crate) fn into_bytes(self) -> Vec<u8> {
+        self.bytes
+    }
+
+    pub(crate) fn int(&mut self, number: i32) -> &mut Writer {
+        self.bytes.extend(number.to_be_bytes());
+        self
+    }
+
+    pub(crate) fn boolean(&mut self, flag: bool) -> &mut Writer {
+        self.bytes.push(u8::from(flag));
+        self
+    }
+
+    /// A length that no frame admits is spelled as the longest: a frame with it is refused for its own length.
+    fn length(&mut self, length: usize) -> &mut Writer {
+        self.int(i32::try_from(length).unwrap_or(i32::MAX))
+    }
+
+    pub(crate) fn buffer(&mut self, bytes: &[u8]) -> &mut Writer {
+        self.length(bytes.len());
+        self.bytes.extend(bytes);
+        self
+    }
+
+    pub(crate) fn text(&mut self, text: &str) -> &mut Writer {
+        self.buffer(text.as_bytes())
+    }
+
+    pub(crate) fn acls(&mut self, acls: &[Acl]) -> &mut Writer {
+        self.length(acls.len());
+        for acl in acls {
+            self.int(acl.permissions.number());
+            self.text(&acl.scheme).text(&acl.id);
+        }
+        self
+    }
+}
+
+/// Reads fields, one after the other. None where there is no such field.
+pub(crate) struct Reader<'a> {
+    bytes: &'a [u8],
+}
+
+impl<'a> Reader<'a> {
+    pub(crate) fn new(bytes: &'a [u8]) -> Reader<'a> {
+        Reader { bytes }
+    }
+
+    fn take(&mut self, count: usize) -> Option<&'a [u8]> {
+        let taken = self.bytes.get(..count)?;
+        self.bytes = &self.bytes[count..];
+        Some(taken)
+    }
+
+    pub(crate) fn int(&mut self) -> Option<i32> {
+        Some(i32::from_be_bytes(self.take(4)?.try_into().ok()?))
+    }
+
+    pub(crate) fn long(&mut self) -> Option<i64> {
+        Some(i64::from_be_bytes(self.take(8)?.try_into().ok()?))
+    }
+
+    pub(crate) fn boolean(&mut self) -> Option<bool> {
+        Some(self.take(1)? != [0])
+    }
+
+    pub(crate) fn text(&mut self) -> Option<String> {
+        let length = usize::try_from(self.int()?).ok()?;
+        String::from_utf8(self.take(length)?.to_vec()).ok()
+    }
+
+    pub(crate) fn acls(&mut self) -> Option<Vec<Acl>> {
+        let count = self.int()?;
+        (0..count).map(|_| self.acl()).collect()
+    }
+
+    fn acl(&mut self) -> Option<Acl> {
+        Some(Acl {
+            permissions: Permissions::of(self.int()?),
+            scheme: self.text()?,
+            id: self.text()?,
+        })
+    }
+
+    pub(crate) fn stat(&mut self) -> Option<Stat> {
+        Some(Stat {
+            czxid: self.long()?,
+            mzxid: self.long()?,
+            ctime: self.long()?,
+            mtime: self.long()?,
+            version: self.int()?,
+            cversion: self.int()?,
+            aversion: self.int()?,
+            ephemeral_owner: self.long()?,
+            data_length: self.int()?,
+            num_children: self.int()?,
+            pzxid: self.long()?,
+        })
+    }
+}

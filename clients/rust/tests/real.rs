@@ -1,0 +1,192 @@
+//! Sessions at a real server, whose address is in `DIRWOLLEU_SERVER`: `scripts/clients` starts one. Without it each test says `skipped`.
+
+use dirwolleu::{
+    Acl, Change, Code, Error, Event, LocalSession, Mode, Operations, Permissions, Request, Session,
+    SessionOptions, State, ANY_VERSION,
+};
+use std::env;
+use std::thread::sleep;
+use std::time::{Duration, Instant};
+
+const TIMEOUT: Duration = Duration::from_secs(10);
+
+/// How long what is awaited may take.
+const PATIENCE: Duration = Duration::from_secs(30);
+
+/// The address of the server, with a chroot of the test's own, which is made.
+fn place(name: &str) -> Option<String> {
+    let Ok(server) = env::var("DIRWOLLEU_SERVER") else {
+        println!("skipped: DIRWOLLEU_SERVER names no server");
+        return None;
+    };
+    let place = format!("{server}/{name}");
+    let session = Session::open(&place, TIMEOUT).unwrap();
+    session.create("/", b"", Mode::Persistent).unwrap();
+    Some(place)
+}
+
+#[test]
+fn an_ephemeral_node_is_there_after_nine_seconds_of_work() {
+    let Some(place) = place("work") else { return };
+    let timeout = Duration::from_secs(4);
+    let session = Session::open(&place, timeout).unwrap();
+    let mut local = LocalSession::open(&place, timeout).unwrap();
+    session.create("/mine", b"", Mode::Ephemeral).unwrap();
+    local.create("/locals", b"", Mode::Ephemeral).unwrap();
+    assert_eq!((session.timeout(), local.timeout()), (timeout, timeout));
+    sleep(Duration::from_secs(9));
+    assert_eq!(
+        (session.state(), local.state()),
+        (Some(State::Connected), None)
+    );
+    let other = Session::open(&place, TIMEOUT).unwrap();
+    let stat = other.exists("/mine").unwrap().expect("the node is there");
+    assert_eq!(stat.ephemeral_owner, session.id().unwrap());
+    assert_eq!(other.exists("/locals"), Ok(None));
+}
+
+#[test]
+fn a_transaction_happens_as_a_whole_or_not_at_all() {
+    let Some(place) = place("transaction") else {
+        return;
+    };
+    let session = Session::open(&place, TIMEOUT).unwrap();
+    session.create("/a", b"one", Mode::Persistent).unwrap();
+    let transaction = session.transaction().check("/a", 0).set("/a", b"two", 0);
+    let transaction = transaction.create("/b-", b"", Mode::PersistentSequential);
+    let changes = transaction
+        .create("/c", b"", Mode::Ephemeral)
+        .delete("/c", 0)
+        .commit()
+        .unwrap();
+    let [Change::Checked, Change::Set(stat), Change::Created(path), Change::Created(other), Change::Deleted] =
+        &changes[..]
+    else {
+        panic!("{changes:?}");
+    };
+    assert_eq!(
+        (stat.version, path.as_str(), other.as_str()),
+        (1, "/b-0000000001", "/c")
+    );
+    assert_eq!(
+        session.get("/a").unwrap().data.as_deref(),
+        Some(b"two".as_slice())
+    );
+    assert!(session.last_zxid() >= stat.mzxid);
+    let refused = session
+        .transaction()
+        .set("/a", b"three", 1)
+        .check("/a", 7)
+        .delete("/a", 2);
+    let code = Code::BAD_VERSION;
+    assert_eq!(refused.commit(), Err(Error::RolledBack { index: 1, code }));
+    assert_eq!(session.get("/a").unwrap().stat.version, 1);
+    assert_eq!(session.transaction().commit(), Ok(Vec::new()));
+    let nowhere = session
+        .transaction()
+        .delete("/nowhere", ANY_VERSION)
+        .commit();
+    let code = Code::NO_NODE;
+    assert_eq!(nowhere, Err(Error::RolledBack { index: 0, code }));
+}
+
+#[test]
+fn the_last_zxid_rises_to_that_of_a_transaction() {
+    let Some(place) = place("zxid") else { return };
+    let mut session = LocalSession::open(&place, TIMEOUT).unwrap();
+    session.create("/a", b"", Mode::Persistent).unwrap();
+    let operations = Operations::new().set("/a", b"x", ANY_VERSION);
+    let changes = session.call(Request::transaction(operations)).unwrap();
+    let [Change::Set(stat)] = changes[..] else {
+        panic!("{changes:?}");
+    };
+    let until = Instant::now() + PATIENCE;
+    while session.last_zxid() < stat.mzxid {
+        assert!(Instant::now() < until, "nothing was read by the core");
+        session
+            .next_event(Some(Instant::now() + Duration::from_millis(20)))
+            .unwrap();
+    }
+}
+
+#[test]
+fn a_node_of_ones_own_is_read_with_credentials_alone() {
+    let Some(place) = place("acls") else { return };
+    let options = SessionOptions::new(TIMEOUT).auth("digest", b"ann:secret");
+    let session = options.open(&place).unwrap();
+    let mine = [Acl::creator(Permissions::ALL)];
+    session
+        .create_with_acls("/mine", b"one", Mode::Persistent, &mine)
+        .unwrap();
+    let (acls, stat) = session.acls("/mine").unwrap();
+    assert_eq!(
+        (acls[0].scheme.as_str(), acls[0].permissions),
+        ("digest", Permissions::ALL)
+    );
+    let other = Session::open(&place, TIMEOUT).unwrap();
+    assert_eq!(other.get("/mine"), Err(Error::Server(Code::NO_AUTH)));
+    other.add_auth("digest", b"ann:secret").unwrap();
+    assert!(other.get("/mine").is_ok());
+    let open = [acls[0].clone(), Acl::anyone(Permissions::READ)];
+    assert_eq!(
+        session
+            .set_acls("/mine", &open, stat.aversion)
+            .unwrap()
+            .aversion,
+        1
+    );
+    let late = session.set_acls("/mine", &open, stat.aversion);
+    assert_eq!(late, Err(Error::Server(Code::BAD_VERSION)));
+    let stranger = Session::open(&place, TIMEOUT).unwrap();
+    assert!(stranger.get("/mine").is_ok());
+    let refused = stranger.set("/mine", b"two", ANY_VERSION);
+    assert_eq!(refused, Err(Error::Server(Code::NO_AUTH)));
+    let nobody = [Acl::new(Permissions::ALL, "digest", "no hash")];
+    let invalid = stranger.create_with_acls("/other", b"", Mode::Persistent, &nobody);
+    assert_eq!(invalid, Err(Error::Server(Code::INVALID_ACL)));
+}
+
+#[test]
+fn a_scheme_that_is_not_there_is_refused() {
+    let Some(place) = place("schemes") else {
+        return;
+    };
+    let session = Session::open(&place, TIMEOUT).unwrap();
+    session.create("/mine", b"", Mode::Ephemeral).unwrap();
+    let refused = session.add_auth("nobody", b"knows");
+    assert_eq!(refused, Err(Error::Server(Code::AUTH_FAILED)));
+    let until = Instant::now() + PATIENCE;
+    while session.exists("/mine").is_err() {
+        assert!(
+            Instant::now() < until,
+            "the session goes on over another connection"
+        );
+    }
+    let barred = SessionOptions::new(TIMEOUT)
+        .auth("nobody", b"knows")
+        .open(&place)
+        .unwrap();
+    let until = Some(Instant::now() + PATIENCE);
+    while barred.next_event(until).unwrap() != Some(Event::CredentialsRefused) {}
+    assert_eq!(barred.get("/"), Err(Error::Server(Code::AUTH_FAILED)));
+}
+
+#[test]
+fn a_sync_is_answered_in_order() {
+    let Some(place) = place("sync") else { return };
+    let session = Session::open(&place, TIMEOUT).unwrap();
+    session.create("/a", b"", Mode::Persistent).unwrap();
+    let tickets: Vec<_> = (0..100)
+        .map(|_| {
+            (
+                session.ask(Request::set("/a", b"x", ANY_VERSION)),
+                session.ask(Request::sync("/a")),
+            )
+        })
+        .collect();
+    for (number, (set, sync)) in (1..).zip(tickets) {
+        assert_eq!(set.wait_for(PATIENCE).map(|stat| stat.version), Ok(number));
+        assert_eq!(sync.wait_for(PATIENCE), Ok(()));
+    }
+    assert_eq!(session.sync("/nowhere"), Ok(()));
+}
