@@ -1,0 +1,199 @@
+//! Sessions over TLS, at a server of the test's own. Where there is no openssl to make certificates, each test says so and passes.
+
+#[path = "../../tests/jute/mod.rs"]
+mod jute;
+#[path = "../../tests/partner/mod.rs"]
+mod partner;
+
+use dirwolleu::{Error, NoReply, Request, Session, SessionOptions, State};
+use dirwolleu_rustls::{rustls, Tls};
+use jute::{PING, PONG, SET_DATA};
+use partner::Line;
+use rustls::{
+    Certificate, ClientConfig, PrivateKey, RootCertStore, ServerConfig, ServerConnection,
+    StreamOwned,
+};
+use std::net::{SocketAddr, TcpListener, TcpStream};
+use std::path::{Path, PathBuf};
+use std::process::Command;
+use std::sync::Arc;
+use std::thread::{self, sleep};
+use std::time::{Duration, Instant};
+use std::{env, fs, process};
+
+const TIMEOUT: Duration = Duration::from_secs(10);
+
+/// How long what is awaited may take.
+const PATIENCE: Duration = Duration::from_secs(30);
+
+/// A folder that goes with its test.
+struct Folder(PathBuf);
+
+impl Drop for Folder {
+    fn drop(&mut self) {
+        let _ = fs::remove_dir_all(&self.0);
+    }
+}
+
+/// Runs openssl with these words in a folder. Whether there is an openssl.
+fn openssl(folder: &Path, words: &str) -> bool {
+    let command = Command::new("openssl")
+        .args(words.split(' '))
+        .current_dir(folder)
+        .output();
+    let Ok(output) = command else {
+        println!("skipped: there is no openssl");
+        return false;
+    };
+    assert!(
+        output.status.success(),
+        "{}",
+        String::from_utf8_lossy(&output.stderr)
+    );
+    true
+}
+
+/// What a server and its clients know of each other.
+struct Trust {
+    server: Arc<ServerConfig>,
+    client: Arc<ClientConfig>,
+}
+
+/// A server whose certificate has this name, and clients that trust who has signed it.
+fn trust(test: &str, name: &str) -> Option<Trust> {
+    let folder = Folder(env::temp_dir().join(format!("dirwolleu-{}-{test}", process::id())));
+    fs::create_dir_all(&folder.0).unwrap();
+    fs::write(
+        folder.0.join("names"),
+        format!("basicConstraints=CA:FALSE\nsubjectAltName=DNS:{name}\n"),
+    )
+    .unwrap();
+    let lines = [
+        "req -x509 -newkey rsa:2048 -nodes -keyout ca.key -out ca.pem -days 2 -subj /CN=authority",
+        "req -newkey rsa:2048 -nodes -keyout key.pem -out request.pem -subj /CN=server",
+        "x509 -req -in request.pem -CA ca.pem -CAkey ca.key -CAcreateserial -out server.pem -days 2 -extfile names",
+        "x509 -in ca.pem -outform DER -out ca.der",
+        "x509 -in server.pem -outform DER -out server.der",
+        "pkcs8 -topk8 -nocrypt -in key.pem -outform DER -out key.der",
+    ];
+    if !lines.iter().all(|words| openssl(&folder.0, words)) {
+        return None;
+    }
+    let read = |file: &str| fs::read(folder.0.join(file)).unwrap();
+    let mut roots = RootCertStore::empty();
+    roots.add(&Certificate(read("ca.der"))).unwrap();
+    let client = ClientConfig::builder()
+        .with_safe_defaults()
+        .with_root_certificates(roots);
+    let server = ServerConfig::builder()
+        .with_safe_defaults()
+        .with_no_client_auth();
+    let chain = vec![Certificate(read("server.der"))];
+    Some(Trust {
+        server: Arc::new(
+            server
+                .with_single_cert(chain, PrivateKey(read("key.der")))
+                .unwrap(),
+        ),
+        client: Arc::new(client.with_no_client_auth()),
+    })
+}
+
+/// A server that has each connection served over TLS, in turn, from number 0 on.
+fn start(config: Arc<ServerConfig>, serve: impl Fn(usize, Line) + Send + 'static) -> SocketAddr {
+    let listener = TcpListener::bind("127.0.0.1:0").unwrap();
+    let address = listener.local_addr().unwrap();
+    thread::spawn(move || {
+        for (number, stream) in listener.incoming().map_while(Result::ok).enumerate() {
+            serve(number, Line::over(secured(&config, stream)));
+        }
+    });
+    address
+}
+
+fn secured(
+    config: &Arc<ServerConfig>,
+    stream: TcpStream,
+) -> StreamOwned<ServerConnection, TcpStream> {
+    stream.set_nodelay(true).unwrap();
+    StreamOwned::new(ServerConnection::new(Arc::clone(config)).unwrap(), stream)
+}
+
+fn serve_well(mut line: Line) {
+    while let Some(request) = line.request() {
+        match request.kind {
+            PING => line.refuse(PONG, 0),
+            SET_DATA => line.tell_stat(request.xid),
+            _ => line.tell_data(request.xid),
+        };
+    }
+}
+
+fn open(trust: &Trust, address: SocketAddr, timeout: Duration) -> Session {
+    let options = SessionOptions::new(timeout).dial(Tls::new(Arc::clone(&trust.client)));
+    options
+        .open(format!("localhost:{}", address.port()))
+        .unwrap()
+}
+
+#[test]
+fn a_session_lives_over_tls() {
+    let Some(trust) = trust("lives", "localhost") else {
+        return;
+    };
+    let address = start(Arc::clone(&trust.server), |number, mut line| {
+        if line.admit(1_500) && number > 0 {
+            serve_well(line);
+        } else if line.request().is_some() {
+            line.tell_data(1); // and the connection is over
+        }
+    });
+    let session = open(&trust, address, Duration::from_millis(1_500));
+    assert!(session.get("/a").is_ok());
+    let until = Instant::now() + PATIENCE;
+    while session.get("/a").is_err() {
+        assert!(Instant::now() < until, "it connects again");
+    }
+    sleep(Duration::from_secs(3));
+    assert_eq!(session.state(), Some(State::Connected), "it pings");
+}
+
+#[test]
+fn large_data_and_many_calls_come_through() {
+    let Some(trust) = trust("large", "localhost") else {
+        return;
+    };
+    let address = start(Arc::clone(&trust.server), |_, mut line| {
+        line.admit(10_000);
+        serve_well(line);
+    });
+    let session = open(&trust, address, TIMEOUT);
+    let large = vec![7; 500_000];
+    let tickets: Vec<_> = (0..20)
+        .map(|_| {
+            (
+                session.ask(Request::get("/a")),
+                session.ask(Request::set("/a", &large, 0)),
+            )
+        })
+        .collect();
+    for (get, set) in tickets {
+        assert!(get.wait_for(PATIENCE).is_ok());
+        assert!(set.wait_for(PATIENCE).is_ok());
+    }
+}
+
+#[test]
+fn a_server_of_another_name_is_not_talked_to() {
+    let Some(trust) = trust("name", "elsewhere.example.org") else {
+        return;
+    };
+    let address = start(Arc::clone(&trust.server), |_, mut line| {
+        assert!(line.frame().is_none(), "nothing is said to it");
+    });
+    let session = open(&trust, address, Duration::from_millis(1_500));
+    assert_eq!(
+        session.get("/a"),
+        Err(Error::NoReply(NoReply::NotConnected))
+    );
+}
