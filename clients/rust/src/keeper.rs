@@ -63,8 +63,9 @@ impl Shared {
         }
     }
 
-    /// Has whoever rests look again.
+    /// Has whoever rests look again. It waits until none of them is between a look and its rest.
     pub(crate) fn wake(&self) {
+        drop(self.lock());
         self.changed.notify_all();
     }
 
@@ -74,11 +75,16 @@ impl Shared {
         waited.unwrap_or_else(PoisonError::into_inner).0
     }
 
-    /// Waits while this holds.
-    pub(crate) fn wait_while(&self, holds: impl Fn(&Engine) -> bool) {
+    /// Waits while this holds, until this instant at most.
+    pub(crate) fn wait_while(&self, until: Option<Instant>, holds: impl Fn(&Engine) -> bool) {
         let mut engine = self.lock();
         while holds(&engine) {
-            engine = self.rest(engine, LONGEST_WAIT);
+            let now = Instant::now();
+            let left = until.map_or(LONGEST_WAIT, |until| until.saturating_duration_since(now));
+            if left.is_zero() {
+                return;
+            }
+            engine = self.rest(engine, left);
         }
     }
 

@@ -11,7 +11,7 @@
 //! - [`Client`] is the core itself, a machine without socket and clock, for an event loop.
 //!
 //! **Proved** is the core: what each function of its header says. **Tested** is all that is above it, in this crate: connections,
-//! pauses, tickets, retries, chroots, hosts, and what is asked beside the core.
+//! pauses, tickets, retries, chroots, hosts, what is asked beside the core, and [`Lock`], [`Election`] and [`Registration`].
 //!
 //! A session asks beside the core what the core does not know: transactions, ACLs, credentials and `sync`. It writes these requests
 //! between those of the core, and takes their answers out of the stream before the core is handed it. So for the core, what they change
@@ -42,6 +42,7 @@ mod keeper;
 mod kept;
 mod lane;
 mod local;
+mod lock;
 mod moment;
 mod node;
 mod numbers;
@@ -49,6 +50,7 @@ mod options;
 mod output;
 mod pauses;
 mod refusals;
+mod registration;
 mod request;
 mod retry;
 mod saved;
@@ -67,10 +69,12 @@ pub use follow::Follow;
 pub use hosts::{Hosts, HostsFault};
 pub use kept::{Children, DataAnswer, Kept, Mark};
 pub use local::LocalSession;
+pub use lock::{Election, Lock, Sharing};
 pub use moment::{Clock, Moment};
 pub use node::{DataStat, Mode, Node, NodeEvent, Side, Stat, Watch, ANY_VERSION};
 pub use options::{OpenError, SessionOptions};
 pub use output::{Brought, Bytes, Cause, GivenUp, Names, Output, Outputs, Reply, Text};
+pub use registration::Registration;
 pub use request::Request;
 pub use retry::Retry;
 pub use saved::SavedSession;

@@ -247,8 +247,18 @@ impl Session {
 
     /// Waits while this holds, until the session is over at most.
     pub(crate) fn wait_while(&self, holds: impl Fn(View<'_>) -> bool) {
-        self.shared
-            .wait_while(|engine| !engine.is_over() && holds(View::of(engine)));
+        self.wait_until(None, holds);
+    }
+
+    /// Has whoever waits look again.
+    pub(crate) fn wake(&self) {
+        self.shared.wake();
+    }
+
+    /// The same, until this instant at most.
+    pub(crate) fn wait_until(&self, until: Option<Instant>, holds: impl Fn(View<'_>) -> bool) {
+        let holds = |engine: &Engine| !engine.is_over() && holds(View::of(engine));
+        self.shared.wait_while(until, holds);
     }
 
     /// Forgets all stale answers. What is kept is bounded by nothing but memory: whoever goes from path to path calls this now and then.

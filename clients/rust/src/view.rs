@@ -72,6 +72,14 @@ impl View<'_> {
         self.engine.client().peek_data(&path)
     }
 
+    /// The session with which a node goes that is kept, where one is.
+    pub(crate) fn owner(self, path: &str) -> Option<i64> {
+        match self.peek(path).ok()??.answer {
+            DataAnswer::Known(stat) | DataAnswer::Full { stat, .. } => Some(stat.ephemeral_owner),
+            DataAnswer::Absent => None,
+        }
+    }
+
     /// The mark of what is kept about the data of a path, and none where nothing is. It copies no data.
     pub fn data_mark(&self, path: &str) -> Result<Option<Mark>, Fault> {
         let path = self.engine.chroot().outer(path)?;

@@ -1,11 +1,13 @@
 //! Sessions at a real server, whose address is in `DIRWOLLEU_SERVER`: `scripts/clients` starts one. Without it each test says `skipped`.
 
 use dirwolleu::{
-    Acl, Change, Code, Error, Event, LocalSession, Mode, Operations, Permissions, Request, Session,
-    SessionOptions, State, ANY_VERSION,
+    Acl, Change, Code, Election, Error, Event, LocalSession, Lock, Mode, Operations, Permissions,
+    Request, Session, SessionOptions, Sharing, State, ANY_VERSION,
 };
 use std::env;
-use std::thread::sleep;
+use std::io::{BufRead, BufReader};
+use std::process::{Command, Stdio};
+use std::thread::{self, sleep};
 use std::time::{Duration, Instant};
 
 const TIMEOUT: Duration = Duration::from_secs(10);
@@ -169,6 +171,76 @@ fn a_scheme_that_is_not_there_is_refused() {
     let until = Some(Instant::now() + PATIENCE);
     while barred.next_event(until).unwrap() != Some(Event::CredentialsRefused) {}
     assert_eq!(barred.get("/"), Err(Error::Server(Code::AUTH_FAILED)));
+}
+
+#[test]
+fn a_lock_is_held_by_one_at_a_time() {
+    let Some(place) = place("locks") else { return };
+    let (first, second) = (
+        Session::open(&place, TIMEOUT).unwrap(),
+        Session::open(&place, TIMEOUT).unwrap(),
+    );
+    let lock = Lock::acquire(&first, "/lock/a", Sharing::Exclusive, b"first").unwrap();
+    assert_eq!(lock.check(), Ok(true));
+    let limit = Duration::from_millis(300);
+    let late = Lock::acquire_within(&second, "/lock/a", Sharing::Shared, b"", limit);
+    assert_eq!(late.map(drop), Err(Error::TimedOut));
+    let token = lock.token();
+    thread::scope(|scope| {
+        let waits =
+            scope.spawn(|| Lock::acquire(&second, "/lock/a", Sharing::Exclusive, b"second"));
+        sleep(limit);
+        lock.release().unwrap();
+        let next = waits.join().unwrap().unwrap();
+        assert!(next.token() > token);
+        assert_eq!(
+            Election::new(&first, "/lock/a").leader(),
+            Ok(Some(b"second".to_vec()))
+        );
+    });
+}
+
+/// Kazoo's own locks, of the same node.
+const KAZOO: &str = "
+import sys
+from kazoo.client import KazooClient
+
+client = KazooClient(sys.argv[1])
+client.start()
+lock = client.Lock('/lock/b', 'kazoo')
+lock.acquire()
+print('held', flush=True)
+sys.stdin.readline()
+lock.release()
+print('released', flush=True)
+client.stop()
+";
+
+#[test]
+fn a_lock_goes_with_those_of_kazoo() {
+    let Some(place) = place("kazoo") else { return };
+    let session = Session::open(&place, TIMEOUT).unwrap();
+    let mut command = Command::new("/usr/bin/python3");
+    command
+        .args(["-c", KAZOO, &place])
+        .stdin(Stdio::piped())
+        .stdout(Stdio::piped());
+    let mut kazoo = command.spawn().unwrap();
+    let mut lines = BufReader::new(kazoo.stdout.take().unwrap()).lines();
+    if lines.next().is_none() {
+        println!("skipped: there is no kazoo");
+        kazoo.wait().unwrap();
+        return;
+    }
+    let limit = Duration::from_millis(300);
+    let late = Lock::acquire_within(&session, "/lock/b", Sharing::Exclusive, b"", limit);
+    assert_eq!(late.map(drop), Err(Error::TimedOut), "kazoo has it");
+    thread::scope(|scope| {
+        let waits = scope.spawn(|| Lock::acquire(&session, "/lock/b", Sharing::Exclusive, b""));
+        drop(kazoo.stdin.take()); // and kazoo lets it go
+        assert!(waits.join().unwrap().is_ok());
+    });
+    kazoo.wait().unwrap();
 }
 
 #[test]

@@ -1,0 +1,147 @@
+//! A node that says that a process is there. Tested, and not proved.
+
+use crate::fault::{Code, Error, NoReply};
+use crate::kept::Mark;
+use crate::node::{Mode, ANY_VERSION};
+use crate::request::Request;
+use crate::session::SharedSession;
+use crate::view::View;
+use std::io;
+use std::sync::atomic::{AtomicBool, Ordering};
+use std::sync::Arc;
+use std::thread::{Builder, JoinHandle};
+
+/// A registration: an ephemeral node of these data, which a thread makes, and makes again where it has gone, as with a session that has
+/// [renewed](crate::SessionOptions::renews) itself. It is given up with [`end`](Registration::end), or where this is dropped, or the
+/// session is over.
+///
+/// Where a process has begun again before its old session has expired, the node of that one is there still: it is waited for.
+///
+/// ```no_run
+/// use dirwolleu::{Registration, SessionOptions};
+/// use std::time::Duration;
+///
+/// # fn main() -> Result<(), Box<dyn std::error::Error>> {
+/// let session = SessionOptions::new(Duration::from_secs(10)).renews(true).open("127.0.0.1:2181")?.shared();
+/// let registration = Registration::begin(&session, "/workers/host-1", b"10.0.0.7:80")?;
+/// // the node is there while this process works
+/// registration.end()?;
+/// # Ok(())
+/// # }
+/// ```
+#[derive(Debug)]
+#[must_use = "to drop it gives the registration up"]
+pub struct Registration {
+    keeper: Keeper,
+    thread: Option<JoinHandle<Result<(), Error>>>,
+}
+
+/// What the thread of a registration has.
+#[derive(Clone, Debug)]
+struct Keeper {
+    session: SharedSession,
+    path: String,
+    data: Vec<u8>,
+    is_over: Arc<AtomicBool>,
+}
+
+impl Registration {
+    /// Begins to register. The node above has to be there.
+    ///
+    /// # Errors
+    ///
+    /// That the system has not made a thread.
+    pub fn begin(session: &SharedSession, path: &str, data: &[u8]) -> io::Result<Registration> {
+        let keeper = Keeper {
+            session: session.clone(),
+            path: String::from(path),
+            data: data.to_vec(),
+            is_over: Arc::default(),
+        };
+        let kept = keeper.clone();
+        let thread = Builder::new().name(String::from("dirwolleu"));
+        let thread = Some(thread.spawn(move || kept.keep())?);
+        Ok(Registration { keeper, thread })
+    }
+
+    /// Whether the node is there and is of this session, as far as the session knows.
+    #[must_use]
+    pub fn is_registered(&self) -> bool {
+        self.keeper.session.view(|view| self.keeper.is_mine(view))
+    }
+
+    /// Gives the registration up: the node is deleted, where it is of this session.
+    ///
+    /// # Errors
+    ///
+    /// Why it could not be kept, or not be deleted. It goes with the session at the latest.
+    pub fn end(mut self) -> Result<(), Error> {
+        self.keeper.stop();
+        let thread = self.thread.take();
+        let ended = thread.map(JoinHandle::join);
+        ended.and_then(Result::ok).unwrap_or(Ok(()))
+    }
+}
+
+impl Drop for Registration {
+    fn drop(&mut self) {
+        self.keeper.stop();
+    }
+}
+
+impl Keeper {
+    fn stop(&self) {
+        self.is_over.store(true, Ordering::SeqCst);
+        self.session.wake();
+    }
+
+    fn is_over(&self) -> bool {
+        self.is_over.load(Ordering::SeqCst)
+    }
+
+    /// Whether the node is there and is of this session, by what is kept.
+    fn is_mine(&self, view: View<'_>) -> bool {
+        let is_good = matches!(view.data_mark(&self.path), Ok(Some(Mark::Good)));
+        let owner = view.owner(&self.path);
+        is_good && owner.is_some() && owner == view.id().ok()
+    }
+
+    /// Keeps the node there until the registration is over.
+    fn keep(&self) -> Result<(), Error> {
+        loop {
+            let went = self.go_on();
+            match went {
+                _ if self.is_over() => return self.give_up(),
+                Err(Error::NoReply(NoReply::SessionClosed)) => return Ok(()),
+                Err(fault) if !fault.is_passing() => return Err(fault),
+                Ok(()) | Err(_) => {}
+            }
+        }
+    }
+
+    /// Makes the node where there is none, and else waits for a change of it.
+    fn go_on(&self) -> Result<(), Error> {
+        if self.session.watch(&self.path)?.is_none() {
+            let made = self.session.create(&self.path, &self.data, Mode::Ephemeral);
+            return match made {
+                Ok(_) | Err(Error::Server(Code::NODE_EXISTS)) => Ok(()),
+                Err(fault) => Err(fault),
+            };
+        }
+        let is_same = |view: View<'_>| matches!(view.data_mark(&self.path), Ok(Some(Mark::Good)));
+        self.session
+            .wait_until(None, |view| !self.is_over() && is_same(view));
+        Ok(())
+    }
+
+    /// Deletes the node, where it is of this session.
+    fn give_up(&self) -> Result<(), Error> {
+        if !self.session.view(|view| self.is_mine(view)) {
+            return Ok(());
+        }
+        match self.session.call(Request::delete(&self.path, ANY_VERSION)) {
+            Ok(()) | Err(Error::Server(Code::NO_NODE)) => Ok(()),
+            Err(fault) => Err(fault),
+        }
+    }
+}

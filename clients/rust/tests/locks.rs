@@ -1,0 +1,177 @@
+//! Locks and elections, at the server in memory. Where there is no python3, each test says so and passes.
+
+mod server;
+
+use dirwolleu::{Code, Election, Error, Lock, Mark, Mode, NoReply, Session, Sharing, ANY_VERSION};
+use server::Server;
+use std::sync::mpsc;
+use std::thread;
+use std::time::Duration;
+
+const TIMEOUT: Duration = Duration::from_secs(10);
+
+/// How long what is awaited may take.
+const PATIENCE: Duration = Duration::from_secs(30);
+
+/// How long it is seen that something does not happen.
+const A_WHILE: Duration = Duration::from_millis(300);
+
+fn session_at(server: &Server) -> Session {
+    Session::open(server.address, TIMEOUT).unwrap()
+}
+
+fn exclusive(session: &Session) -> Lock<'_> {
+    Lock::acquire(session, "/locks/a", Sharing::Exclusive, b"").unwrap()
+}
+
+#[test]
+fn one_at_a_time_holds_a_lock_and_tokens_rise() {
+    let Some(server) = Server::start(&[]) else {
+        return;
+    };
+    let first = session_at(&server);
+    let lock = exclusive(&first);
+    let token = lock.token();
+    assert_eq!(lock.check(), Ok(true));
+    let second = session_at(&server);
+    let (sender, held) = mpsc::channel();
+    thread::scope(|scope| {
+        scope.spawn(|| {
+            let lock = exclusive(&second);
+            sender.send(lock.token()).unwrap();
+        });
+        assert!(held.recv_timeout(A_WHILE).is_err(), "the lock is held");
+        lock.release().unwrap();
+        let next = held.recv_timeout(PATIENCE).unwrap();
+        assert!(next > token, "{next} after {token}");
+    });
+    assert!(
+        exclusive(&first).token() > token,
+        "a lock that is dropped is let go"
+    );
+}
+
+#[test]
+fn a_limit_gives_the_place_up() {
+    let Some(server) = Server::start(&[]) else {
+        return;
+    };
+    let (first, second) = (session_at(&server), session_at(&server));
+    let lock = exclusive(&first);
+    let late = Lock::acquire_within(&second, "/locks/a", Sharing::Exclusive, b"", A_WHILE);
+    assert_eq!(late.map(drop), Err(Error::TimedOut));
+    lock.release().unwrap();
+    let next = Lock::acquire_within(&first, "/locks/a", Sharing::Exclusive, b"", PATIENCE);
+    next.unwrap().release().unwrap();
+}
+
+#[test]
+fn those_that_share_hold_together_and_wait_for_who_does_not() {
+    let Some(server) = Server::start(&[]) else {
+        return;
+    };
+    let session = session_at(&server);
+    let shared = |limit| Lock::acquire_within(&session, "/locks/a", Sharing::Shared, b"", limit);
+    let (one, other) = (shared(PATIENCE).unwrap(), shared(PATIENCE).unwrap());
+    thread::scope(|scope| {
+        let waits = scope.spawn(|| exclusive(&session));
+        while session.children("/locks/a").unwrap().0.len() < 3 {
+            thread::sleep(Duration::from_millis(5));
+        }
+        let late = shared(A_WHILE);
+        assert_eq!(
+            late.map(drop),
+            Err(Error::TimedOut),
+            "an exclusive one is before it"
+        );
+        one.release().unwrap();
+        other.release().unwrap();
+        waits.join().unwrap().release().unwrap();
+    });
+    assert!(shared(PATIENCE).is_ok());
+}
+
+#[test]
+fn a_lock_goes_with_its_session() {
+    let Some(mut server) = Server::start(&[]) else {
+        return;
+    };
+    let session = session_at(&server);
+    let lock = exclusive(&session);
+    server.tell("expire");
+    let mut checked = lock.check();
+    while checked == Err(Error::NoReply(NoReply::ConnectionLoss)) {
+        checked = lock.check();
+    }
+    assert_eq!(checked, Err(Error::NoReply(NoReply::SessionExpired)));
+    session.renew().unwrap();
+    assert_eq!(lock.check(), Ok(false));
+    let again = exclusive(&session);
+    assert!(again.token() > lock.token());
+    assert_eq!((lock.release(), again.check()), (Ok(()), Ok(true)));
+}
+
+#[test]
+fn a_place_that_is_taken_away_is_told() {
+    let Some(server) = Server::start(&[]) else {
+        return;
+    };
+    let (first, second) = (session_at(&server), session_at(&server));
+    let lock = exclusive(&first);
+    thread::scope(|scope| {
+        let waits =
+            scope.spawn(|| Lock::acquire(&second, "/locks/a", Sharing::Exclusive, b"").map(drop));
+        let mut places = first.children("/locks/a").unwrap().0;
+        let before = format!("/locks/a/{}", places[0]);
+        while second.data_mark(&before) != Ok(Some(Mark::Good)) {
+            thread::sleep(Duration::from_millis(5));
+        }
+        places = first.children("/locks/a").unwrap().0;
+        places.sort_by_key(|name| name[name.len() - 10..].to_owned());
+        first
+            .delete(&format!("/locks/a/{}", places[1]), ANY_VERSION)
+            .unwrap();
+        lock.release().unwrap();
+        let told = waits.join().unwrap();
+        assert_eq!(told, Err(Error::Server(Code::NO_NODE)));
+    });
+}
+
+#[test]
+fn one_leads_at_a_time() {
+    let Some(server) = Server::start(&[]) else {
+        return;
+    };
+    let (first, second) = (session_at(&server), session_at(&server));
+    let (one, other) = (
+        Election::new(&first, "/leader"),
+        Election::new(&second, "/leader"),
+    );
+    assert_eq!(one.leader(), Ok(None));
+    let office = one.lead(b"one").unwrap();
+    thread::scope(|scope| {
+        let waits = scope.spawn(|| other.lead(b"other"));
+        while one.candidates().unwrap().len() < 2 {
+            thread::sleep(Duration::from_millis(5));
+        }
+        assert_eq!(other.leader(), Ok(Some(b"one".to_vec())));
+        office.release().unwrap();
+        let office = waits.join().unwrap().unwrap();
+        assert_eq!(one.candidates(), Ok(vec![b"other".to_vec()]));
+        office.release().unwrap();
+    });
+}
+
+#[test]
+fn a_lock_below_an_ephemeral_node_is_refused() {
+    let Some(server) = Server::start(&[]) else {
+        return;
+    };
+    let session = session_at(&server);
+    session.create("/mine", b"", Mode::Ephemeral).unwrap();
+    let refused = Lock::acquire(&session, "/mine", Sharing::Exclusive, b"").map(drop);
+    assert_eq!(
+        refused,
+        Err(Error::Server(Code::NO_CHILDREN_FOR_EPHEMERALS))
+    );
+}

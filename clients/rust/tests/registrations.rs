@@ -1,0 +1,100 @@
+//! Registrations, at the server in memory. Where there is no python3, each test says so and passes.
+
+mod server;
+
+use dirwolleu::{Error, NoReply, Registration, Session, SessionOptions, SharedSession};
+use server::Server;
+use std::thread::sleep;
+use std::time::{Duration, Instant};
+
+const TIMEOUT: Duration = Duration::from_secs(10);
+
+/// How long what is awaited may take.
+const PATIENCE: Duration = Duration::from_secs(30);
+
+fn renewing(server: &Server) -> SharedSession {
+    let options = SessionOptions::new(TIMEOUT).renews(true);
+    options.open(server.address).unwrap().shared()
+}
+
+fn wait_until(what: &str, is_so: impl Fn() -> bool) {
+    let until = Instant::now() + PATIENCE;
+    while !is_so() {
+        assert!(Instant::now() < until, "{what}");
+        sleep(Duration::from_millis(5));
+    }
+}
+
+/// The session whose node it is.
+fn owner(session: &Session) -> Option<i64> {
+    Some(session.exists("/host").ok()??.ephemeral_owner)
+}
+
+#[test]
+fn a_node_is_there_until_the_registration_ends() {
+    let Some(mut server) = Server::start(&[]) else {
+        return;
+    };
+    let (session, other) = (renewing(&server), renewing(&server));
+    let registration = Registration::begin(&session, "/host", b"one").unwrap();
+    wait_until("it is registered", || registration.is_registered());
+    assert_eq!(owner(&other), Some(session.id().unwrap()));
+    server.tell("delete /host");
+    wait_until("it is made again", || owner(&other).is_some());
+    wait_until("it is registered again", || registration.is_registered());
+    assert_eq!(registration.end(), Ok(()));
+    assert_eq!(other.exists("/host"), Ok(None));
+}
+
+#[test]
+fn a_node_is_made_again_by_the_next_session() {
+    let Some(mut server) = Server::start(&[]) else {
+        return;
+    };
+    let (session, other) = (renewing(&server), renewing(&server));
+    let registration = Registration::begin(&session, "/host", b"one").unwrap();
+    wait_until("it is registered", || registration.is_registered());
+    let before = session.id().unwrap();
+    server.tell("expire");
+    wait_until("another session registers", || {
+        owner(&other).is_some_and(|owner| owner != before)
+    });
+    drop(registration);
+    wait_until("it is given up", || other.exists("/host") == Ok(None));
+}
+
+#[test]
+fn the_node_of_an_older_session_is_waited_for() {
+    let Some(server) = Server::start(&[]) else {
+        return;
+    };
+    let (first, second) = (renewing(&server), renewing(&server));
+    let older = Registration::begin(&first, "/host", b"one").unwrap();
+    wait_until("it is registered", || older.is_registered());
+    let newer = Registration::begin(&second, "/host", b"two").unwrap();
+    sleep(Duration::from_millis(300));
+    assert!(older.is_registered() && !newer.is_registered());
+    assert_eq!(older.end(), Ok(()));
+    wait_until("the newer one is registered", || newer.is_registered());
+    assert_eq!(owner(&first), Some(second.id().unwrap()));
+}
+
+#[test]
+fn a_session_that_is_over_ends_it() {
+    let Some(mut server) = Server::start(&[]) else {
+        return;
+    };
+    let session = Session::open(server.address, TIMEOUT).unwrap().shared();
+    let registration = Registration::begin(&session, "/host", b"one").unwrap();
+    wait_until("it is registered", || registration.is_registered());
+    server.tell("expire");
+    wait_until("the session has expired", || {
+        session.exists("/host") == Err(Error::NoReply(NoReply::SessionExpired))
+    });
+    assert!(!registration.is_registered());
+    let ended = registration.end();
+    assert!(
+        matches!(ended, Ok(()) | Err(Error::NoReply(NoReply::SessionExpired))),
+        "{ended:?}"
+    );
+}
