@@ -75,13 +75,30 @@ fn serve_or_expire(stream: TcpStream, timeout: Duration, expiries: &AtomicUsize)
     }
 }
 
+/// Works for so long, and tells by how much a thread of this process was late meanwhile, at most.
+fn work(time: Duration) -> Duration {
+    let step = millis(50);
+    let begun = Instant::now();
+    let mut latest = Duration::ZERO;
+    while begun.elapsed() < time {
+        let asleep = Instant::now();
+        sleep(step);
+        latest = latest.max(asleep.elapsed().saturating_sub(step));
+    }
+    latest
+}
+
 #[test]
 fn a_session_lives_while_its_program_works() {
     let (listener, expiries) = expiring(millis(4_000));
     let address = listener.local_addr().unwrap();
     let session = Session::open(address, millis(4_000)).unwrap();
     session.create("/mine", b"", Mode::Ephemeral).unwrap();
-    sleep(millis(9_000));
+    let late = work(millis(9_000));
+    if late > millis(500) {
+        println!("skipped: the machine has held the process up for {late:?}");
+        return;
+    }
     assert_eq!(session.state(), Some(State::Connected));
     assert_eq!(
         expiries.load(Ordering::SeqCst),
