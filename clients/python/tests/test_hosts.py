@@ -89,7 +89,7 @@ class HostsTest(unittest.TestCase):
             client = Client("nowhere.example:2181", 1.0)
             self.addCleanup(client.close)
             with self.assertRaisesRegex(TimeoutError, "nowhere.example: Name or service not known"):
-                client.start(0.5)
+                client.start(3.0)
 
 
 class NamesTest(PartnerCase):
