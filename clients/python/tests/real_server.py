@@ -35,7 +35,7 @@ WAIT = 30.0
 
 class RealServerTest(unittest.TestCase):
     def setUp(self) -> None:
-        self.root = f"/{self.id().rpartition('.')[2]}"
+        self.root = f"/{self.id().rpartition('.')[2]}-{time.time_ns()}"
         self.one, self.other = self.client(), self.client()
         self.one.ensure_path("/")
 
