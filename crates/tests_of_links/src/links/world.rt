@@ -252,7 +252,8 @@ impl Server for World {
             return Err(ErrorKind::Interrupted.into());
         }
         let most = most.min(self.plan.piece).min(self.left);
-        let bytes = self.bench.output(most.min(self.comes_at_most(moments)))?;
+        let most = most.min(self.comes_at_most(moments));
+        let bytes = self.bench.output(most)?;
         self.note_came(bytes.len(), moments);
         let code = if self.is_first() { self.plan.code } else { 0 };
         Ok(Some(with_code(self.alloc, bytes, code)?))
