@@ -1,6 +1,6 @@
 //! Follows a node: `follow HOST:PORT[,HOST:PORT..] PATH` prints what it holds at first, and at each change, whatever the servers do.
 
-use dirwolleu::{Error, Mark, NoReply, Session};
+use dirwolleu::{Mark, NoReply, Session};
 use std::{env, time::Duration};
 
 fn main() -> Result<(), Box<dyn std::error::Error>> {
@@ -20,9 +20,9 @@ fn main() -> Result<(), Box<dyn std::error::Error>> {
                 println!("{path} version {}: {text}", node.stat.version);
             }
             Ok(None) => println!("{path} is not there"),
-            Err(Error::NoReply(NoReply::SessionExpired)) => session.renew()?,
-            Err(fault) if fault.is_passing() => eprintln!("{path}: {fault}"),
-            Err(fault) => return Err(fault.into()),
+            Err(error) if error.no_reply() == Some(NoReply::SessionExpired) => session.renew()?,
+            Err(error) if error.is_passing() => eprintln!("{error}"),
+            Err(error) => return Err(error.into()),
         }
     }
 }

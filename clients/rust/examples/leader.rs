@@ -35,10 +35,11 @@ fn main() -> Result<(), Box<dyn std::error::Error>> {
     let session = Session::open("127.0.0.1:2181", Duration::from_secs(10))?;
     loop {
         match go_on(&session) {
-            Ok(()) | Err(Error::Server(Code::NODE_EXISTS)) => {}
-            Err(Error::NoReply(NoReply::SessionExpired)) => session.renew()?,
-            Err(fault) if fault.is_passing() => {}
-            Err(fault) => return Err(fault.into()),
+            Ok(()) => {}
+            Err(error) if error.code() == Some(Code::NODE_EXISTS) => {}
+            Err(error) if error.no_reply() == Some(NoReply::SessionExpired) => session.renew()?,
+            Err(error) if error.is_passing() => {}
+            Err(error) => return Err(error.into()),
         }
     }
 }

@@ -45,13 +45,14 @@ fn main() -> Result<(), Box<dyn std::error::Error>> {
     let mut mine = None;
     loop {
         match go_on(&session, &mut mine) {
-            Ok(()) | Err(Error::Server(Code::NO_NODE)) => {}
-            Err(Error::NoReply(NoReply::SessionExpired)) => {
+            Ok(()) => {}
+            Err(error) if error.code() == Some(Code::NO_NODE) => {}
+            Err(error) if error.no_reply() == Some(NoReply::SessionExpired) => {
                 session.renew()?;
                 mine = None;
             }
-            Err(fault) if fault.is_passing() => {}
-            Err(fault) => return Err(fault.into()),
+            Err(error) if error.is_passing() => {}
+            Err(error) => return Err(error.into()),
         }
     }
 }

@@ -44,9 +44,9 @@ fn main() -> Result<(), Box<dyn std::error::Error>> {
     loop {
         match read_what_is_not_good(&session) {
             Ok(()) => {}
-            Err(Error::NoReply(NoReply::SessionExpired)) => session.renew()?,
-            Err(fault) if fault.is_passing() => continue,
-            Err(fault) => return Err(fault.into()),
+            Err(error) if error.no_reply() == Some(NoReply::SessionExpired) => session.renew()?,
+            Err(error) if error.is_passing() => continue,
+            Err(error) => return Err(error.into()),
         }
         if let Some(words) = session.view(moment)? {
             println!("{words}");

@@ -5,11 +5,11 @@ use std::{process, time::Duration};
 
 /// Adds an item, of a tag that no other item has.
 fn put(session: &Session, tag: &str, data: &[u8]) -> Result<(), Error> {
-    while let Err(fault) =
+    while let Err(error) =
         session.create(&format!("/queue/{tag}-"), data, Mode::PersistentSequential)
     {
-        if fault != Error::NoReply(NoReply::ConnectionLoss) {
-            return Err(fault);
+        if error.no_reply() != Some(NoReply::ConnectionLoss) {
+            return Err(error);
         }
     }
     let (mut names, _) = session.children("/queue")?;
@@ -28,7 +28,7 @@ fn take(session: &Session, work: fn(&[u8])) -> Result<bool, Error> {
     for name in names {
         let path = format!("/queue/{name}");
         match session.get(&path) {
-            Err(Error::Server(Code::NO_NODE)) => continue, // another consumer was faster
+            Err(error) if error.code() == Some(Code::NO_NODE) => continue, // another consumer was faster
             node => work(&node?.data.unwrap_or_default()),
         }
         session.delete(&path, ANY_VERSION)?;

@@ -1,6 +1,7 @@
 //! What a session does alike with a thread and without one.
 
-use crate::fault::{Code, Error, Fault};
+use crate::error::Error;
+use crate::fault::{Code, Fault};
 use crate::keeper::Shared;
 use crate::moment::Moment;
 use crate::node::Node;
@@ -17,6 +18,11 @@ pub(crate) trait Asks {
     fn inner(&self) -> &Shared;
 }
 
+/// Why a server has refused a call, where it has.
+fn refusal_of<T>(ending: &Result<T, Error>) -> Option<Code> {
+    ending.as_ref().err().and_then(Error::code)
+}
+
 /// Reads the data of a node, and leaves a watch on its path whether there is a node or not.
 pub(crate) fn watch(session: &mut impl Asks, path: &str) -> Result<Option<Node>, Error> {
     loop {
@@ -25,14 +31,15 @@ pub(crate) fn watch(session: &mut impl Asks, path: &str) -> Result<Option<Node>,
             session.pass(until)?;
         }
         let found = read_watched(session, path);
-        session.inner().with(|engine| match found {
-            Err(Error::Server(_)) => {
+        let refusal = refusal_of(&found);
+        session.inner().with(|engine| match refusal {
+            Some(_) => {
                 let now = engine.clock().now();
                 engine.refusals().note(path, now);
             }
-            _ => engine.refusals().forget(path),
+            None => engine.refusals().forget(path),
         });
-        if found != Err(Error::Server(Code::NO_NODE)) {
+        if refusal != Some(Code::NO_NODE) {
             return found;
         }
     }
@@ -41,7 +48,7 @@ pub(crate) fn watch(session: &mut impl Asks, path: &str) -> Result<Option<Node>,
 /// Reads the data, and where there are none, asks whether there is a node. [`Code::NO_NODE`] where there is one.
 fn read_watched(session: &mut impl Asks, path: &str) -> Result<Option<Node>, Error> {
     let found = session.answer(Request::get(path).watched());
-    let is_absent = found == Err(Error::Server(Code::NO_NODE));
+    let is_absent = refusal_of(&found) == Some(Code::NO_NODE);
     if is_absent && session.answer(Request::exists(path).watched())?.is_none() {
         return Ok(None);
     }

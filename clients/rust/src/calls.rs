@@ -1,9 +1,10 @@
 //! Calls of a session that wait: for a connection, or for their answer.
 
-use crate::fault::Error;
+use crate::error::{ErrorKind, Search};
+use crate::fault::NoReply;
 use crate::moment::Moment;
 use crate::request::Asked;
-use crate::ticket::Slot;
+use crate::ticket::{Ending, Slot};
 use crate::told::Outcome;
 use std::collections::{HashMap, VecDeque};
 use std::mem;
@@ -30,7 +31,8 @@ pub(crate) struct Calls {
     last_ticket: u64,
     slots: HashMap<u64, Arc<Slot>>,
     queue: VecDeque<Queued>,
-    answers: Vec<(Arc<Slot>, Outcome)>,
+    search: Option<Search>,
+    answers: Vec<(Arc<Slot>, Ending)>,
 }
 
 impl Calls {
@@ -50,11 +52,18 @@ impl Calls {
         self.queue.remove(late)
     }
 
-    /// Takes a call back that waits for a connection. Whether there was one of this slot.
-    pub(crate) fn take_back(&mut self, slot: &Arc<Slot>) -> bool {
-        let before = self.queue.len();
-        self.queue.retain(|queued| !Arc::ptr_eq(&queued.slot, slot));
-        self.queue.len() < before
+    /// Takes a call back that waits for a connection, if there is one of this slot: it is answered that there is no connection.
+    pub(crate) fn take_back(&mut self, slot: &Arc<Slot>) {
+        let mut queued = self.queue.iter();
+        if let Some(place) = queued.position(|queued| Arc::ptr_eq(&queued.slot, slot)) {
+            self.queue.remove(place);
+            self.answer(Arc::clone(slot), Err(NoReply::NotConnected.into()));
+        }
+    }
+
+    /// Why calls wait for a connection: this search for a server. None where there is no such reason.
+    pub(crate) fn wait_for(&mut self, search: Option<Search>) {
+        self.search = search;
     }
 
     /// Until when the first call may wait for a connection.
@@ -78,20 +87,26 @@ impl Calls {
     /// A call has its answer.
     pub(crate) fn end(&mut self, ticket: u64, outcome: Outcome) {
         if let Some(slot) = self.slots.remove(&ticket) {
-            self.answers.push((slot, outcome));
+            self.answer(slot, outcome);
         }
     }
 
+    fn answer(&mut self, slot: Arc<Slot>, outcome: Outcome) {
+        let ending = slot.ending(outcome, self.search.as_ref());
+        self.answers.push((slot, ending));
+    }
+
     /// All calls have this answer, also those that were not sent yet.
-    pub(crate) fn end_all(&mut self, fault: Error) {
-        let asked = self.slots.drain().map(|(_, slot)| slot);
-        let queued = self.queue.drain(..).map(|queued| queued.slot);
-        let answers = asked.chain(queued).map(|slot| (slot, Err(fault)));
-        self.answers.extend(answers);
+    pub(crate) fn end_all(&mut self, kind: &ErrorKind) {
+        let asked = mem::take(&mut self.slots).into_values();
+        let queued = mem::take(&mut self.queue).into_iter();
+        for slot in asked.chain(queued.map(|queued| queued.slot)) {
+            self.answer(slot, Err(kind.clone()));
+        }
     }
 
     /// The answers that are to be handed out.
-    pub(crate) fn take_answers(&mut self) -> Vec<(Arc<Slot>, Outcome)> {
+    pub(crate) fn take_answers(&mut self) -> Vec<(Arc<Slot>, Ending)> {
         mem::take(&mut self.answers)
     }
 }

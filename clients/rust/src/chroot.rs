@@ -34,7 +34,7 @@ impl Chroot {
             _ if self.prefix.is_empty() => Ok(Cow::Borrowed(path)),
             "/" => Ok(Cow::Owned(self.prefix.clone())),
             _ if path.starts_with('/') => Ok(Cow::Owned(self.prefix.clone() + path)),
-            _ => Err(Fault::NotPath),
+            _ => Err(Fault::not_path(path)),
         }
     }
 
@@ -42,7 +42,7 @@ impl Chroot {
     pub(crate) fn checked<'a>(&self, path: &'a str) -> Result<Cow<'a, str>, Fault> {
         let is_path = path == "/" || !path.is_empty() && Chroot::of(path).is_some();
         if !is_path || path.chars().any(is_no_letter) {
-            return Err(Fault::NotPath);
+            return Err(Fault::not_path(path));
         }
         self.outer(path)
     }
@@ -83,7 +83,7 @@ mod tests {
     fn what_is_no_path_becomes_none() {
         let app = Chroot::of("/app").unwrap();
         for text in ["", "a", "-1/a"] {
-            assert_eq!(app.outer(text), Err(Fault::NotPath), "{text}");
+            assert_eq!(app.outer(text), Err(Fault::not_path(text)), "{text}");
         }
     }
 
@@ -104,7 +104,7 @@ mod tests {
             "/\u{85}",
             "/\u{fff0}",
         ] {
-            assert_eq!(app.checked(text), Err(Fault::NotPath), "{text:?}");
+            assert_eq!(app.checked(text), Err(Fault::not_path(text)), "{text:?}");
         }
     }
 

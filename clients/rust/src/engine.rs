@@ -3,7 +3,8 @@
 use crate::calls::{Calls, Queued};
 use crate::chroot::Chroot;
 use crate::client::{Client, State};
-use crate::fault::{Code, Error, Fault, NoReply};
+use crate::error::{ErrorKind, Search};
+use crate::fault::{Code, Fault, NoReply};
 use crate::hosts::Hosts;
 use crate::introductions::Introductions;
 use crate::lane::{Credentials, Lane, LaneCall};
@@ -14,10 +15,12 @@ use crate::pauses::{longest_dial, Pauses};
 use crate::refusals::Refusals;
 use crate::request::{Asked, Call, CoreCall};
 use crate::stream::Outgoing;
-use crate::ticket::Slot;
+use crate::ticket::{Ending, Slot};
 use crate::told::{Event, Outcome, Told};
 use crate::waiting::Waiting;
+use std::io;
 use std::mem;
+use std::net::SocketAddr;
 use std::sync::Arc;
 use std::time::Duration;
 
@@ -148,7 +151,7 @@ impl Engine {
         while let Some(queued) = self.calls.dequeue() {
             self.put(&queued);
         }
-        self.calls.end_all(Fault::Halted.into());
+        self.calls.end_all(&Fault::Halted.into());
     }
 }
 
@@ -198,7 +201,7 @@ impl Engine {
     }
 
     /// The answers that are to be handed out.
-    pub(crate) fn take_answers(&mut self) -> Vec<(Arc<Slot>, Outcome)> {
+    pub(crate) fn take_answers(&mut self) -> Vec<(Arc<Slot>, Ending)> {
         self.calls.take_answers()
     }
 
@@ -225,7 +228,7 @@ impl Engine {
         if self.standing == Standing::Barred {
             let ticket = self.calls.begin(slot);
             self.calls
-                .end(ticket, Err(Error::Server(Code::AUTH_FAILED)));
+                .end(ticket, Err(ErrorKind::Server(Code::AUTH_FAILED)));
             return false;
         }
         if is_waiting && self.standing == Standing::GoesOn {
@@ -236,9 +239,9 @@ impl Engine {
         false
     }
 
-    /// Takes a call back that was not sent yet. Whether it was so.
-    pub(crate) fn take_back(&mut self, slot: &Arc<Slot>) -> bool {
-        self.calls.take_back(slot)
+    /// Takes a call back, where it was not sent yet.
+    pub(crate) fn take_back(&mut self, slot: &Arc<Slot>) {
+        self.calls.take_back(slot);
     }
 
     /// Asks, by the core or by the lane.
@@ -256,7 +259,7 @@ impl Engine {
         }
     }
 
-    fn put_core(&mut self, ticket: u64, path: &str, call: &CoreCall) -> Result<(), Error> {
+    fn put_core(&mut self, ticket: u64, path: &str, call: &CoreCall) -> Result<(), ErrorKind> {
         let path = self.chroot.outer(path)?;
         let now = self.in_time(self.clock.now());
         self.is_closing |= *call == CoreCall::Close;
@@ -264,7 +267,7 @@ impl Engine {
         Ok(())
     }
 
-    fn put_lane(&mut self, ticket: u64, path: &str, call: &LaneCall) -> Result<(), Error> {
+    fn put_lane(&mut self, ticket: u64, path: &str, call: &LaneCall) -> Result<(), ErrorKind> {
         if let Some(refusal) = self.refusal_of_lane() {
             return Err(refusal);
         }
@@ -281,7 +284,7 @@ impl Engine {
     }
 
     /// Why the lane may not write now.
-    fn refusal_of_lane(&self) -> Option<Error> {
+    fn refusal_of_lane(&self) -> Option<ErrorKind> {
         let reason = match self.client.state() {
             _ if self.standing == Standing::Halted => return Some(Fault::Halted.into()),
             State::Connected if !self.is_closing => return None,
@@ -327,7 +330,7 @@ impl Engine {
             self.standing = Standing::Barred;
         }
         self.told.tell(Event::CredentialsRefused);
-        self.calls.end_all(Error::Server(Code::AUTH_FAILED));
+        self.calls.end_all(&ErrorKind::Server(Code::AUTH_FAILED));
     }
 
     /// Asks what waited for a connection.
@@ -349,7 +352,7 @@ impl Engine {
     fn end_answered(&mut self) -> bool {
         let mut is_end = false;
         for (ticket, outcome) in mem::take(&mut self.told.answers) {
-            is_end |= matches!(outcome, Err(Error::Server(Code::SESSION_MOVED)));
+            is_end |= matches!(outcome, Err(ErrorKind::Server(Code::SESSION_MOVED)));
             if self.introductions.are_refused(ticket, &outcome) {
                 self.bar();
                 is_end = true;
@@ -393,7 +396,7 @@ impl Engine {
             if self.standing == Standing::GoesOn {
                 self.standing = Standing::Halted;
             }
-            self.calls.end_all(Fault::Halted.into());
+            self.calls.end_all(&Fault::Halted.into());
         }
         if !is_sent {
             self.step(now, Client::cut)?;
@@ -413,6 +416,7 @@ impl Engine {
         if news.is_admitted {
             self.waiting.is_admitted();
             self.pauses.is_admitted(now);
+            self.calls.wait_for(None);
         }
         if news.is_answered {
             self.pauses.is_answered();
@@ -483,16 +487,30 @@ impl Engine {
     }
 
     /// An attempt has failed.
-    pub(crate) fn has_failed(&mut self) {
+    pub(crate) fn has_failed(&mut self, fault: &io::Error) {
+        self.notes_attempt(fault.to_string());
         self.pauses.ends(self.clock.now(), self.client.timeout());
     }
 
-    /// A connection is made. It is closed where nobody wants it any more.
-    pub(crate) fn opened(&mut self, mut outgoing: Box<dyn Outgoing>) -> Result<(), Fault> {
+    /// Notes what became of the last attempt to find a server, for calls that wait for one.
+    fn notes_attempt(&mut self, last: String) {
+        let hosts = self.hosts.to_string();
+        self.calls.wait_for(Some(Search { hosts, last }));
+    }
+
+    /// A connection to this address is made. It is closed where nobody wants it any more.
+    pub(crate) fn opened(
+        &mut self,
+        address: SocketAddr,
+        mut outgoing: Box<dyn Outgoing>,
+    ) -> Result<(), Fault> {
         if self.is_over() || self.client.state() != State::Idle {
             outgoing.close();
             return Ok(());
         }
+        self.notes_attempt(format!(
+            "{address}: connected, and it has not accepted the session"
+        ));
         let now = self.clock.now();
         self.line = Some(outgoing);
         self.waiting = Waiting::since(now);

@@ -1,11 +1,12 @@
 //! Why something was not done: by the library, on the way to the server, or by the server.
 
 use crate::numbers::{code, result};
+use crate::path_fault::{PathFault, Shown};
 use std::error;
 use std::fmt;
 
 /// Why a step or a look-up was not made. But for [`Fault::Halted`], nothing has happened.
-#[derive(Clone, Copy, Debug, PartialEq, Eq, Hash)]
+#[derive(Clone, Debug, PartialEq, Eq, Hash)]
 #[non_exhaustive]
 pub enum Fault {
     /// Memory ran out within a step. The client has no use any more: each later step answers the same, and nothing is kept or watched.
@@ -14,22 +15,71 @@ pub enum Fault {
     /// There was no memory for what was given. The same can be handed in again.
     NoMemory,
     /// The text is no path of a node.
-    NotPath,
+    #[non_exhaustive]
+    NotPath {
+        /// The text.
+        path: String,
+        /// Why it is none. None where this crate sees no reason, and the library does.
+        reason: Option<PathFault>,
+    },
     /// The timeout is not 1 to 2,147,483,647 milliseconds.
     BadTimeout,
     /// The bytes are no saved session.
     NotSaved,
 }
 
-impl fmt::Display for Fault {
-    fn fmt(&self, f: &mut fmt::Formatter<'_>) -> fmt::Result {
-        f.write_str(match self {
-            Fault::Halted => "out of memory: the client has no use from now on",
-            Fault::NoMemory => "no memory for what was given",
-            Fault::NotPath => "the text is no path of a node",
+impl Fault {
+    pub(crate) fn not_path(path: &str) -> Fault {
+        Fault::NotPath {
+            path: String::from(path),
+            reason: PathFault::of(path),
+        }
+    }
+
+    /// The same fault, of a step about the node that the program calls so: the library was given the path with the chroot.
+    pub(crate) fn at(self, path: &str) -> Fault {
+        match self {
+            Fault::NotPath { reason, .. } => Fault::NotPath {
+                path: String::from(path),
+                reason: PathFault::of(path).or(reason),
+            },
+            other => other,
+        }
+    }
+
+    pub(crate) fn reason(&self) -> &'static str {
+        match self {
+            Fault::Halted => "out of memory within a step",
+            Fault::NoMemory => "out of memory",
+            Fault::NotPath { .. } => "the text is no path",
             Fault::BadTimeout => "the timeout is not 1 to 2147483647 milliseconds",
             Fault::NotSaved => "the bytes are no saved session",
-        })
+        }
+    }
+
+    /// What to do. Nothing where the reason says it.
+    pub(crate) fn advice(&self) -> &'static str {
+        match self {
+            Fault::Halted => "take the saved session, and resume it",
+            Fault::NoMemory => "hand the same in again",
+            Fault::NotSaved => "take all of those that a client has saved",
+            Fault::NotPath { .. } | Fault::BadTimeout => "",
+        }
+    }
+}
+
+/// It prints the reason, the path where it has one, and what to do: `/a//b is no path: an empty name`.
+impl fmt::Display for Fault {
+    fn fmt(&self, f: &mut fmt::Formatter<'_>) -> fmt::Result {
+        match self {
+            Fault::NotPath {
+                path,
+                reason: Some(reason),
+            } => write!(f, "{} is no path: {reason}", Shown(path)),
+            Fault::NotPath { path, reason: None } => write!(f, "{} is no path", Shown(path)),
+            _ if self.advice().is_empty() => f.write_str(self.reason()),
+            _ => write!(f, "{}; {}", self.reason(), self.advice()),
+        }
     }
 }
 
@@ -40,18 +90,23 @@ pub(crate) fn unknown(what: &str, number: i32) -> ! {
     panic!("the library gives the {what} {number}, which this crate does not know: take both of one version")
 }
 
-/// What a code of the library says. The other codes of the header have no cause here: a handle is open, texts are UTF-8, and a
-/// [`Mode`](crate::Mode) has its number.
-pub(crate) fn done(code: i32) -> Result<(), Fault> {
+/// What a code of the library says of a step or a look-up at this path. The other codes of the header have no cause here: a handle is
+/// open, texts are UTF-8, and a [`Mode`](crate::Mode) has its number.
+pub(crate) fn done_at(path: &str, code: i32) -> Result<(), Fault> {
     match code {
         result::OK => Ok(()),
         result::HALTED => Err(Fault::Halted),
         result::NO_MEMORY => Err(Fault::NoMemory),
-        result::NOT_PATH => Err(Fault::NotPath),
+        result::NOT_PATH => Err(Fault::not_path(path)),
         result::BAD_TIMEOUT => Err(Fault::BadTimeout),
         result::NOT_SAVED => Err(Fault::NotSaved),
         _ => unknown("result", code),
     }
+}
+
+/// The same where there is no path.
+pub(crate) fn done(code: i32) -> Result<(), Fault> {
+    done_at("", code)
 }
 
 /// Why a call has no reply. But for [`NoReply::ConnectionLoss`], nothing was sent and nothing has changed.
@@ -73,13 +128,28 @@ pub enum NoReply {
     TooManyPending,
 }
 
+impl NoReply {
+    /// What to do.
+    pub(crate) fn advice(self) -> &'static str {
+        match self {
+            NoReply::ConnectionLoss => "it may or may not have happened: read again",
+            NoReply::SessionExpired => "renew it",
+            NoReply::SessionClosed => "open another one",
+            NoReply::NotConnected => "call again later",
+            NoReply::TooManyWatches => "read without a watch, or in another session",
+            NoReply::TooLarge => "send less",
+            NoReply::TooManyPending => "call again when one was answered",
+        }
+    }
+}
+
 impl fmt::Display for NoReply {
     fn fmt(&self, f: &mut fmt::Formatter<'_>) -> fmt::Result {
         f.write_str(match self {
             NoReply::ConnectionLoss => "the connection ended before the reply",
             NoReply::SessionExpired => "the session has expired",
             NoReply::SessionClosed => "the session is closed",
-            NoReply::NotConnected => "no server is connected",
+            NoReply::NotConnected => "no server has accepted the session",
             NoReply::TooManyWatches => "65536 paths are watched",
             NoReply::TooLarge => "the request has more than 1048575 bytes",
             NoReply::TooManyPending => "1024 calls wait for their reply",
@@ -131,115 +201,49 @@ impl Code {
         )
     }
 
-    fn words(self) -> &'static str {
-        match self {
+    /// The reason in words. None for a number that this crate does not know.
+    fn reason(self) -> Option<&'static str> {
+        Some(match self {
             Code::CONNECTION_LOSS => "the servers have lost the connection",
-            Code::NO_NODE => "there is no node",
-            Code::NO_AUTH => "the node does not admit this client",
+            Code::UNIMPLEMENTED => "the server does not know the request",
+            Code::BAD_ARGUMENTS => "the server refuses the path, the mode or the data",
+            Code::NO_NODE => "no node",
+            Code::NO_AUTH => "the node's ACL does not admit this client",
             Code::BAD_VERSION => "the node has another version",
-            Code::NO_CHILDREN_FOR_EPHEMERALS => "the parent is an ephemeral node",
+            Code::NO_CHILDREN_FOR_EPHEMERALS => "an ephemeral node has no children",
             Code::NODE_EXISTS => "there is a node already",
             Code::NOT_EMPTY => "the node has children",
-            Code::SESSION_EXPIRED => "the session has expired",
+            Code::SESSION_EXPIRED => "the session has expired, the server says",
             Code::INVALID_ACL => "the server does not take this ACL",
             Code::AUTH_FAILED => "the server does not take these credentials",
             Code::SESSION_MOVED => "the session was taken up over another connection",
             Code::THROTTLED => "the server has too much to do",
-            Code(_) => "the server refuses the call",
+            Code(_) => return None,
+        })
+    }
+
+    /// What to do. Nothing where the reason says it.
+    pub(crate) fn advice(self) -> &'static str {
+        match self {
+            Code::CONNECTION_LOSS => "it may or may not have happened: read again",
+            Code::BAD_VERSION => "read it again",
+            Code::NOT_EMPTY => "delete them first",
+            Code::SESSION_EXPIRED => "call again",
+            Code::SESSION_MOVED => "have one program use it",
+            Code::THROTTLED => "call again later",
+            Code(_) => "",
         }
     }
 }
 
+/// The reason in words, or the number where this crate has no words for it.
 impl fmt::Display for Code {
     fn fmt(&self, f: &mut fmt::Formatter<'_>) -> fmt::Result {
-        write!(f, "{} ({})", self.words(), self.0)
+        match self.reason() {
+            Some(reason) => f.write_str(reason),
+            None => write!(f, "the server answers {}", self.0),
+        }
     }
 }
 
 impl error::Error for Code {}
-
-/// Why a call of a [`Session`](crate::Session) does not give what was asked.
-#[derive(Clone, Copy, Debug, PartialEq, Eq, Hash)]
-#[non_exhaustive]
-pub enum Error {
-    /// The server refuses the call.
-    Server(Code),
-    /// There is no reply.
-    NoReply(NoReply),
-    /// The library has not made the step.
-    Fault(Fault),
-    /// The caller's limit has passed before there was an answer. The call is on its way: a write may still happen.
-    TimedOut,
-    /// A transaction has not happened: the server refuses the operation at this place, from 0 on.
-    RolledBack {
-        /// The place of the operation.
-        index: usize,
-        /// Why it is refused.
-        code: Code,
-    },
-}
-
-impl Error {
-    /// Whether a write that has failed so may have happened all the same, or may still happen. With each other error nothing has changed.
-    pub fn may_have_happened(&self) -> bool {
-        matches!(
-            self,
-            Error::TimedOut
-                | Error::NoReply(NoReply::ConnectionLoss)
-                | Error::Server(Code::CONNECTION_LOSS)
-        )
-    }
-
-    /// Whether the same read may be answered later: [`Code::is_passing`], and where the connection was lost, there is none, too many
-    /// calls wait, or a limit has passed. An expired session is no such error: it is to be renewed.
-    pub fn is_passing(&self) -> bool {
-        match self {
-            Error::Server(code) => code.is_passing(),
-            Error::NoReply(reason) => matches!(
-                reason,
-                NoReply::ConnectionLoss | NoReply::NotConnected | NoReply::TooManyPending
-            ),
-            Error::TimedOut => true,
-            Error::Fault(_) | Error::RolledBack { .. } => false,
-        }
-    }
-}
-
-impl fmt::Display for Error {
-    fn fmt(&self, f: &mut fmt::Formatter<'_>) -> fmt::Result {
-        match self {
-            Error::Server(code) => code.fmt(f),
-            Error::NoReply(reason) => reason.fmt(f),
-            Error::Fault(fault) => fault.fmt(f),
-            Error::TimedOut => {
-                f.write_str("no answer has come in time, and the call may still happen")
-            }
-            Error::RolledBack { index, code } => {
-                write!(
-                    f,
-                    "nothing has happened, since of operation {index}: {code}"
-                )
-            }
-        }
-    }
-}
-
-impl error::Error for Error {}
-
-impl From<Code> for Error {
-    fn from(code: Code) -> Error {
-        Error::Server(code)
-    }
-}
-
-impl From<NoReply> for Error {
-    fn from(reason: NoReply) -> Error {
-        Error::NoReply(reason)
-    }
-}
-
-impl From<Fault> for Error {
-    fn from(fault: Fault) -> Error {
-        Error::Fault(fault)
-    }
-}

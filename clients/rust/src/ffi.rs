@@ -2,7 +2,7 @@
 //! crate is here.
 #![deny(clippy::undocumented_unsafe_blocks)]
 
-use crate::fault::{done, Fault};
+use crate::fault::{done, done_at, Fault};
 use crate::moment::Moment;
 use crate::node::{DataStat, Mode, Stat, Watch};
 use crate::numbers::result;
@@ -202,7 +202,8 @@ impl Handle {
         let (raw, now, is_left) = (self.raw.get_mut(), call.now.as_millis(), watch.is_left());
         let (path, path_length) = (call.path.as_ptr(), call.path.len());
         // SAFETY: as `Handle` says.
-        done(unsafe { read(raw, now, call.ticket, path, path_length, is_left) })
+        let code = unsafe { read(raw, now, call.ticket, path, path_length, is_left) };
+        done_at(call.path, code)
     }
 
     pub(crate) fn exists(&mut self, call: Call<'_>, watch: Watch) -> Result<(), Fault> {
@@ -230,7 +231,7 @@ impl Handle {
         let (path, path_length) = (call.path.as_ptr(), call.path.len());
         let (bytes, length) = (bytes.as_ptr(), bytes.len());
         // SAFETY: as `Handle` says.
-        done(unsafe {
+        let code = unsafe {
             write(
                 raw,
                 now,
@@ -242,7 +243,8 @@ impl Handle {
                 is_null,
                 number,
             )
-        })
+        };
+        done_at(call.path, code)
     }
 
     pub(crate) fn set_data(
@@ -267,7 +269,8 @@ impl Handle {
         let (raw, now) = (self.raw.get_mut(), call.now.as_millis());
         let (path, path_length) = (call.path.as_ptr(), call.path.len());
         // SAFETY: as `Handle` says.
-        done(unsafe { dw_delete(raw, now, call.ticket, path, path_length, version) })
+        let code = unsafe { dw_delete(raw, now, call.ticket, path, path_length, version) };
+        done_at(call.path, code)
     }
 
     pub(crate) fn close_session(&mut self, now: Moment, ticket: u64) -> Result<(), Fault> {
@@ -336,28 +339,29 @@ impl Handle {
     /// What is kept about the data of a path, of which it copies as many as there is room for.
     pub(crate) fn peek_data(&self, path: &str, room: &mut [u8]) -> Result<KeptData, Fault> {
         let mut kept = KeptData::default();
-        let (path, path_length) = (path.as_ptr(), path.len());
+        let (text, length) = (path.as_ptr(), path.len());
         let (out, room) = (room.as_mut_ptr(), room.len());
         // SAFETY: as `Handle` says.
-        done(unsafe { dw_peek_data(self.raw.get(), path, path_length, &mut kept, out, room) })?;
-        Ok(kept)
+        let code = unsafe { dw_peek_data(self.raw.get(), text, length, &mut kept, out, room) };
+        done_at(path, code).map(|()| kept)
     }
 
     pub(crate) fn peek_children(&self, path: &str) -> Result<KeptNames, Fault> {
         let mut kept = KeptNames::default();
+        let (text, length) = (path.as_ptr(), path.len());
         // SAFETY: as `Handle` says.
-        done(unsafe { dw_peek_children(self.raw.get(), path.as_ptr(), path.len(), &mut kept) })?;
-        Ok(kept)
+        let code = unsafe { dw_peek_children(self.raw.get(), text, length, &mut kept) };
+        done_at(path, code).map(|()| kept)
     }
 
     /// Copies the names that are kept of a path, each after its length in four bytes, and tells how many bytes there are.
     pub(crate) fn peek_names(&self, path: &str, room: &mut [u8]) -> Result<usize, Fault> {
         let mut count = 0;
-        let (path, path_length) = (path.as_ptr(), path.len());
+        let (text, length) = (path.as_ptr(), path.len());
         let (out, room) = (room.as_mut_ptr(), room.len());
         // SAFETY: as `Handle` says.
-        done(unsafe { dw_peek_names(self.raw.get(), path, path_length, out, room, &mut count) })?;
-        Ok(count)
+        let code = unsafe { dw_peek_names(self.raw.get(), text, length, out, room, &mut count) };
+        done_at(path, code).map(|()| count)
     }
 
     /// Forgets stale answers, which an open client always does.

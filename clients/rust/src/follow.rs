@@ -1,6 +1,7 @@
 //! A node that is followed.
 
-use crate::fault::{Error, NoReply};
+use crate::error::Error;
+use crate::fault::NoReply;
 use crate::kept::Mark;
 use crate::node::Node;
 use crate::session::Session;
@@ -38,8 +39,10 @@ impl Iterator for Follow<'_> {
         while !self.is_over {
             self.wait_for_change();
             match self.session.watch(&self.path) {
-                Err(Error::NoReply(NoReply::SessionClosed)) => self.is_over = true,
-                Err(fault) if fault.is_passing() => {}
+                Err(error) if error.no_reply() == Some(NoReply::SessionClosed) => {
+                    self.is_over = true;
+                }
+                Err(error) if error.is_passing() => {}
                 found => {
                     self.is_over = found.is_err();
                     return Some(found);

@@ -1,6 +1,8 @@
 //! Which servers there are, and whose turn it is.
 
 use crate::chroot::Chroot;
+use crate::fault::Fault;
+use crate::stream;
 use std::collections::hash_map::RandomState;
 use std::collections::HashSet;
 use std::convert::Infallible;
@@ -72,7 +74,7 @@ impl fmt::Display for HostsFault {
     fn fmt(&self, f: &mut fmt::Formatter<'_>) -> fmt::Result {
         match self {
             HostsFault::NotHost(text) => write!(f, "'{text}' is no HOST:PORT"),
-            HostsFault::NotPath(text) => write!(f, "'{text}' is no path of a node"),
+            HostsFault::NotPath(text) => Fault::not_path(text).fmt(f),
         }
     }
 }
@@ -262,7 +264,7 @@ impl Turns {
         &mut self,
         look_up: impl Fn(&Host) -> io::Result<Vec<SocketAddr>>,
     ) -> io::Result<(String, SocketAddr)> {
-        let mut fault = ErrorKind::NotFound.into();
+        let mut fault = io::Error::new(ErrorKind::NotFound, "the session has no host");
         for _ in 0..2 * self.hosts.hosts.len() {
             let Some(host) = self.host() else { break };
             match look_up(&host) {
@@ -271,7 +273,7 @@ impl Turns {
                         return Ok((host.name, address));
                     }
                 }
-                Err(failed) => fault = failed,
+                Err(failed) => fault = stream::fault_of(&host, &failed),
             }
             self.round.pop();
         }

@@ -1,6 +1,6 @@
 //! Who a session is, and what servers say to it.
 
-use crate::fault::Error;
+use crate::error::ErrorKind;
 use crate::lane::Credentials;
 use crate::told::Outcome;
 
@@ -45,6 +45,6 @@ impl Introductions {
         }
         let is_known = self.sent.contains(&ticket);
         self.sent.retain(|sent| *sent != ticket);
-        is_known && matches!(outcome, Err(Error::Server(_)))
+        is_known && matches!(outcome, Err(ErrorKind::Server(_)))
     }
 }

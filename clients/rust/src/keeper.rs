@@ -55,8 +55,8 @@ impl Shared {
         let answers = engine.take_answers();
         let is_news = engine.has_event();
         drop(engine);
-        for (slot, outcome) in answers {
-            slot.tell(outcome);
+        for (slot, ending) in answers {
+            slot.tell(ending);
         }
         if is_news {
             self.changed.notify_all();
@@ -120,15 +120,15 @@ impl Shared {
 }
 
 impl TakesBack for Shared {
-    fn take_back(&self, slot: &Arc<Slot>) -> bool {
-        self.with(|engine| engine.take_back(slot))
+    fn take_back(&self, slot: &Arc<Slot>) {
+        self.with(|engine| engine.take_back(slot));
     }
 }
 
 /// Asks a request of a session: the ticket for its answer.
 pub(crate) fn ask<T>(shared: &Arc<Shared>, request: Request<T>) -> Ticket<T> {
-    let slot = Slot::new();
     let Request { asked, read } = request;
+    let slot = Slot::new(asked.node());
     if shared.with(|engine| engine.ask(asked, Arc::clone(&slot))) {
         shared.wake();
     }
@@ -207,15 +207,21 @@ impl Keeper {
         let dial = &mut self.dial;
         let made = self.turns.next().and_then(|(name, address)| {
             let server = Server::new(&name, address);
-            dial.dial(&server, within)
+            let made = dial.dial(&server, within);
+            let made = made.map_err(|fault| stream::fault_of(&address, &fault))?;
+            Ok((address, made))
         });
-        let Ok(connection) = made else {
-            self.shared.with(Engine::has_failed);
-            return Ok(());
-        };
-        self.incoming = Some(connection.incoming);
-        self.shared
-            .with(|engine| engine.opened(connection.outgoing))
+        match made {
+            Ok((address, connection)) => {
+                self.incoming = Some(connection.incoming);
+                self.shared
+                    .with(|engine| engine.opened(address, connection.outgoing))
+            }
+            Err(fault) => {
+                self.shared.with(|engine| engine.has_failed(&fault));
+                Ok(())
+            }
+        }
     }
 
     /// Hands in what the connection brings next. Where something was due before, it catches up.

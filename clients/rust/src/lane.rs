@@ -5,7 +5,8 @@
 
 use crate::acl::Acl;
 use crate::chroot::Chroot;
-use crate::fault::{Code, Error, Fault, NoReply};
+use crate::error::{refused_of_create, ErrorKind};
+use crate::fault::{Code, Fault, NoReply};
 use crate::jute::{Reader, Writer};
 use crate::node::Mode;
 use crate::told::{Found, Outcome};
@@ -109,6 +110,18 @@ impl Operation {
             Operation::Create { .. } => number::CREATE,
             Operation::Delete { .. } => number::DELETE,
         }
+    }
+
+    /// The error of a transaction in which it is refused, at this place.
+    fn refusal(&self, index: usize, code: Code) -> ErrorKind {
+        let path = match self {
+            Operation::Create { path, .. } => refused_of_create(code, path),
+            Operation::Check { path, .. }
+            | Operation::Set { path, .. }
+            | Operation::Delete { path, .. } => path,
+        };
+        let path = String::from(path);
+        ErrorKind::RolledBack { index, code, path }
     }
 
     /// Its header and its record.
@@ -245,7 +258,7 @@ fn read_changes(
     operations: &[Operation],
     reply: &mut Reader<'_>,
     root: &Chroot,
-) -> Option<Result<Vec<Change>, Error>> {
+) -> Option<Result<Vec<Change>, ErrorKind>> {
     let mut changes = Vec::with_capacity(operations.len());
     let mut refused = None;
     for (index, operation) in operations.iter().enumerate() {
@@ -266,7 +279,7 @@ fn read_changes(
     }
     let is_end = reply.int()? == number::END && reply.boolean()?;
     let outcome = match refused {
-        Some((index, code)) => Err(Error::RolledBack { index, code }),
+        Some((index, code)) => Err(operations[index].refusal(index, code)),
         None => Ok(changes),
     };
     is_end.then_some(outcome)
@@ -378,7 +391,7 @@ impl Lane {
         path: &str,
         call: &LaneCall,
         root: &Chroot,
-    ) -> Result<Vec<u8>, Error> {
+    ) -> Result<Vec<u8>, ErrorKind> {
         if self.pending.len() >= MOST_PENDING {
             return Err(NoReply::TooManyPending.into());
         }
@@ -424,7 +437,7 @@ impl Lane {
         let Pending { ticket, call, .. } = &self.pending[place];
         let answer = match code {
             0 => (*ticket, call.read(&mut reply, root)?),
-            code => (*ticket, Err(Error::Server(Code(code)))),
+            code => (*ticket, Err(ErrorKind::Server(Code(code)))),
         };
         self.pending.remove(place);
         Some(answer)
@@ -443,7 +456,8 @@ impl Lane {
 mod tests {
     use super::{Filter, Lane, LaneCall, Malformed, Operation, LONGEST_INCOMING};
     use crate::chroot::Chroot;
-    use crate::fault::{Code, Error, Fault, NoReply};
+    use crate::error::ErrorKind;
+    use crate::fault::{Code, Fault, NoReply};
     use crate::told::Outcome;
     use crate::transaction::Change;
 
@@ -556,7 +570,13 @@ mod tests {
         body.extend([255, 255, 255, 255, 1, 255, 255, 255, 255]);
         let (ticket, outcome) = told(&mut lane, &body).unwrap();
         let code = Code::BAD_VERSION;
-        assert_eq!(outcome.unwrap_err(), Error::RolledBack { index: 1, code });
+        let path = String::from("/b");
+        let refused = ErrorKind::RolledBack {
+            index: 1,
+            code,
+            path,
+        };
+        assert_eq!(outcome.unwrap_err(), refused);
         assert_eq!((ticket, lane.end().len()), (9, 0));
     }
 
@@ -586,11 +606,11 @@ mod tests {
     fn what_cannot_be_sent_is_refused() {
         let (mut lane, root) = (Lane::default(), Chroot::default());
         let no_path = lane.frame(1, "a", &LaneCall::Sync, &root);
-        assert_eq!(no_path, Err(Error::Fault(Fault::NotPath)));
+        assert_eq!(no_path, Err(Fault::not_path("a").into()));
         let nowhere = LaneCall::Transaction(vec![check("/a/")]);
         assert_eq!(
             lane.frame(1, "/", &nowhere, &root),
-            Err(Error::Fault(Fault::NotPath))
+            Err(Fault::not_path("/a/").into())
         );
         let large = Operation::Set {
             path: String::from("/a"),
@@ -598,12 +618,12 @@ mod tests {
             version: 0,
         };
         let large = lane.frame(1, "/", &LaneCall::Transaction(vec![large]), &root);
-        assert_eq!(large, Err(Error::NoReply(NoReply::TooLarge)));
+        assert_eq!(large, Err(ErrorKind::NoReply(NoReply::TooLarge)));
         for ticket in 0..1_024 {
             lane.frame(ticket, "/a", &LaneCall::Sync, &root).unwrap();
         }
         let many = lane.frame(1_024, "/a", &LaneCall::Sync, &root);
-        assert_eq!(many, Err(Error::NoReply(NoReply::TooManyPending)));
+        assert_eq!(many, Err(ErrorKind::NoReply(NoReply::TooManyPending)));
         assert_eq!(lane.end(), (0..1_024).collect::<Vec<u64>>());
     }
 }

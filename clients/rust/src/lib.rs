@@ -31,6 +31,7 @@ mod calls;
 mod chroot;
 mod client;
 mod engine;
+mod error;
 mod fault;
 #[allow(unsafe_code)]
 mod ffi;
@@ -48,6 +49,7 @@ mod node;
 mod numbers;
 mod options;
 mod output;
+mod path_fault;
 mod pauses;
 mod refusals;
 mod registration;
@@ -64,7 +66,8 @@ mod waiting;
 
 pub use acl::{Acl, Permissions};
 pub use client::{Client, State};
-pub use fault::{Code, Error, Fault, NoReply};
+pub use error::{Error, ErrorKind};
+pub use fault::{Code, Fault, NoReply};
 pub use follow::Follow;
 pub use hosts::{Hosts, HostsFault};
 pub use kept::{Children, DataAnswer, Kept, Mark};

@@ -4,7 +4,8 @@ use crate::acl::Acl;
 use crate::both::{calls, look_ups, watch, Asks};
 use crate::client::State;
 use crate::engine::{Engine, NEVER};
-use crate::fault::{Error, Fault, NoReply};
+use crate::error::Error;
+use crate::fault::Fault;
 use crate::hosts::Hosts;
 use crate::keeper::{ask, Keeper, Shared};
 use crate::kept::{Children, DataAnswer, Kept, Mark};
@@ -82,10 +83,8 @@ impl LocalSession {
     /// Why there is no reply: the session may or may not be over.
     pub fn close(mut self) -> Result<(), Error> {
         match self.call(Request::close()) {
-            Ok(()) | Err(Error::NoReply(NoReply::SessionExpired | NoReply::SessionClosed)) => {
-                Ok(())
-            }
-            Err(fault) => Err(fault),
+            Err(error) if !error.is_of_end() => Err(error),
+            _ => Ok(()),
         }
     }
 }

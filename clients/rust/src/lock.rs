@@ -1,6 +1,7 @@
 //! Locks and elections, over the calls of a session. Tested, and not proved.
 
-use crate::fault::{Code, Error, NoReply};
+use crate::error::{Error, ErrorKind};
+use crate::fault::{Code, NoReply};
 use crate::hosts::chance;
 use crate::kept::Mark;
 use crate::node::{Mode, ANY_VERSION};
@@ -114,7 +115,7 @@ impl<'a> Lock<'a> {
     ///
     /// # Errors
     ///
-    /// As [`acquire`](Lock::acquire), and [`Error::TimedOut`]: then its place is given up.
+    /// As [`acquire`](Lock::acquire), and [`ErrorKind::TimedOut`]: then its place is given up.
     pub fn acquire_within(
         session: &'a Session,
         path: &str,
@@ -171,12 +172,11 @@ impl Drop for Lock<'_> {
 fn remove(session: &Session, node: &str) -> Result<(), Error> {
     loop {
         match session.delete(node, ANY_VERSION) {
-            Ok(())
-            | Err(Error::Server(Code::NO_NODE) | Error::NoReply(NoReply::SessionExpired)) => {
-                return Ok(());
-            }
-            Err(fault) if fault.is_passing() => {}
-            Err(fault) => return Err(fault),
+            Ok(()) => return Ok(()),
+            Err(error) if error.code() == Some(Code::NO_NODE) => return Ok(()),
+            Err(error) if error.no_reply() == Some(NoReply::SessionExpired) => return Ok(()),
+            Err(error) if error.is_passing() => {}
+            Err(error) => return Err(error),
         }
     }
 }
@@ -213,7 +213,9 @@ impl Line<'_> {
 
     fn check_limit(&self) -> Result<(), Error> {
         match self.until {
-            Some(until) if until <= Instant::now() => Err(Error::TimedOut),
+            Some(until) if until <= Instant::now() => {
+                Err(Error::about(Some(self.path), ErrorKind::TimedOut))
+            }
             _ => Ok(()),
         }
     }
@@ -222,7 +224,7 @@ impl Line<'_> {
     fn again<T>(&self, mut read: impl FnMut() -> Result<T, Error>) -> Result<T, Error> {
         loop {
             match read() {
-                Err(fault) if fault.is_passing() => self.check_limit()?,
+                Err(error) if error.is_passing() => self.check_limit()?,
                 answer => return answer,
             }
         }
@@ -232,8 +234,8 @@ impl Line<'_> {
     fn places(&self) -> Result<Vec<String>, Error> {
         match self.again(|| self.session.children(self.path)) {
             Ok((names, _)) => Ok(in_order(names)),
-            Err(Error::Server(Code::NO_NODE)) => Ok(Vec::new()),
-            Err(fault) => Err(fault),
+            Err(error) if error.code() == Some(Code::NO_NODE) => Ok(Vec::new()),
+            Err(error) => Err(error),
         }
     }
 
@@ -245,8 +247,8 @@ impl Line<'_> {
                 .session
                 .create(&self.node(&tag), data, Mode::EphemeralSequential)
             {
-                Err(Error::Server(Code::NO_NODE)) => make(self.session, self.path)?,
-                Err(fault) if !fault.is_passing() => return Err(fault),
+                Err(error) if error.code() == Some(Code::NO_NODE) => make(self.session, self.path)?,
+                Err(error) if !error.is_passing() => return Err(error),
                 Ok(_) | Err(_) => {}
             }
             if let Some(place) = self.find_place(&tag)? {
@@ -276,7 +278,8 @@ impl Line<'_> {
     fn place_before(&self, name: &str) -> Result<Option<String>, Error> {
         let mut names = self.places()?;
         let mine = names.iter().position(|other| other == name);
-        names.truncate(mine.ok_or(Code::NO_NODE)?);
+        let gone = || Error::about(Some(&self.node(name)), Code::NO_NODE.into());
+        names.truncate(mine.ok_or_else(gone)?);
         let mut before = names.into_iter().rev();
         Ok(before.find(|other| self.sharing.waits_for(other)))
     }
@@ -286,8 +289,8 @@ impl Line<'_> {
         let node = self.node(name);
         match self.again(|| self.session.call(Request::get(&node).watched())) {
             Ok(_) => {}
-            Err(Error::Server(Code::NO_NODE)) => return Ok(()),
-            Err(fault) => return Err(fault),
+            Err(error) if error.code() == Some(Code::NO_NODE) => return Ok(()),
+            Err(error) => return Err(error),
         }
         let is_there = |view: View<'_>| matches!(view.data_mark(&node), Ok(Some(Mark::Good)));
         self.session.wait_until(self.until, is_there);
@@ -300,9 +303,10 @@ fn make(session: &Session, path: &str) -> Result<(), Error> {
     let ends = path.match_indices('/').map(|(end, _)| end).skip(1);
     for end in ends.chain([path.len()]) {
         match session.create(&path[..end], b"", Mode::Persistent) {
-            Ok(_) | Err(Error::Server(Code::NODE_EXISTS)) => {}
-            Err(fault) if fault.is_passing() => {}
-            Err(fault) => return Err(fault),
+            Ok(_) => {}
+            Err(error) if error.code() == Some(Code::NODE_EXISTS) => {}
+            Err(error) if error.is_passing() => {}
+            Err(error) => return Err(error),
         }
     }
     Ok(())
@@ -366,8 +370,8 @@ impl<'a> Election<'a> {
         for name in line.places()? {
             match line.again(|| self.session.get(&line.node(&name))) {
                 Ok(node) => candidates.push(node.data.unwrap_or_default()),
-                Err(Error::Server(Code::NO_NODE)) => {}
-                Err(fault) => return Err(fault),
+                Err(error) if error.code() == Some(Code::NO_NODE) => {}
+                Err(error) => return Err(error),
             }
         }
         Ok(candidates)

@@ -1,6 +1,7 @@
 //! A node that says that a process is there. Tested, and not proved.
 
-use crate::fault::{Code, Error, NoReply};
+use crate::error::Error;
+use crate::fault::{Code, NoReply};
 use crate::kept::Mark;
 use crate::node::{Mode, ANY_VERSION};
 use crate::request::Request;
@@ -112,8 +113,8 @@ impl Keeper {
             let went = self.go_on();
             match went {
                 _ if self.is_over() => return self.give_up(),
-                Err(Error::NoReply(NoReply::SessionClosed)) => return Ok(()),
-                Err(fault) if !fault.is_passing() => return Err(fault),
+                Err(error) if error.no_reply() == Some(NoReply::SessionClosed) => return Ok(()),
+                Err(error) if !error.is_passing() => return Err(error),
                 Ok(()) | Err(_) => {}
             }
         }
@@ -124,8 +125,9 @@ impl Keeper {
         if self.session.watch(&self.path)?.is_none() {
             let made = self.session.create(&self.path, &self.data, Mode::Ephemeral);
             return match made {
-                Ok(_) | Err(Error::Server(Code::NODE_EXISTS)) => Ok(()),
-                Err(fault) => Err(fault),
+                Ok(_) => Ok(()),
+                Err(error) if error.code() == Some(Code::NODE_EXISTS) => Ok(()),
+                Err(error) => Err(error),
             };
         }
         let is_same = |view: View<'_>| matches!(view.data_mark(&self.path), Ok(Some(Mark::Good)));
@@ -140,8 +142,9 @@ impl Keeper {
             return Ok(());
         }
         match self.session.call(Request::delete(&self.path, ANY_VERSION)) {
-            Ok(()) | Err(Error::Server(Code::NO_NODE)) => Ok(()),
-            Err(fault) => Err(fault),
+            Ok(()) => Ok(()),
+            Err(error) if error.code() == Some(Code::NO_NODE) => Ok(()),
+            Err(error) => Err(error),
         }
     }
 }

@@ -2,12 +2,14 @@
 
 use crate::acl::Acl;
 use crate::client::Client;
-use crate::fault::{Code, Error, Fault};
+use crate::error::Error;
+use crate::fault::{Code, Fault};
 use crate::lane::{Credentials, LaneCall};
 use crate::moment::Moment;
 use crate::node::{Mode, Node, Stat, Watch};
 use crate::output::Outputs;
-use crate::told::{Found, Outcome};
+use crate::ticket::Ending;
+use crate::told::Found;
 use std::fmt;
 
 /// A call of the core, without its path.
@@ -70,6 +72,17 @@ pub(crate) struct Asked {
     pub(crate) call: Call,
 }
 
+impl Asked {
+    /// The path of the node that it is about. None where it is about no node.
+    pub(crate) fn node(&self) -> Option<&str> {
+        let is_of_session = matches!(
+            self.call,
+            Call::Core(CoreCall::Close) | Call::Lane(LaneCall::Auth(_) | LaneCall::Transaction(_))
+        );
+        (!is_of_session).then_some(self.path.as_str())
+    }
+}
+
 /// A request, whose answer is a `T`.
 ///
 /// [`Session::ask`](crate::Session::ask) sends it and goes on, and [`Session::call`](crate::Session::call) waits for its answer. Each
@@ -91,11 +104,11 @@ pub(crate) struct Asked {
 #[must_use = "it is not sent before it is asked"]
 pub struct Request<T> {
     pub(crate) asked: Asked,
-    pub(crate) read: fn(Outcome) -> Result<T, Error>,
+    pub(crate) read: fn(Ending) -> Result<T, Error>,
 }
 
 impl<T> Request<T> {
-    pub(crate) fn new(path: &str, call: Call, read: fn(Outcome) -> Result<T, Error>) -> Request<T> {
+    pub(crate) fn new(path: &str, call: Call, read: fn(Ending) -> Result<T, Error>) -> Request<T> {
         let path = String::from(path);
         Request {
             asked: Asked { path, call },
@@ -109,7 +122,7 @@ impl<T> Request<T> {
     }
 
     /// Whether it is safe to be asked again after this error, and of use.
-    pub(crate) fn may_be_repeated(&self, fault: Error) -> bool {
+    pub(crate) fn may_be_repeated(&self, fault: &Error) -> bool {
         fault.is_passing() && (self.is_read() || !fault.may_have_happened())
     }
 }
@@ -120,10 +133,10 @@ impl Request<Option<Stat>> {
         Request::new(
             path,
             Call::Core(CoreCall::Exists(Watch::No)),
-            |outcome| match outcome {
+            |ending| match ending {
                 Ok(found) => Ok(Some(found.stat)),
-                Err(Error::Server(Code::NO_NODE)) => Ok(None),
-                Err(fault) => Err(fault),
+                Err(error) if error.code() == Some(Code::NO_NODE) => Ok(None),
+                Err(error) => Err(error),
             },
         )
     }
@@ -138,8 +151,8 @@ impl Request<Option<Stat>> {
 impl Request<Node> {
     /// The data of a node. Where there is none the answer is [`Code::NO_NODE`].
     pub fn get(path: &str) -> Request<Node> {
-        Request::new(path, Call::Core(CoreCall::Data(Watch::No)), |outcome| {
-            let Found { data, stat, .. } = outcome?;
+        Request::new(path, Call::Core(CoreCall::Data(Watch::No)), |ending| {
+            let Found { data, stat, .. } = ending?;
             Ok(Node { data, stat })
         })
     }
@@ -155,8 +168,8 @@ impl Request<(Vec<String>, Stat)> {
     /// The names of the children of a node, in an order that means nothing, and what is known of it. Where there is none the answer is
     /// [`Code::NO_NODE`].
     pub fn children(path: &str) -> Request<(Vec<String>, Stat)> {
-        Request::new(path, Call::Core(CoreCall::Children(Watch::No)), |outcome| {
-            outcome.map(|found| (found.names, found.stat))
+        Request::new(path, Call::Core(CoreCall::Children(Watch::No)), |ending| {
+            ending.map(|found| (found.names, found.stat))
         })
     }
 
@@ -174,7 +187,7 @@ impl Request<Stat> {
         Request::new(
             path,
             Call::Core(CoreCall::Set { data, version }),
-            |outcome| outcome.map(|found| found.stat),
+            |ending| ending.map(|found| found.stat),
         )
     }
 
@@ -182,15 +195,15 @@ impl Request<Stat> {
     pub fn set_acls(path: &str, acls: &[Acl], version: i32) -> Request<Stat> {
         let acls = acls.to_vec();
         let call = Call::Lane(LaneCall::SetAcls { acls, version });
-        Request::new(path, call, |outcome| outcome.map(|found| found.stat))
+        Request::new(path, call, |ending| ending.map(|found| found.stat))
     }
 }
 
 impl Request<(Vec<Acl>, Stat)> {
     /// The ACL of a node, and what is known of it.
     pub fn acls(path: &str) -> Request<(Vec<Acl>, Stat)> {
-        Request::new(path, Call::Lane(LaneCall::Acls), |outcome| {
-            outcome.map(|found| (found.acls, found.stat))
+        Request::new(path, Call::Lane(LaneCall::Acls), |ending| {
+            ending.map(|found| (found.acls, found.stat))
         })
     }
 }
@@ -202,7 +215,7 @@ impl Request<String> {
         Request::new(
             path,
             Call::Core(CoreCall::Create { data, mode }),
-            |outcome| outcome.map(|found| found.path),
+            |ending| ending.map(|found| found.path).map_err(Error::of_create),
         )
     }
 
@@ -210,37 +223,35 @@ impl Request<String> {
     pub fn create_with_acls(path: &str, data: &[u8], mode: Mode, acls: &[Acl]) -> Request<String> {
         let (data, acls) = (data.to_vec(), acls.to_vec());
         let call = Call::Lane(LaneCall::Create { data, mode, acls });
-        Request::new(path, call, |outcome| outcome.map(|found| found.path))
+        Request::new(path, call, |ending| {
+            ending.map(|found| found.path).map_err(Error::of_create)
+        })
     }
 }
 
 impl Request<()> {
     /// Deletes a node that has this version and no children; [`ANY_VERSION`](crate::ANY_VERSION) is that of each node.
     pub fn delete(path: &str, version: i32) -> Request<()> {
-        Request::new(path, Call::Core(CoreCall::Delete { version }), |outcome| {
-            outcome.map(drop)
+        Request::new(path, Call::Core(CoreCall::Delete { version }), |ending| {
+            ending.map(drop)
         })
     }
 
     /// Has the server that the session is connected to catch up with the leader, as far as it was when that was asked: a read that is
     /// asked after it is of no older state.
     pub fn sync(path: &str) -> Request<()> {
-        Request::new(path, Call::Lane(LaneCall::Sync), |outcome| {
-            outcome.map(drop)
-        })
+        Request::new(path, Call::Lane(LaneCall::Sync), |ending| ending.map(drop))
     }
 
     /// Tells the server who the session is, now and on each later connection.
     pub fn auth(scheme: &str, credentials: &[u8]) -> Request<()> {
         let call = LaneCall::Auth(Credentials::new(scheme, credentials));
-        Request::new("/", Call::Lane(call), |outcome| outcome.map(drop))
+        Request::new("/", Call::Lane(call), |ending| ending.map(drop))
     }
 
     /// Ends the session.
     pub(crate) fn close() -> Request<()> {
-        Request::new("/", Call::Core(CoreCall::Close), |outcome| {
-            outcome.map(drop)
-        })
+        Request::new("/", Call::Core(CoreCall::Close), |ending| ending.map(drop))
     }
 }
 

@@ -4,7 +4,8 @@ use crate::acl::Acl;
 use crate::both::{calls, look_ups, watch, Asks};
 use crate::client::State;
 use crate::engine::Engine;
-use crate::fault::{Error, Fault, NoReply};
+use crate::error::Error;
+use crate::fault::Fault;
 use crate::follow::Follow;
 use crate::hosts::Hosts;
 use crate::keeper::{ask, Keeper, Shared};
@@ -127,10 +128,8 @@ impl Session {
 
     fn end(&self) -> Result<(), Error> {
         match self.ask(Request::close()).wait() {
-            Ok(()) | Err(Error::NoReply(NoReply::SessionExpired | NoReply::SessionClosed)) => {
-                Ok(())
-            }
-            Err(fault) => Err(fault),
+            Err(error) if !error.is_of_end() => Err(error),
+            _ => Ok(()),
         }
     }
 }
@@ -142,7 +141,7 @@ impl Drop for Session {
     }
 }
 
-/// Calls. Each waits for its answer, and fails with the error of the server, with why there is no reply, with [`Error::TimedOut`], or with
+/// Calls. Each waits for its answer, and fails with the error of the server, with why there is no reply, with [`ErrorKind::TimedOut`](crate::ErrorKind::TimedOut), or with
 /// [`Fault::NotPath`], [`Fault::NoMemory`] or [`Fault::Halted`].
 impl Session {
     calls! { self: [&self] &mut &*self }
@@ -157,7 +156,7 @@ impl Session {
             let answer = self.wait(request.clone(), left());
             let is_over = left().is_some_and(|left| left <= pause);
             match answer {
-                Err(fault) if request.may_be_repeated(fault) && !is_over => thread::sleep(pause),
+                Err(error) if request.may_be_repeated(&error) && !is_over => thread::sleep(pause),
                 answer => return answer,
             }
         }

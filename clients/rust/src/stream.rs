@@ -1,5 +1,6 @@
 //! Connections, as a session sees them: what dials, and the two halves of what it makes.
 
+use std::fmt::Display;
 use std::io::{self, ErrorKind, Read, Write};
 use std::net::{Shutdown, SocketAddr, TcpStream};
 use std::time::Duration;
@@ -125,6 +126,16 @@ impl Outgoing for TcpStream {
         // It fails where the server has closed it already.
         let _ = self.shutdown(Shutdown::Both);
     }
+}
+
+/// The fault of an attempt to reach a place, with the place, and without the number that the system has for it.
+pub(crate) fn fault_of(place: &dyn Display, fault: &io::Error) -> io::Error {
+    let said = fault.to_string();
+    let words = said.split(" (os error").next().unwrap_or_default();
+    let mut characters = words.chars();
+    let first = characters.next().map(|first| first.to_ascii_lowercase());
+    let words: String = first.into_iter().chain(characters).collect();
+    io::Error::new(fault.kind(), format!("{place}: {words}"))
 }
 
 /// Whether a read that failed so may succeed later: nothing came in time, or it was interrupted.

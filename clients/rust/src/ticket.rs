@@ -1,7 +1,7 @@
 //! Tickets for answers that are still to come.
 
-use crate::fault::{Error, NoReply};
-use crate::told::Outcome;
+use crate::error::{Error, ErrorKind, Search};
+use crate::told::{Found, Outcome};
 use std::fmt;
 use std::future::Future;
 use std::mem;
@@ -16,21 +16,29 @@ enum Stage {
     /// There is no answer yet. The waker is that of the last poll.
     Waits(Option<Waker>),
     /// There is one.
-    Told(Outcome),
+    Told(Ending),
     /// It was taken.
     Taken,
 }
 
+/// How a call ends.
+pub(crate) type Ending = Result<Found, Error>;
+
 /// Where the answer to a call is put.
 #[derive(Debug)]
 pub(crate) struct Slot {
+    node: Option<String>,
+    asked_at: Instant,
     stage: Mutex<Stage>,
     is_told: Condvar,
 }
 
 impl Slot {
-    pub(crate) fn new() -> Arc<Slot> {
+    /// Of a call that is asked now, about this node.
+    pub(crate) fn new(node: Option<&str>) -> Arc<Slot> {
         Arc::new(Slot {
+            node: node.map(String::from),
+            asked_at: Instant::now(),
             stage: Mutex::new(Stage::Waits(None)),
             is_told: Condvar::new(),
         })
@@ -40,9 +48,20 @@ impl Slot {
         self.stage.lock().unwrap_or_else(PoisonError::into_inner)
     }
 
+    /// How the call ends with this outcome, after this search for a server where there was one.
+    pub(crate) fn ending(&self, outcome: Outcome, search: Option<&Search>) -> Ending {
+        outcome.map_err(|kind| {
+            let error = Error::about(self.node.as_deref(), kind);
+            match search {
+                Some(search) => error.after(search, self.asked_at.elapsed()),
+                None => error,
+            }
+        })
+    }
+
     /// Puts the answer there, and wakes who waits for it.
-    pub(crate) fn tell(&self, outcome: Outcome) {
-        let before = mem::replace(&mut *self.stage(), Stage::Told(outcome));
+    pub(crate) fn tell(&self, ending: Ending) {
+        let before = mem::replace(&mut *self.stage(), Stage::Told(ending));
         self.is_told.notify_all();
         if let Stage::Waits(Some(waker)) = before {
             waker.wake();
@@ -54,16 +73,16 @@ impl Slot {
     }
 
     /// The answer, once, where it is there.
-    pub(crate) fn take(&self) -> Option<Outcome> {
+    pub(crate) fn take(&self) -> Option<Ending> {
         take(&mut self.stage())
     }
 
     /// The answer, once it is there. None where it is not there by this instant.
-    pub(crate) fn wait(&self, until: Option<Instant>) -> Option<Outcome> {
+    pub(crate) fn wait(&self, until: Option<Instant>) -> Option<Ending> {
         let mut stage = self.stage();
         loop {
-            if let Some(outcome) = take(&mut stage) {
-                return Some(outcome);
+            if let Some(ending) = take(&mut stage) {
+                return Some(ending);
             }
             let Some(until) = until else {
                 stage = self
@@ -78,10 +97,10 @@ impl Slot {
         }
     }
 
-    fn poll(&self, context: &Context<'_>) -> Poll<Outcome> {
+    fn poll(&self, context: &Context<'_>) -> Poll<Ending> {
         let mut stage = self.stage();
-        if let Some(outcome) = take(&mut stage) {
-            return Poll::Ready(outcome);
+        if let Some(ending) = take(&mut stage) {
+            return Poll::Ready(ending);
         }
         assert!(
             !matches!(*stage, Stage::Taken),
@@ -92,9 +111,9 @@ impl Slot {
     }
 }
 
-fn take(stage: &mut Stage) -> Option<Outcome> {
+fn take(stage: &mut Stage) -> Option<Ending> {
     match mem::replace(stage, Stage::Taken) {
-        Stage::Told(outcome) => Some(outcome),
+        Stage::Told(ending) => Some(ending),
         other => {
             *stage = other;
             None
@@ -104,8 +123,8 @@ fn take(stage: &mut Stage) -> Option<Outcome> {
 
 /// What can take a call back that was not sent yet.
 pub(crate) trait TakesBack: Send + Sync {
-    /// Takes the call of this slot back. Whether it was still there.
-    fn take_back(&self, slot: &Arc<Slot>) -> bool;
+    /// Takes the call of this slot back, if it is still there: it is answered that there is no connection.
+    fn take_back(&self, slot: &Arc<Slot>);
 }
 
 /// A ticket for the answer to a call that was asked by [`Session::ask`](crate::Session::ask).
@@ -129,14 +148,14 @@ pub(crate) trait TakesBack: Send + Sync {
 #[must_use = "the answer comes by the ticket"]
 pub struct Ticket<T> {
     slot: Arc<Slot>,
-    read: fn(Outcome) -> Result<T, Error>,
+    read: fn(Ending) -> Result<T, Error>,
     session: Weak<dyn TakesBack>,
 }
 
 impl<T> Ticket<T> {
     pub(crate) fn new(
         slot: Arc<Slot>,
-        read: fn(Outcome) -> Result<T, Error>,
+        read: fn(Ending) -> Result<T, Error>,
         session: Weak<dyn TakesBack>,
     ) -> Ticket<T> {
         Ticket {
@@ -150,31 +169,34 @@ impl<T> Ticket<T> {
     ///
     /// # Errors
     ///
-    /// The error of the server, why there is no reply, or [`Error::Fault`].
+    /// The error of the server, why there is no reply, or [`ErrorKind::Fault`].
     pub fn wait(self) -> Result<T, Error> {
-        let outcome = self.slot.wait(None);
-        (self.read)(outcome.unwrap_or(Err(Error::TimedOut)))
+        let ending = self.slot.wait(None);
+        (self.read)(ending.unwrap_or_else(|| self.timed_out()))
     }
 
     /// Waits for the answer, for so long at most.
     ///
     /// # Errors
     ///
-    /// As [`wait`](Ticket::wait). Where the limit has passed, [`Error::TimedOut`] if the call was sent: a write may still happen; and
-    /// [`NoReply::NotConnected`] if it was not: then it never is.
+    /// As [`wait`](Ticket::wait). Where the limit has passed, [`ErrorKind::TimedOut`] if the call was sent: a write may still happen;
+    /// and [`NoReply::NotConnected`](crate::NoReply::NotConnected) if it was not: then it never is.
     pub fn wait_for(self, limit: Duration) -> Result<T, Error> {
         let until = Instant::now().checked_add(limit);
-        let outcome = self.slot.wait(until).unwrap_or_else(|| self.give_up());
-        (self.read)(outcome)
+        let ending = self.slot.wait(until).unwrap_or_else(|| self.give_up());
+        (self.read)(ending)
     }
 
     /// What becomes of a call whose limit has passed.
-    fn give_up(&self) -> Outcome {
-        let session = self.session.upgrade();
-        if session.is_some_and(|session| session.take_back(&self.slot)) {
-            return Err(NoReply::NotConnected.into());
+    fn give_up(&self) -> Ending {
+        if let Some(session) = self.session.upgrade() {
+            session.take_back(&self.slot);
         }
-        self.slot.take().unwrap_or(Err(Error::TimedOut))
+        self.slot.take().unwrap_or_else(|| self.timed_out())
+    }
+
+    fn timed_out(&self) -> Ending {
+        self.slot.ending(Err(ErrorKind::TimedOut), None)
     }
 
     /// Whether the answer is there, so that [`wait`](Ticket::wait) does not wait.

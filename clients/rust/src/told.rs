@@ -3,7 +3,8 @@
 use crate::acl::Acl;
 use crate::chroot::Chroot;
 use crate::client::State;
-use crate::fault::{Error, NoReply};
+use crate::error::ErrorKind;
+use crate::fault::NoReply;
 use crate::node::{NodeEvent, Side, Stat};
 use crate::output::{Brought, Cause, GivenUp, Output, Outputs, Reply};
 use crate::transaction::Change;
@@ -54,8 +55,8 @@ pub(crate) struct Found {
     pub(crate) changes: Vec<Change>,
 }
 
-/// How a call ends.
-pub(crate) type Outcome = Result<Found, Error>;
+/// What comes of a call. The error has no path yet.
+pub(crate) type Outcome = Result<Found, ErrorKind>;
 
 /// What a client has said.
 #[derive(Default)]

@@ -1,7 +1,7 @@
 //! Changes that happen together or not at all.
 
 use crate::acl::{Acl, Permissions};
-use crate::fault::Error;
+use crate::error::Error;
 use crate::lane::{LaneCall, Operation};
 use crate::node::{Mode, Stat};
 use crate::request::{Call, Request};
@@ -25,7 +25,7 @@ pub enum Change {
 /// Operations that happen together or not at all: of [`Session::transaction`].
 ///
 /// ```no_run
-/// use dirwolleu::{Error, Mode, Session};
+/// use dirwolleu::{ErrorKind, Mode, Session};
 /// # use std::time::Duration;
 ///
 /// # fn main() -> Result<(), Box<dyn std::error::Error>> {
@@ -38,8 +38,10 @@ pub enum Change {
 ///     .commit();
 /// match outcome {
 ///     Ok(changes) => println!("{changes:?}"),
-///     Err(Error::RolledBack { index, code }) => println!("operation {index} was refused: {code}"),
-///     Err(fault) => return Err(fault.into()),
+///     Err(error) => match error.kind() {
+///         ErrorKind::RolledBack { index, code, .. } => println!("operation {index} was refused: {code}"),
+///         _ => return Err(error.into()),
+///     },
 /// }
 /// # Ok(())
 /// # }
@@ -98,7 +100,7 @@ impl<'a> Transaction<'a> {
     ///
     /// # Errors
     ///
-    /// [`Error::RolledBack`] where an operation was refused, and then nothing has happened; and the errors of any call. Where it
+    /// [`ErrorKind::RolledBack`](crate::ErrorKind::RolledBack) where an operation was refused, and then nothing has happened; and the errors of any call. Where it
     /// [may have happened](Error::may_have_happened), it has as a whole or not at all.
     pub fn commit(self) -> Result<Vec<Change>, Error> {
         self.session.call(Request::transaction(self.operations))
@@ -185,9 +187,9 @@ impl fmt::Debug for Operations {
 }
 
 impl Request<Vec<Change>> {
-    /// Operations that happen together or not at all: what each has brought, in their order, or [`Error::RolledBack`].
+    /// Operations that happen together or not at all: what each has brought, in their order, or [`ErrorKind::RolledBack`](crate::ErrorKind::RolledBack).
     pub fn transaction(operations: Operations) -> Request<Vec<Change>> {
         let call = Call::Lane(LaneCall::Transaction(operations.list));
-        Request::new("/", call, |outcome| outcome.map(|found| found.changes))
+        Request::new("/", call, |ending| ending.map(|found| found.changes))
     }
 }

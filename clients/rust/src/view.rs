@@ -1,5 +1,6 @@
 //! Look-ups of one moment.
 
+use crate::client::Client;
 use crate::engine::Engine;
 use crate::fault::Fault;
 use crate::kept::{Children, DataAnswer, Kept, Mark};
@@ -33,6 +34,16 @@ pub struct View<'a> {
 impl<'a> View<'a> {
     pub(crate) fn of(engine: &'a Engine) -> View<'a> {
         View { engine }
+    }
+
+    /// Looks up at a path of the program's, by that of the servers.
+    fn at<T>(
+        self,
+        path: &str,
+        look: impl FnOnce(&Client, &str) -> Result<T, Fault>,
+    ) -> Result<T, Fault> {
+        let outer = self.engine.chroot().outer(path)?;
+        look(self.engine.client(), &outer).map_err(|fault| fault.at(path))
     }
 }
 
@@ -68,8 +79,7 @@ impl View<'_> {
 
     /// What is kept about the data of a path that was read with a watch, with its mark, and none where nothing is. The data are copied.
     pub fn peek(&self, path: &str) -> Result<Option<Kept<DataAnswer>>, Fault> {
-        let path = self.engine.chroot().outer(path)?;
-        self.engine.client().peek_data(&path)
+        self.at(path, Client::peek_data)
     }
 
     /// The session with which a node goes that is kept, where one is.
@@ -82,21 +92,18 @@ impl View<'_> {
 
     /// The mark of what is kept about the data of a path, and none where nothing is. It copies no data.
     pub fn data_mark(&self, path: &str) -> Result<Option<Mark>, Fault> {
-        let path = self.engine.chroot().outer(path)?;
-        self.engine.client().data_mark(&path)
+        self.at(path, Client::data_mark)
     }
 
     /// What is kept about the children of a path that were read with a watch, with its mark, and none where nothing is. The names are
     /// copied.
     pub fn peek_children(&self, path: &str) -> Result<Option<Kept<Children>>, Fault> {
-        let path = self.engine.chroot().outer(path)?;
-        self.engine.client().peek_children(&path)
+        self.at(path, Client::peek_children)
     }
 
     /// The mark of what is kept about the children of a path, and none where nothing is. It copies no names.
     pub fn children_mark(&self, path: &str) -> Result<Option<Mark>, Fault> {
-        let path = self.engine.chroot().outer(path)?;
-        self.engine.client().children_mark(&path)
+        self.at(path, Client::children_mark)
     }
 }
 

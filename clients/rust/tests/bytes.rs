@@ -448,8 +448,12 @@ fn what_is_no_path_is_refused() {
     let mut client = connected();
     for path in ["", "a", "/a/", "//", "/a/../b", "/a\0"] {
         let asked = client.get_data(START, 1, path, Watch::No).map(said);
-        assert_eq!(asked, Err(Fault::NotPath), "{path:?}");
-        assert_eq!(client.peek_data(path), Err(Fault::NotPath), "{path:?}");
+        let fault = asked.unwrap_err();
+        assert!(
+            matches!(fault, Fault::NotPath { .. }),
+            "{path:?}: {fault:?}"
+        );
+        assert_eq!(client.peek_data(path), Err(fault), "{path:?}");
     }
     assert_eq!(client.state(), State::Connected);
 }

@@ -2,7 +2,9 @@
 
 mod server;
 
-use dirwolleu::{Code, Election, Error, Lock, Mark, Mode, NoReply, Session, Sharing, ANY_VERSION};
+use dirwolleu::{
+    Code, Election, Error, ErrorKind, Lock, Mark, Mode, NoReply, Session, Sharing, ANY_VERSION,
+};
 use server::Server;
 use std::sync::mpsc;
 use std::thread;
@@ -59,7 +61,10 @@ fn a_limit_gives_the_place_up() {
     let (first, second) = (session_at(&server), session_at(&server));
     let lock = exclusive(&first);
     let late = Lock::acquire_within(&second, "/locks/a", Sharing::Exclusive, b"", A_WHILE);
-    assert_eq!(late.map(drop), Err(Error::TimedOut));
+    assert_eq!(
+        late.map(drop).map_err(Error::into_kind),
+        Err(ErrorKind::TimedOut)
+    );
     lock.release().unwrap();
     let next = Lock::acquire_within(&first, "/locks/a", Sharing::Exclusive, b"", PATIENCE);
     next.unwrap().release().unwrap();
@@ -80,8 +85,8 @@ fn those_that_share_hold_together_and_wait_for_who_does_not() {
         }
         let late = shared(A_WHILE);
         assert_eq!(
-            late.map(drop),
-            Err(Error::TimedOut),
+            late.map(drop).map_err(Error::into_kind),
+            Err(ErrorKind::TimedOut),
             "an exclusive one is before it"
         );
         one.release().unwrap();
@@ -100,10 +105,13 @@ fn a_lock_goes_with_its_session() {
     let lock = exclusive(&session);
     server.tell("expire");
     let mut checked = lock.check();
-    while checked == Err(Error::NoReply(NoReply::ConnectionLoss)) {
+    while matches!(&checked, Err(error) if error.no_reply() == Some(NoReply::ConnectionLoss)) {
         checked = lock.check();
     }
-    assert_eq!(checked, Err(Error::NoReply(NoReply::SessionExpired)));
+    assert_eq!(
+        checked.map_err(Error::into_kind),
+        Err(ErrorKind::NoReply(NoReply::SessionExpired))
+    );
     session.renew().unwrap();
     assert_eq!(lock.check(), Ok(false));
     let again = exclusive(&session);
@@ -133,7 +141,10 @@ fn a_place_that_is_taken_away_is_told() {
             .unwrap();
         lock.release().unwrap();
         let told = waits.join().unwrap();
-        assert_eq!(told, Err(Error::Server(Code::NO_NODE)));
+        assert_eq!(
+            told.map_err(Error::into_kind),
+            Err(ErrorKind::Server(Code::NO_NODE))
+        );
     });
 }
 
@@ -171,7 +182,7 @@ fn a_lock_below_an_ephemeral_node_is_refused() {
     session.create("/mine", b"", Mode::Ephemeral).unwrap();
     let refused = Lock::acquire(&session, "/mine", Sharing::Exclusive, b"").map(drop);
     assert_eq!(
-        refused,
-        Err(Error::Server(Code::NO_CHILDREN_FOR_EPHEMERALS))
+        refused.map_err(Error::into_kind),
+        Err(ErrorKind::Server(Code::NO_CHILDREN_FOR_EPHEMERALS))
     );
 }

@@ -1,8 +1,8 @@
 //! Sessions at a real server, whose address is in `DIRWOLLEU_SERVER`: `scripts/clients` starts one. Without it each test says `skipped`.
 
 use dirwolleu::{
-    Acl, Change, Code, Election, Error, Event, LocalSession, Lock, Mode, Operations, Permissions,
-    Request, Session, SessionOptions, Sharing, State, ANY_VERSION,
+    Acl, Change, Code, Election, Error, ErrorKind, Event, LocalSession, Lock, Mode, Operations,
+    Permissions, Request, Session, SessionOptions, Sharing, State, ANY_VERSION,
 };
 use std::env;
 use std::io::{BufRead, BufReader};
@@ -81,7 +81,13 @@ fn a_transaction_happens_as_a_whole_or_not_at_all() {
         .check("/a", 7)
         .delete("/a", 2);
     let code = Code::BAD_VERSION;
-    assert_eq!(refused.commit(), Err(Error::RolledBack { index: 1, code }));
+    let path = String::from("/a");
+    let rolled_back = ErrorKind::RolledBack {
+        index: 1,
+        code,
+        path,
+    };
+    assert_eq!(refused.commit().map_err(Error::into_kind), Err(rolled_back));
     assert_eq!(session.get("/a").unwrap().stat.version, 1);
     assert_eq!(session.transaction().commit(), Ok(Vec::new()));
     let nowhere = session
@@ -89,7 +95,13 @@ fn a_transaction_happens_as_a_whole_or_not_at_all() {
         .delete("/nowhere", ANY_VERSION)
         .commit();
     let code = Code::NO_NODE;
-    assert_eq!(nowhere, Err(Error::RolledBack { index: 0, code }));
+    let path = String::from("/nowhere");
+    let rolled_back = ErrorKind::RolledBack {
+        index: 0,
+        code,
+        path,
+    };
+    assert_eq!(nowhere.map_err(Error::into_kind), Err(rolled_back));
 }
 
 #[test]
@@ -126,7 +138,10 @@ fn a_node_of_ones_own_is_read_with_credentials_alone() {
         ("digest", Permissions::ALL)
     );
     let other = Session::open(&place, TIMEOUT).unwrap();
-    assert_eq!(other.get("/mine"), Err(Error::Server(Code::NO_AUTH)));
+    assert_eq!(
+        other.get("/mine").map_err(Error::into_kind),
+        Err(ErrorKind::Server(Code::NO_AUTH))
+    );
     other.add_auth("digest", b"ann:secret").unwrap();
     assert!(other.get("/mine").is_ok());
     let open = [acls[0].clone(), Acl::anyone(Permissions::READ)];
@@ -138,14 +153,23 @@ fn a_node_of_ones_own_is_read_with_credentials_alone() {
         1
     );
     let late = session.set_acls("/mine", &open, stat.aversion);
-    assert_eq!(late, Err(Error::Server(Code::BAD_VERSION)));
+    assert_eq!(
+        late.map_err(Error::into_kind),
+        Err(ErrorKind::Server(Code::BAD_VERSION))
+    );
     let stranger = Session::open(&place, TIMEOUT).unwrap();
     assert!(stranger.get("/mine").is_ok());
     let refused = stranger.set("/mine", b"two", ANY_VERSION);
-    assert_eq!(refused, Err(Error::Server(Code::NO_AUTH)));
+    assert_eq!(
+        refused.map_err(Error::into_kind),
+        Err(ErrorKind::Server(Code::NO_AUTH))
+    );
     let nobody = [Acl::new(Permissions::ALL, "digest", "no hash")];
     let invalid = stranger.create_with_acls("/other", b"", Mode::Persistent, &nobody);
-    assert_eq!(invalid, Err(Error::Server(Code::INVALID_ACL)));
+    assert_eq!(
+        invalid.map_err(Error::into_kind),
+        Err(ErrorKind::Server(Code::INVALID_ACL))
+    );
 }
 
 #[test]
@@ -156,7 +180,10 @@ fn a_scheme_that_is_not_there_is_refused() {
     let session = Session::open(&place, TIMEOUT).unwrap();
     session.create("/mine", b"", Mode::Ephemeral).unwrap();
     let refused = session.add_auth("nobody", b"knows");
-    assert_eq!(refused, Err(Error::Server(Code::AUTH_FAILED)));
+    assert_eq!(
+        refused.map_err(Error::into_kind),
+        Err(ErrorKind::Server(Code::AUTH_FAILED))
+    );
     let until = Instant::now() + PATIENCE;
     while session.exists("/mine").is_err() {
         assert!(
@@ -170,7 +197,10 @@ fn a_scheme_that_is_not_there_is_refused() {
         .unwrap();
     let until = Some(Instant::now() + PATIENCE);
     while barred.next_event(until).unwrap() != Some(Event::CredentialsRefused) {}
-    assert_eq!(barred.get("/"), Err(Error::Server(Code::AUTH_FAILED)));
+    assert_eq!(
+        barred.get("/").map_err(Error::into_kind),
+        Err(ErrorKind::Server(Code::AUTH_FAILED))
+    );
 }
 
 #[test]
@@ -184,7 +214,10 @@ fn a_lock_is_held_by_one_at_a_time() {
     assert_eq!(lock.check(), Ok(true));
     let limit = Duration::from_millis(300);
     let late = Lock::acquire_within(&second, "/lock/a", Sharing::Shared, b"", limit);
-    assert_eq!(late.map(drop), Err(Error::TimedOut));
+    assert_eq!(
+        late.map(drop).map_err(Error::into_kind),
+        Err(ErrorKind::TimedOut)
+    );
     let token = lock.token();
     thread::scope(|scope| {
         let waits =
@@ -234,7 +267,11 @@ fn a_lock_goes_with_those_of_kazoo() {
     }
     let limit = Duration::from_millis(300);
     let late = Lock::acquire_within(&session, "/lock/b", Sharing::Exclusive, b"", limit);
-    assert_eq!(late.map(drop), Err(Error::TimedOut), "kazoo has it");
+    assert_eq!(
+        late.map(drop).map_err(Error::into_kind),
+        Err(ErrorKind::TimedOut),
+        "kazoo has it"
+    );
     thread::scope(|scope| {
         let waits = scope.spawn(|| Lock::acquire(&session, "/lock/b", Sharing::Exclusive, b""));
         drop(kazoo.stdin.take()); // and kazoo lets it go

@@ -2,7 +2,7 @@
 
 mod server;
 
-use dirwolleu::{Error, NoReply, Registration, Session, SessionOptions, SharedSession};
+use dirwolleu::{NoReply, Registration, Session, SessionOptions, SharedSession};
 use server::Server;
 use std::thread::sleep;
 use std::time::{Duration, Instant};
@@ -88,13 +88,15 @@ fn a_session_that_is_over_ends_it() {
     let registration = Registration::begin(&session, "/host", b"one").unwrap();
     wait_until("it is registered", || registration.is_registered());
     server.tell("expire");
-    wait_until("the session has expired", || {
-        session.exists("/host") == Err(Error::NoReply(NoReply::SessionExpired))
-    });
+    wait_until(
+        "the session has expired",
+        || matches!(session.exists("/host"), Err(error) if error.no_reply() == Some(NoReply::SessionExpired)),
+    );
     assert!(!registration.is_registered());
     let ended = registration.end();
     assert!(
-        matches!(ended, Ok(()) | Err(Error::NoReply(NoReply::SessionExpired))),
+        ended.is_ok()
+            || matches!(&ended, Err(error) if error.no_reply() == Some(NoReply::SessionExpired)),
         "{ended:?}"
     );
 }

@@ -4,10 +4,11 @@ mod example;
 mod server;
 
 use dirwolleu::{
-    Cause, Code, DataAnswer, Error, Event, Fault, Mark, Mode, NoReply, NodeEvent, Request, Session,
-    SessionOptions, Side, State, ANY_VERSION,
+    Cause, Code, DataAnswer, Error, ErrorKind, Event, Fault, Mark, Mode, NoReply, NodeEvent,
+    Request, Session, SessionOptions, Side, State, ANY_VERSION,
 };
 use server::Server;
+use std::fmt::Debug;
 use std::io::{BufRead, BufReader};
 use std::process::{Command, Stdio};
 use std::sync::mpsc::channel;
@@ -51,21 +52,26 @@ fn kept(session: &Session, path: &str) -> Option<(Vec<u8>, Mark)> {
     }
 }
 
+/// Of what kind the error of a call is.
+fn kind_of<T: Debug>(ending: Result<T, Error>) -> ErrorKind {
+    ending.unwrap_err().kind().clone()
+}
+
 /// Each call, as the Programmer's Guide has it, and the errors of the server.
 fn try_calls(session: Session) {
-    let server = |code| Err(Error::Server(code));
-    assert_eq!(session.get("/a"), server(Code::NO_NODE));
+    let missing = session.get("/a");
+    assert_eq!(kind_of(missing), ErrorKind::Server(Code::NO_NODE));
     assert_eq!(session.exists("/a"), Ok(None));
     let made = session.create("/a", b"one", Mode::Persistent);
     assert_eq!(made.as_deref(), Ok("/a"));
     let again = session.create("/a", b"two", Mode::Persistent);
-    assert_eq!(again, Err(Error::Server(Code::NODE_EXISTS)));
+    assert_eq!(kind_of(again), ErrorKind::Server(Code::NODE_EXISTS));
     let node = session.get("/a").unwrap();
     assert_eq!(node.data.as_deref(), Some(b"one".as_slice()));
     assert_eq!((node.stat.version, node.stat.data_length), (0, 3));
     assert_eq!(session.set("/a", b"three", 0).unwrap().version, 1);
     let late = session.set("/a", b"four", 0);
-    assert_eq!(late, Err(Error::Server(Code::BAD_VERSION)));
+    assert_eq!(kind_of(late), ErrorKind::Server(Code::BAD_VERSION));
     let first = session
         .create("/a/s-", b"", Mode::EphemeralSequential)
         .unwrap();
@@ -73,27 +79,27 @@ fn try_calls(session: Session) {
     let stat = session.exists(&first).unwrap().unwrap();
     assert_ne!(stat.ephemeral_owner, 0);
     let below = session.create(&format!("{first}/b"), b"", Mode::Persistent);
-    assert_eq!(below, Err(Error::Server(Code::NO_CHILDREN_FOR_EPHEMERALS)));
+    assert_eq!(
+        kind_of(below),
+        ErrorKind::Server(Code::NO_CHILDREN_FOR_EPHEMERALS)
+    );
     let (names, stat) = session.children("/a").unwrap();
     assert_eq!(
         (names.as_slice(), stat.num_children),
         (["s-0000000000".to_string()].as_slice(), 1)
     );
-    assert_eq!(
-        session.delete("/a", ANY_VERSION),
-        server_unit(Code::NOT_EMPTY)
-    );
+    let full = session.delete("/a", ANY_VERSION);
+    assert_eq!(kind_of(full), ErrorKind::Server(Code::NOT_EMPTY));
     assert_eq!(session.delete(&first, 0), Ok(()));
     assert_eq!(session.delete("/a", ANY_VERSION), Ok(()));
     let no_path = session.get("a");
-    assert_eq!(no_path, Err(Error::Fault(Fault::NotPath)));
+    assert!(matches!(
+        kind_of(no_path),
+        ErrorKind::Fault(Fault::NotPath { .. })
+    ));
     let large = session.set("/a", &vec![0; 1 << 20], ANY_VERSION);
-    assert_eq!(large, Err(Error::NoReply(NoReply::TooLarge)));
+    assert_eq!(kind_of(large), ErrorKind::NoReply(NoReply::TooLarge));
     assert_eq!(session.close(), Ok(()));
-}
-
-fn server_unit(code: Code) -> Result<(), Error> {
-    Err(Error::Server(code))
 }
 
 #[test]
@@ -237,9 +243,9 @@ fn a_call_is_lost_with_its_connection() {
     session.exists("/").unwrap();
     server.tell("mute");
     let lost = session.exists("/");
-    assert_eq!(lost, Err(Error::NoReply(NoReply::ConnectionLoss)));
+    assert_eq!(kind_of(lost), ErrorKind::NoReply(NoReply::ConnectionLoss));
     let nobody = session.exists("/");
-    assert_eq!(nobody, Err(Error::NoReply(NoReply::NotConnected)));
+    assert_eq!(kind_of(nobody), ErrorKind::NoReply(NoReply::NotConnected));
     server.tell("unmute");
     wait_for_state(&session, State::Connected);
 }
@@ -271,7 +277,10 @@ fn an_expired_session_is_renewed() {
     assert_eq!(session.next_event(None), Ok(None));
     assert_eq!(session.peek("/a").unwrap(), None);
     let expired = session.get("/a");
-    assert_eq!(expired, Err(Error::NoReply(NoReply::SessionExpired)));
+    assert_eq!(
+        kind_of(expired),
+        ErrorKind::NoReply(NoReply::SessionExpired)
+    );
     let seen = session.last_zxid();
     session.renew().unwrap();
     assert_eq!(session.exists("/mine"), Ok(None));
@@ -302,7 +311,7 @@ fn a_session_is_taken_up_by_another() {
 fn nobody_answers_where_there_is_no_server() {
     let session = Session::open([], Duration::from_millis(100)).unwrap();
     let nobody = session.get("/a");
-    assert_eq!(nobody, Err(Error::NoReply(NoReply::NotConnected)));
+    assert_eq!(kind_of(nobody), ErrorKind::NoReply(NoReply::NotConnected));
 }
 
 /// Asks a server that answers with random bytes.
@@ -350,11 +359,10 @@ fn all_paths_are_below_the_chroot() {
     server.tell("create /app/b x");
     let more = report("/", Side::Children, NodeEvent::ChildrenChanged);
     wait_for(&session, |event| *event == more);
-    let no_path = Err(Error::Fault(Fault::NotPath));
-    assert_eq!(
-        [session.get(""), session.get("a")],
-        [no_path.clone(), no_path]
-    );
+    for text in ["", "a"] {
+        let kind = kind_of(session.get(text));
+        assert!(matches!(kind, ErrorKind::Fault(Fault::NotPath { .. })));
+    }
     let whole = session_at(&server, 10_000);
     let node = whole.get("/app/a").unwrap();
     assert_eq!(node.data.as_deref(), Some(b"two".as_slice()));

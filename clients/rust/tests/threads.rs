@@ -5,11 +5,12 @@ mod memory;
 mod partner;
 
 use dirwolleu::{
-    Code, Error, Event, Hosts, LocalSession, Mode, NoReply, Request, Retry, Session,
+    Code, Error, ErrorKind, Event, Hosts, LocalSession, Mode, NoReply, Request, Retry, Session,
     SessionOptions, State, Ticket, ANY_VERSION,
 };
 use jute::{CREATE, EXISTS, GET_DATA, PING, PONG, SET_DATA};
 use partner::{Line, Partner};
+use std::fmt::Debug;
 use std::future::Future;
 use std::io;
 use std::net::{TcpListener, TcpStream};
@@ -22,6 +23,11 @@ use std::time::{Duration, Instant};
 
 /// How long what is awaited may take.
 const PATIENCE: Duration = Duration::from_secs(30);
+
+/// Of what kind the error of a call is.
+fn kind_of<T: Debug>(ending: Result<T, Error>) -> ErrorKind {
+    ending.unwrap_err().kind().clone()
+}
 
 fn millis(count: u64) -> Duration {
     Duration::from_millis(count)
@@ -201,14 +207,14 @@ fn a_limit_says_whether_a_call_may_still_happen() {
     let ticket = session.ask(Request::set("/a", b"one", 0));
     assert_eq!(requests.recv_timeout(PATIENCE), Ok(SET_DATA));
     let late = ticket.wait_for(millis(100)).unwrap_err();
-    assert_eq!(late, Error::TimedOut);
+    assert_eq!(late.kind(), &ErrorKind::TimedOut);
     assert!(late.may_have_happened());
     let nowhere = SessionOptions::new(millis(10_000))
         .limit(millis(100))
         .open(Hosts::default())
         .unwrap();
     let not_sent = nowhere.set("/a", b"one", 0).unwrap_err();
-    assert_eq!(not_sent, Error::NoReply(NoReply::NotConnected));
+    assert_eq!(not_sent.no_reply(), Some(NoReply::NotConnected));
     assert!(!not_sent.may_have_happened());
 }
 
@@ -217,7 +223,7 @@ fn a_call_waits_for_a_connection_as_long_as_the_timeout() {
     let session = Session::open(Hosts::default(), millis(1_500)).unwrap();
     let begun = Instant::now();
     let nobody = session.get("/a");
-    assert_eq!(nobody, Err(Error::NoReply(NoReply::NotConnected)));
+    assert_eq!(kind_of(nobody), ErrorKind::NoReply(NoReply::NotConnected));
     let took = begun.elapsed();
     assert!(took >= millis(1_490) && took < PATIENCE, "{took:?}");
 }
@@ -258,7 +264,7 @@ fn a_write_that_may_have_happened_is_not_asked_again() {
     let (partner, count) = losing(SET_DATA);
     let session = retrying(&partner);
     let lost = session.set("/a", b"one", ANY_VERSION);
-    assert_eq!(lost, Err(Error::NoReply(NoReply::ConnectionLoss)));
+    assert_eq!(kind_of(lost), ErrorKind::NoReply(NoReply::ConnectionLoss));
     assert!(session.get("/a").is_ok());
     assert_eq!(count.load(Ordering::SeqCst), 1);
 }
@@ -294,15 +300,15 @@ fn each_ticket_is_answered_where_the_session_is_let_go() {
     assert_eq!(requests.recv_timeout(PATIENCE), Ok(GET_DATA));
     drop(session);
     assert_eq!(
-        sent.wait_for(PATIENCE),
-        Err(Error::NoReply(NoReply::ConnectionLoss))
+        kind_of(sent.wait_for(PATIENCE)),
+        ErrorKind::NoReply(NoReply::ConnectionLoss)
     );
     let nowhere = Session::open(Hosts::default(), millis(10_000)).unwrap();
     let not_sent = nowhere.ask(Request::get("/a"));
     drop(nowhere);
     assert_eq!(
-        not_sent.wait_for(PATIENCE),
-        Err(Error::NoReply(NoReply::NotConnected))
+        kind_of(not_sent.wait_for(PATIENCE)),
+        ErrorKind::NoReply(NoReply::NotConnected)
     );
 }
 
@@ -315,8 +321,8 @@ fn a_dial_that_panics_leaves_nobody_waiting() {
     let session = options.open("127.0.0.1:1").unwrap();
     let answer: Ticket<_> = session.ask(Request::get("/a"));
     assert_eq!(
-        answer.wait_for(PATIENCE),
-        Err(Error::NoReply(NoReply::NotConnected))
+        kind_of(answer.wait_for(PATIENCE)),
+        ErrorKind::NoReply(NoReply::NotConnected)
     );
     assert_eq!(session.next_event(None).map(drop), Ok(()));
 }
@@ -417,8 +423,8 @@ fn an_expired_session_renews_itself_where_it_is_told_to() {
     let options = SessionOptions::new(millis(10_000)).renews(true);
     let session = options.open(partner.address).unwrap();
     assert_eq!(
-        session.get("/a"),
-        Err(Error::NoReply(NoReply::ConnectionLoss))
+        kind_of(session.get("/a")),
+        ErrorKind::NoReply(NoReply::ConnectionLoss)
     );
     assert!(session.get("/a").is_ok());
     let mut states = Vec::new();

@@ -5,7 +5,7 @@ mod jute;
 #[path = "../../tests/partner/mod.rs"]
 mod partner;
 
-use dirwolleu::{Error, NoReply, Request, Session, SessionOptions, State};
+use dirwolleu::{NoReply, Request, Session, SessionOptions, State};
 use dirwolleu_rustls::{rustls, Tls};
 use jute::{PING, PONG, SET_DATA};
 use partner::Line;
@@ -192,8 +192,6 @@ fn a_server_of_another_name_is_not_talked_to() {
         assert!(line.frame().is_none(), "nothing is said to it");
     });
     let session = open(&trust, address, Duration::from_millis(1_500));
-    assert_eq!(
-        session.get("/a"),
-        Err(Error::NoReply(NoReply::NotConnected))
-    );
+    let nobody = session.get("/a").unwrap_err();
+    assert_eq!(nobody.no_reply(), Some(NoReply::NotConnected));
 }

@@ -1,0 +1,354 @@
+//! Why a call fails, and what it was about.
+
+use crate::fault::{Code, Fault, NoReply};
+use crate::path_fault::Shown;
+use std::error;
+use std::fmt;
+use std::time::Duration;
+
+/// Of what kind an [`Error`] is.
+#[derive(Clone, Debug, PartialEq, Eq, Hash)]
+#[non_exhaustive]
+pub enum ErrorKind {
+    /// The server refuses the call.
+    Server(Code),
+    /// There is no reply.
+    NoReply(NoReply),
+    /// The library has not made the step.
+    Fault(Fault),
+    /// The caller's limit has passed before there was an answer. The call is on its way: a write may still happen.
+    TimedOut,
+    /// A transaction has not happened: the server refuses the operation at this place, from 0 on.
+    RolledBack {
+        /// The place of the operation.
+        index: usize,
+        /// Why it is refused.
+        code: Code,
+        /// The node for which it is refused.
+        path: String,
+    },
+}
+
+impl ErrorKind {
+    /// Whether a write that has failed so may have happened all the same, or may still happen. With each other kind nothing has changed.
+    pub fn may_have_happened(&self) -> bool {
+        matches!(
+            self,
+            ErrorKind::TimedOut
+                | ErrorKind::NoReply(NoReply::ConnectionLoss)
+                | ErrorKind::Server(Code::CONNECTION_LOSS)
+        )
+    }
+
+    /// Whether the same read may be answered later: [`Code::is_passing`], and where the connection was lost, there is none, too many
+    /// calls wait, or a limit has passed. An expired session is no such kind: it is to be renewed.
+    pub fn is_passing(&self) -> bool {
+        match self {
+            ErrorKind::Server(code) => code.is_passing(),
+            ErrorKind::NoReply(reason) => matches!(
+                reason,
+                NoReply::ConnectionLoss | NoReply::NotConnected | NoReply::TooManyPending
+            ),
+            ErrorKind::TimedOut => true,
+            ErrorKind::Fault(_) | ErrorKind::RolledBack { .. } => false,
+        }
+    }
+
+    /// What to do. Nothing where the reason says it.
+    fn advice(&self) -> &'static str {
+        match self {
+            ErrorKind::Server(code) | ErrorKind::RolledBack { code, .. } => code.advice(),
+            ErrorKind::NoReply(reason) => reason.advice(),
+            ErrorKind::Fault(fault) => fault.advice(),
+            ErrorKind::TimedOut => "it may still happen",
+        }
+    }
+}
+
+/// The reason in words.
+impl fmt::Display for ErrorKind {
+    fn fmt(&self, f: &mut fmt::Formatter<'_>) -> fmt::Result {
+        match self {
+            ErrorKind::Server(code) => code.fmt(f),
+            ErrorKind::NoReply(reason) => reason.fmt(f),
+            ErrorKind::Fault(fault) => f.write_str(fault.reason()),
+            ErrorKind::TimedOut => f.write_str("no answer has come in time"),
+            ErrorKind::RolledBack { index, code, .. } => {
+                write!(
+                    f,
+                    "operation {index} was refused, and nothing has happened: {code}"
+                )
+            }
+        }
+    }
+}
+
+impl From<Code> for ErrorKind {
+    fn from(code: Code) -> ErrorKind {
+        ErrorKind::Server(code)
+    }
+}
+
+impl From<NoReply> for ErrorKind {
+    fn from(reason: NoReply) -> ErrorKind {
+        ErrorKind::NoReply(reason)
+    }
+}
+
+impl From<Fault> for ErrorKind {
+    fn from(fault: Fault) -> ErrorKind {
+        ErrorKind::Fault(fault)
+    }
+}
+
+/// Where a session has looked for a server in vain, since it was connected last.
+#[derive(Clone, Debug, Default, PartialEq, Eq, Hash)]
+pub(crate) struct Search {
+    /// The hosts, as the program has named them.
+    pub(crate) hosts: String,
+    /// What became of the last attempt.
+    pub(crate) last: String,
+}
+
+/// The node for which a server refuses to create the one of this path: that one, or its parent.
+pub(crate) fn refused_of_create(code: Code, path: &str) -> &str {
+    match code {
+        Code::NO_NODE | Code::NO_CHILDREN_FOR_EPHEMERALS => {
+            let slash = path.rfind('/').unwrap_or_default();
+            &path[..slash.max(1)]
+        }
+        _ => path,
+    }
+}
+
+/// Why a call of a [`Session`](crate::Session) does not give what was asked, and the path of the node that it was about.
+///
+/// It prints the reason, the path, and what to do where the reason does not say it, on one line: `no node: /nope`,
+/// `/a//b is no path: an empty name`, `no server of zk1:2181 accepted the session in 3 s; last: 10.0.0.1:2181: connection refused`.
+///
+/// ```no_run
+/// use dirwolleu::{Code, ErrorKind, NoReply, Session};
+///
+/// # fn main() -> Result<(), Box<dyn std::error::Error>> {
+/// # let session = Session::open("127.0.0.1:2181", std::time::Duration::from_secs(10))?;
+/// match session.get("/config") {
+///     Ok(node) => println!("{:?}", node.data),
+///     Err(error) if error.code() == Some(Code::NO_NODE) => println!("not there yet"),
+///     Err(error) if error.is_passing() => println!("later: {error}"),
+///     Err(error) => match error.kind() {
+///         ErrorKind::NoReply(NoReply::SessionExpired) => session.renew()?,
+///         _ => return Err(error.into()),
+///     },
+/// }
+/// # Ok(())
+/// # }
+/// ```
+#[derive(Clone, Debug, PartialEq, Eq, Hash)]
+pub struct Error {
+    kind: ErrorKind,
+    path: Option<String>,
+    search: Option<Box<(Search, Duration)>>,
+}
+
+impl Error {
+    /// The error of a call about the node of this path, as the program has named it.
+    pub(crate) fn about(path: Option<&str>, kind: ErrorKind) -> Error {
+        let kind = match (kind, path) {
+            (ErrorKind::Fault(fault), Some(path)) => ErrorKind::Fault(fault.at(path)),
+            (kind, _) => kind,
+        };
+        let path = match &kind {
+            ErrorKind::RolledBack { path, .. } => Some(path.clone()),
+            _ => path.map(String::from),
+        };
+        Error {
+            kind,
+            path,
+            search: None,
+        }
+    }
+
+    /// The same error, of a call that has waited for a server for so long, by this search.
+    pub(crate) fn after(mut self, search: &Search, waited: Duration) -> Error {
+        if self.kind == ErrorKind::NoReply(NoReply::NotConnected) {
+            self.search = Some(Box::new((search.clone(), waited)));
+        }
+        self
+    }
+
+    /// The same error, of a create: where the parent is the reason, about the parent.
+    pub(crate) fn of_create(mut self) -> Error {
+        if let (Some(code), Some(path)) = (self.code(), &self.path) {
+            self.path = Some(String::from(refused_of_create(code, path)));
+        }
+        self
+    }
+
+    /// Of what kind it is.
+    pub fn kind(&self) -> &ErrorKind {
+        &self.kind
+    }
+
+    /// Of what kind it is, without the path.
+    pub fn into_kind(self) -> ErrorKind {
+        self.kind
+    }
+
+    /// The path of the node that the call was about; of a create that its parent prevents, the path of the parent. None where a call is
+    /// about no node.
+    pub fn path(&self) -> Option<&str> {
+        self.path.as_deref()
+    }
+
+    /// The reason of the server, where it has refused the call.
+    pub fn code(&self) -> Option<Code> {
+        match self.kind {
+            ErrorKind::Server(code) => Some(code),
+            _ => None,
+        }
+    }
+
+    /// Why there is no reply, where there is none.
+    pub fn no_reply(&self) -> Option<NoReply> {
+        match self.kind {
+            ErrorKind::NoReply(reason) => Some(reason),
+            _ => None,
+        }
+    }
+
+    /// Whether it says that the session is over.
+    pub(crate) fn is_of_end(&self) -> bool {
+        let reason = self.no_reply();
+        reason.is_some_and(|reason| {
+            matches!(reason, NoReply::SessionExpired | NoReply::SessionClosed)
+        })
+    }
+
+    /// As [`ErrorKind::may_have_happened`].
+    pub fn may_have_happened(&self) -> bool {
+        self.kind.may_have_happened()
+    }
+
+    /// As [`ErrorKind::is_passing`].
+    pub fn is_passing(&self) -> bool {
+        self.kind.is_passing()
+    }
+}
+
+impl fmt::Display for Error {
+    fn fmt(&self, f: &mut fmt::Formatter<'_>) -> fmt::Result {
+        if let Some(search) = &self.search {
+            let (Search { hosts, last }, waited) = search.as_ref();
+            let seconds = (waited.as_secs_f64() * 10.0).round() / 10.0;
+            let of = if hosts.is_empty() { "" } else { " of " };
+            return write!(
+                f,
+                "no server{of}{hosts} accepted the session in {seconds} s; last: {last}"
+            );
+        }
+        if let ErrorKind::Fault(fault @ Fault::NotPath { .. }) = &self.kind {
+            return fault.fmt(f);
+        }
+        write!(f, "{}", self.kind)?;
+        if let Some(path) = &self.path {
+            write!(f, ": {}", Shown(path))?;
+        }
+        match self.kind.advice() {
+            "" => Ok(()),
+            advice => write!(f, "; {advice}"),
+        }
+    }
+}
+
+impl error::Error for Error {}
+
+impl From<Fault> for Error {
+    fn from(fault: Fault) -> Error {
+        Error::about(None, fault.into())
+    }
+}
+
+impl From<ErrorKind> for Error {
+    fn from(kind: ErrorKind) -> Error {
+        Error::about(None, kind)
+    }
+}
+
+#[cfg(test)]
+mod tests {
+    use super::{Code, Error, ErrorKind, Fault, NoReply, Search};
+    use std::time::Duration;
+
+    fn printed(kind: ErrorKind) -> String {
+        Error::about(Some("/a"), kind).to_string()
+    }
+
+    #[test]
+    fn each_kind_has_its_words() {
+        for (kind, words) in [
+            (Code::NO_NODE.into(), "no node: /a"),
+            (
+                Code::BAD_VERSION.into(),
+                "the node has another version: /a; read it again",
+            ),
+            (Code(-999).into(), "the server answers -999: /a"),
+            (
+                NoReply::SessionExpired.into(),
+                "the session has expired: /a; renew it",
+            ),
+            (
+                Fault::NoMemory.into(),
+                "out of memory: /a; hand the same in again",
+            ),
+            (
+                ErrorKind::TimedOut,
+                "no answer has come in time: /a; it may still happen",
+            ),
+        ] {
+            assert_eq!(printed(kind), words);
+        }
+        assert_eq!(
+            Error::from(Fault::NoMemory).to_string(),
+            "out of memory; hand the same in again"
+        );
+    }
+
+    #[test]
+    fn a_create_is_refused_for_its_parent() {
+        let refused = |path, code: Code| {
+            Error::about(Some(path), code.into())
+                .of_create()
+                .to_string()
+        };
+        assert_eq!(refused("/x/y/z", Code::NO_NODE), "no node: /x/y");
+        assert_eq!(refused("/x", Code::NO_NODE), "no node: /");
+        assert_eq!(
+            refused("/x/y", Code::NODE_EXISTS),
+            "there is a node already: /x/y"
+        );
+    }
+
+    #[test]
+    fn a_search_for_a_server_is_told() {
+        let found_none = |hosts: &str| {
+            let search = Search {
+                hosts: hosts.into(),
+                last: "why".into(),
+            };
+            let kind = NoReply::NotConnected.into();
+            Error::about(Some("/a"), kind)
+                .after(&search, Duration::from_millis(3_049))
+                .to_string()
+        };
+        assert_eq!(
+            found_none("a:1,b:2"),
+            "no server of a:1,b:2 accepted the session in 3 s; last: why"
+        );
+        assert_eq!(
+            found_none(""),
+            "no server accepted the session in 3 s; last: why"
+        );
+        let lost = Error::from(ErrorKind::from(NoReply::ConnectionLoss));
+        assert_eq!(lost.clone().after(&Search::default(), Duration::ZERO), lost);
+    }
+}
