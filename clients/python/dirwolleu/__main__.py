@@ -85,7 +85,9 @@ def show_get(client: Client, chosen: argparse.Namespace) -> Shown:
 def show_stat(client: Client, chosen: argparse.Namespace) -> Shown:
     stat = client.exists(chosen.path)
     if stat is None:
-        raise NoNodeError(f"there is no node {chosen.path}")
+        error = NoNodeError()
+        error.path = chosen.path
+        raise error
     shown = {**stat._asdict(), "ctime": _time(stat.ctime), "mtime": _time(stat.mtime)}
     shown["ephemeral_owner"] = f"{stat.ephemeral_owner & (1 << 64) - 1:#x}"
     return Shown(_stat_fields(chosen.path, stat), [f"{name:<16} {value}" for name, value in shown.items()])
@@ -220,11 +222,10 @@ def main(words: Optional[list[str]] = None) -> int:
     try:
         _run(chosen, lambda line: print(line, flush=True))
     except ZookeeperError as error:
-        fate = "; it may have happened" if error.may_have_happened else ""
-        print(f"{chosen.command} {chosen.path}: {error}{fate}", file=sys.stderr)
+        print(f"{chosen.command}: {error}", file=sys.stderr)
         return 3 if error.code in (None, -4) else 1
     except (OSError, ValueError) as error:
-        print(f"{chosen.command} {chosen.path}: {error}", file=sys.stderr)
+        print(f"{chosen.command}: {error}", file=sys.stderr)
         return 2 if isinstance(error, ValueError) else 3
     except KeyboardInterrupt:
         return 130

@@ -6,6 +6,7 @@ import asyncio
 import errno
 import functools
 import logging
+import os
 import ssl
 import time
 from typing import Any, Callable, Optional, cast
@@ -13,6 +14,7 @@ from typing import Any, Callable, Optional, cast
 from dirwolleu._engine import Engine
 from dirwolleu._hosts import Place, Servers
 from dirwolleu._pauses import BETWEEN_DIALS, Pauses
+from dirwolleu.types import State
 
 logger = logging.getLogger("dirwolleu.connection")
 
@@ -25,6 +27,16 @@ _NO_DESCRIPTOR = (errno.EMFILE, errno.ENFILE)
 def moment() -> int:
     """Milliseconds of a clock that does not go back."""
     return int(time.monotonic() * 1000)
+
+
+def _words_of(error: Optional[BaseException]) -> str:
+    """Why an attempt to connect has failed, as the system says it."""
+    if isinstance(error, OSError) and not isinstance(error, ssl.SSLError) and error.errno is not None:
+        if error.errno > 0:
+            words = os.strerror(error.errno)
+            return words[:1].lower() + words[1:]
+        return str(error.strerror)  # of a name that was looked up
+    return str(error or "no connection in time")
 
 
 class Link(asyncio.Protocol):
@@ -154,6 +166,7 @@ class Driver:
         self._next = None
         self._dialed_at = moment()
         self._engine.contact.dials += 1
+        self._engine.hosts = self._servers.hosts.text
         link = self._link = Link(self)
         dialing = self._dialing = self._loop.create_task(self._connect(link))
         limit = self._loop.call_later(max(self._engine.timeout() / 3, SHORTEST_DIAL), dialing.cancel)
@@ -175,12 +188,13 @@ class Driver:
         if link is self._link:
             self._dialing = None
         error = None if dialing.cancelled() else dialing.exception()
+        where = f"{self._place}: " if self._place is not None else ""
         if error is None and not dialing.cancelled():
-            self._engine.trouble = ""
+            if self._engine.state is not State.CONNECTED:
+                self._engine.trouble = f"{where}connected, and it has not accepted the session"
             return
         if link is self._link:
-            where = f"{self._place}: " if self._place is not None else ""
-            self._engine.trouble = f"{where}{error or 'no connection in time'}"
+            self._engine.trouble = f"{where}{_words_of(error)}"
             is_ours = isinstance(error, ssl.SSLError) or isinstance(error, OSError) and error.errno in _NO_DESCRIPTOR
             logger.log(logging.WARNING if is_ours else logging.INFO, "no connection to %s", self._engine.trouble)
         link.end()

@@ -93,8 +93,9 @@ class _Asked:
     def fail(self, error: BaseException) -> None:
         if self.waiter.done():
             return
-        if isinstance(error, ZookeeperError) and self.request.is_repeatable:
-            error.may_have_happened = False
+        if isinstance(error, ZookeeperError):
+            error.path = error.path or self.request.path
+            error.may_have_happened = error.may_have_happened and not self.request.is_repeatable
         self.waiter.set_exception(error)
 
     def answer(self, answer: Answer) -> None:
@@ -111,7 +112,7 @@ class _Asked:
     def give_up(self) -> None:
         """The time of its caller is over."""
         fate = "it may still happen" if self.is_sent else "it was not sent, and is not sent any more"
-        error = CallTimeoutError(f"no answer in time: {fate}")
+        error = CallTimeoutError("no answer has come in time", fate)
         error.may_have_happened = self.is_sent
         self.fail(error)
 
@@ -217,8 +218,10 @@ class Engine:
         self._is_over, self._why = False, ""
         self._saved_at_close: Optional[bytes] = None
         self.contact = Contact()
+        self.hosts = ""
+        """Which servers are looked for, as the program has named them."""
         self.trouble = ""
-        """Why the last attempt to connect has failed, in words."""
+        """What became of the last attempt to find a server, in words; nothing once one has accepted the session."""
         self.place = ""
         """Where the connection leads, in words."""
         self.refused: Optional[AuthFailedError] = None
@@ -285,8 +288,7 @@ class Engine:
             self._give_up("an answer has taken more than two thirds of the timeout")
         self._end_timed(now)
         while self._line and self._is_given_up(self._line[0], now):
-            trouble = f": {self.trouble}" if self.trouble else ""
-            error = NotConnectedError(f"no server accepted the session in time{trouble}")
+            error = NotConnectedError(self.no_server(self._timeout_ms / 1000))
             self._count_loss(self._line.popleft(), error)
 
     def received(self, now: int, data: bytes) -> None:
@@ -318,6 +320,12 @@ class Engine:
         if self._timed:
             moments.append(self._timed[0][0])
         return min((moment for moment in moments if moment is not None), default=None)
+
+    def no_server(self, seconds: Optional[float]) -> str:
+        """That no server was found in this time, and what became of the last attempt, in words."""
+        within = f" in {seconds:g} s" if seconds is not None else ""
+        last = f"; last: {self.trouble}" if self.trouble else ""
+        return f"no server of {self.hosts} accepted the session{within}{last}"
 
     # What a program asks.
 
@@ -638,6 +646,7 @@ class Engine:
     def _change(self, state: int) -> None:
         if state == library.CONNECTED:
             self._opened_at = None
+            self.trouble = ""
             self._admitted_at = self.contact.heard_at = self._now
             self.contact.admissions += 1
             self.contact.has_expired = False
@@ -652,12 +661,12 @@ class Engine:
             self.contact.expiries += 1
             self.contact.has_expired = True
             logger.warning("the session %#x has expired: a new one begins", self.session_id() & _SESSION)
-            self._begin_anew(SessionExpiredError("the session has expired"))
+            self._begin_anew(SessionExpiredError())
         elif state == library.SESSION_CLOSED:
             logger.info("the session %#x is closed", self.session_id() & _SESSION)
             self.is_running = False
             self._is_over = True
-            self._begin_anew(ConnectionClosedError("the session is closed"))
+            self._begin_anew(ConnectionClosedError())
         elif self.state is State.CONNECTED:
             self._enter(State.SUSPENDED)
 

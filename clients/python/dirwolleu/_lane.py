@@ -17,9 +17,9 @@ from typing import Any, Callable, Generic, NamedTuple, Optional, Protocol, TypeV
 from dirwolleu import _jute as jute
 from dirwolleu._frames import AUTH_XID, LANE_XID
 from dirwolleu._jute import Reader
-from dirwolleu._requests import Result
+from dirwolleu._requests import Result, refusal_of
 from dirwolleu._root import Root
-from dirwolleu.exceptions import TooLargeError, error_of
+from dirwolleu.exceptions import TooLargeError
 from dirwolleu.security import ACL, OPEN_ACL_UNSAFE
 from dirwolleu.types import Stat
 
@@ -41,6 +41,9 @@ class Operation(enum.IntEnum):
     AUTH = 100
 
 
+_CREATES = (Operation.CREATE, Operation.CREATE2)
+
+
 class Created(NamedTuple):
     """A node that was made."""
 
@@ -60,17 +63,22 @@ class LaneRequest(Generic[Result]):
     is_repeatable: bool = False
     """Whether it does no harm to ask it again where it may have happened."""
 
+    @property
+    def path(self) -> Optional[str]:
+        """The path of the node that it is about, where that is one."""
+        return self.paths[0] if len(self.paths) == 1 else None
+
     def payload(self, xid: int, root: Root) -> bytes:
         """The request's bytes, without their length. Raises `ValueError` and `TooLargeError`."""
         payload = struct.pack(">ii", xid, self.operation) + self.body(root)
         if len(payload) > LONGEST_REQUEST:
-            raise TooLargeError(f"the request would have more than {LONGEST_REQUEST:,} bytes")
+            raise TooLargeError
         return payload
 
     def result(self, code: int, body: bytes, root: Root) -> Result:
         """What an answer brings, or raises its error. Raises `Malformed` where it does not read."""
         if code:
-            raise error_of(code)
+            raise refusal_of(code, self.path if self.operation in _CREATES else None)
         return self.read(Reader(body), root)
 
 

@@ -20,6 +20,7 @@ from ctypes import c_bool, c_char, c_char_p, c_int32, c_int64, c_size_t, c_uint3
 from operator import attrgetter
 from typing import Any, Callable, Iterator, NamedTuple, Optional, TypeVar, Union
 
+from dirwolleu._paths import no_path
 from dirwolleu._root import Root
 from dirwolleu.types import DataStat, Stat
 
@@ -342,7 +343,7 @@ def _checked(code: int) -> None:
     raise ValueError(
         {
             NOT_TEXT: "the path is no UTF-8",
-            NOT_PATH: "this is no path of a node",
+            NOT_PATH: "the text is no path",
             BAD_TIMEOUT: "the timeout is not 1 to 2147483647 milliseconds",
             NO_SUCH_MODE: "the mode is no sum of EPHEMERAL and SEQUENTIAL",
             NOT_SAVED: "these bytes are no saved session: take all of those that a client has saved",
@@ -441,22 +442,23 @@ class Machine:
 
     def exists(self, now: int, ticket: int, path: str, watch: bool) -> list[Output]:
         spelled = self._root.spell(path)
-        return self._outputs(_library.dw_exists(self._handle, now, ticket, spelled, len(spelled), watch))
+        return self._outputs(_library.dw_exists(self._handle, now, ticket, spelled, len(spelled), watch), path)
 
     def get_data(self, now: int, ticket: int, path: str, watch: bool) -> list[Output]:
         spelled = self._root.spell(path)
-        return self._outputs(_library.dw_get_data(self._handle, now, ticket, spelled, len(spelled), watch))
+        return self._outputs(_library.dw_get_data(self._handle, now, ticket, spelled, len(spelled), watch), path)
 
     def get_children(self, now: int, ticket: int, path: str, watch: bool) -> list[Output]:
         spelled = self._root.spell(path)
-        return self._outputs(_library.dw_get_children(self._handle, now, ticket, spelled, len(spelled), watch))
+        return self._outputs(_library.dw_get_children(self._handle, now, ticket, spelled, len(spelled), watch), path)
 
     def set_data(self, now: int, ticket: int, path: str, data: Optional[bytes], version: int) -> list[Output]:
         spelled, given = self._root.spell(path), data or b""
         return self._outputs(
             _library.dw_set_data(
                 self._handle, now, ticket, spelled, len(spelled), given, len(given), data is None, version
-            )
+            ),
+            path,
         )
 
     def create(self, now: int, ticket: int, path: str, data: Optional[bytes], mode: int) -> list[Output]:
@@ -464,12 +466,13 @@ class Machine:
             raise ValueError("the digits would be part of the root's own name")
         spelled, given = self._root.spell(path), data or b""
         return self._outputs(
-            _library.dw_create(self._handle, now, ticket, spelled, len(spelled), given, len(given), data is None, mode)
+            _library.dw_create(self._handle, now, ticket, spelled, len(spelled), given, len(given), data is None, mode),
+            path,
         )
 
     def delete(self, now: int, ticket: int, path: str, version: int) -> list[Output]:
         spelled = self._root.spell(path)
-        return self._outputs(_library.dw_delete(self._handle, now, ticket, spelled, len(spelled), version))
+        return self._outputs(_library.dw_delete(self._handle, now, ticket, spelled, len(spelled), version), path)
 
     def close_session(self, now: int, ticket: int) -> list[Output]:
         return self._outputs(_library.dw_close_session(self._handle, now, ticket))
@@ -498,14 +501,12 @@ class Machine:
 
     def peek_data(self, path: str) -> tuple[KeptData, int]:
         """What is kept of the data of a path, and the last zxid at that moment."""
-        spelled = self._root.spell(path)
-        return _steady(lambda: self._data_kept(spelled), self.last_zxid)
+        return _steady(lambda: self._data_kept(path), self.last_zxid)
 
     def peek_children(self, path: str) -> tuple[KeptNames, int]:
         """What is kept of the children of a path, and the last zxid at that moment."""
-        spelled = self._root.spell(path)
         names, (side, last_zxid) = _steady(
-            lambda: self._names_kept(spelled), lambda: (self._side_kept(spelled), self.last_zxid())
+            lambda: self._names_kept(path), lambda: (self._side_kept(path), self.last_zxid())
         )
         return KeptNames(side[0], names, side[1]), last_zxid
 
@@ -517,30 +518,37 @@ class Machine:
         _checked(answered)
         return int(answered)
 
-    def _data_kept(self, spelled: bytes) -> KeptData:
-        kept, room, is_whole = _KeptData(), _Room(), False
+    def _data_kept(self, path: str) -> KeptData:
+        kept, room, is_whole, spelled = _KeptData(), _Room(), False, self._root.spell(path)
         while not is_whole:
             given = room.bytes, len(room.bytes)
-            _checked(_library.dw_peek_data(self._handle, spelled, len(spelled), byref(kept), *given))
+            self._check(_library.dw_peek_data(self._handle, spelled, len(spelled), byref(kept), *given), path)
             is_whole = not room.widen(kept.length)
         _known("kind of what is kept", kept.kind, range(NOTHING, FULL + 1))
         stat = DataStat._make(_fields_of_data_stat(kept.stat)) if kept.kind in (KNOWN, FULL) else None
         data = string_at(room.bytes, kept.length) if kept.kind == FULL and not kept.is_null else None
         return KeptData(kept.kind, kept.mark, stat, data)
 
-    def _side_kept(self, spelled: bytes) -> tuple[int, int]:
-        kept = _KeptNames()
-        _checked(_library.dw_peek_children(self._handle, spelled, len(spelled), byref(kept)))
+    def _side_kept(self, path: str) -> tuple[int, int]:
+        kept, spelled = _KeptNames(), self._root.spell(path)
+        self._check(_library.dw_peek_children(self._handle, spelled, len(spelled), byref(kept)), path)
         return kept.mark, kept.pzxid
 
-    def _names_kept(self, spelled: bytes) -> tuple[str, ...]:
+    def _names_kept(self, path: str) -> tuple[str, ...]:
+        spelled = self._root.spell(path)
         names = _Room().filled(lambda *room: _library.dw_peek_names(self._handle, spelled, len(spelled), *room))
         return tuple(_texts_in(names))
 
     # What a step tells.
 
-    def _outputs(self, code: int) -> list[Output]:
+    def _check(self, code: int, path: str) -> None:
+        """Raises what a code below 0 says of a call about this path."""
+        if code == NOT_PATH:
+            raise no_path(path, self._root.full(path))
         _checked(code)
+
+    def _outputs(self, code: int, path: str = "") -> list[Output]:
+        self._check(code, path)
         outputs: list[Output] = []
         while _library.dw_next(self._handle, self._output) == OK:
             outputs.append(self._read(self._output))

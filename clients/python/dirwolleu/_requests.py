@@ -7,9 +7,11 @@ from typing import Any, Callable, Generic, NamedTuple, Optional, TypeVar
 
 from dirwolleu import _library as library
 from dirwolleu._library import Answer, Machine, Output
+from dirwolleu._paths import parent
 from dirwolleu.exceptions import (
     ConnectionClosedError,
     ConnectionLoss,
+    NoChildrenForEphemeralsError,
     NoNodeError,
     NotConnectedError,
     SessionExpiredError,
@@ -33,14 +35,13 @@ _ERRORS: dict[int, type[ZookeeperError]] = {
 }
 # end of what is made
 
-_LACKS = {
-    library.LOST: "the connection ended before the reply",
-    library.AFTER_EXPIRY: "the session has expired",
-    library.AFTER_CLOSE: "the session is closed",
-    library.NOT_CONNECTED: "no server has accepted the session",
-    library.TOO_MANY_WATCHES: "65,536 paths are watched",
-    library.TOO_LARGE: "the request would have more than 1,048,575 bytes",
-}
+
+def refusal_of(code: int, created: Optional[str] = None) -> ZookeeperError:
+    """The error of a code that a server answered. It may be the parent for which a node can't be created."""
+    error = error_of(code)
+    if created is not None and isinstance(error, (NoNodeError, NoChildrenForEphemeralsError)):
+        error.path = parent(created)
+    return error
 
 
 class Watcher(NamedTuple):
@@ -56,9 +57,12 @@ class Request(Generic[Result]):
     """A call of a machine, at a moment and with a ticket, whose answer brings a result of this type."""
 
     call: Callable[[Machine, int, int], list[Output]]
+    path: Optional[str] = None
+    """The path of the node that it is about."""
     is_repeatable: bool = False
     """Whether it does no harm to ask it again where it may have happened."""
     is_exists: bool = False
+    is_create: bool = False
     watcher: Optional[Watcher] = None
     node: Optional[str] = None
     """The path of the node whose data or absence the answer tells."""
@@ -71,11 +75,11 @@ class Request(Generic[Result]):
     def result(self, answer: Answer) -> Any:
         """What the answer brings, or raises its error."""
         if answer.lack:
-            raise _ERRORS[answer.lack](_LACKS[answer.lack])
+            raise _ERRORS[answer.lack]()
         if answer.result == library.CODE:
             if self.is_exists and answer.code == NoNodeError.code:
                 return None
-            raise error_of(answer.code)
+            raise refusal_of(answer.code, self.path if self.is_create else None)
         if answer.result == library.DATA:
             return answer.text, answer.stat
         if answer.result == library.CREATED:
@@ -96,6 +100,7 @@ def _data(value: Optional[bytes]) -> Optional[bytes]:
 def exists(path: str, watch: Watch) -> Request[Optional[Stat]]:
     return Request(
         lambda machine, now, ticket: machine.exists(now, ticket, path, bool(watch)),
+        path,
         is_repeatable=True,
         is_exists=True,
         watcher=_watcher(path, library.DATA_SIDE, watch),
@@ -106,6 +111,7 @@ def exists(path: str, watch: Watch) -> Request[Optional[Stat]]:
 def get(path: str, watch: Watch) -> Request[tuple[Optional[bytes], Stat]]:
     return Request(
         lambda machine, now, ticket: machine.get_data(now, ticket, path, bool(watch)),
+        path,
         is_repeatable=True,
         watcher=_watcher(path, library.DATA_SIDE, watch),
         node=path,
@@ -115,6 +121,7 @@ def get(path: str, watch: Watch) -> Request[tuple[Optional[bytes], Stat]]:
 def get_children(path: str, watch: Watch) -> Request[list[str]]:
     return Request(
         lambda machine, now, ticket: machine.get_children(now, ticket, path, bool(watch)),
+        path,
         is_repeatable=True,
         watcher=_watcher(path, library.CHILDREN_SIDE, watch),
     )
@@ -122,17 +129,17 @@ def get_children(path: str, watch: Watch) -> Request[list[str]]:
 
 def set(path: str, value: Optional[bytes], version: int) -> Request[Stat]:
     data = _data(value)
-    return Request(lambda machine, now, ticket: machine.set_data(now, ticket, path, data, version))
+    return Request(lambda machine, now, ticket: machine.set_data(now, ticket, path, data, version), path)
 
 
 def create(path: str, value: Optional[bytes], ephemeral: bool, sequence: bool) -> Request[str]:
     data = _data(value)
     mode = (library.EPHEMERAL if ephemeral else 0) | (library.SEQUENTIAL if sequence else 0)
-    return Request(lambda machine, now, ticket: machine.create(now, ticket, path, data, mode))
+    return Request(lambda machine, now, ticket: machine.create(now, ticket, path, data, mode), path, is_create=True)
 
 
 def delete(path: str, version: int) -> Request[None]:
-    return Request(lambda machine, now, ticket: machine.delete(now, ticket, path, version))
+    return Request(lambda machine, now, ticket: machine.delete(now, ticket, path, version), path)
 
 
 def close_session() -> Request[None]:

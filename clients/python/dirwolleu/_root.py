@@ -4,6 +4,8 @@ from __future__ import annotations
 
 from typing import NamedTuple
 
+from dirwolleu._paths import no_path
+
 
 class Root(NamedTuple):
     """A path of the servers' tree, without a slash at its end: nothing for the whole tree."""
@@ -15,7 +17,7 @@ class Root(NamedTuple):
         if not self.path:
             return path
         if not path.startswith("/"):
-            raise ValueError("this is no path of a node")
+            raise no_path(path)
         return self.path if path == "/" else self.path + path
 
     def spell(self, path: str) -> bytes:

@@ -100,10 +100,7 @@ class Client(Shown):
             await self.stop()
             if not isinstance(error, asyncio.TimeoutError):
                 raise
-            trouble = f" ({self._engine.trouble})" if self._engine.trouble else ""
-            raise TimeoutError(
-                f"no server of {self._servers.hosts.text} accepted the session in {timeout} seconds{trouble}"
-            ) from None
+            raise TimeoutError(self._engine.no_server(timeout)) from None
 
     async def stop(self) -> None:
         """Ends the session, with its ephemeral nodes and its watches.

@@ -285,9 +285,7 @@ class Client(Shown):
             if not is_connected:
                 self.stop()
         if not is_connected:
-            trouble = f" ({self._engine.trouble})" if self._engine.trouble else ""
-            hosts = self._servers.hosts.text
-            raise TimeoutError(f"no server of {hosts} accepted the session in {timeout} seconds{trouble}")
+            raise TimeoutError(self._engine.no_server(timeout))
 
     def stop(self) -> None:
         """Ends the session, with its ephemeral nodes and its watches, and the threads of the client.

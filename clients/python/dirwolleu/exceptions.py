@@ -4,6 +4,8 @@ from __future__ import annotations
 
 from typing import Optional
 
+from dirwolleu._paths import shown
+
 __all__ = [
     "BadArgumentsError",
     "BadVersionError",
@@ -29,16 +31,34 @@ __all__ = [
 ]
 
 
+_OPEN = "it may or may not have happened: read again"
+
+
 class ZookeeperError(Exception):
     """What all errors of calls are.
 
-    `code` is ZooKeeper's number of the error, below 0, and None where ZooKeeper has none.
+    Its text is the reason, the path, and what to do where the reason does not say it: `no node: /nope`. `code` is
+    ZooKeeper's number of the error, below 0, and None where ZooKeeper has none.
     """
 
     code: Optional[int] = None
+    path: Optional[str] = None
+    """The node that the call is about; of a create that its parent prevents, the parent. None where there is none."""
 
     may_have_happened: bool = False
     """Whether a change that was asked for may have happened, or may still: to ask again might do it twice."""
+
+    _reason, _advice = "the call has failed", ""
+
+    def __str__(self) -> str:
+        """The arguments are the reason and the advice, of which each may be left out."""
+        reason, advice = self._reason, self._advice
+        if self.args:
+            reason, advice = self.args[0], _OPEN if self.may_have_happened else ""
+        if len(self.args) > 1:
+            advice = self.args[1]
+        about = f": {shown(self.path)}" if self.path is not None else ""
+        return f"{reason}{about}" + (f"; {advice}" if advice else "")
 
 
 class ConnectionLoss(ZookeeperError):
@@ -46,76 +66,98 @@ class ConnectionLoss(ZookeeperError):
 
     code = -4
     may_have_happened = True
+    _reason = "the connection ended before the reply"
+    _advice = _OPEN
 
 
 class NotConnectedError(ConnectionLoss):
     """No server accepted the session within its timeout. Nothing was sent, so nothing has happened."""
 
     may_have_happened = False
+    _reason = "no server has accepted the session"
+    _advice = "call again later"
+
+    def __str__(self) -> str:
+        return str(self.args[0]) if self.args else super().__str__()
 
 
 class CallTimeoutError(ZookeeperError, TimeoutError):
     """No answer came within the `timeout` of the call. Where `may_have_happened` is true, it may still happen."""
+
+    _reason = "no answer has come in time"
 
 
 class UnimplementedError(ZookeeperError):
     """The server does not know this request."""
 
     code = -6
+    _reason = "the server does not know the request"
 
 
 class BadArgumentsError(ZookeeperError):
     """The server refuses the path, the flags or the data."""
 
     code = -8
+    _reason = "the server refuses the path, the mode or the data"
 
 
 class NoNodeError(ZookeeperError):
     """There is no node of this path, or for a create no parent."""
 
     code = -101
+    _reason = "no node"
 
 
 class NoAuthError(ZookeeperError):
     """The node's ACL does not admit this client with the credentials that it has."""
 
     code = -102
+    _reason = "the node's ACL does not admit this client"
 
 
 class BadVersionError(ZookeeperError):
     """The node has another version than the call names."""
 
     code = -103
+    _reason = "the node has another version"
+    _advice = "read it again"
 
 
 class NoChildrenForEphemeralsError(ZookeeperError):
     """The parent is an ephemeral node."""
 
     code = -108
+    _reason = "an ephemeral node has no children"
 
 
 class NodeExistsError(ZookeeperError):
     """There is a node of this path already."""
 
     code = -110
+    _reason = "there is a node already"
 
 
 class NotEmptyError(ZookeeperError):
     """The node has children."""
 
     code = -111
+    _reason = "the node has children"
+    _advice = "delete them first"
 
 
 class SessionExpiredError(ZookeeperError):
     """The session has expired, with its ephemeral nodes and its watches. Nothing was sent."""
 
     code = -112
+    _reason = "the session has expired"
+    _advice = "call again: another one begins"
 
 
 class InvalidACLError(ZookeeperError):
     """The server refuses the ACL."""
 
     code = -114
+    _reason = "the server does not take this ACL"
 
 
 class LockLostError(ZookeeperError):
@@ -130,14 +172,22 @@ class SessionMovedError(ZookeeperError):
     """The session was taken up over another connection."""
 
     code = -118
+    _reason = "the session was taken up over another connection"
+    _advice = "have one program use it"
 
 
 class ConnectionClosedError(ZookeeperError):
     """The client is not started, or was stopped or closed. Nothing was sent, unless the call was on its way by then."""
 
+    _reason = "the session is closed"
+    _advice = "start the client"
+
 
 class TooManyWatchesError(ZookeeperError):
     """65,536 paths are watched for their data, or as many for their children. Nothing was sent."""
+
+    _reason = "65536 paths are watched"
+    _advice = "read without a watch, or in another session"
 
 
 class TransactionFailedError(ZookeeperError):
@@ -149,7 +199,8 @@ class TransactionFailedError(ZookeeperError):
         """Which operation was refused, from 0 on."""
         self.error = error
         """Why it was."""
-        self.code = error.code if error is not None else None
+        if error is not None:
+            self.code, self.path = error.code, error.path
 
     def __str__(self) -> str:
         return str(self.args[0])
@@ -158,12 +209,20 @@ class TransactionFailedError(ZookeeperError):
 class TooLargeError(ZookeeperError):
     """The request would have more than 1,048,575 bytes. Nothing was sent."""
 
+    _reason = "the request has more than 1048575 bytes"
+    _advice = "send less"
+
+
+_THROTTLED = -127
+
 
 def error_of(code: int) -> ZookeeperError:
     """The error of a code that a server answered. One without a class of its own is a plain `ZookeeperError`."""
     for kind in ZookeeperError.__subclasses__():
         if kind.code == code:
-            return kind(f"the server answered {code}")
-    error = ZookeeperError(f"the server answered {code}")
+            return kind()
+    error = ZookeeperError(f"the server answers {code}")
+    if code == _THROTTLED:
+        error = ZookeeperError("the server has too much to do", "call again later")
     error.code = code
     return error

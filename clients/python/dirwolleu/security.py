@@ -27,6 +27,7 @@ class AuthFailedError(ZookeeperError):
     """The server refuses the credentials, or does not know their scheme."""
 
     code = -115
+    _reason = "the server does not take these credentials"
 
 
 class Id(NamedTuple):

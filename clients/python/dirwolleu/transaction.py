@@ -11,8 +11,9 @@ from dirwolleu import _lane as lane
 from dirwolleu._jute import Malformed, Reader
 from dirwolleu._lane import LaneRequest, Operation
 from dirwolleu._plans import Acls
+from dirwolleu._requests import refusal_of
 from dirwolleu._root import Root
-from dirwolleu.exceptions import TransactionFailedError, error_of
+from dirwolleu.exceptions import TransactionFailedError
 from dirwolleu.types import Stat
 
 __all__ = ["AsyncTransaction", "Outcome", "Transaction"]
@@ -101,15 +102,17 @@ def _outcomes(parts: list[_Part], reader: Reader, root: Root) -> list[Outcome]:
         else:
             raise Malformed
     if codes:
-        _raise(codes)
+        _raise(parts, codes)
     return outcomes
 
 
-def _raise(codes: list[int]) -> None:
+def _raise(parts: list[_Part], codes: list[int]) -> None:
     refused = [index for index, code in enumerate(codes) if code not in (_ROLLED_BACK, _NOT_TRIED)]
     index = refused[0] if refused else 0
-    error = error_of(codes[index])
-    raise TransactionFailedError(f"operation {index} was refused: {error}", index, error) from error
+    part = parts[index]
+    error = refusal_of(codes[index], part.path if part.operation == Operation.CREATE else None)
+    error.path = error.path or part.path
+    raise TransactionFailedError(f"operation {index} was refused, and nothing has happened: {error}", index, error) from error
 
 
 class Transaction(_Operations):

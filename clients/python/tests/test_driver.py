@@ -260,11 +260,11 @@ class DialTest(PartnerCase):
         with mock.patch("asyncio.BaseEventLoop.create_connection", side_effect=want):
             client = Client("127.0.0.1:1", 1.0)
             self.addCleanup(client.close)
-            with self.assertLogs("dirwolleu", "WARNING"), self.assertRaisesRegex(TimeoutError, "Too many open files"):
+            with self.assertLogs("dirwolleu", "WARNING"), self.assertRaisesRegex(TimeoutError, "too many open files"):
                 client.start(0.5)
             threading.Thread(target=self.start, args=(client,), daemon=True).start()
             within(lambda: client._engine.is_running)
-            with self.assertRaisesRegex(NotConnectedError, "Too many open files"):
+            with self.assertRaisesRegex(NotConnectedError, "too many open files"):
                 client.get("/a")
 
     def test_want_of_descriptors_for_the_client_itself_is_raised_by_start(self) -> None:
