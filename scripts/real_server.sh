@@ -421,7 +421,8 @@ EOF
     ends "$name"
 }
 
-# A watch whose process is stopped until its session has expired: a new one is begun.
+# A watch whose process is stopped until its session has expired: it reads that the server has ended the connection before it tells a late
+# moment, and a new session is begun.
 run_expired() {
     local at=127.0.0.1:$1
     outside "$1" create /expires one
@@ -431,7 +432,6 @@ run_expired() {
     outside "$1" set /expires two
     kill -CONT "${begun[expires]}"
     sees expires <<'EOF'
-drop D1
 state Idle
 state Connecting
 state Expired
