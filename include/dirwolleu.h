@@ -31,7 +31,8 @@
  * The first of these rests on servers that hold beginnings of one history, fire watches before replies and admit no client that is
  * ahead of them; all of them on what the caller promises above, on the Rattle toolchain and on the C compiler.
  *
- * Numbers that functions answer, unless they say otherwise. Nothing has happened where one below -1 is answered. */
+ * This is a header of C11 and of C++11. Paths and names are UTF-8 with a length, and no 0 is needed or written after them. An enum is named
+ * by its tag, since dw_state is a function too; its numbers begin with its name, but for those of enum dw_result. */
 #ifndef DIRWOLLEU_H
 #define DIRWOLLEU_H
 
@@ -39,11 +40,24 @@
 #include <stddef.h>
 #include <stdint.h>
 
+/* The version of this header, as a text and as a number, in which 1.2.3 is 1002003. */
+#define DW_VERSION "0.3.0"
+#define DW_VERSION_NUMBER 3000
+
+/* An enum is an int32_t in C++ and from C23 on. In C11 a compiler gives it four bytes, which is checked. */
+#if defined __cplusplus || (defined __STDC_VERSION__ && __STDC_VERSION__ >= 202311L)
+#define DW_AS_INT32 : int32_t
+#else
+#define DW_AS_INT32
+_Static_assert(sizeof(enum { DW_OF_FOUR_BYTES }) == sizeof(int32_t), "dirwolleu.h is not for compilers whose enums are short");
+#endif
+
 #ifdef __cplusplus
 extern "C" {
 #endif
 
-enum {
+/* What functions answer, unless they say otherwise. Nothing has happened where one below -1 is answered. */
+enum dw_result DW_AS_INT32 {
   DW_OK = 0,
   DW_NONE = 1, /* there is none */
   DW_HALTED = -1, /* out of memory within the step: the client has no use any more, each later step answers the same, nothing
@@ -57,7 +71,7 @@ enum {
   DW_NOT_SAVED = -8 /* the bytes are no saved session */
 };
 
-/* A handle: {0} before its first use. Its fields are the library's own. */
+/* A handle: zeros before its first use, which are {0} in C and {} in C++. Its fields are the library's own. */
 typedef struct dw_client {
   bool is_open;
   struct {
@@ -71,60 +85,93 @@ typedef struct dw_stat {
   int32_t version, cversion, aversion, data_length, num_children;
 } dw_stat;
 
-enum { DW_SEND = 1, DW_ANSWER = 2, DW_REPORT = 3, DW_STATE = 4, DW_DROP = 5 };
-enum { DW_IDLE = 0, DW_CONNECTING = 1, DW_CONNECTED = 2, DW_EXPIRED = 3, DW_SESSION_CLOSED = 4 };
-enum { DW_CODE = 1, DW_STAT = 2, DW_DATA = 3, DW_NAMES = 4, DW_CREATED = 5, DW_DONE = 6 };
-enum { DW_NODE_CREATED = 1, DW_NODE_DELETED = 2, DW_DATA_CHANGED = 3, DW_CHILDREN_CHANGED = 4 };
-enum { DW_DATA_SIDE = 1, DW_CHILDREN_SIDE = 2 };
+/* Kinds of outputs, and states of a client. */
+enum dw_kind DW_AS_INT32 { DW_KIND_SEND = 1, DW_KIND_ANSWER = 2, DW_KIND_REPORT = 3, DW_KIND_STATE = 4, DW_KIND_DROP = 5 };
+enum dw_state DW_AS_INT32 {
+  DW_STATE_IDLE = 0,
+  DW_STATE_CONNECTING = 1,
+  DW_STATE_CONNECTED = 2,
+  DW_STATE_EXPIRED = 3,
+  DW_STATE_CLOSED = 4
+};
+
+/* What a reply brings; then what a watch tells, and what it is about. */
+enum dw_reply DW_AS_INT32 {
+  DW_REPLY_CODE = 1,
+  DW_REPLY_STAT = 2,
+  DW_REPLY_DATA = 3,
+  DW_REPLY_NAMES = 4,
+  DW_REPLY_CREATED = 5,
+  DW_REPLY_DONE = 6
+};
+enum dw_event DW_AS_INT32 {
+  DW_EVENT_CREATED = 1,
+  DW_EVENT_DELETED = 2,
+  DW_EVENT_DATA_CHANGED = 3,
+  DW_EVENT_CHILDREN_CHANGED = 4
+};
+enum dw_side DW_AS_INT32 { DW_SIDE_DATA = 1, DW_SIDE_CHILDREN = 2 };
 
 /* A reply, or why there is none: K1 to K7. */
-enum {
-  DW_REPLIED = 0,
-  DW_LOST = 1, /* the connection was: the call may or may not have happened. With those below, nothing was sent */
-  DW_AFTER_EXPIRY = 2, /* the session has expired */
-  DW_AFTER_CLOSE = 3, /* it is closed, or a call that closes it waits */
-  DW_NOT_CONNECTED = 4,
-  DW_TOO_MANY_WATCHES = 5, /* 65,536 paths of the side are watched, with the reads that wait */
-  DW_TOO_LARGE = 6, /* the request has more than 1,048,575 bytes */
-  DW_TOO_MANY_PENDING = 7 /* 1,024 calls wait */
+enum dw_outcome DW_AS_INT32 {
+  DW_OUTCOME_REPLIED = 0,
+  DW_OUTCOME_LOST = 1, /* the connection was: the call may or may not have happened. With those below, nothing was sent */
+  DW_OUTCOME_EXPIRED = 2, /* the session has expired */
+  DW_OUTCOME_CLOSED = 3, /* it is closed, or a call that closes it waits */
+  DW_OUTCOME_NOT_CONNECTED = 4,
+  DW_OUTCOME_TOO_MANY_WATCHES = 5, /* 65,536 paths of the side are watched, with the reads that wait */
+  DW_OUTCOME_TOO_LARGE = 6, /* the request has more than 1,048,575 bytes */
+  DW_OUTCOME_TOO_MANY_PENDING = 7 /* 1,024 calls wait */
 };
 
 /* Why a connection is given up. */
-enum {
-  DW_BAD_FRAME = 1,
-  DW_BAD_PAYLOAD = 2, /* one that does not read */
-  DW_SILENT = 3, /* nothing was heard for two thirds of the timeout */
-  DW_BEHIND = 4, /* the reply to a watched read is behind what was seen */
-  DW_WATCHES_REFUSED = 5
+enum dw_cause DW_AS_INT32 {
+  DW_CAUSE_BAD_FRAME = 1,
+  DW_CAUSE_BAD_PAYLOAD = 2, /* one that does not read */
+  DW_CAUSE_SILENT = 3, /* nothing was heard for two thirds of the timeout */
+  DW_CAUSE_BEHIND = 4, /* the reply to a watched read is behind what was seen */
+  DW_CAUSE_WATCHES_REFUSED = 5
 };
 
-/* Errors of the server. Another number is one that this list does not name. */
-enum {
-  DW_CONNECTION_LOSS = -4,
-  DW_UNIMPLEMENTED = -6,
-  DW_BAD_ARGUMENTS = -8,
-  DW_NO_NODE = -101,
-  DW_NO_AUTH = -102,
-  DW_BAD_VERSION = -103,
-  DW_NO_CHILDREN_FOR_EPHEMERALS = -108,
-  DW_NODE_EXISTS = -110,
-  DW_NOT_EMPTY = -111,
-  DW_SESSION_EXPIRED = -112,
-  DW_INVALID_ACL = -114,
-  DW_SESSION_MOVED = -118
+/* Errors of the server. It may answer with a number that this list does not name: so a code is an int32_t. */
+enum dw_code DW_AS_INT32 {
+  DW_CODE_CONNECTION_LOSS = -4,
+  DW_CODE_UNIMPLEMENTED = -6,
+  DW_CODE_BAD_ARGUMENTS = -8,
+  DW_CODE_NO_NODE = -101,
+  DW_CODE_NO_AUTH = -102,
+  DW_CODE_BAD_VERSION = -103,
+  DW_CODE_NO_CHILDREN_FOR_EPHEMERALS = -108,
+  DW_CODE_NODE_EXISTS = -110,
+  DW_CODE_NOT_EMPTY = -111,
+  DW_CODE_SESSION_EXPIRED = -112,
+  DW_CODE_INVALID_ACL = -114,
+  DW_CODE_SESSION_MOVED = -118
 };
 
-/* An output. What a kind does not name is 0.
- *   DW_SEND     the text is one frame: write it to the server.
- *   DW_ANSWER   to the call with this ticket. detail DW_REPLIED: a reply, with its zxid and what it brings: result DW_CODE (code, the
- *               error of the server), DW_STAT (stat), DW_DATA (stat; the text, or is_null), DW_NAMES (stat, names), DW_CREATED (the
- *               text is the path), DW_DONE. Another detail: why there is no reply.
- *   DW_REPORT   what was known of a side of a path has ended. detail: the event; result: the side; the text is the path.
- *   DW_STATE    detail: the state. With DW_EXPIRED and DW_SESSION_CLOSED the connection is over: close it.
- *   DW_DROP     the connection is given up: close it. detail: why; DW_BEHIND has the zxid that came, DW_WATCHES_REFUSED the code. The
- *               text is the code of the fault, as D1; dw_words has words. */
+/* An output. A kind has the fields that it names; the others are 0, or in a union those of its kind.
+ *   DW_KIND_SEND    the text is one frame: write it to the server.
+ *   DW_KIND_ANSWER  to the call with this ticket. outcome DW_OUTCOME_REPLIED: a reply, with its zxid, and reply says what it brings:
+ *                   DW_REPLY_CODE (code, the error of the server), DW_REPLY_STAT (stat), DW_REPLY_DATA (stat; the text, or is_null),
+ *                   DW_REPLY_NAMES (stat, names), DW_REPLY_CREATED (the text is the path), DW_REPLY_DONE. Another outcome: why there is
+ *                   no reply.
+ *   DW_KIND_REPORT  what was known of a side of a path has ended: event, side; the text is the path.
+ *   DW_KIND_STATE   state is the new one. With DW_STATE_EXPIRED and DW_STATE_CLOSED the connection is over: close it.
+ *   DW_KIND_DROP    the connection is given up: close it. cause says why; DW_CAUSE_BEHIND has the zxid that came,
+ *                   DW_CAUSE_WATCHES_REFUSED the code. The text is the code of the fault, as D1; dw_words has words. */
 typedef struct dw_output {
-  int32_t kind, detail, result, code;
+  enum dw_kind kind;
+  union {
+    enum dw_outcome outcome; /* of an answer */
+    enum dw_event event; /* of a report */
+    enum dw_state state; /* of a state */
+    enum dw_cause cause; /* of a drop */
+  };
+  union {
+    enum dw_reply reply; /* of an answer that is a reply */
+    enum dw_side side; /* of a report */
+  };
+  int32_t code; /* one of enum dw_code, or another number */
   uint64_t ticket;
   int64_t zxid;
   size_t length; /* of the text, which dw_copy gives */
@@ -135,16 +182,16 @@ typedef struct dw_output {
 
 /* Makes a client of no session yet, which asks for this timeout in milliseconds. What the handle held is freed first.
  * DW_OK, DW_BAD_TIMEOUT, DW_NO_MEMORY; where it is not DW_OK, the handle holds nothing. */
-int32_t dw_open(dw_client *handle, int32_t timeout_ms);
+enum dw_result dw_open(dw_client *handle, int32_t timeout_ms);
 
 /* The same, of the session that dw_saved put away, maybe in another process. Also DW_NOT_SAVED. */
-int32_t dw_resume(dw_client *handle, int32_t timeout_ms, const uint8_t *saved, size_t saved_length);
+enum dw_result dw_resume(dw_client *handle, int32_t timeout_ms, const uint8_t *saved, size_t saved_length);
 
-/* Begins a new session with the client of a handle, which asks for this timeout in milliseconds: after DW_EXPIRED, DW_SESSION_CLOSED and
- * DW_HALTED. It keeps the greatest zxid seen, so that no server which is behind it admits the session, and nothing else: nothing is kept or
- * watched, and no output is left. Close the connection of the old session before. DW_OK, DW_BAD_TIMEOUT, DW_NO_MEMORY, DW_CLOSED; where it
- * is not DW_OK, the handle is as it was. */
-int32_t dw_renew(dw_client *handle, int32_t timeout_ms);
+/* Begins a new session with the client of a handle, which asks for this timeout in milliseconds: after DW_STATE_EXPIRED, DW_STATE_CLOSED
+ * and DW_HALTED. It keeps the greatest zxid seen, so that no server which is behind it admits the session, and nothing else: nothing is
+ * kept or watched, and no output is left. Close the connection of the old session before. DW_OK, DW_BAD_TIMEOUT, DW_NO_MEMORY, DW_CLOSED;
+ * where it is not DW_OK, the handle is as it was. */
+enum dw_result dw_renew(dw_client *handle, int32_t timeout_ms);
 
 /* Frees the client of a handle, if it has one. It ends no session: dw_close_session does. */
 void dw_close(dw_client *handle);
@@ -153,56 +200,58 @@ void dw_close(dw_client *handle);
  * DW_OK, DW_HALTED or DW_CLOSED, and what it says besides. */
 
 /* A connection begins. Hand in dw_cut before, where one is open still. */
-int32_t dw_opened(dw_client *handle, uint64_t now_ms);
+enum dw_result dw_opened(dw_client *handle, uint64_t now_ms);
 
 /* The connection is over. */
-int32_t dw_cut(dw_client *handle, uint64_t now_ms);
+enum dw_result dw_cut(dw_client *handle, uint64_t now_ms);
 
 /* A moment, and nothing else: at the latest at dw_deadline. */
-int32_t dw_tick(dw_client *handle, uint64_t now_ms);
+enum dw_result dw_tick(dw_client *handle, uint64_t now_ms);
 
 /* Bytes came from the server, cut anyhow. Also DW_NO_MEMORY: no step was made, and the same bytes can be handed in again. */
-int32_t dw_bytes(dw_client *handle, uint64_t now_ms, const uint8_t *bytes, size_t length);
+enum dw_result dw_bytes(dw_client *handle, uint64_t now_ms, const uint8_t *bytes, size_t length);
 
 /* Calls. The ticket is the caller's own number, and comes back with the answer, which is an output of this step or of a later one.
  * Each may also answer DW_NO_MEMORY, DW_NOT_TEXT, DW_NOT_PATH: no step was made. A watch asks to leave one on the path. */
-int32_t dw_exists(dw_client *handle, uint64_t now_ms, uint64_t ticket, const uint8_t *path, size_t path_length, bool watch);
-int32_t dw_get_data(dw_client *handle, uint64_t now_ms, uint64_t ticket, const uint8_t *path, size_t path_length, bool watch);
-int32_t dw_get_children(dw_client *handle, uint64_t now_ms, uint64_t ticket, const uint8_t *path, size_t path_length, bool watch);
+enum dw_result dw_exists(dw_client *handle, uint64_t now_ms, uint64_t ticket, const char *path, size_t path_length, bool watch);
+enum dw_result dw_get_data(dw_client *handle, uint64_t now_ms, uint64_t ticket, const char *path, size_t path_length, bool watch);
+enum dw_result dw_get_children(dw_client *handle, uint64_t now_ms, uint64_t ticket, const char *path, size_t path_length,
+                               bool watch);
 
 /* The data are null where is_null, whatever the bytes. Version -1 is any. */
-int32_t dw_set_data(dw_client *handle, uint64_t now_ms, uint64_t ticket, const uint8_t *path, size_t path_length,
-                    const uint8_t *bytes, size_t length, bool is_null, int32_t version);
+enum dw_result dw_set_data(dw_client *handle, uint64_t now_ms, uint64_t ticket, const char *path, size_t path_length,
+                           const uint8_t *bytes, size_t length, bool is_null, int32_t version);
 
-/* The mode is a sum: DW_EPHEMERAL where the node goes with the session, DW_SEQUENTIAL where a number of ten digits is added to its
- * name. Also DW_NO_SUCH_MODE. */
-enum { DW_PERSISTENT = 0, DW_EPHEMERAL = 1, DW_SEQUENTIAL = 2 };
+/* The mode is a sum: DW_MODE_EPHEMERAL where the node goes with the session, DW_MODE_SEQUENTIAL where a number of ten digits is added to
+ * its name. Also DW_NO_SUCH_MODE. */
+enum dw_mode DW_AS_INT32 { DW_MODE_PERSISTENT = 0, DW_MODE_EPHEMERAL = 1, DW_MODE_SEQUENTIAL = 2 };
 
-int32_t dw_create(dw_client *handle, uint64_t now_ms, uint64_t ticket, const uint8_t *path, size_t path_length,
-                  const uint8_t *bytes, size_t length, bool is_null, uint32_t mode);
-int32_t dw_delete(dw_client *handle, uint64_t now_ms, uint64_t ticket, const uint8_t *path, size_t path_length, int32_t version);
+enum dw_result dw_create(dw_client *handle, uint64_t now_ms, uint64_t ticket, const char *path, size_t path_length,
+                         const uint8_t *bytes, size_t length, bool is_null, uint32_t mode);
+enum dw_result dw_delete(dw_client *handle, uint64_t now_ms, uint64_t ticket, const char *path, size_t path_length,
+                         int32_t version);
 
 /* Ends the session. */
-int32_t dw_close_session(dw_client *handle, uint64_t now_ms, uint64_t ticket);
+enum dw_result dw_close_session(dw_client *handle, uint64_t now_ms, uint64_t ticket);
 
 /* Writes the next output of the last step. DW_OK, DW_NONE where all were told, DW_CLOSED; then out is as it was. */
-int32_t dw_next(dw_client *handle, dw_output *out);
+enum dw_result dw_next(dw_client *handle, dw_output *out);
 
 /* Copies the text of the output that was told last, from this place on, as much as there is room for; what of the room is not
  * needed stays as it was. Answers how many bytes the text has from there on, 0 for a closed handle. */
-size_t dw_copy(dw_client *handle, size_t from, uint8_t *out, size_t room);
+size_t dw_copy(dw_client *handle, size_t from, void *out, size_t room);
 
-/* Copies the name of this index, from 0 on in the order of the reply, of the DW_NAMES that was told last, as much as there is room
+/* Copies the name of this index, from 0 on in the order of the reply, of the DW_REPLY_NAMES that was told last, as much as there is room
  * for. Answers how many bytes the name has: 0 where there is no such name, and for a closed handle. */
-size_t dw_name(dw_client *handle, size_t index, uint8_t *out, size_t room);
+size_t dw_name(dw_client *handle, size_t index, char *out, size_t room);
 
-/* Writes why the connection is given up, in words, of the DW_DROP that was told last, as many bytes as there is room for, and how
+/* Writes why the connection is given up, in words, of the DW_KIND_DROP that was told last, as many bytes as there is room for, and how
  * many there are: 0 where another output was told last. DW_OK, DW_NO_MEMORY, DW_CLOSED; but for DW_OK the count is 0. */
-int32_t dw_words(dw_client *handle, uint8_t *out, size_t room, size_t *count);
+enum dw_result dw_words(dw_client *handle, char *out, size_t room, size_t *count);
 
 /* Look-ups. They take no step and leave the outputs. All serve after DW_HALTED, when nothing is kept. */
 
-/* The state, or DW_CLOSED. */
+/* The state, one of enum dw_state, or DW_CLOSED. */
 int32_t dw_state(dw_client *handle);
 
 /* The greatest zxid seen, not below 0, or DW_CLOSED. */
@@ -212,17 +261,17 @@ int64_t dw_last_zxid(dw_client *handle);
 int64_t dw_timeout_ms(dw_client *handle);
 
 /* Writes the first moment at which something is due, 0 where something is already. DW_OK, DW_NONE, DW_CLOSED; then 0 is written. */
-int32_t dw_deadline(dw_client *handle, uint64_t *first_ms);
+enum dw_result dw_deadline(dw_client *handle, uint64_t *first_ms);
 
 /* Writes the bytes from which dw_resume takes the session up, as many as there is room for, and how many there are: 20 and those
  * of the password, mostly 36. They are a secret: a long, the number of the session; a buffer, its password; a long, the greatest zxid
  * seen; in the spelling of zookeeper.jute. DW_OK, DW_NO_MEMORY, DW_CLOSED; but for DW_OK the count is 0. */
-int32_t dw_saved(dw_client *handle, uint8_t *out, size_t room, size_t *count);
+enum dw_result dw_saved(dw_client *handle, uint8_t *out, size_t room, size_t *count);
 
 /* What is kept of a path that was read with a watch. It is good until a change is told, and then stale until it is read again. A
  * look-up of a path takes memory for the path, within the call. */
-enum { DW_GOOD = 1, DW_STALE = 2 };
-enum { DW_NOTHING = 0, DW_ABSENT = 1, DW_KNOWN = 2, DW_FULL = 3 };
+enum dw_mark DW_AS_INT32 { DW_MARK_GOOD = 1, DW_MARK_STALE = 2 };
+enum dw_kept DW_AS_INT32 { DW_KEPT_NOTHING = 0, DW_KEPT_ABSENT = 1, DW_KEPT_KNOWN = 2, DW_KEPT_FULL = 3 };
 
 /* The fields of a node that change only where its data watch fires. */
 typedef struct dw_data_stat {
@@ -231,12 +280,13 @@ typedef struct dw_data_stat {
 } dw_data_stat;
 
 /* What is kept about the data of a path. What a kind does not name is 0.
- *   DW_NOTHING  nothing is kept, and the mark is 0.
- *   DW_ABSENT   no node is there (mark).
- *   DW_KNOWN    a node whose data were not read (mark, stat).
- *   DW_FULL     a node with its data (mark, stat, length or is_null). */
+ *   DW_KEPT_NOTHING  nothing is kept, and the mark is 0.
+ *   DW_KEPT_ABSENT   no node is there (mark).
+ *   DW_KEPT_KNOWN    a node whose data were not read (mark, stat).
+ *   DW_KEPT_FULL     a node with its data (mark, stat, length or is_null). */
 typedef struct dw_kept_data {
-  int32_t kind, mark;
+  enum dw_kept kind;
+  enum dw_mark mark;
   size_t length;
   bool is_null;
   dw_data_stat stat;
@@ -245,7 +295,7 @@ typedef struct dw_kept_data {
 /* What is kept about the children of a path: the mark, which is 0 where nothing is, how many names, and the zxid of the last change
  * of this set. */
 typedef struct dw_kept_names {
-  int32_t mark;
+  enum dw_mark mark;
   size_t count;
   int64_t pzxid;
 } dw_kept_names;
@@ -255,24 +305,88 @@ typedef struct dw_kept_names {
 
 /* Writes what is kept about the data of a path, and copies the data, as much as there is room for. DW_OK, DW_NO_MEMORY, DW_CLOSED,
  * DW_NOT_TEXT, DW_NOT_PATH; but for DW_OK nothing is written. */
-int32_t dw_peek_data(dw_client *handle, const uint8_t *path, size_t path_length, dw_kept_data *kept, uint8_t *out, size_t room);
+enum dw_result dw_peek_data(dw_client *handle, const char *path, size_t path_length, dw_kept_data *kept, uint8_t *out,
+                            size_t room);
 
 /* Writes what is kept about the children of a path. It answers what dw_peek_data does. */
-int32_t dw_peek_children(dw_client *handle, const uint8_t *path, size_t path_length, dw_kept_names *kept);
+enum dw_result dw_peek_children(dw_client *handle, const char *path, size_t path_length, dw_kept_names *kept);
 
 /* Copies the name of this index, from 0 on in byte order, of those that are kept of a path, as much as there is room for, and
  * writes how many bytes it has: 0 where there is no such name. It goes over the names before it, so its time grows with the index.
  * It answers what dw_peek_data does; but for DW_OK the count is 0. */
-int32_t dw_peek_name(dw_client *handle, const uint8_t *path, size_t path_length, size_t index, uint8_t *out, size_t room,
-                     size_t *count);
+enum dw_result dw_peek_name(dw_client *handle, const char *path, size_t path_length, size_t index, char *out, size_t room,
+                            size_t *count);
 
 /* Copies all names that are kept of a path, in byte order, as many bytes as there is room for, and writes how many bytes there are. Each
  * name stands after its length, which is four bytes, the highest first: so zookeeper.jute spells a ustring. It takes memory for them
  * too, within the call. It answers what dw_peek_data does; but for DW_OK the count is 0. */
-int32_t dw_peek_names(dw_client *handle, const uint8_t *path, size_t path_length, uint8_t *out, size_t room, size_t *count);
+enum dw_result dw_peek_names(dw_client *handle, const char *path, size_t path_length, uint8_t *out, size_t room, size_t *count);
 
 /* Forgets all stale answers. It takes no memory, and leaves the outputs. DW_OK, DW_CLOSED. */
-int32_t dw_forget(dw_client *handle);
+enum dw_result dw_forget(dw_client *handle);
+
+/* Words for people: what a function answered, why there is no reply, why a connection is given up, and what an error of the server means.
+ * They are constant texts with a 0 after them. A number that this header does not have gets words that say so. */
+static inline const char *dw_result_words(enum dw_result result) {
+  switch (result) {
+  case DW_OK: return "done";
+  case DW_NONE: return "there is none";
+  case DW_HALTED: return "out of memory within a step";
+  case DW_NO_MEMORY: return "out of memory";
+  case DW_CLOSED: return "the handle holds no client";
+  case DW_NOT_TEXT: return "the path is no UTF-8";
+  case DW_NOT_PATH: return "the text is no path";
+  case DW_BAD_TIMEOUT: return "the timeout is not 1 to 2147483647 milliseconds";
+  case DW_NO_SUCH_MODE: return "the mode is no sum of DW_MODE_EPHEMERAL and DW_MODE_SEQUENTIAL";
+  case DW_NOT_SAVED: return "the bytes are no saved session";
+  }
+  return "the library answers a number that its header does not have";
+}
+
+static inline const char *dw_outcome_words(enum dw_outcome outcome) {
+  switch (outcome) {
+  case DW_OUTCOME_REPLIED: return "there is a reply";
+  case DW_OUTCOME_LOST: return "the connection ended before the reply";
+  case DW_OUTCOME_EXPIRED: return "the session has expired";
+  case DW_OUTCOME_CLOSED: return "the session is closed";
+  case DW_OUTCOME_NOT_CONNECTED: return "no server has accepted the session";
+  case DW_OUTCOME_TOO_MANY_WATCHES: return "65536 paths are watched";
+  case DW_OUTCOME_TOO_LARGE: return "the request has more than 1048575 bytes";
+  case DW_OUTCOME_TOO_MANY_PENDING: return "1024 calls wait for their reply";
+  }
+  return "there is no reply, for a reason that the header does not have";
+}
+
+static inline const char *dw_cause_words(enum dw_cause cause) {
+  switch (cause) {
+  case DW_CAUSE_BAD_FRAME: return "the server sent a length that no frame has";
+  case DW_CAUSE_BAD_PAYLOAD: return "the server sent a frame that does not read, or is out of turn";
+  case DW_CAUSE_SILENT: return "nothing was heard for two thirds of the timeout";
+  case DW_CAUSE_BEHIND: return "the server is behind what was seen";
+  case DW_CAUSE_WATCHES_REFUSED: return "the server refused to set the watches again";
+  }
+  return "the connection is given up, for a reason that the header does not have";
+}
+
+static inline const char *dw_code_words(int32_t code) {
+  switch (code) {
+  case DW_CODE_CONNECTION_LOSS: return "the servers have lost the connection";
+  case DW_CODE_UNIMPLEMENTED: return "the server does not know the request";
+  case DW_CODE_BAD_ARGUMENTS: return "the server refuses the path, the mode or the data";
+  case DW_CODE_NO_NODE: return "no node";
+  case DW_CODE_NO_AUTH: return "the node's ACL does not admit this client";
+  case DW_CODE_BAD_VERSION: return "the node has another version";
+  case DW_CODE_NO_CHILDREN_FOR_EPHEMERALS: return "an ephemeral node has no children";
+  case DW_CODE_NODE_EXISTS: return "there is a node already";
+  case DW_CODE_NOT_EMPTY: return "the node has children";
+  case DW_CODE_SESSION_EXPIRED: return "the session has expired, the server says";
+  case DW_CODE_INVALID_ACL: return "the server refuses the open ACL";
+  case DW_CODE_SESSION_MOVED: return "the session was taken up over another connection";
+  }
+  return "the server refuses it, with a number that the header does not have";
+}
+
+#undef DW_AS_INT32
 
 #ifdef __cplusplus
 }

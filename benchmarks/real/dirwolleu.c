@@ -34,7 +34,7 @@ static uint64_t now_ms(void) {
   return (uint64_t)now.tv_sec * 1000 + (uint64_t)now.tv_nsec / 1000000;
 }
 
-static void must(int32_t answer, const char *what) {
+static void must(enum dw_result answer, const char *what) {
   if (answer != DW_OK) fail(what);
 }
 
@@ -72,13 +72,13 @@ static void keep_frame(struct session *session, size_t length) {
 
 static void take_answer(struct session *session, const dw_output *answer) {
   uint8_t data[NODE_BYTES];
-  if (answer->detail != 0 || answer->result == DW_CODE) fail("a call was not answered as wanted");
-  if (answer->result == DW_DATA && dw_copy(&session->client, 0, data, sizeof data) != sizeof data) fail("the data of a node");
+  if (answer->outcome != DW_OUTCOME_REPLIED || answer->reply == DW_REPLY_CODE) fail("a call was not answered as wanted");
+  if (answer->reply == DW_REPLY_DATA && dw_copy(&session->client, 0, data, sizeof data) != sizeof data) fail("the data of a node");
   session->answers++;
 }
 
 static void take_report(struct session *session) {
-  uint8_t path[64];
+  char path[64];
   if (dw_copy(&session->client, 0, path, sizeof path) > sizeof path) fail("the path of a report");
   session->reports++;
 }
@@ -86,10 +86,10 @@ static void take_report(struct session *session) {
 static void take_outputs(struct session *session) {
   dw_output output;
   while (dw_next(&session->client, &output) == DW_OK) {
-    if (output.kind == DW_SEND) keep_frame(session, output.length);
-    if (output.kind == DW_ANSWER) take_answer(session, &output);
-    if (output.kind == DW_REPORT) take_report(session);
-    if (output.kind == DW_DROP) fail("the connection was given up");
+    if (output.kind == DW_KIND_SEND) keep_frame(session, output.length);
+    if (output.kind == DW_KIND_ANSWER) take_answer(session, &output);
+    if (output.kind == DW_KIND_REPORT) take_report(session);
+    if (output.kind == DW_KIND_DROP) fail("the connection was given up");
   }
 }
 
@@ -136,27 +136,25 @@ static void await(struct session *session, const uint64_t *counted, uint64_t wan
 }
 
 static void await_connected(struct session *session, uint64_t dialled) {
-  while (session->dialled < dialled || dw_state(&session->client) != DW_CONNECTED) hear(session);
+  while (session->dialled < dialled || dw_state(&session->client) != DW_STATE_CONNECTED) hear(session);
 }
 
 typedef void asking(struct session *session, const char *path);
 
 static void ask_read(struct session *session, const char *path) {
-  must(dw_get_data(&session->client, now_ms(), 0, (const uint8_t *)path, strlen(path), false), "getData");
+  must(dw_get_data(&session->client, now_ms(), 0, path, strlen(path), false), "getData");
 }
 
 static void ask_watched(struct session *session, const char *path) {
-  must(dw_get_data(&session->client, now_ms(), 0, (const uint8_t *)path, strlen(path), true), "getData with a watch");
+  must(dw_get_data(&session->client, now_ms(), 0, path, strlen(path), true), "getData with a watch");
 }
 
 static void ask_write(struct session *session, const char *path) {
-  must(dw_set_data(&session->client, now_ms(), 0, (const uint8_t *)path, strlen(path), (const uint8_t *)node_data, NODE_BYTES, false,
-                   -1),
-       "setData");
+  must(dw_set_data(&session->client, now_ms(), 0, path, strlen(path), (const uint8_t *)node_data, NODE_BYTES, false, -1), "setData");
 }
 
 static void ask_create(struct session *session, const char *path) {
-  must(dw_create(&session->client, now_ms(), 0, (const uint8_t *)path, strlen(path), (const uint8_t *)node_data, NODE_BYTES, false, 0),
+  must(dw_create(&session->client, now_ms(), 0, path, strlen(path), (const uint8_t *)node_data, NODE_BYTES, false, DW_MODE_PERSISTENT),
        "create");
 }
 

@@ -124,7 +124,7 @@ static void fail(struct follower *f, const char *what, const char *why)
 }
 
 /* The same of what the library answered, about the path. */
-static void fail_by(struct follower *f, int32_t result)
+static void fail_by(struct follower *f, enum dw_result result)
 {
     char line[LONGEST_LINE];
     write_result(line, sizeof line, result, f->path);
@@ -266,33 +266,33 @@ static void say_code(const struct follower *f, int32_t code)
 
 static void take_answer(struct follower *f, const dw_output *output)
 {
-    bool is_code = output->result == DW_CODE;
+    bool is_code = output->reply == DW_REPLY_CODE;
     f->is_asked = false;
-    f->is_missing = output->ticket == TICKET_DATA && is_code && output->code == DW_NO_NODE;
-    f->is_refused = output->ticket != TICKET_CLOSE && is_code && output->code != DW_NO_NODE;
-    if (f->is_refused || (output->ticket == TICKET_EXISTS && output->result == DW_STAT)) {
+    f->is_missing = output->ticket == TICKET_DATA && is_code && output->code == DW_CODE_NO_NODE;
+    f->is_refused = output->ticket != TICKET_CLOSE && is_code && output->code != DW_CODE_NO_NODE;
+    if (f->is_refused || (output->ticket == TICKET_EXISTS && output->reply == DW_REPLY_STAT)) {
         f->read_at_ms = f->now_ms + BETWEEN_READS_MS; /* there is a node, of which a read was refused, or found nothing */
     }
     if (f->is_refused) {
         say_code(f, output->code);
-    } else if (output->detail == DW_REPLIED) {
+    } else if (output->outcome == DW_OUTCOME_REPLIED) {
         f->pause_ms = FIRST_PAUSE_MS;
     }
 }
 
-static void take_state(struct follower *f, int32_t state)
+static void take_state(struct follower *f, enum dw_state state)
 {
-    if (state == DW_CONNECTED) {
+    if (state == DW_STATE_CONNECTED) {
         f->is_admitted = true;
         f->is_expired = false;
         f->admitted_ms = f->now_ms;
         fprintf(stderr, "follow: %s: connected, with a timeout of %" PRId64 " ms\n", f->server, dw_timeout_ms(&f->client));
-    } else if (state == DW_EXPIRED) {
+    } else if (state == DW_STATE_EXPIRED) {
         say(f->server, "the session has expired");
         f->is_expired = true;
         f->pause_ms = FIRST_PAUSE_MS;
         hang_up(f);
-    } else if (state == DW_SESSION_CLOSED) {
+    } else if (state == DW_STATE_CLOSED) {
         say(f->server, "the session is closed");
         hang_up(f);
     }
@@ -302,34 +302,34 @@ static void take_drop(struct follower *f)
 {
     char words[256];
     size_t length;
-    int32_t code = dw_words(&f->client, (uint8_t *)words, sizeof words - 1, &length);
+    enum dw_result result = dw_words(&f->client, words, sizeof words - 1, &length);
     words[length < sizeof words ? length : sizeof words - 1] = 0;
-    say(f->server, code == DW_OK ? words : words_of_result(code).reason);
+    say(f->server, result == DW_OK ? words : dw_result_words(result));
     hang_up(f);
 }
 
 static void take(struct follower *f, const dw_output *output)
 {
     switch (output->kind) {
-    case DW_SEND: send_later(f, output->length); break;
-    case DW_ANSWER: take_answer(f, output); break;
-    case DW_REPORT: break; /* what is kept has become stale, which is shown */
-    case DW_STATE: take_state(f, output->detail); break;
-    case DW_DROP: take_drop(f); break;
+    case DW_KIND_SEND: send_later(f, output->length); break;
+    case DW_KIND_ANSWER: take_answer(f, output); break;
+    case DW_KIND_REPORT: break; /* what is kept has become stale, which is shown */
+    case DW_KIND_STATE: take_state(f, output->state); break;
+    case DW_KIND_DROP: take_drop(f); break;
     }
 }
 
 /* Takes what a step answered: all its outputs, in their order. */
-static void act(struct follower *f, int32_t code)
+static void act(struct follower *f, enum dw_result result)
 {
     dw_output output;
-    if (code == DW_OK) {
-        while ((code = dw_next(&f->client, &output)) == DW_OK) {
+    if (result == DW_OK) {
+        while ((result = dw_next(&f->client, &output)) == DW_OK) {
             take(f, &output);
         }
     }
-    if (code != DW_NONE) {
-        fail_by(f, code);
+    if (result != DW_NONE) {
+        fail_by(f, result);
     }
 }
 
@@ -489,34 +489,33 @@ static void transmit(struct follower *f)
 /* What is kept of the node, with as much of its data as the buffer is to have room for. */
 static bool look(struct follower *f, dw_kept_data *kept, size_t room)
 {
-    int32_t code = DW_NO_MEMORY;
+    enum dw_result result = DW_NO_MEMORY;
     if (reserve(&f->data, room)) {
-        code = dw_peek_data(&f->client, (const uint8_t *)f->path, strlen(f->path), kept, f->data.bytes, room);
+        result = dw_peek_data(&f->client, f->path, strlen(f->path), kept, f->data.bytes, room);
     }
-    if (code != DW_OK) {
-        fail_by(f, code);
+    if (result != DW_OK) {
+        fail_by(f, result);
     }
-    return code == DW_OK;
+    return result == DW_OK;
 }
 
 /* Reads the node, with a watch, unless what is kept of it is good. A read of data leaves no watch where there is no node: then it is
  * asked whether there is one, which does. */
 static void ask(struct follower *f)
 {
-    const uint8_t *path = (const uint8_t *)f->path;
     dw_kept_data kept;
-    if (f->is_asked || f->is_closing || dw_state(&f->client) != DW_CONNECTED || !look(f, &kept, 0)) {
+    if (f->is_asked || f->is_closing || dw_state(&f->client) != DW_STATE_CONNECTED || !look(f, &kept, 0)) {
         return;
     }
-    if ((kept.mark == DW_GOOD && kept.kind != DW_KNOWN) || f->now_ms < f->read_at_ms) {
+    if ((kept.mark == DW_MARK_GOOD && kept.kind != DW_KEPT_KNOWN) || f->now_ms < f->read_at_ms) {
         return;
     }
     f->is_asked = true;
     f->asked_ms = f->now_ms;
     if (f->is_missing) {
-        act(f, dw_exists(&f->client, f->now_ms, TICKET_EXISTS, path, strlen(f->path), true));
+        act(f, dw_exists(&f->client, f->now_ms, TICKET_EXISTS, f->path, strlen(f->path), true));
     } else {
-        act(f, dw_get_data(&f->client, f->now_ms, TICKET_DATA, path, strlen(f->path), true));
+        act(f, dw_get_data(&f->client, f->now_ms, TICKET_DATA, f->path, strlen(f->path), true));
     }
 }
 
@@ -536,13 +535,14 @@ static void print_data(const uint8_t *bytes, size_t length)
 
 static void print_kept(struct follower *f, const dw_kept_data *kept)
 {
-    static const char *const marks[] = {"unknown", "good", "stale"};
-    printf("%s %s %" PRId64, f->path, marks[kept->mark], dw_last_zxid(&f->client));
-    if (kept->kind == DW_ABSENT) {
+    static const char *const marks[] = {[DW_MARK_GOOD] = "good", [DW_MARK_STALE] = "stale"};
+    const char *mark = kept->kind == DW_KEPT_NOTHING ? "unknown" : marks[kept->mark];
+    printf("%s %s %" PRId64, f->path, mark, dw_last_zxid(&f->client));
+    if (kept->kind == DW_KEPT_ABSENT) {
         printf(" absent");
     } else if (kept->is_null) {
         printf(" null");
-    } else if (kept->kind == DW_FULL) {
+    } else if (kept->kind == DW_KEPT_FULL) {
         putchar(' ');
         print_data(f->data.bytes, kept->length);
     }
@@ -556,7 +556,7 @@ static void print_kept(struct follower *f, const dw_kept_data *kept)
 static void show(struct follower *f)
 {
     dw_kept_data kept;
-    if (!look(f, &kept, 0) || kept.kind == DW_KNOWN) {
+    if (!look(f, &kept, 0) || kept.kind == DW_KEPT_KNOWN) {
         return;
     }
     if (kept.kind == f->shown.kind && kept.mark == f->shown.mark && kept.stat.czxid == f->shown.stat.czxid
@@ -576,7 +576,7 @@ static void leave(struct follower *f)
     if (read(wakes[0], &byte, 1) != 1) {
         return;
     }
-    if (f->is_closing || dw_state(&f->client) != DW_CONNECTED) {
+    if (f->is_closing || dw_state(&f->client) != DW_STATE_CONNECTED) {
         f->is_over = true;
         return;
     }
@@ -611,13 +611,13 @@ static void renew(struct follower *f)
         cut(f, "the next server is asked");
     }
     f->is_refused = false;
-    if (dw_state(&f->client) != DW_EXPIRED) {
+    if (dw_state(&f->client) != DW_STATE_EXPIRED) {
         return;
     }
-    int32_t code = dw_renew(&f->client, TIMEOUT_MS); /* it keeps the last zxid, so it meets no server that is behind that */
+    enum dw_result result = dw_renew(&f->client, TIMEOUT_MS); /* it keeps the last zxid, so it meets no server that is behind that */
     f->is_asked = f->is_missing = false;
-    if (code != DW_OK) {
-        fail_by(f, code);
+    if (result != DW_OK) {
+        fail_by(f, result);
     }
 }
 
@@ -708,9 +708,9 @@ static void begin(struct follower *f)
     } else {
         f->heard_ms = now_ms();
         srand((unsigned)f->heard_ms ^ (unsigned)getpid());
-        int32_t code = dw_open(&f->client, TIMEOUT_MS);
-        if (code != DW_OK) {
-            fail_by(f, code);
+        enum dw_result result = dw_open(&f->client, TIMEOUT_MS);
+        if (result != DW_OK) {
+            fail_by(f, result);
         }
     }
     if (!f->is_over) {

@@ -1,8 +1,8 @@
 /* A session over one socket, for small programs that do one thing after the other: an example of a loop that waits for its answers, and
  * no part of the library. Define _POSIX_C_SOURCE as 200809L before it. The programs of docs/COOKBOOK.md use it. follow.c is a loop that waits for nothing but poll.
  *
- * A call waits for a connection and then for its answer. It answers 0, the server's code (DW_NO_NODE), which is below 0, or why there is
- * no reply (DW_LOST), which is above 0; session_fail says which in words. Where no server is found for a while, that is said on standard
+ * A call waits for a connection and then for its answer. It answers 0, the server's code (DW_CODE_NO_NODE), which is below 0, or why there is
+ * no reply (DW_OUTCOME_LOST), which is above 0; session_fail says which in words. Where no server is found for a while, that is said on standard
  * error once, and the call goes on waiting. Memory that runs out, and a text that is no path, end the program, and say so. */
 #ifndef SESSION_H
 #define SESSION_H
@@ -56,7 +56,7 @@ static inline uint64_t session_now_ms(void)
 }
 
 /* What the library answered, about this path or about none where it is NULL: it ends the program where that is an error. */
-static inline void session_must(int32_t result, const char *path)
+static inline void session_must(enum dw_result result, const char *path)
 {
     char line[SESSION_LINE];
     if (result < DW_OK) {
@@ -73,7 +73,7 @@ static inline int session_fail(const struct session *s, int32_t why)
     if (why < 0) {
         write_code(line, sizeof line, why, s->path);
     } else {
-        write_words(line, sizeof line, words_of_outcome(why), s->path);
+        write_outcome(line, sizeof line, (enum dw_outcome)why, s->path);
     }
     fprintf(stderr, "session: %s\n", line);
     return EXIT_FAILURE;
@@ -104,29 +104,29 @@ static inline void session_send(struct session *s, size_t length)
 
 static inline void session_keep_answer(struct session *s, const dw_output *output)
 {
-    size_t length = dw_copy(&s->client, 0, (uint8_t *)s->text, SESSION_TEXT);
+    size_t length = dw_copy(&s->client, 0, s->text, SESSION_TEXT);
     s->text[length < SESSION_TEXT ? length : SESSION_TEXT] = 0;
     s->answer = *output;
     s->is_answered = true;
 }
 
 /* Does the outputs of a step, in their order. */
-static inline void session_take(struct session *s, int32_t code)
+static inline void session_take(struct session *s, enum dw_result result)
 {
     dw_output output;
-    session_must(code, s->path);
-    while ((code = dw_next(&s->client, &output)) == DW_OK) {
-        bool is_over = output.kind == DW_STATE && (output.detail == DW_EXPIRED || output.detail == DW_SESSION_CLOSED);
-        s->is_told = s->is_told || output.kind == DW_REPORT || output.kind == DW_STATE;
-        if (output.kind == DW_SEND) {
+    session_must(result, s->path);
+    while ((result = dw_next(&s->client, &output)) == DW_OK) {
+        bool is_over = output.kind == DW_KIND_STATE && (output.state == DW_STATE_EXPIRED || output.state == DW_STATE_CLOSED);
+        s->is_told = s->is_told || output.kind == DW_KIND_REPORT || output.kind == DW_KIND_STATE;
+        if (output.kind == DW_KIND_SEND) {
             session_send(s, output.length);
-        } else if (output.kind == DW_ANSWER && output.ticket == s->ticket) {
+        } else if (output.kind == DW_KIND_ANSWER && output.ticket == s->ticket) {
             session_keep_answer(s, &output);
-        } else if (output.kind == DW_DROP || is_over) {
+        } else if (output.kind == DW_KIND_DROP || is_over) {
             session_hang_up(s);
         }
     }
-    session_must(code, NULL);
+    session_must(result, NULL);
 }
 
 static inline int session_connected_socket(struct session *s)
@@ -192,7 +192,7 @@ static inline void session_turn(struct session *s)
     int32_t state = dw_state(&s->client);
     if (s->socket >= 0) {
         session_listen(s);
-    } else if (state == DW_CONNECTING || state == DW_CONNECTED) {
+    } else if (state == DW_STATE_CONNECTING || state == DW_STATE_CONNECTED) {
         session_take(s, dw_cut(&s->client, session_now_ms()));
     } else {
         session_dial(s);
@@ -202,7 +202,7 @@ static inline void session_turn(struct session *s)
 static inline bool session_is_over(struct session *s)
 {
     int32_t state = dw_state(&s->client);
-    return state == DW_EXPIRED || state == DW_SESSION_CLOSED;
+    return state == DW_STATE_EXPIRED || state == DW_STATE_CLOSED;
 }
 
 /* Goes on until a watch has fired, or the state is another one. */
@@ -255,7 +255,7 @@ static inline void session_complain(const struct session *s)
 static inline void session_wait_for_server(struct session *s)
 {
     uint64_t complain_ms = session_now_ms() + SESSION_PATIENCE_S * 1000;
-    while (dw_state(&s->client) != DW_CONNECTED && !session_is_over(s)) {
+    while (dw_state(&s->client) != DW_STATE_CONNECTED && !session_is_over(s)) {
         session_turn(s);
         if (complain_ms <= session_now_ms()) {
             session_complain(s);
@@ -272,21 +272,21 @@ static inline void session_begin_call(struct session *s, const char *path)
     session_wait_for_server(s);
 }
 
-static inline int32_t session_answer(struct session *s, int32_t code)
+static inline int32_t session_answer(struct session *s, enum dw_result result)
 {
-    session_take(s, code);
+    session_take(s, result);
     while (!s->is_answered) {
         session_turn(s);
     }
-    if (s->answer.detail != DW_REPLIED) {
-        return s->answer.detail;
+    if (s->answer.outcome != DW_OUTCOME_REPLIED) {
+        return (int32_t)s->answer.outcome;
     }
-    return s->answer.result == DW_CODE ? s->answer.code : 0;
+    return s->answer.reply == DW_REPLY_CODE ? s->answer.code : 0;
 }
 
-#define SESSION_ASK(step, s, path, ...)                                                                                      \
-    (session_begin_call(s, path), session_answer(s, step(&(s)->client, session_now_ms(), ++(s)->ticket, (const uint8_t *)(path), \
-                                                        strlen(path), __VA_ARGS__)))
+#define SESSION_ASK(step, s, path, ...)   \
+    (session_begin_call(s, path),         \
+     session_answer(s, step(&(s)->client, session_now_ms(), ++(s)->ticket, path, strlen(path), __VA_ARGS__)))
 
 #define session_exists(s, path, watch) SESSION_ASK(dw_exists, s, path, watch)
 #define session_get(s, path, watch) SESSION_ASK(dw_get_data, s, path, watch)
@@ -299,7 +299,7 @@ static inline int32_t session_answer(struct session *s, int32_t code)
 static inline int32_t session_create(struct session *s, const char *path, const char *text, int mode)
 {
     int32_t why = SESSION_ASK(dw_create, s, path, (const uint8_t *)text, strlen(text), false, (uint32_t)mode);
-    if (why == DW_NO_NODE || why == DW_NO_CHILDREN_FOR_EPHEMERALS) {
+    if (why == DW_CODE_NO_NODE || why == DW_CODE_NO_CHILDREN_FOR_EPHEMERALS) {
         char *slash = strrchr(s->path, '/');
         slash[slash == s->path] = 0;
     }
@@ -310,24 +310,24 @@ static inline int32_t session_create(struct session *s, const char *path, const 
 static inline long session_good_names(struct session *s, const char *path)
 {
     dw_kept_names kept;
-    session_must(dw_peek_children(&s->client, (const uint8_t *)path, strlen(path), &kept), path);
-    return kept.mark == DW_GOOD ? (long)kept.count : -1;
+    session_must(dw_peek_children(&s->client, path, strlen(path), &kept), path);
+    return kept.mark == DW_MARK_GOOD ? (long)kept.count : -1;
 }
 
 /* The kept name of this index, in byte order, with a 0 after it; the empty text where there is none. */
 static inline void session_name(struct session *s, const char *path, size_t index, char *name, size_t room)
 {
     size_t count;
-    session_must(dw_peek_name(&s->client, (const uint8_t *)path, strlen(path), index, (uint8_t *)name, room - 1, &count), path);
+    session_must(dw_peek_name(&s->client, path, strlen(path), index, name, room - 1, &count), path);
     name[count < room ? count : room - 1] = 0;
 }
 
 /* Whether what is kept about a node is good: its data, with a 0 after them, or that it is not there, by kept->kind. */
 static inline bool session_good_data(struct session *s, const char *path, dw_kept_data *kept, char *text, size_t room)
 {
-    session_must(dw_peek_data(&s->client, (const uint8_t *)path, strlen(path), kept, (uint8_t *)text, room - 1), path);
+    session_must(dw_peek_data(&s->client, path, strlen(path), kept, (uint8_t *)text, room - 1), path);
     text[kept->length < room ? kept->length : room - 1] = 0;
-    return kept->mark == DW_GOOD && kept->kind != DW_KNOWN;
+    return kept->mark == DW_MARK_GOOD && kept->kind != DW_KEPT_KNOWN;
 }
 
 #endif

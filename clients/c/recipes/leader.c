@@ -13,13 +13,13 @@ int main(void)
             session_renew(&s);
         }
         if (!session_good_data(&s, "/leader", &kept, text, sizeof text)) {
-            if (session_get(&s, "/leader", true) == DW_NO_NODE) {
+            if (session_get(&s, "/leader", true) == DW_CODE_NO_NODE) {
                 session_exists(&s, "/leader", true);
             }
             continue;
         }
-        if (kept.kind == DW_ABSENT) {
-            session_create(&s, "/leader", "host-1", DW_EPHEMERAL); /* what became of it, the watch tells */
+        if (kept.kind == DW_KEPT_ABSENT) {
+            session_create(&s, "/leader", "host-1", DW_MODE_EPHEMERAL); /* what became of it, the watch tells */
             continue;
         }
         if (kept.stat.ephemeral_owner == session_id(&s)) {

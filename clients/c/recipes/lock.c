@@ -2,11 +2,11 @@
 #define _POSIX_C_SOURCE 200809L
 #include "session.h"
 
-/* Makes this session's node, and tells its name and its token. Call it again after DW_LOST. */
+/* Makes this session's node, and tells its name and its token. Call it again after DW_OUTCOME_LOST. */
 static int32_t stand_in_line(struct session *s, char *name, size_t room, int64_t *token)
 {
     char path[256] = "/lock/";
-    int32_t why = session_create(s, "/lock/n-", "", DW_EPHEMERAL | DW_SEQUENTIAL);
+    int32_t why = session_create(s, "/lock/n-", "", DW_MODE_EPHEMERAL | DW_MODE_SEQUENTIAL);
     if (why == 0) {
         why = session_children(s, "/lock", true);
     }
@@ -21,7 +21,7 @@ static int32_t stand_in_line(struct session *s, char *name, size_t room, int64_t
         } else if (is_mine) {
             why = session_delete(s, path, -1); /* of a create whose answer was lost */
         }
-        why = why == DW_NO_NODE ? 0 : why;
+        why = why == DW_CODE_NO_NODE ? 0 : why;
     }
     return why;
 }

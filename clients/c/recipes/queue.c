@@ -8,8 +8,8 @@ static int32_t put(struct session *s, const char *tag, const char *data)
     int32_t why;
     snprintf(path, sizeof path, "/queue/%s-", tag);
     do {
-        why = session_create(s, path, data, DW_SEQUENTIAL);
-    } while (why == DW_LOST); /* it may be there twice then: names with this tag are one item */
+        why = session_create(s, path, data, DW_MODE_SEQUENTIAL);
+    } while (why == DW_OUTCOME_LOST); /* it may be there twice then: names with this tag are one item */
     return why;
 }
 

@@ -11,6 +11,6 @@ int main(int argc, char **argv)
         return 2;
     }
     session_open(&s, argv[1]);
-    int32_t why = argc == 3 ? session_get(&s, argv[2], false) : session_create(&s, argv[2], argv[3], DW_PERSISTENT);
+    int32_t why = argc == 3 ? session_get(&s, argv[2], false) : session_create(&s, argv[2], argv[3], DW_MODE_PERSISTENT);
     return why == 0 ? EXIT_SUCCESS : session_fail(&s, why);
 }

@@ -1,4 +1,5 @@
-/* Each function on a handle that holds nothing, and with arguments that it refuses: the codes are those of the header. */
+/* Each function on a handle that holds nothing, and with arguments that it refuses: what it answers is that of the header. It is a program
+ * of C and of C++. */
 #include "dirwolleu.h"
 #include "expect.h"
 #include "frames.h"
@@ -7,11 +8,12 @@
 
 enum { NOW = 1, ROOM = 8, UNTOUCHED = 0x5a };
 
-#define TEXT(text) (const uint8_t *)(text), sizeof(text) - 1
+#define TEXT(text) (text), sizeof(text) - 1
+#define DATA(text) (const uint8_t *)(text), sizeof(text) - 1
 
 static void expect_untouched(const void *at, size_t length)
 {
-    const uint8_t *bytes = at;
+    const uint8_t *bytes = (const uint8_t *)at;
     for (size_t i = 0; i < length; i++) {
         EXPECT_NUMBER(UNTOUCHED, bytes[i]);
     }
@@ -22,19 +24,19 @@ static void expect_closed_steps(dw_client *none)
     EXPECT_NUMBER(DW_CLOSED, dw_opened(none, NOW));
     EXPECT_NUMBER(DW_CLOSED, dw_cut(none, NOW));
     EXPECT_NUMBER(DW_CLOSED, dw_tick(none, NOW));
-    EXPECT_NUMBER(DW_CLOSED, dw_bytes(none, NOW, TEXT("x")));
+    EXPECT_NUMBER(DW_CLOSED, dw_bytes(none, NOW, DATA("x")));
     EXPECT_NUMBER(DW_CLOSED, dw_exists(none, NOW, 1, TEXT("/a"), true));
     EXPECT_NUMBER(DW_CLOSED, dw_get_data(none, NOW, 1, TEXT("/a"), true));
     EXPECT_NUMBER(DW_CLOSED, dw_get_children(none, NOW, 1, TEXT("/a"), true));
-    EXPECT_NUMBER(DW_CLOSED, dw_set_data(none, NOW, 1, TEXT("/a"), TEXT("x"), false, -1));
-    EXPECT_NUMBER(DW_CLOSED, dw_create(none, NOW, 1, TEXT("/a"), TEXT("x"), false, 0));
+    EXPECT_NUMBER(DW_CLOSED, dw_set_data(none, NOW, 1, TEXT("/a"), DATA("x"), false, -1));
+    EXPECT_NUMBER(DW_CLOSED, dw_create(none, NOW, 1, TEXT("/a"), DATA("x"), false, DW_MODE_PERSISTENT));
     EXPECT_NUMBER(DW_CLOSED, dw_delete(none, NOW, 1, TEXT("/a"), -1));
     EXPECT_NUMBER(DW_CLOSED, dw_close_session(none, NOW, 1));
 }
 
 static void expect_closed_outputs(dw_client *none)
 {
-    uint8_t room[ROOM];
+    char room[ROOM];
     dw_output output;
     size_t count = 1;
     memset(room, UNTOUCHED, sizeof room);
@@ -65,24 +67,27 @@ static void expect_closed_session(dw_client *none)
     expect_untouched(room, sizeof room);
 }
 
-/* The look-ups of a path answer this code and write nothing except the counts of bytes. */
-static void expect_no_look_up(dw_client *client, int32_t code, const uint8_t *path, size_t length)
+/* The look-ups of a path answer this and write nothing except the counts of bytes. */
+static void expect_no_look_up(dw_client *client, enum dw_result result, const char *path, size_t length)
 {
     uint8_t room[ROOM];
+    char name[ROOM];
     dw_kept_data data;
     dw_kept_names names;
     size_t count = 1;
     memset(room, UNTOUCHED, sizeof room);
+    memset(name, UNTOUCHED, sizeof name);
     memset(&data, UNTOUCHED, sizeof data);
     memset(&names, UNTOUCHED, sizeof names);
-    EXPECT_NUMBER(code, dw_peek_data(client, path, length, &data, room, sizeof room));
-    EXPECT_NUMBER(code, dw_peek_children(client, path, length, &names));
-    EXPECT_NUMBER(code, dw_peek_name(client, path, length, 0, room, sizeof room, &count));
+    EXPECT_NUMBER(result, dw_peek_data(client, path, length, &data, room, sizeof room));
+    EXPECT_NUMBER(result, dw_peek_children(client, path, length, &names));
+    EXPECT_NUMBER(result, dw_peek_name(client, path, length, 0, name, sizeof name, &count));
     EXPECT_NUMBER(0, count);
     count = 1;
-    EXPECT_NUMBER(code, dw_peek_names(client, path, length, room, sizeof room, &count));
+    EXPECT_NUMBER(result, dw_peek_names(client, path, length, room, sizeof room, &count));
     EXPECT_NUMBER(0, count);
     expect_untouched(room, sizeof room);
+    expect_untouched(name, sizeof name);
     expect_untouched(&data, sizeof data);
     expect_untouched(&names, sizeof names);
 }
@@ -97,17 +102,17 @@ static void expect_closed(dw_client *none)
 }
 
 /* No step is made: the outputs of the step before are there still. */
-static void expect_refused_path(dw_client *client, int32_t code, const uint8_t *path, size_t length)
+static void expect_refused_path(dw_client *client, enum dw_result result, const char *path, size_t length)
 {
     dw_output output;
     EXPECT_NUMBER(DW_OK, dw_exists(client, NOW, 1, TEXT("/a"), false));
-    EXPECT_NUMBER(code, dw_exists(client, NOW, 2, path, length, true));
-    EXPECT_NUMBER(code, dw_get_data(client, NOW, 2, path, length, true));
-    EXPECT_NUMBER(code, dw_get_children(client, NOW, 2, path, length, true));
-    EXPECT_NUMBER(code, dw_set_data(client, NOW, 2, path, length, TEXT("x"), false, -1));
-    EXPECT_NUMBER(code, dw_create(client, NOW, 2, path, length, TEXT("x"), false, 0));
-    EXPECT_NUMBER(code, dw_delete(client, NOW, 2, path, length, -1));
-    expect_no_look_up(client, code, path, length);
+    EXPECT_NUMBER(result, dw_exists(client, NOW, 2, path, length, true));
+    EXPECT_NUMBER(result, dw_get_data(client, NOW, 2, path, length, true));
+    EXPECT_NUMBER(result, dw_get_children(client, NOW, 2, path, length, true));
+    EXPECT_NUMBER(result, dw_set_data(client, NOW, 2, path, length, DATA("x"), false, -1));
+    EXPECT_NUMBER(result, dw_create(client, NOW, 2, path, length, DATA("x"), false, DW_MODE_PERSISTENT));
+    EXPECT_NUMBER(result, dw_delete(client, NOW, 2, path, length, -1));
+    expect_no_look_up(client, result, path, length);
     EXPECT_NUMBER(DW_OK, dw_next(client, &output));
     EXPECT_NUMBER(1, output.ticket);
 }
@@ -122,16 +127,17 @@ static void expect_refused_paths(dw_client *client)
     expect_refused_path(client, DW_NOT_PATH, TEXT("/a//b"));
     expect_refused_path(client, DW_NOT_PATH, TEXT("/a/../b"));
     expect_refused_path(client, DW_NOT_PATH, TEXT("/\0"));
-    EXPECT_NUMBER(DW_NO_SUCH_MODE, dw_create(client, NOW, 2, TEXT("/a"), TEXT("x"), false, 4));
-    EXPECT_NUMBER(DW_NO_SUCH_MODE, dw_create(client, NOW, 2, TEXT("/a"), TEXT("x"), false, UINT32_MAX));
+    EXPECT_NUMBER(DW_NO_SUCH_MODE, dw_create(client, NOW, 2, TEXT("/a"), DATA("x"), false, 4));
+    EXPECT_NUMBER(DW_NO_SUCH_MODE, dw_create(client, NOW, 2, TEXT("/a"), DATA("x"), false, UINT32_MAX));
 }
 
 /* A handle that held a client holds nothing where dw_open or dw_resume refuses. */
 static void expect_refused_makings(dw_client *client)
 {
     static const int32_t timeouts[] = {0, -1, INT32_MIN};
-    static const uint8_t saved[37] = {[11] = 16};
-    static const uint8_t behind[36] = {[11] = 16, [28] = 0x80};
+    uint8_t saved[37] = {0}, behind[36] = {0};
+    saved[11] = behind[11] = 16; /* the length of the password */
+    behind[28] = 0x80;           /* a zxid below 0 */
     for (size_t i = 0; i < sizeof timeouts / sizeof timeouts[0]; i++) {
         EXPECT_NUMBER(DW_OK, dw_open(client, 1));
         EXPECT_NUMBER(DW_BAD_TIMEOUT, dw_open(client, timeouts[i]));
@@ -140,7 +146,7 @@ static void expect_refused_makings(dw_client *client)
         expect_closed(client);
     }
     EXPECT_NUMBER(DW_OK, dw_resume(client, 1, saved, 36));
-    EXPECT_NUMBER(DW_IDLE, dw_state(client));
+    EXPECT_NUMBER(DW_STATE_IDLE, dw_state(client));
     EXPECT_NUMBER(DW_NOT_SAVED, dw_resume(client, 1, saved, 0));
     expect_closed(client);
     EXPECT_NUMBER(DW_NOT_SAVED, dw_resume(client, 1, saved, 35));
@@ -150,28 +156,29 @@ static void expect_refused_makings(dw_client *client)
 }
 
 /* The next output answers the ticket without a reply. */
-static void expect_answer(dw_client *client, uint64_t ticket, int32_t detail)
+static void expect_answer(dw_client *client, uint64_t ticket, enum dw_outcome outcome)
 {
     dw_output output;
     EXPECT_NUMBER(DW_OK, dw_next(client, &output));
-    EXPECT_NUMBER(DW_ANSWER, output.kind);
+    EXPECT_NUMBER(DW_KIND_ANSWER, output.kind);
     EXPECT_NUMBER(ticket, output.ticket);
-    EXPECT_NUMBER(detail, output.detail);
-    EXPECT_NUMBER(0, output.result);
+    EXPECT_NUMBER(outcome, output.outcome);
+    EXPECT_NUMBER(0, output.reply);
     EXPECT_NUMBER(0, output.length);
 }
 
 static void connect_client(dw_client *client)
 {
-    struct bytes response = {.length = 0};
+    struct bytes response;
+    response.length = 0;
     add_connected(&response);
     EXPECT_NUMBER(DW_OK, dw_open(client, 10000));
     EXPECT_NUMBER(DW_OK, dw_tick(client, NOW));
     EXPECT_NUMBER(DW_OK, dw_opened(client, NOW));
-    EXPECT_NUMBER(DW_CONNECTING, dw_state(client));
+    EXPECT_NUMBER(DW_STATE_CONNECTING, dw_state(client));
     EXPECT_NUMBER(10000, dw_timeout_ms(client));
     EXPECT_NUMBER(DW_OK, dw_bytes(client, NOW, response.at, response.length));
-    EXPECT_NUMBER(DW_CONNECTED, dw_state(client));
+    EXPECT_NUMBER(DW_STATE_CONNECTED, dw_state(client));
     EXPECT_NUMBER(GRANTED_MS, dw_timeout_ms(client));
 }
 
@@ -179,44 +186,45 @@ static void connect_client(dw_client *client)
 static void expect_answers_without_reply(dw_client *client)
 {
     enum { MOST_PENDING = 1024, LONGEST = 1048575 };
-    static const uint8_t data[LONGEST];
+    static const uint8_t data[LONGEST] = {0};
     EXPECT_NUMBER(DW_OK, dw_open(client, 10000));
     EXPECT_NUMBER(DW_OK, dw_get_data(client, NOW, 5, TEXT("/a"), false));
-    expect_answer(client, 5, 4);
+    expect_answer(client, 5, DW_OUTCOME_NOT_CONNECTED);
     connect_client(client);
     EXPECT_NUMBER(DW_OK, dw_set_data(client, NOW, 6, TEXT("/a"), data, sizeof data, false, -1));
-    expect_answer(client, 6, 6);
+    expect_answer(client, 6, DW_OUTCOME_TOO_LARGE);
     for (uint64_t ticket = 1; ticket <= MOST_PENDING; ticket++) {
         EXPECT_NUMBER(DW_OK, dw_get_data(client, NOW, ticket, TEXT("/a"), false));
     }
     EXPECT_NUMBER(DW_OK, dw_get_data(client, NOW, UINT64_MAX, TEXT("/a"), false));
-    expect_answer(client, UINT64_MAX, 7);
+    expect_answer(client, UINT64_MAX, DW_OUTCOME_TOO_MANY_PENDING);
     EXPECT_NUMBER(DW_OK, dw_cut(client, NOW));
     for (uint64_t ticket = 1; ticket <= MOST_PENDING; ticket++) {
-        expect_answer(client, ticket, 1);
+        expect_answer(client, ticket, DW_OUTCOME_LOST);
     }
 }
 
 /* K2 after an expiry, K3 after a close. */
 static void expect_ended(dw_client *client)
 {
-    struct bytes came = {.length = 0};
+    struct bytes came;
+    came.length = 0;
     connect_client(client);
     EXPECT_NUMBER(DW_OK, dw_close_session(client, NOW, 7));
     EXPECT_NUMBER(DW_OK, dw_get_data(client, NOW, 8, TEXT("/a"), false));
-    expect_answer(client, 8, 3);
+    expect_answer(client, 8, DW_OUTCOME_CLOSED);
     add_header(&came, 1, 0, 0);
     EXPECT_NUMBER(DW_OK, dw_bytes(client, NOW, came.at, came.length));
-    EXPECT_NUMBER(DW_SESSION_CLOSED, dw_state(client));
+    EXPECT_NUMBER(DW_STATE_CLOSED, dw_state(client));
     connect_client(client);
     came.length = 0;
     add_expired(&came);
     EXPECT_NUMBER(DW_OK, dw_cut(client, NOW));
     EXPECT_NUMBER(DW_OK, dw_opened(client, NOW));
     EXPECT_NUMBER(DW_OK, dw_bytes(client, NOW, came.at, came.length));
-    EXPECT_NUMBER(DW_EXPIRED, dw_state(client));
+    EXPECT_NUMBER(DW_STATE_EXPIRED, dw_state(client));
     EXPECT_NUMBER(DW_OK, dw_get_data(client, NOW, 9, TEXT("/a"), false));
-    expect_answer(client, 9, 2);
+    expect_answer(client, 9, DW_OUTCOME_EXPIRED);
 }
 
 /* A ping (xid -2, type 11) a third of the granted timeout after the last frame that was sent, and silence two thirds after the last byte
@@ -234,21 +242,21 @@ static void expect_deadlines(dw_client *client)
     EXPECT_NUMBER(DW_NONE, dw_next(client, &output));
     EXPECT_NUMBER(DW_OK, dw_tick(client, first_ms));
     EXPECT_NUMBER(DW_OK, dw_next(client, &output));
-    EXPECT_NUMBER(DW_SEND, output.kind);
+    EXPECT_NUMBER(DW_KIND_SEND, output.kind);
     EXPECT_NUMBER(sizeof ping, dw_copy(client, 0, frame, sizeof frame));
     EXPECT(memcmp(frame, ping, sizeof ping) == 0);
     EXPECT_NUMBER(DW_OK, dw_tick(client, NOW + 2 * GRANTED_MS / 3 + 1));
     EXPECT_NUMBER(DW_OK, dw_next(client, &output));
-    EXPECT_NUMBER(DW_DROP, output.kind);
-    EXPECT_NUMBER(3, output.detail);
-    EXPECT_NUMBER(DW_IDLE, dw_state(client));
+    EXPECT_NUMBER(DW_KIND_DROP, output.kind);
+    EXPECT_NUMBER(DW_CAUSE_SILENT, output.cause);
+    EXPECT_NUMBER(DW_STATE_IDLE, dw_state(client));
     EXPECT_NUMBER(DW_NONE, dw_deadline(client, &first_ms));
     EXPECT_NUMBER(0, first_ms);
 }
 
 int main(void)
 {
-    dw_client client = {0};
+    static dw_client client; /* zeros */
     expect_closed(&client);
     EXPECT_NUMBER(DW_OK, dw_open(&client, INT32_MAX));
     expect_refused_paths(&client);

@@ -5,6 +5,10 @@
 
 #include "dirwolleu.h"
 
+#ifdef __cplusplus
+extern "C" {
+#endif
+
 /* What the protocol has numbers for. */
 enum { XID_NOTICE = -1, XID_PING = -2, XID_SET_WATCHES = -8 };
 enum { CODE_NO_NODE = -101, CODE_BAD_VERSION = -103 };
@@ -43,5 +47,9 @@ void add_created(struct bytes *bytes, int32_t xid, int64_t zxid, const char *pat
 
 /* WatcherEvent, which tells a client with a session of a change. */
 void add_notice(struct bytes *bytes, int32_t event, const char *path);
+
+#ifdef __cplusplus
+}
+#endif
 
 #endif

@@ -61,13 +61,13 @@ static void take_frame(struct session *s, const dw_output *output)
 
 static void take_answer(struct session *s, const dw_output *output)
 {
-    uint8_t name[ROOM];
+    char name[ROOM];
     EXPECT(output->ticket >= 1 && output->ticket <= s->tickets && !s->is_answered[output->ticket - 1]);
     s->is_answered[output->ticket - 1] = true;
     s->answers++;
-    EXPECT(output->detail >= 0 && output->detail <= 7);
-    EXPECT(output->detail == 0 ? output->result >= DW_CODE && output->result <= DW_DONE : output->result == 0);
-    EXPECT(!s->is_dropped || output->detail == 1 || output->detail == 4);
+    EXPECT(output->outcome <= DW_OUTCOME_TOO_MANY_PENDING);
+    EXPECT(output->outcome == DW_OUTCOME_REPLIED ? output->reply >= DW_REPLY_CODE && output->reply <= DW_REPLY_DONE : output->reply == 0);
+    EXPECT(!s->is_dropped || output->outcome == DW_OUTCOME_LOST || output->outcome == DW_OUTCOME_NOT_CONNECTED);
     for (size_t i = 0; i <= output->names; i++) {
         dw_name(&s->client, i, name, sizeof name);
     }
@@ -76,9 +76,10 @@ static void take_answer(struct session *s, const dw_output *output)
 
 static void take_drop(struct session *s, const dw_output *output)
 {
-    uint8_t words[ROOM];
+    char words[ROOM];
     size_t length;
-    EXPECT(output->detail >= 1 && output->detail <= 5 && output->length > 0 && !s->is_dropped);
+    EXPECT(output->cause >= DW_CAUSE_BAD_FRAME && output->cause <= DW_CAUSE_WATCHES_REFUSED);
+    EXPECT(output->length > 0 && !s->is_dropped);
     EXPECT_NUMBER(DW_OK, dw_words(&s->client, words, sizeof words, &length));
     EXPECT(length > 0);
     s->is_dropped = true;
@@ -87,44 +88,45 @@ static void take_drop(struct session *s, const dw_output *output)
 static void take(struct session *s, const dw_output *output)
 {
     switch (output->kind) {
-    case DW_SEND: take_frame(s, output); break;
-    case DW_ANSWER: take_answer(s, output); break;
-    case DW_REPORT:
-        EXPECT(output->detail >= DW_NODE_CREATED && output->detail <= DW_CHILDREN_CHANGED);
-        EXPECT(output->length == 2 && (output->result == 1 || output->result == 2));
+    case DW_KIND_SEND: take_frame(s, output); break;
+    case DW_KIND_ANSWER: take_answer(s, output); break;
+    case DW_KIND_REPORT:
+        EXPECT(output->event >= DW_EVENT_CREATED && output->event <= DW_EVENT_CHILDREN_CHANGED);
+        EXPECT(output->length == 2 && (output->side == DW_SIDE_DATA || output->side == DW_SIDE_CHILDREN));
         break;
-    case DW_STATE: EXPECT(output->detail >= DW_IDLE && output->detail <= DW_SESSION_CLOSED); break;
-    case DW_DROP: take_drop(s, output); break;
+    case DW_KIND_STATE: EXPECT(output->state <= DW_STATE_CLOSED); break;
+    case DW_KIND_DROP: take_drop(s, output); break;
     default: EXPECT(!"a kind of output that the header has");
     }
     read_text(s, output->length);
 }
 
-/* Reads all outputs of a step, which answered this code. Behind a drop the client is idle. */
-static void act(struct session *s, int32_t code)
+/* Reads all outputs of a step, which answered this. Behind a drop the client is idle. */
+static void act(struct session *s, enum dw_result result)
 {
     dw_output output;
-    EXPECT_NUMBER(DW_OK, code);
+    EXPECT_NUMBER(DW_OK, result);
     s->is_dropped = false;
-    while ((code = dw_next(&s->client, &output)) == DW_OK) {
+    while ((result = dw_next(&s->client, &output)) == DW_OK) {
         take(s, &output);
     }
-    EXPECT_NUMBER(DW_NONE, code);
-    EXPECT(!s->is_dropped || dw_state(&s->client) == DW_IDLE);
+    EXPECT_NUMBER(DW_NONE, result);
+    EXPECT(!s->is_dropped || dw_state(&s->client) == DW_STATE_IDLE);
 }
 
 /* Asks for one of the paths /a to /d. */
 static void ask(struct session *s)
 {
-    const uint8_t path[] = {'/', (uint8_t)('a' + draw(s, 4))};
+    const char path[] = {'/', (char)('a' + draw(s, 4))};
+    const uint8_t data[] = {'x', 'y'};
     uint64_t ticket = ++s->tickets;
     bool watch = draw(s, 2) == 0;
     switch (draw(s, 6)) {
     case 0: act(s, dw_exists(&s->client, s->now_ms, ticket, path, sizeof path, watch)); break;
     case 1: act(s, dw_get_data(&s->client, s->now_ms, ticket, path, sizeof path, watch)); break;
     case 2: act(s, dw_get_children(&s->client, s->now_ms, ticket, path, sizeof path, watch)); break;
-    case 3: act(s, dw_set_data(&s->client, s->now_ms, ticket, path, sizeof path, path, sizeof path, watch, -1)); break;
-    case 4: act(s, dw_create(&s->client, s->now_ms, ticket, path, sizeof path, path, sizeof path, watch, (uint32_t)draw(s, 4))); break;
+    case 3: act(s, dw_set_data(&s->client, s->now_ms, ticket, path, sizeof path, data, sizeof data, watch, -1)); break;
+    case 4: act(s, dw_create(&s->client, s->now_ms, ticket, path, sizeof path, data, sizeof data, watch, (uint32_t)draw(s, 4))); break;
     default: act(s, dw_delete(&s->client, s->now_ms, ticket, path, sizeof path, -1)); break;
     }
 }
@@ -198,14 +200,15 @@ static void hand_in(struct session *s)
 }
 
 /* Behind the last name there is none, and all names have their lengths. Little room is enough. */
-static void look_up_names(struct session *s, const uint8_t *path, size_t length)
+static void look_up_names(struct session *s, const char *path, size_t length)
 {
     uint8_t room[ROOM + 1];
+    char name[ROOM];
     dw_kept_names names;
     size_t count;
     room[ROOM] = GUARD;
     EXPECT_NUMBER(DW_OK, dw_peek_children(&s->client, path, length, &names));
-    EXPECT_NUMBER(DW_OK, dw_peek_name(&s->client, path, length, names.count, room, ROOM, &count));
+    EXPECT_NUMBER(DW_OK, dw_peek_name(&s->client, path, length, names.count, name, sizeof name, &count));
     EXPECT_NUMBER(0, count);
     EXPECT_NUMBER(DW_OK, dw_peek_names(&s->client, path, length, room, ROOM, &count));
     EXPECT(names.count == 0 ? count == 0 : count >= 4 * names.count);
@@ -214,11 +217,11 @@ static void look_up_names(struct session *s, const uint8_t *path, size_t length)
 
 static void look_up(struct session *s)
 {
-    const uint8_t path[] = {'/', (uint8_t)('a' + draw(s, 4))};
+    const char path[] = {'/', (char)('a' + draw(s, 4))};
     uint8_t room[ROOM];
     dw_kept_data data;
     EXPECT_NUMBER(DW_OK, dw_peek_data(&s->client, path, sizeof path, &data, room, sizeof room));
-    EXPECT((data.kind == DW_NOTHING) == (data.mark == 0) && data.kind <= DW_FULL && data.mark <= DW_STALE);
+    EXPECT((data.kind == DW_KEPT_NOTHING) == (data.mark == 0) && data.kind <= DW_KEPT_FULL && data.mark <= DW_MARK_STALE);
     look_up_names(s, path, sizeof path);
     EXPECT(dw_last_zxid(&s->client) >= 0 && dw_timeout_ms(&s->client) > 0);
 }
@@ -242,7 +245,7 @@ static void move(struct session *s)
     case 7: look_up(s); break;
     default: hand_in(s); break;
     }
-    if (dw_state(&s->client) == DW_IDLE) {
+    if (dw_state(&s->client) == DW_STATE_IDLE) {
         connect_client(s);
     }
 }

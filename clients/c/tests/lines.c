@@ -50,7 +50,7 @@ static void add_text(struct lines *lines, dw_client *client, const dw_output *ou
 {
     char text[ROOM];
     EXPECT(output->length <= sizeof text);
-    EXPECT_NUMBER(output->length, dw_copy(client, 0, (uint8_t *)text, sizeof text));
+    EXPECT_NUMBER(output->length, dw_copy(client, 0, text, sizeof text));
     add(lines, " \"%.*s\"", (int)output->length, text);
 }
 
@@ -69,7 +69,7 @@ static void add_names(struct lines *lines, dw_client *client, const dw_output *o
 {
     char name[ROOM];
     for (size_t i = 0; i < output->names; i++) {
-        size_t length = dw_name(client, i, (uint8_t *)name, sizeof name);
+        size_t length = dw_name(client, i, name, sizeof name);
         EXPECT(length <= sizeof name);
         add(lines, " \"%.*s\"", (int)length, name);
     }
@@ -78,17 +78,17 @@ static void add_names(struct lines *lines, dw_client *client, const dw_output *o
 static void add_reply(struct lines *lines, dw_client *client, const dw_output *output)
 {
     static const char *const results[] = {"", "code", "stat", "data", "names", "created", "done"};
-    EXPECT(output->result >= DW_CODE && output->result <= DW_DONE);
-    add(lines, "answer %" PRIu64 " at %" PRId64 " %s", output->ticket, output->zxid, results[output->result]);
-    if (output->result == DW_CODE) {
+    EXPECT(output->reply >= DW_REPLY_CODE && output->reply <= DW_REPLY_DONE);
+    add(lines, "answer %" PRIu64 " at %" PRId64 " %s", output->ticket, output->zxid, results[output->reply]);
+    if (output->reply == DW_REPLY_CODE) {
         add(lines, " %" PRId32, output->code);
     } else if (output->is_null) {
         add(lines, " null");
-    } else if (output->result == DW_DATA || output->result == DW_CREATED) {
+    } else if (output->reply == DW_REPLY_DATA || output->reply == DW_REPLY_CREATED) {
         add_text(lines, client, output);
     }
     add_names(lines, client, output);
-    EXPECT(output->has_stat == (output->result == DW_STAT || output->result == DW_DATA || output->result == DW_NAMES));
+    EXPECT(output->has_stat == (output->reply == DW_REPLY_STAT || output->reply == DW_REPLY_DATA || output->reply == DW_REPLY_NAMES));
     if (output->has_stat) {
         add_stat(lines, &output->stat);
     }
@@ -98,9 +98,9 @@ static void add_drop(struct lines *lines, dw_client *client, const dw_output *ou
 {
     char words[ROOM];
     size_t length;
-    add(lines, "drop %" PRId32, output->detail);
+    add(lines, "drop %d", (int)output->cause);
     add_text(lines, client, output);
-    EXPECT_NUMBER(DW_OK, dw_words(client, (uint8_t *)words, sizeof words, &length));
+    EXPECT_NUMBER(DW_OK, dw_words(client, words, sizeof words, &length));
     EXPECT(length > 0 && length <= sizeof words);
     add(lines, " %.*s", (int)length, words);
 }
@@ -108,20 +108,20 @@ static void add_drop(struct lines *lines, dw_client *client, const dw_output *ou
 static void add_output(struct lines *lines, dw_client *client, const dw_output *output)
 {
     switch (output->kind) {
-    case DW_SEND: add_frame(lines, client, output); break;
-    case DW_ANSWER:
-        if (output->detail == 0) {
+    case DW_KIND_SEND: add_frame(lines, client, output); break;
+    case DW_KIND_ANSWER:
+        if (output->outcome == DW_OUTCOME_REPLIED) {
             add_reply(lines, client, output);
         } else {
-            add(lines, "answer %" PRIu64 " K%" PRId32, output->ticket, output->detail);
+            add(lines, "answer %" PRIu64 " K%d", output->ticket, (int)output->outcome);
         }
         break;
-    case DW_REPORT:
-        add(lines, "report %" PRId32 " %" PRId32, output->detail, output->result);
+    case DW_KIND_REPORT:
+        add(lines, "report %d %d", (int)output->event, (int)output->side);
         add_text(lines, client, output);
         break;
-    case DW_STATE: add(lines, "state %" PRId32, output->detail); break;
-    case DW_DROP: add_drop(lines, client, output); break;
+    case DW_KIND_STATE: add(lines, "state %d", (int)output->state); break;
+    case DW_KIND_DROP: add_drop(lines, client, output); break;
     default: EXPECT(!"a kind of output that the header has");
     }
     add(lines, "\n");
@@ -130,69 +130,69 @@ static void add_output(struct lines *lines, dw_client *client, const dw_output *
 void add_outputs(struct lines *lines, dw_client *client)
 {
     dw_output output;
-    int32_t code;
-    while ((code = dw_next(client, &output)) == DW_OK) {
+    enum dw_result result;
+    while ((result = dw_next(client, &output)) == DW_OK) {
         add_output(lines, client, &output);
     }
-    EXPECT_NUMBER(DW_NONE, code);
+    EXPECT_NUMBER(DW_NONE, result);
 }
 
-int32_t add_kept_data(struct lines *lines, dw_client *client, const char *path)
+enum dw_result add_kept_data(struct lines *lines, dw_client *client, const char *path)
 {
-    char data[ROOM];
+    uint8_t data[ROOM];
     dw_kept_data kept;
-    int32_t code = dw_peek_data(client, (const uint8_t *)path, strlen(path), &kept, (uint8_t *)data, sizeof data);
-    if (code != DW_OK) {
-        return code;
+    enum dw_result result = dw_peek_data(client, path, strlen(path), &kept, data, sizeof data);
+    if (result != DW_OK) {
+        return result;
     }
     EXPECT(kept.length <= sizeof data);
-    add_line(lines, "data %" PRId32 " %" PRId32 " \"%.*s\"", kept.kind, kept.mark, (int)kept.length, data);
+    add_line(lines, "data %d %d \"%.*s\"", (int)kept.kind, (int)kept.mark, (int)kept.length, data);
     return DW_OK;
 }
 
 /* The name of this index that is kept of a path is this one. */
-static int32_t expect_kept_name(dw_client *client, const char *path, size_t index, const uint8_t *name, size_t length)
+static enum dw_result expect_kept_name(dw_client *client, const char *path, size_t index, const uint8_t *name, size_t length)
 {
-    uint8_t room[ROOM];
+    char room[ROOM];
     size_t count;
-    int32_t code = dw_peek_name(client, (const uint8_t *)path, strlen(path), index, room, sizeof room, &count);
-    if (code == DW_OK) {
+    enum dw_result result = dw_peek_name(client, path, strlen(path), index, room, sizeof room, &count);
+    if (result == DW_OK) {
         EXPECT_NUMBER(length, count);
         EXPECT(memcmp(name, room, length) == 0);
     }
-    return code;
+    return result;
 }
 
 /* Adds this many names that are kept of a path, each of which comes after its length and is that of its index. */
-static int32_t add_all_names(struct lines *lines, dw_client *client, const char *path, size_t names)
+static enum dw_result add_all_names(struct lines *lines, dw_client *client, const char *path, size_t names)
 {
     uint8_t spelled[ROOM];
     size_t count, at = 0;
-    int32_t code = dw_peek_names(client, (const uint8_t *)path, strlen(path), spelled, sizeof spelled, &count);
+    enum dw_result result = dw_peek_names(client, path, strlen(path), spelled, sizeof spelled, &count);
     EXPECT(count <= sizeof spelled);
-    for (size_t i = 0; i < names && code == DW_OK; i++) {
+    for (size_t i = 0; i < names && result == DW_OK; i++) {
         const uint8_t *name = spelled + at + 4;
         size_t length = read_int(spelled + at);
         at += 4 + length;
         EXPECT(at <= count);
         add(lines, " \"%.*s\"", (int)length, name);
-        code = expect_kept_name(client, path, i, name, length);
+        result = expect_kept_name(client, path, i, name, length);
     }
-    EXPECT(code != DW_OK || at == count);
-    return code;
+    EXPECT(result != DW_OK || at == count);
+    return result;
 }
 
-int32_t add_kept_names(struct lines *lines, dw_client *client, const char *path)
+enum dw_result add_kept_names(struct lines *lines, dw_client *client, const char *path)
 {
     dw_kept_names kept;
     size_t before = lines->length;
-    int32_t code = dw_peek_children(client, (const uint8_t *)path, strlen(path), &kept);
-    if (code != DW_OK) {
-        return code;
+    enum dw_result result = dw_peek_children(client, path, strlen(path), &kept);
+    if (result != DW_OK) {
+        return result;
     }
-    add(lines, "names %" PRId32 " %" PRId64, kept.mark, kept.pzxid);
-    code = add_all_names(lines, client, path, kept.count);
+    add(lines, "names %d %" PRId64, (int)kept.mark, kept.pzxid);
+    result = add_all_names(lines, client, path, kept.count);
     add(lines, "\n");
-    lines->length = code == DW_OK ? lines->length : before;
-    return code;
+    lines->length = result == DW_OK ? lines->length : before;
+    return result;
 }

@@ -30,9 +30,9 @@ void add_line(struct lines *lines, const char *format, ...);
  * A STAT is its eleven numbers in the order of zookeeper.jute. */
 void add_outputs(struct lines *lines, dw_client *client);
 
-/* Add what is kept of a path: `data KIND MARK "TEXT"` where its data are, and `names MARK PZXID "A" "B"`. They answer the code of the
- * look-up, and add nothing where it is not DW_OK. */
-int32_t add_kept_data(struct lines *lines, dw_client *client, const char *path);
-int32_t add_kept_names(struct lines *lines, dw_client *client, const char *path);
+/* Add what is kept of a path: `data KIND MARK "TEXT"` where its data are, and `names MARK PZXID "A" "B"`. They answer what the
+ * look-up does, and add nothing where it is not DW_OK. */
+enum dw_result add_kept_data(struct lines *lines, dw_client *client, const char *path);
+enum dw_result add_kept_names(struct lines *lines, dw_client *client, const char *path);
 
 #endif

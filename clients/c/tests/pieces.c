@@ -82,14 +82,15 @@ static void open_connection(dw_client *client, struct lines *lines, const struct
 
 static void ask(dw_client *client, struct lines *lines)
 {
-    const uint8_t *a = (const uint8_t *)"/a", *b = (const uint8_t *)"/b", *below = (const uint8_t *)"/a/n", *data = (const uint8_t *)"x";
+    const char *a = "/a", *b = "/b", *below = "/a/n";
+    const uint8_t data[] = {'x'};
     EXPECT_NUMBER(DW_OK, dw_get_data(client, 1, 11, a, 2, true));
     add_outputs(lines, client);
     EXPECT_NUMBER(DW_OK, dw_get_children(client, 1, 12, a, 2, true));
     add_outputs(lines, client);
     EXPECT_NUMBER(DW_OK, dw_exists(client, 1, 13, b, 2, true));
     add_outputs(lines, client);
-    EXPECT_NUMBER(DW_OK, dw_create(client, 1, 14, below, 4, data, 1, false, 3));
+    EXPECT_NUMBER(DW_OK, dw_create(client, 1, 14, below, 4, data, 1, false, DW_MODE_EPHEMERAL | DW_MODE_SEQUENTIAL));
     add_outputs(lines, client);
     EXPECT_NUMBER(DW_OK, dw_set_data(client, 1, 15, a, 2, data, 1, true, 7));
     add_outputs(lines, client);
@@ -104,9 +105,9 @@ static void answer(struct bytes *stream)
     add_data(stream, 1, 5, "first", &STAT);
     add_names(stream, 2, 5, "right", "left", &STAT);
     add_header(stream, 3, 5, CODE_NO_NODE);
-    add_notice(stream, DW_CHILDREN_CHANGED, "/a");
+    add_notice(stream, DW_EVENT_CHILDREN_CHANGED, "/a");
     add_created(stream, 4, 6, "/a/n0000000002");
-    add_notice(stream, DW_DATA_CHANGED, "/a");
+    add_notice(stream, DW_EVENT_DATA_CHANGED, "/a");
     add_stat(stream, 5, 7, &STAT);
     add_header(stream, 6, 8, 0);
 }
@@ -132,7 +133,7 @@ static void play_second(dw_client *client, struct lines *lines, const struct cut
     static struct bytes stream;
     open_connection(client, lines, cutting);
     stream.length = 0;
-    add_notice(&stream, DW_NODE_CREATED, "/b");
+    add_notice(&stream, DW_EVENT_CREATED, "/b");
     add_header(&stream, XID_SET_WATCHES, 9, 0);
     hand_in(client, lines, &stream, cutting);
     EXPECT_NUMBER(DW_OK, dw_close_session(client, 1, 17));

@@ -12,7 +12,8 @@
 enum { SAVED_LENGTH = 36 };
 
 static const dw_stat STAT = {.czxid = 3, .mzxid = 5, .version = 1, .data_length = 5, .num_children = 2, .pzxid = 4};
-static const uint8_t PATH[] = {'/', 'a'}, OTHER[] = {'/', 'b'}, DATA[] = {'x'};
+static const char PATH[] = {'/', 'a'}, OTHER[] = {'/', 'b'};
+static const uint8_t DATA[] = {'x'};
 
 struct play {
     dw_client client, second;
@@ -21,143 +22,143 @@ struct play {
     struct lines lines;
 };
 
-static int32_t hand_in(dw_client *client, const struct bytes *bytes)
+static enum dw_result hand_in(dw_client *client, const struct bytes *bytes)
 {
     return dw_bytes(client, 1, bytes->at, bytes->length);
 }
 
-static int32_t open_client(struct play *play)
+static enum dw_result open_client(struct play *play)
 {
-    int32_t code = dw_open(&play->client, 10000);
-    EXPECT_NUMBER(code == DW_OK ? DW_IDLE : DW_CLOSED, dw_state(&play->client));
-    return code;
+    enum dw_result result = dw_open(&play->client, 10000);
+    EXPECT_NUMBER(result == DW_OK ? DW_STATE_IDLE : DW_CLOSED, dw_state(&play->client));
+    return result;
 }
 
-static int32_t tick(struct play *play)
+static enum dw_result tick(struct play *play)
 {
     return dw_tick(&play->client, 1);
 }
 
-static int32_t opened(struct play *play)
+static enum dw_result opened(struct play *play)
 {
     return dw_opened(&play->client, 1);
 }
 
-static int32_t connected(struct play *play)
+static enum dw_result connected(struct play *play)
 {
     struct bytes response = {.length = 0};
     add_connected(&response);
     return hand_in(&play->client, &response);
 }
 
-static int32_t get_data(struct play *play)
+static enum dw_result get_data(struct play *play)
 {
     return dw_get_data(&play->client, 1, 11, PATH, sizeof PATH, true);
 }
 
-static int32_t get_children(struct play *play)
+static enum dw_result get_children(struct play *play)
 {
     return dw_get_children(&play->client, 1, 12, PATH, sizeof PATH, true);
 }
 
-static int32_t exists(struct play *play)
+static enum dw_result exists(struct play *play)
 {
     return dw_exists(&play->client, 1, 13, OTHER, sizeof OTHER, true);
 }
 
-static int32_t create(struct play *play)
+static enum dw_result create(struct play *play)
 {
-    return dw_create(&play->client, 1, 14, OTHER, sizeof OTHER, DATA, sizeof DATA, false, 2);
+    return dw_create(&play->client, 1, 14, OTHER, sizeof OTHER, DATA, sizeof DATA, false, DW_MODE_SEQUENTIAL);
 }
 
-static int32_t set_data(struct play *play)
+static enum dw_result set_data(struct play *play)
 {
     return dw_set_data(&play->client, 1, 15, PATH, sizeof PATH, DATA, sizeof DATA, false, -1);
 }
 
-static int32_t delete(struct play *play)
+static enum dw_result delete(struct play *play)
 {
     return dw_delete(&play->client, 1, 16, PATH, sizeof PATH, -1);
 }
 
 /* The replies to these six, and two notices, in one piece. */
-static int32_t replied(struct play *play)
+static enum dw_result replied(struct play *play)
 {
     struct bytes replies = {.length = 0};
     add_data(&replies, 1, 5, "first", &STAT);
     add_names(&replies, 2, 5, "right", "left", &STAT);
     add_header(&replies, 3, 5, CODE_NO_NODE);
     add_created(&replies, 4, 6, "/b0000000002");
-    add_notice(&replies, DW_DATA_CHANGED, "/a");
+    add_notice(&replies, DW_EVENT_DATA_CHANGED, "/a");
     add_stat(&replies, 5, 7, &STAT);
     add_header(&replies, 6, 7, CODE_BAD_VERSION);
     return hand_in(&play->client, &replies);
 }
 
-static int32_t peek_data(struct play *play)
+static enum dw_result peek_data(struct play *play)
 {
     return add_kept_data(&play->lines, &play->client, "/a");
 }
 
-static int32_t peek_names(struct play *play)
+static enum dw_result peek_names(struct play *play)
 {
     return add_kept_names(&play->lines, &play->client, "/a");
 }
 
-static int32_t save(struct play *play)
+static enum dw_result save(struct play *play)
 {
-    int32_t code = dw_saved(&play->client, play->saved, sizeof play->saved, &play->saved_length);
-    EXPECT_NUMBER(code == DW_OK ? SAVED_LENGTH : 0, play->saved_length);
-    return code;
+    enum dw_result result = dw_saved(&play->client, play->saved, sizeof play->saved, &play->saved_length);
+    EXPECT_NUMBER(result == DW_OK ? SAVED_LENGTH : 0, play->saved_length);
+    return result;
 }
 
-static int32_t forget(struct play *play)
+static enum dw_result forget(struct play *play)
 {
     return dw_forget(&play->client);
 }
 
-static int32_t cut(struct play *play)
+static enum dw_result cut(struct play *play)
 {
     return dw_cut(&play->client, 1);
 }
 
 /* A reply for which nobody asked: the connection is given up, which is the first output. */
-static int32_t unasked(struct play *play)
+static enum dw_result unasked(struct play *play)
 {
     struct bytes reply = {.length = 0};
     dw_output output;
     add_header(&reply, 99, 9, 0);
-    int32_t code = hand_in(&play->client, &reply);
-    if (code == DW_OK) {
+    enum dw_result result = hand_in(&play->client, &reply);
+    if (result == DW_OK) {
         EXPECT_NUMBER(DW_OK, dw_next(&play->client, &output));
-        EXPECT_NUMBER(DW_DROP, output.kind);
+        EXPECT_NUMBER(DW_KIND_DROP, output.kind);
     }
-    return code;
+    return result;
 }
 
 /* The words of the drop, which was told last. */
-static int32_t words(struct play *play)
+static enum dw_result words(struct play *play)
 {
-    uint8_t text[256];
+    char text[256];
     size_t length = 1;
-    int32_t code = dw_words(&play->client, text, sizeof text, &length);
-    EXPECT(code == DW_OK ? length > 0 && length <= sizeof text : length == 0);
-    return code;
+    enum dw_result result = dw_words(&play->client, text, sizeof text, &length);
+    EXPECT(result == DW_OK ? length > 0 && length <= sizeof text : length == 0);
+    return result;
 }
 
-static int32_t resume(struct play *play)
+static enum dw_result resume(struct play *play)
 {
-    int32_t code = dw_resume(&play->second, 10000, play->saved, play->saved_length);
-    EXPECT_NUMBER(code == DW_OK ? DW_IDLE : DW_CLOSED, dw_state(&play->second));
-    return code;
+    enum dw_result result = dw_resume(&play->second, 10000, play->saved, play->saved_length);
+    EXPECT_NUMBER(result == DW_OK ? DW_STATE_IDLE : DW_CLOSED, dw_state(&play->second));
+    return result;
 }
 
-static int32_t close_session(struct play *play)
+static enum dw_result close_session(struct play *play)
 {
     return dw_close_session(&play->client, 1, 17);
 }
 
-static int32_t closed(struct play *play)
+static enum dw_result closed(struct play *play)
 {
     struct bytes replies = {.length = 0};
     add_header(&replies, XID_SET_WATCHES, 8, 0);
@@ -169,7 +170,7 @@ static int32_t closed(struct play *play)
  * unless a move that follows reads them. */
 enum { STEP = 1, REFUSES = 2, UNREAD = 4 };
 struct move {
-    int32_t (*make)(struct play *play);
+    enum dw_result (*make)(struct play *play);
     int kind;
 };
 
@@ -210,7 +211,7 @@ static void expect_taken_up(struct play *play)
     EXPECT_NUMBER(DW_OK, dw_tick(&play->second, 1));
     EXPECT_NUMBER(DW_OK, dw_opened(&play->second, 1));
     EXPECT_NUMBER(DW_OK, dw_next(&play->second, &output));
-    EXPECT_NUMBER(DW_SEND, output.kind);
+    EXPECT_NUMBER(DW_KIND_SEND, output.kind);
     EXPECT_NUMBER(49, dw_copy(&play->second, 0, frame, sizeof frame));
     /* saved: session, password, zxid; ConnectRequest after its length: version, zxid, timeout, session, password */
     EXPECT(memcmp(frame + 20, play->saved, 28) == 0);
@@ -235,19 +236,19 @@ static void expect_halted(struct play *play)
     EXPECT_NUMBER(DW_OK, add_kept_data(&kept, &play->client, "/a"));
     EXPECT_NUMBER(DW_OK, add_kept_names(&kept, &play->client, "/a"));
     EXPECT(strcmp(kept.at, "data 0 0 \"\"\nnames 0 0\n") == 0);
-    EXPECT(dw_state(&play->client) >= DW_IDLE && dw_timeout_ms(&play->client) > 0);
+    EXPECT(dw_state(&play->client) >= DW_STATE_IDLE && dw_timeout_ms(&play->client) > 0);
 }
 
 /* Makes a move, and once more where it was refused. Answers whether the client can go on. */
 static bool make(struct play *play, const struct move *move)
 {
     bool was_already = was_refused();
-    int32_t code = move->make(play);
-    if (code == DW_NO_MEMORY) {
+    enum dw_result result = move->make(play);
+    if (result == DW_NO_MEMORY) {
         EXPECT((move->kind & REFUSES) != 0 && !was_already && was_refused());
-        code = move->make(play);
+        result = move->make(play);
     }
-    if (code == DW_HALTED) {
+    if (result == DW_HALTED) {
         EXPECT((move->kind & STEP) != 0 && !was_already && was_refused());
         expect_halted(play);
         EXPECT_NUMBER(DW_OK, save(play));
@@ -255,7 +256,7 @@ static bool make(struct play *play, const struct move *move)
         expect_taken_up(play);
         return false;
     }
-    EXPECT_NUMBER(DW_OK, code);
+    EXPECT_NUMBER(DW_OK, result);
     if ((move->kind & (STEP | UNREAD)) == STEP) {
         add_outputs(&play->lines, &play->client);
     }

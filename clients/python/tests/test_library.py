@@ -60,6 +60,10 @@ def connected() -> Machine:
     return machine
 
 
+# What is a union in the header, by one of its fields.
+IN_C = {"detail": "outcome", "result": "reply"}
+
+
 class LayoutTest(unittest.TestCase):
     def test_structs_are_those_of_the_header(self) -> None:
         compiler = shutil.which("cc")
@@ -72,7 +76,8 @@ class LayoutTest(unittest.TestCase):
         with tempfile.TemporaryDirectory() as folder:
             source, program = pathlib.Path(folder, "layout.c"), pathlib.Path(folder, "layout")
             lines = [
-                f"P(sizeof({name})); {' '.join(f'P(offsetof({name}, {field[0]}));' for field in kind._fields_)} E;"
+                f"P(sizeof({name})); "
+                f"{' '.join(f'P(offsetof({name}, {IN_C.get(field[0], field[0])}));' for field in kind._fields_)} E;"
                 for name, kind in STRUCTS.items()
             ]
             source.write_text(
