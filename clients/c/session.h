@@ -1,9 +1,9 @@
 /* A session over one socket, for small programs that do one thing after the other: an example of a loop that waits for its answers, and
  * no part of the library. Define _POSIX_C_SOURCE as 200809L before it. The programs of docs/COOKBOOK.md use it. follow.c is a loop that waits for nothing but poll.
  *
- * A call waits for a connection and then for its answer. It answers 0, the server's code (DW_CODE_NO_NODE), which is below 0, or why there is
- * no reply (DW_OUTCOME_LOST), which is above 0; session_fail says which in words. Where no server is found for a while, that is said on standard
- * error once, and the call goes on waiting. Memory that runs out, and a text that is no path, end the program, and say so. */
+ * A call waits for a connection and then for its answer. It answers 0, the server's code (DW_CODE_NO_NODE), which is below 0, or why there
+ * is no reply (DW_OUTCOME_LOST), which is above 0; session_fail says which in words. Where no server is found for a while, that is said on
+ * standard error once, and the call goes on waiting. Memory that runs out, and a text that is no path, end the program, and say so. */
 #ifndef SESSION_H
 #define SESSION_H
 
