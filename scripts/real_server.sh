@@ -436,11 +436,12 @@ state Idle
 state Connecting
 state Expired
 session new
-/expires data none last 0
+/expires data none last @renewed
 state Connecting
 state Connected
 /expires data full 74776f @expires @twice @ @ 1 0 3 good last @
 EOF
+    ((known[@renewed] >= known[@expires])) || fail "the new session has forgotten the last seen zxid"
     end_by_force expires
 }
 
