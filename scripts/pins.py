@@ -376,12 +376,24 @@ def parts_of(pin: Pin) -> dict[str, str]:
     return dict(zip(numbered(part.label for part in pin.parts), (part.checksum if part.words else "" for part in pin.parts), strict=True))
 
 
-def line_of(key: str, parts: Parts) -> str:
-    return f"{key}: {', '.join(f'{label} {checksum}'.strip() for label, checksum in parts.items())}"
+# STATEMENTS.lock
+
+LOCK = TOP / "STATEMENTS.lock"
+HEAD = "# What the crates state. scripts/statements writes this, and says in words what changed: scripts/statements --compare\n"
+
+
+def lock_of(pins: Mapping[str, Pin]) -> str:
+    """The text of STATEMENTS.lock: a line of each pin."""
+    lines = {key: ", ".join(f"{label} {checksum}".strip() for label, checksum in parts_of(pin).items()) for key, pin in pins.items()}
+    return HEAD + "".join(f"{key}: {line}\n" for key, line in lines.items())
+
+
+def lines_in(text: str) -> dict[str, Parts]:
+    """The parts of each line of STATEMENTS.lock by its key."""
+    return dict(read_line(line) for line in text.splitlines() if not line.startswith("#"))
 
 
 def read_line(line: str) -> tuple[str, dict[str, str]]:
-    """The key of a line of STATEMENTS.lock, and its parts."""
     key, _, rest = line.partition(": ")
     found = [re.fullmatch(r"(.*?)(?: ([0-9a-f]{8}))?", part) for part in rest.split(", ")]
     return key, {it[1]: it[2] or "" for it in found if it}
