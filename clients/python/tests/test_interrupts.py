@@ -167,7 +167,7 @@ class EndTest(ClientCase):
         client.exists("/a", watch=watch)
         partner.do("create /a")
         self.assertTrue(runs.wait(WAIT))
-        with mock.patch("dirwolleu.client.LONGEST_CALLBACK", 0.2), self.assertLogs("dirwolleu", "WARNING"):
+        with mock.patch("dirwolleu._waiting.LONGEST_CALLBACK", 0.2), self.assertLogs("dirwolleu", "WARNING"):
             began = time.monotonic()
             client.stop()
         self.assertLess(time.monotonic() - began, 2.0)
