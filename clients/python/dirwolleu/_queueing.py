@@ -16,7 +16,7 @@ from dirwolleu._retry import is_passing
 from dirwolleu._steps import Steps, TimeIsOver, Wait, bounded, until_of
 from dirwolleu.exceptions import BadVersionError, NoNodeError, ZookeeperError
 
-_ENTRY = re.compile(r"entry-(\d{3})-.*?(-?\d{10})$")
+_ENTRY = re.compile(r"entry-(\d{3})-(?:.*-)?(\d{10})$")
 _MOST_PRIORITY = 999
 
 

@@ -24,6 +24,7 @@ from dirwolleu._requests import Result
 from dirwolleu._retry import Retry
 from dirwolleu._shown import AuthData, Shown, credential_of
 from dirwolleu._steps import Ask, Call, Step, Steps, Wait
+from dirwolleu._watches import ChildrenWatch, DataWatch
 from dirwolleu.exceptions import ConnectionClosedError, ZookeeperError
 from dirwolleu.security import ACL
 from dirwolleu.transaction import AsyncTransaction
@@ -45,8 +46,10 @@ from dirwolleu._aio_recipes import (  # isort: skip
 
 __all__ = [
     "Barrier",
+    "ChildrenWatch",
     "Client",
     "Counter",
+    "DataWatch",
     "DoubleBarrier",
     "Election",
     "Held",
