@@ -6,7 +6,7 @@ import asyncio
 import contextlib
 from collections.abc import Awaitable
 from types import TracebackType
-from typing import TYPE_CHECKING, Callable, Optional, TypeVar, cast
+from typing import TYPE_CHECKING, Any, Callable, Optional, TypeVar, cast, overload
 
 from dirwolleu import _contending as contending
 from dirwolleu._contending import READING, WRITING, BaseHeld, BaseLock, Holding
@@ -229,6 +229,15 @@ class Counter(BaseCounter["Client", Number]):
 
         number = await dirwolleu.aio.Counter(client, "/jobs").add(5)
     """
+
+    @overload
+    def __init__(self: Counter[int], client: Client, path: str) -> None: ...
+
+    @overload
+    def __init__(self, client: Client, path: str, default: Number) -> None: ...
+
+    def __init__(self, client: Client, path: str, default: Any = 0) -> None:
+        super().__init__(client, path, default)
 
     async def get(self) -> Number:
         """The number. Raises `ValueError` where the node has other data."""

@@ -2,7 +2,7 @@
 
 from __future__ import annotations
 
-from typing import Any, Callable, Generic, Optional, TypeVar, overload
+from typing import Any, Callable, Generic, Optional, TypeVar
 
 from dirwolleu import _lane as lane
 from dirwolleu import _plans as plans
@@ -19,13 +19,7 @@ Number = TypeVar("Number", bound=float)
 class BaseCounter(Generic[AnyClient, Number]):
     """A number that is changed by compare and set, for both kinds of clients."""
 
-    @overload
-    def __init__(self: BaseCounter[AnyClient, int], client: AnyClient, path: str) -> None: ...
-
-    @overload
-    def __init__(self, client: AnyClient, path: str, default: Number) -> None: ...
-
-    def __init__(self, client: AnyClient, path: str, default: Any = 0) -> None:
+    def __init__(self, client: AnyClient, path: str, default: Any) -> None:
         self._client, self._path = client, path
         self._default: Number = default
 

@@ -7,7 +7,7 @@ from __future__ import annotations
 
 import threading
 from types import TracebackType
-from typing import Callable, Optional, TypeVar, cast
+from typing import Any, Callable, Optional, TypeVar, cast, overload
 
 from dirwolleu import _contending as contending
 from dirwolleu._contending import READING, WRITING, BaseHeld, BaseLock, Holding
@@ -304,6 +304,15 @@ class Counter(BaseCounter[Client, Number]):
         before = counter.get()
         print(counter.add(5), "is", counter.change(lambda number: number * 2) // 2)
     """
+
+    @overload
+    def __init__(self: Counter[int], client: Client, path: str) -> None: ...
+
+    @overload
+    def __init__(self, client: Client, path: str, default: Number) -> None: ...
+
+    def __init__(self, client: Client, path: str, default: Any = 0) -> None:
+        super().__init__(client, path, default)
 
     def get(self) -> Number:
         """The number. Raises `ValueError` where the node has other data."""
