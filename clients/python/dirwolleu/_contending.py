@@ -325,6 +325,7 @@ class BaseHeld(Generic[AnyClient]):
             raise LockLostError(f"{self.path}: {why}")
 
     def _releasing(self) -> Steps[None]:
+        self._client._engine.check_process()
         if not self._is_released:
             self._is_released = True
             self._client.remove_listener(self._look)

@@ -243,8 +243,19 @@ class Engine:
         self._begin_anew(ConnectionClosedError("the client was stopped"))
 
     def leave(self) -> None:
-        """Takes no request any more, at the end of the program: the session goes on for its timeout."""
+        """Takes no request any more, at the end of the program: the session goes on for its timeout.
+
+        Nobody is told, since the threads that wait still are those that end with the program.
+        """
         self.is_running = False
+        self._listening = Listeners()
+        self._lane = Lane()
+        self._handed.clear()
+        self._line.clear()
+        self._sent.clear()
+        self._timed.clear()
+        self._watchers.clear()
+        self._listeners.clear()
 
     def close(self) -> None:
         """Takes no request any more, and frees the machine. It ends no session."""
