@@ -20,6 +20,7 @@ from dirwolleu._frames import Frames, Kind, is_ping
 from dirwolleu._jute import Malformed
 from dirwolleu._lane import Lane, LaneRequest, Reply
 from dirwolleu._library import Answer, Closed, Drop, Found, Halted, Machine, Output, Report, Send
+from dirwolleu._listening import Listeners, Listening
 from dirwolleu._requests import Request, Watcher
 from dirwolleu._root import Root
 from dirwolleu.exceptions import (
@@ -49,6 +50,8 @@ _EVENTS = {
 # end of what is made
 _ENDING = (SessionExpiredError.code, SessionMovedError.code)
 _LONGEST_TIMEOUT_MS = 2_147_483_647
+RECIPES_BEFORE_FORGETTING = 1024
+"""How many nodes recipes are done with before what is stale is forgotten."""
 _SESSION = 0xFFFF_FFFF_FFFF_FFFF
 
 
@@ -127,14 +130,6 @@ def _is_auth(asked: _Asked) -> bool:
     return isinstance(asked.request, LaneRequest) and asked.request.operation is lane.Operation.AUTH
 
 
-class _Listening(NamedTuple):
-    """What is woken at news of the data of a path, or at news of the state alone, and the last good answer for it."""
-
-    path: Optional[str]
-    wake: Callable[[], None]
-    found: collections.deque[Kept]
-
-
 @dataclass
 class Contact:
     """What was heard of servers, for whoever decides when to dial again. Moments are milliseconds."""
@@ -204,11 +199,11 @@ class Engine:
         self._line: collections.deque[_Asked] = collections.deque()
         self._sent: dict[int, _Asked] = {}
         self._lane: Lane[_Asked] = Lane()
-        self._lane_zxid = 0
+        self._lane_zxid = self._used = 0
         self._credentials = list(credentials)
         self._timed: list[tuple[int, int, _Asked]] = []
         self._watchers: dict[tuple[str, int], dict[Watcher, None]] = {}
-        self._listening: dict[object, _Listening] = {}
+        self._listening = Listeners()
         self._listeners: list[Listener] = []
         self._came, self._frames = Frames(), list[bytes]()
         self._pinged: collections.deque[int] = collections.deque()
@@ -248,8 +243,19 @@ class Engine:
         self._begin_anew(ConnectionClosedError("the client was stopped"))
 
     def leave(self) -> None:
-        """Takes no request any more, at the end of the program: the session goes on for its timeout."""
+        """Takes no request any more, at the end of the program: the session goes on for its timeout.
+
+        Nobody is told, since the threads that wait still are those that end with the program.
+        """
         self.is_running = False
+        self._listening = Listeners()
+        self._lane = Lane()
+        self._handed.clear()
+        self._line.clear()
+        self._sent.clear()
+        self._timed.clear()
+        self._watchers.clear()
+        self._listeners.clear()
 
     def close(self) -> None:
         """Takes no request any more, and frees the machine. It ends no session."""
@@ -361,8 +367,12 @@ class Engine:
 
     def check_process(self) -> None:
         """Raises where this is a forked child of the process in which the client was started."""
-        if self._process not in (None, os.getpid()):
+        if not self.is_here():
             raise ConnectionClosedError("the client was started in another process, before a fork: make one here")
+
+    def is_here(self) -> bool:
+        """Whether this is no forked child of the process in which the client was started."""
+        return self._process in (None, os.getpid())
 
     def is_introduced(self) -> bool:
         """Whether a server has accepted the session, and answered for all credentials."""
@@ -400,8 +410,24 @@ class Engine:
         found, last_zxid = looked
         return KeptChildren(path, Mark(found.mark), last_zxid, found.names, found.pzxid)
 
+    def settled_children(self, path: str) -> Optional[KeptChildren]:
+        """What is kept of the children of a path, where it is good: their names, or that there is no node."""
+        children = self.kept_children(path)
+        if children is not None and children.mark is Mark.GOOD:
+            return children
+        kept = self.kept(path)
+        if kept is None or kept.mark is not Mark.GOOD or kept.exists:
+            return None
+        return KeptChildren(path, Mark.GOOD, kept.last_zxid, (), 0, exists=False)
+
     def forget_stale(self) -> None:
         self._look(Machine.forget)
+
+    def used(self) -> None:
+        """Counts that a recipe has done with a node. What it has left is stale, and is forgotten from time to time."""
+        self._used += 1
+        if self._used % RECIPES_BEFORE_FORGETTING == 0:
+            self.forget_stale()
 
     def saved(self) -> bytes:
         """The session, as the library puts it away. It is a secret."""
@@ -418,6 +444,10 @@ class Engine:
         looked = self._look(Machine.last_zxid)
         return looked if looked is not None else int(struct.unpack(">q", (self._saved_at_close or b"")[-8:])[0])
 
+    def lane_zxid(self) -> int:
+        """The greatest zxid that the lane has seen."""
+        return self._lane_zxid
+
     def timeout(self) -> float:
         """The timeout of the session in seconds: the one that a server granted last, or the one to ask for."""
         return (self._look(Machine.timeout_ms) or self._timeout_ms) / 1000
@@ -433,17 +463,23 @@ class Engine:
         self._listeners.remove(listener)
 
     @contextlib.contextmanager
-    def news(self, wake: Callable[[], None], path: Optional[str] = None) -> Iterator[collections.deque[Kept]]:
-        """Within it, `wake` is called at each change of the state, and at each answer and report of a path's data.
+    def news(
+        self,
+        wake: Callable[[], None],
+        path: Optional[str] = None,
+        settled: Callable[[], Optional[Any]] = lambda: None,
+    ) -> Iterator[collections.deque[Any]]:
+        """Within it, `wake` is called at each change of the state, at each report of a path, and at each answer after
+        which something of it is `settled`.
 
-        What it gives holds the last answer that was good and whole when it came, until somebody takes it.
+        What it gives holds the last such answer, which was good and whole when it came, until somebody takes it.
         """
-        key, found = object(), collections.deque[Kept](maxlen=1)
-        self._listening[key] = _Listening(path, wake, found)
+        key, found = object(), collections.deque[Any](maxlen=1)
+        self._listening.add(path, key, Listening(wake, settled, found))
         try:
             yield found
         finally:
-            self._listening.pop(key, None)
+            self._listening.remove(path, key)
 
     def _look(self, look: Callable[[Machine], Found]) -> Optional[Found]:
         """What is found in the machine, once more where that was closed meanwhile; None where the client is closed."""
@@ -629,19 +665,17 @@ class Engine:
 
     def _bring(self, path: str) -> None:
         """Hands an answer to those who follow the node, as long as it is good: the next frame may be a notice."""
-        following = [listening for listening in list(self._listening.values()) if listening.path == path]
-        kept = self.settled(path) if following else None
-        if kept is not None:
-            for listening in following:
-                listening.found.append(kept)
+        for listening in self._listening.of(path):
+            settled = listening.settled()
+            if settled is not None:
+                listening.found.append(settled)
                 listening.wake()
 
     def _report(self, report: Report) -> None:
         event = WatchedEvent(_EVENTS[report.event], self.state, report.path)
         for watcher in self._watchers.pop((report.path, report.side), ()):
             self._tell(watcher.function, event)
-        if report.side == library.DATA_SIDE:
-            self._wake(report.path)
+        self._wake(report.path)
 
     def _change(self, state: int) -> None:
         if state == library.CONNECTED:
@@ -710,9 +744,8 @@ class Engine:
 
     def _wake(self, path: Optional[str]) -> None:
         """Wakes those who wait for news of this path, or all."""
-        for listening in list(self._listening.values()):
-            if path is None or listening.path == path:
-                listening.wake()
+        for listening in self._listening.all() if path is None else self._listening.of(path):
+            listening.wake()
 
 
 class _Introduction:

@@ -164,4 +164,7 @@ class KeptChildren:
     """The names of the children, in the order of their bytes."""
 
     pzxid: int
-    """The zxid of the last change of this set."""
+    """The zxid of the last change of this set, 0 where there is no node."""
+
+    exists: bool = True
+    """Whether there is a node. `follow_children` tells its absence too, which is kept of its data."""

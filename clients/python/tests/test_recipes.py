@@ -153,6 +153,52 @@ class LockTest(RecipeCase):
         held.release()
         self.check_lost(lock, lost, lambda held: self.server.do("expire"), "session is over|not known to be there")
 
+    def test_it_is_lost_with_the_first_step_that_can_know(self) -> None:
+        """After each step of the client: what it is told, and whether the lock is held still."""
+        for keeps, end, wanted in (
+            (False, "drop", [(State.CONNECTED, True), (State.SUSPENDED, False)]),
+            (True, "expire", [(State.CONNECTED, True), (State.SUSPENDED, True), (State.LOST, False)]),
+            (True, "delete", [(State.CONNECTED, True), (State.CONNECTED, False)]),
+        ):
+            with self.subTest(end):
+                held = Lock(self.one, f"/{end}", keeps_while_suspended=keeps).acquire(WAIT)
+                seen = [(State.CONNECTED, held.is_held)]
+                engine, step = self.one._engine, self.one._engine._step
+
+                def stepped(*words: Any, seen: Any = seen, held: Held = held, step: Any = step) -> None:
+                    step(*words)
+                    if (engine.state, held.is_held) != seen[-1]:
+                        seen.append((engine.state, held.is_held))
+
+                with mock.patch.object(engine, "_step", stepped):
+                    if end == "delete":
+                        self.other.delete(held.path)
+                    else:
+                        self.server.do(end)
+                    within(lambda: not held.is_held)
+                self.assertEqual(seen[: len(wanted)], wanted)
+                within(lambda: self.one.connected)
+                held.release()
+                later = Lock(self.one, f"/{end}").acquire(WAIT)
+                self.assertGreater(later.token, held.token)
+                later.release()
+
+    def test_a_wait_without_a_connection_ends_in_time(self) -> None:
+        self.server.do("down")
+        within(lambda: self.one.state is State.SUSPENDED)
+        began = time.monotonic()
+        with self.assertRaises(LockTimeout):
+            Lock(self.one, "/locks").acquire(0.1)
+        self.assertLess(time.monotonic() - began, 4.0)
+
+    def test_what_locks_have_left_is_forgotten(self) -> None:
+        with mock.patch("dirwolleu._engine.RECIPES_BEFORE_FORGETTING", 3):
+            paths = []
+            for _ in range(3):
+                with Lock(self.one, "/locks") as held:
+                    paths.append(held.path)
+        self.assertEqual([self.one.kept(path) for path in paths[:2]], [None, None])
+
     def test_a_lost_create_is_settled(self) -> None:
         for happens in (True, False):
             with self.subTest(happens=happens):
