@@ -311,6 +311,30 @@ class KeptNames(NamedTuple):
     pzxid: int
 
 
+class SubtreeNode(NamedTuple):
+    """A node of a subtree. The pzxid is the zxid of the last change of the names below it."""
+
+    path: str
+    data: Optional[bytes]
+    stat: DataStat
+    pzxid: int
+
+
+class Lacking(NamedTuple):
+    """A read, with a watch, that is lacking before there is a subtree. The side is `DATA_SIDE` or `CHILDREN_SIDE`."""
+
+    path: str
+    side: int
+
+
+class NotWhole(LookupError):
+    """Some of the subtree is not kept, or not good."""
+
+
+class TooManyNodes(ValueError):
+    """The subtree has more nodes than were asked for."""
+
+
 class Halted(MemoryError):
     """The machine ran out of memory within a step. It has no use from then on, but its session can still be taken."""
 
