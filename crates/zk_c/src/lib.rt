@@ -1,8 +1,9 @@
-//! A client of ZooKeeper behind a C interface, `include/dirwolleu.h`: a handle that C holds, functions that are total and answer a
+//! A client of ZooKeeper with a C interface, `include/dirwolleu.h`: a handle that C holds, functions that are total and answer a
 //! number, and for each step the rule of the client. No function waits, and one at a time uses a handle.
 #![tactic(auto)]
 
 mod calls;
+mod conclusions;
 mod handle;
 mod kept;
 mod making;
@@ -12,3 +13,4 @@ mod session;
 mod slot;
 mod steps;
 mod taking;
+mod version;
