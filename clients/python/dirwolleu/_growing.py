@@ -13,7 +13,7 @@ from dirwolleu._library import NotWhole, SubtreeNode, TooManyNodes
 from dirwolleu._paths import parent
 from dirwolleu._requests import Request
 from dirwolleu._retry import is_passing
-from dirwolleu.exceptions import NoNodeError, ZookeeperError
+from dirwolleu.exceptions import ConnectionClosedError, NoNodeError, ZookeeperError
 from dirwolleu.tree import TreeNode, TreeSnapshot
 from dirwolleu.types import Kept, KeptChildren, Mark
 
@@ -104,7 +104,7 @@ class Growing:
         self._asked.discard(read)
         if isinstance(error, NoNodeError):
             self._lose(read)
-        elif isinstance(error, ZookeeperError) and not is_passing(error):
+        elif isinstance(error, ZookeeperError) and not is_passing(error) and not isinstance(error, ConnectionClosedError):
             self._refuse(read, error)
         else:
             self._want_again(read)
@@ -154,7 +154,9 @@ class Growing:
         path, side = read
         if read == self._root_read and self._asks_exists:
             return requests.exists(path, True)
-        return requests.get(path, True) if side == library.DATA_SIDE else requests.get_children(path, True)
+        if side == library.DATA_SIDE:
+            return requests.get(path, True)
+        return requests.get_children(path, True)
 
     def _learn(self) -> bool:
         """Has the core tell all that is lacking."""
