@@ -34,7 +34,7 @@ from dirwolleu.exceptions import (
     ZookeeperError,
 )
 from dirwolleu.security import AuthFailedError
-from dirwolleu.types import EventType, Kept, KeptChildren, Mark, State, Stats, WatchedEvent
+from dirwolleu.types import EventType, Kept, KeptChildren, Mark, Snapshot, State, Stats, WatchedEvent
 
 logger = logging.getLogger("dirwolleu.connection")
 
@@ -393,6 +393,20 @@ class Engine:
             return None
         found, last_zxid = looked
         return Kept(path, Mark(found.mark), last_zxid, found.stat, found.data, found.kind == library.FULL)
+
+    def snapshot(self, nodes: tuple[str, ...], parents: tuple[str, ...]) -> Optional[Snapshot]:
+        """What is kept of nodes and of the names below parents, where all of it is good at one zxid."""
+        while True:
+            kept, names = [self.kept(path) for path in nodes], [self.kept_children(path) for path in parents]
+            if any(one is None or one.mark is not Mark.GOOD for one in [*kept, *names]):
+                return None
+            zxids = {one.last_zxid for one in [*kept, *names] if one is not None} or {self.last_zxid()}
+            if len(zxids) == 1:  # else a step lay between two look-ups
+                return Snapshot(
+                    zxids.pop(),
+                    {one.path: one for one in kept if one is not None},
+                    {one.path: one for one in names if one is not None},
+                )
 
     def settled(self, path: str) -> Optional[Kept]:
         """What is kept of a path, where it is good and whole: its data, or that there is no node."""

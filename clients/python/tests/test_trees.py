@@ -134,6 +134,27 @@ class SnapshotTest(PartnerCase):
             self.assertEqual(sorted(tree.wait(WAIT)), ["/", "/a", "/a/deep", "/b"])
 
 
+class MomentTest(PartnerCase):
+    """Several nodes of one moment."""
+
+    def test_all_is_good_or_there_is_none(self) -> None:
+        server = self.partner()
+        server.do(*MADE)
+        with dirwolleu.Client(server.host, 5.0) as client:
+            self.assertIsNone(client.snapshot(nodes=["/t/a"]))
+            client.get("/t/a", watch=True)
+            client.exists("/none", watch=True)
+            client.get_children("/t", watch=True)
+            found = client.snapshot(nodes=["/t/a", "/none"], parents=["/t"])
+            assert found is not None
+            self.assertEqual((found.nodes["/t/a"].data, found.nodes["/none"].exists), (b"1", False))
+            self.assertEqual((found.children["/t"].names, found.zxid), (("a", "b"), client.last_zxid))
+            server.do("set /t/a 2")
+            within(lambda: client.snapshot(nodes=["/t/a"]) is None)
+            self.assertIsNotNone(client.snapshot(nodes=["/none"], parents=["/t"]))
+            self.assertEqual(client.snapshot(), dirwolleu.Snapshot(client.last_zxid, {}, {}))
+
+
 class AsyncTest(PartnerCase):
     def test_each_new_snapshot_is_given(self) -> None:
         server = self.partner()
