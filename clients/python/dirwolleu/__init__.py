@@ -11,6 +11,7 @@ from typing import TYPE_CHECKING, Any
 from dirwolleu import security
 from dirwolleu._lane import Created
 from dirwolleu._retry import Retry
+from dirwolleu._trees import AsyncTree, Tree
 from dirwolleu._watches import ChildrenWatch, DataWatch
 from dirwolleu.client import Client
 from dirwolleu.exceptions import *  # noqa: F403
@@ -20,6 +21,8 @@ from dirwolleu.recipes import __all__ as _recipes
 from dirwolleu.security import AuthFailedError
 from dirwolleu.tls import tls_context
 from dirwolleu.transaction import AsyncTransaction, Transaction
+from dirwolleu.tree import *  # noqa: F403
+from dirwolleu.tree import __all__ as _tree
 from dirwolleu.types import *  # noqa: F403
 from dirwolleu.types import __all__ as _types
 
@@ -28,6 +31,7 @@ if TYPE_CHECKING:
 
 __all__ = [
     "AsyncTransaction",
+    "AsyncTree",
     "AuthFailedError",
     "ChildrenWatch",
     "Client",
@@ -35,11 +39,13 @@ __all__ = [
     "DataWatch",
     "Retry",
     "Transaction",
+    "Tree",
     "aio",
     "security",
     "tls_context",
     *_exceptions,
     *_recipes,
+    *_tree,
     *_types,
 ]
 

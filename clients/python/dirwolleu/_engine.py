@@ -20,6 +20,7 @@ from dirwolleu._frames import Frames, Kind, is_ping
 from dirwolleu._jute import Malformed
 from dirwolleu._lane import Lane, LaneRequest, Reply
 from dirwolleu._library import Answer, Closed, Drop, Found, Halted, Machine, Output, Report, Send
+from dirwolleu._growing import Growing
 from dirwolleu._listening import Listeners, Listening
 from dirwolleu._requests import Request, Watcher
 from dirwolleu._root import Root
@@ -33,7 +34,7 @@ from dirwolleu.exceptions import (
     ZookeeperError,
 )
 from dirwolleu.security import AuthFailedError
-from dirwolleu.types import EventType, Kept, KeptChildren, Mark, State, Stats, WatchedEvent
+from dirwolleu.types import EventType, Kept, KeptChildren, Mark, Snapshot, State, Stats, WatchedEvent
 
 logger = logging.getLogger("dirwolleu.connection")
 
@@ -204,6 +205,7 @@ class Engine:
         self._timed: list[tuple[int, int, _Asked]] = []
         self._watchers: dict[tuple[str, int], dict[Watcher, None]] = {}
         self._listening = Listeners()
+        self._trees: list[Growing] = []
         self._listeners: list[Listener] = []
         self._came, self._frames = Frames(), list[bytes]()
         self._pinged: collections.deque[int] = collections.deque()
@@ -296,6 +298,7 @@ class Engine:
         while self._line and self._is_given_up(self._line[0], now):
             error = NotConnectedError(self.no_server(self._timeout_ms / 1000))
             self._count_loss(self._line.popleft(), error)
+        self._grow_trees(now)
 
     def received(self, now: int, data: bytes) -> None:
         """Bytes came. Each frame is a step of its own, so that what is kept can be looked up as it was with the frame.
@@ -306,6 +309,7 @@ class Engine:
             self._step(now, lambda machine: machine.received(now, piece.data))
             if piece.kind is Kind.PONG and self._pinged:
                 self.contact.answered(self._pinged.popleft(), now)
+            self._grow_trees(now)
         if self.state is State.CONNECTED:
             self.contact.heard_at = now
         self._send_line(now)
@@ -325,6 +329,8 @@ class Engine:
             moments.append(self._line[0].until)
         if self._timed:
             moments.append(self._timed[0][0])
+        if self.state is State.CONNECTED:
+            moments += [tree.deadline() for tree in list(self._trees)]
         return min((moment for moment in moments if moment is not None), default=None)
 
     def no_server(self, seconds: Optional[float]) -> str:
@@ -364,6 +370,7 @@ class Engine:
             if asked.ends_at is not None:
                 heapq.heappush(self._timed, (asked.ends_at, next(self._tickets), asked))
         self._send_line(now)
+        self._grow_trees(now)
 
     def check_process(self) -> None:
         """Raises where this is a forked child of the process in which the client was started."""
@@ -398,6 +405,20 @@ class Engine:
         found, last_zxid = looked
         return Kept(path, Mark(found.mark), last_zxid, found.stat, found.data, found.kind == library.FULL)
 
+    def snapshot(self, nodes: tuple[str, ...], parents: tuple[str, ...]) -> Optional[Snapshot]:
+        """What is kept of nodes and of the names below parents, where all of it is good at one zxid."""
+        while True:
+            kept, names = [self.kept(path) for path in nodes], [self.kept_children(path) for path in parents]
+            if any(one is None or one.mark is not Mark.GOOD for one in [*kept, *names]):
+                return None
+            zxids = {one.last_zxid for one in [*kept, *names] if one is not None} or {self.last_zxid()}
+            if len(zxids) == 1:  # else a step lay between two look-ups
+                return Snapshot(
+                    zxids.pop(),
+                    {one.path: one for one in kept if one is not None},
+                    {one.path: one for one in names if one is not None},
+                )
+
     def settled(self, path: str) -> Optional[Kept]:
         """What is kept of a path, where it is good and whole: its data, or that there is no node."""
         kept = self.kept(path)
@@ -419,6 +440,38 @@ class Engine:
         if kept is None or kept.mark is not Mark.GOOD or kept.exists:
             return None
         return KeptChildren(path, Mark.GOOD, kept.last_zxid, (), 0, exists=False)
+
+    # Trees. Their reads are asked by the engine itself.
+
+    def add_tree(self, tree: Growing) -> None:
+        """Has a tree be read, from the next step on."""
+        self._trees.append(tree)
+
+    def remove_tree(self, tree: Growing) -> None:
+        with contextlib.suppress(ValueError):
+            self._trees.remove(tree)
+
+    def has_tree(self, tree: Growing) -> bool:
+        return tree in self._trees
+
+    def hand_in(self, request: Request[Any], waiter: Waiter) -> None:
+        """Has a request be sent after those that wait."""
+        self._line.append(_Asked(request, waiter, self._now + self._timeout_ms))
+
+    def lacking(self, path: str, most: int) -> list[library.Lacking]:
+        """What is still to be read, with a watch, before there is a subtree."""
+        return self._look(lambda machine: machine.lacking(path, most)) or []
+
+    def subtree(self, path: str, most: int) -> tuple[Optional[list[library.SubtreeNode]], int]:
+        """All nodes at and below a path, and the zxid at which the servers have just these; None where that is not shown."""
+        return self._look(lambda machine: machine.subtree(path, most)) or (None, 0)
+
+    def _grow_trees(self, now: int) -> None:
+        """Has trees be read on, where a server has accepted the session."""
+        if self._trees and self.state is State.CONNECTED and self.is_running:
+            for tree in list(self._trees):
+                tree.advance(now)
+            self._send_line(now)
 
     def forget_stale(self) -> None:
         self._look(Machine.forget)
@@ -675,6 +728,8 @@ class Engine:
         event = WatchedEvent(_EVENTS[report.event], self.state, report.path)
         for watcher in self._watchers.pop((report.path, report.side), ()):
             self._tell(watcher.function, event)
+        for tree in list(self._trees):
+            tree.reported(report.path, report.side)
         self._wake(report.path)
 
     def _change(self, state: int) -> None:
@@ -720,6 +775,8 @@ class Engine:
     def _forget_callers(self, error: ZookeeperError, state: State) -> None:
         """Fails all that waits for an answer, ends all watches, and enters a state."""
         self._refuse_handed(error)
+        for tree in list(self._trees):
+            tree.forget()
         for asked in [*self._sent.values(), *self._lane.pending(), *self._line]:
             self._count_loss(asked, type(error)(*error.args))
         self._lane = Lane()

@@ -15,7 +15,7 @@ from dirwolleu._hosts import Servers
 from dirwolleu._plans import Plan
 from dirwolleu._retry import Retry
 from dirwolleu._steps import Steps
-from dirwolleu.types import Kept, KeptChildren, Mark, State, Stats
+from dirwolleu.types import Kept, KeptChildren, Mark, Snapshot, State, Stats
 
 AuthData = Iterable[tuple[str, Union[str, bytes]]]
 AnyKept = TypeVar("AnyKept", bound=Union[Kept, KeptChildren])
@@ -154,6 +154,20 @@ class Shown:
         if within is None or kept is None:
             return kept
         return kept if kept.mark is Mark.GOOD and age <= within else None
+
+    def snapshot(self, nodes: Iterable[str] = (), parents: Iterable[str] = ()) -> Optional[Snapshot]:
+        """What is kept of several nodes, and of the names below several parents, of one moment. It asks no server.
+
+        None where some of it is not kept, or not good: read that, with a watch. Answers that are all good at one zxid are
+        those of one tree, the servers' at that zxid: that is proved, whatever was told between the reads. Of a node that
+        is not there, its absence is kept by `exists`.
+
+            found = client.snapshot(nodes=["/host", "/port"], parents=["/workers"])
+            if found is not None:
+                print(found.nodes["/host"].data, found.children["/workers"].names, "at zxid", found.zxid)
+        """
+        self._engine.check_process()
+        return self._engine.snapshot(tuple(nodes), tuple(parents))
 
     def forget_stale(self) -> None:
         """Forgets all kept answers that are stale. Until then, what was read with a watch takes memory."""

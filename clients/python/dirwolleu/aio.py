@@ -24,6 +24,7 @@ from dirwolleu._requests import Result
 from dirwolleu._retry import Retry
 from dirwolleu._shown import AuthData, Shown, credential_of
 from dirwolleu._steps import Ask, Call, Step, Steps, Wait
+from dirwolleu._trees import MOST_NODES, AsyncTree
 from dirwolleu._watches import ChildrenWatch, DataWatch
 from dirwolleu.exceptions import ConnectionClosedError, ZookeeperError
 from dirwolleu.security import ACL
@@ -384,6 +385,12 @@ class Client(Shown):
         async for kept in self._follow(following.children_of(self._engine, path)):
             yield kept
 
+    def tree(self, path: str, *, most: int = MOST_NODES) -> AsyncTree:
+        """Reads all nodes at and below a path, and reads again what changes, as `tree` of `dirwolleu.Client` does."""
+        tree = AsyncTree(self, path, most, asyncio.Event)
+        self._act()
+        return tree
+
     async def _follow(self, subject: following.Subject[following.Told]) -> AsyncGenerator[following.Told, None]:
         following.begun(self._engine)
         news = asyncio.Event()
@@ -434,9 +441,12 @@ class Client(Shown):
     def _send(self, request: AnyRequest[Any], timeout: Optional[float] = None) -> _Waiter:
         waiter = _Waiter(loop=asyncio.get_running_loop())
         self._engine.ask(moment(), request, waiter, timeout)
+        self._act()
+        return waiter
+
+    def _act(self) -> None:
         if self._driver is not None:
             self._driver.act_soon()
-        return waiter
 
     def _begin(
         self, begin: Callable[[AnyNews], Steps[Any]], end: Callable[[Any, Optional[BaseException]], object]

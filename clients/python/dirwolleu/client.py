@@ -26,6 +26,7 @@ from dirwolleu._requests import Result
 from dirwolleu._retry import Retry
 from dirwolleu._shown import AuthData, Shown, credential_of
 from dirwolleu._steps import Ask, Call, Step, Steps, Wait
+from dirwolleu._trees import MOST_NODES, Tree
 from dirwolleu._waiting import Future, News, Task, Waiter
 from dirwolleu.exceptions import ConnectionClosedError, ZookeeperError
 from dirwolleu.security import ACL
@@ -396,6 +397,19 @@ class Client(Shown):
         """
         return self._follow(following.children_of(self._engine, path))
 
+    def tree(self, path: str, *, most: int = MOST_NODES) -> Tree:
+        """Reads all nodes at and below a path, of which there are `most` at most, and reads again what changes.
+
+        Each of its snapshots is of one moment. Close it where it is wanted no longer.
+
+            with client.tree("/config") as tree:
+                snapshot = tree.wait(timeout=10)
+                print(len(snapshot), "nodes at zxid", snapshot.zxid)
+        """
+        tree = Tree(self, path, most)
+        self._act()
+        return tree
+
     def _follow(self, subject: following.Subject[following.Told]) -> Generator[following.Told, None, None]:
         following.begun(self._engine)
         news = News()
@@ -458,6 +472,10 @@ class Client(Shown):
     def _hand_in(self, request: AnyRequest[Any], waiter: AnyWaiter, timeout: Optional[float] = None) -> None:
         self._check_process()
         self._engine.ask(moment(), request, waiter, timeout)
+        self._act()
+
+    def _act(self) -> None:
+        """Has the thread of the connection look for what is to be done."""
         threads = self._threads()
         if threads is not None:
             threads.loop.act()

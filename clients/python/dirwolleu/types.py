@@ -3,10 +3,11 @@
 from __future__ import annotations
 
 import enum
+from collections.abc import Mapping
 from dataclasses import dataclass
 from typing import Callable, NamedTuple, Optional, Union
 
-__all__ = ["DataStat", "EventType", "Kept", "KeptChildren", "Mark", "Stat", "State", "Stats", "Watch", "WatchedEvent"]
+__all__ = ["DataStat", "EventType", "Kept", "KeptChildren", "Mark", "Snapshot", "Stat", "State", "Stats", "Watch", "WatchedEvent"]
 
 
 class State(str, enum.Enum):
@@ -145,6 +146,20 @@ class Kept:
     def exists(self) -> bool:
         """Whether there is a node."""
         return self.stat is not None
+
+
+@dataclass(frozen=True)
+class Snapshot:
+    """What is kept of several nodes, all of it good, and of one moment: what `client.snapshot` gives."""
+
+    zxid: int
+    """The zxid at which the servers had all of it."""
+
+    nodes: Mapping[str, Kept]
+    """What is kept of the nodes, by path."""
+
+    children: Mapping[str, KeptChildren]
+    """What is kept of the names below the parents, by path."""
 
 
 @dataclass(frozen=True)
