@@ -190,8 +190,8 @@ class _Callbacks(threading.Thread):
 class _Threads:
     """The threads of a client that is started, in one process."""
 
-    def __init__(self, servers: Servers, engine: Engine, tls: Optional[_ssl.SSLContext]) -> None:
-        self.loop = _Loop(Driver(servers, engine, tls))
+    def __init__(self, driver: Driver) -> None:
+        self.loop = _Loop(driver)
         self.callbacks = _Callbacks()
         self._process = os.getpid()
 
@@ -613,12 +613,16 @@ class Client(Shown):
 
     def _begin_threads(self) -> None:
         if self._threads() is None:
-            threads = _Threads(self._servers, self._engine, self._tls)
+            threads = _Threads(self._driver())
             if self._running.setdefault("threads", threads) is threads:
                 _started.add(self)
                 threads.start()
             else:
                 threads.loop.stop(lambda: None)
+
+    def _driver(self) -> Driver:
+        """What keeps the client connected, once it is started."""
+        return Driver(self._servers, self._engine, self._tls)
 
     def _end_threads(self, end: Callable[[], None]) -> None:
         """Ends the engine and the threads. It may be called again, and by another thread, while it runs."""
