@@ -36,6 +36,7 @@ from dirwolleu.types import Kept, KeptChildren, Stat, State, Watch
 if TYPE_CHECKING:
     import ssl as _ssl
 
+    from dirwolleu._driver import Driver
     from dirwolleu._threads import Threads
 
 Returned = TypeVar("Returned")
@@ -557,7 +558,7 @@ class Client(Shown):
         if self._threads() is None:
             from dirwolleu._threads import Threads  # here, so that no import of the package loads asyncio
 
-            threads = Threads(self._servers, self._engine, self._tls)
+            threads = Threads(self._driver())
             if self._running.setdefault("threads", threads) is threads:
                 _started.add(self)
                 threads.start()
@@ -565,6 +566,12 @@ class Client(Shown):
                     self._tasks.pop().start()
             else:
                 threads.loop.stop(lambda: None)
+
+    def _driver(self) -> Driver:
+        """What keeps the client connected, once it is started."""
+        from dirwolleu._driver import Driver
+
+        return Driver(self._servers, self._engine, self._tls)
 
     def _end_threads(self, end: Callable[[], None]) -> None:
         """Ends the engine and the threads. It may be called again, and by another thread, while it runs."""
