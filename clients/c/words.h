@@ -120,10 +120,19 @@ static inline const char *words_of_path(const char *path)
     return NULL;
 }
 
+/* Ends a text that had no room for its length with two dots. */
+static inline void end_cut(char *room, size_t size, int length)
+{
+    if (length >= 0 && (size_t)length >= size && size > 2) {
+        memcpy(room + size - 3, "..", 3);
+    }
+}
+
 /* Writes a reason, with the path where it is not NULL and what to do where there is something, as far as there is room. */
 static inline void write_words(char *room, size_t size, const char *reason, const char *path, const char *advice)
 {
-    snprintf(room, size, "%s%s%s%s%s", reason, path != NULL ? ": " : "", path != NULL ? path : "", advice[0] != 0 ? "; " : "", advice);
+    const char *before = path != NULL ? ": " : "", *after = advice[0] != 0 ? "; " : "";
+    end_cut(room, size, snprintf(room, size, "%s%s%s%s%s", reason, before, path != NULL ? path : "", after, advice));
 }
 
 /* Writes what a function of the library answered about a path, or about none where that is NULL. */
@@ -131,7 +140,8 @@ static inline void write_result(char *room, size_t size, enum dw_result result, 
 {
     if (result == DW_NOT_PATH && path != NULL) {
         const char *why = words_of_path(path);
-        snprintf(room, size, "%s is no path%s%s", path[0] != 0 ? path : "\"\"", why != NULL ? ": " : "", why != NULL ? why : "");
+        const char *shown = path[0] != 0 ? path : "\"\"", *before = why != NULL ? ": " : "";
+        end_cut(room, size, snprintf(room, size, "%s is no path%s%s", shown, before, why != NULL ? why : ""));
     } else {
         write_words(room, size, dw_result_words(result), path, advice_of_result(result));
     }
