@@ -45,8 +45,12 @@ fn version_in(folder: &Path) -> Option<String> {
         folder.join("dirwolleu.pc"),
         folder.join("pkgconfig/dirwolleu.pc"),
     ];
-    let described = places.iter().find_map(|place| fs::read_to_string(place).ok())?;
-    let version = described.lines().find_map(|line| line.strip_prefix("Version: "))?;
+    let described = places
+        .iter()
+        .find_map(|place| fs::read_to_string(place).ok())?;
+    let version = described
+        .lines()
+        .find_map(|line| line.strip_prefix("Version: "))?;
     Some(String::from(version))
 }
 
