@@ -1,18 +1,41 @@
-/* A session over one socket, for small programs that do one thing after the other: an example of a loop that waits for its answers, and
- * no part of the library. Define _POSIX_C_SOURCE as 200809L before it. The programs of docs/COOKBOOK.md use it. follow.c is a loop that waits for nothing but poll.
+/* A session over POSIX sockets, for loops by poll and for small programs that wait: connection strings, calls, nodes that are followed. It is
+ * tested, and not proved; what it keeps is the library's, dirwolleu.h. Define _POSIX_C_SOURCE as 200809L before it. It is C11 and C++11.
  *
- * A call waits for a connection and then for its answer. It answers 0, the server's code (DW_CODE_NO_NODE), which is below 0, or why there
- * is no reply (DW_OUTCOME_LOST), which is above 0; session_fail says which in words. Where no server is found for a while, that is said on
- * standard error once, and the call goes on waiting. Memory that runs out, and a text that is no path, end the program, and say so. */
-#ifndef SESSION_H
-#define SESSION_H
+ *     static void show(dws_session *session, dws_subject *node)
+ *     {
+ *         if (node->mark == DW_MARK_GOOD) {
+ *             printf("%s\n", node->kind == DW_KEPT_ABSENT ? "no node" : node->text);
+ *         }
+ *     }
+ *
+ *     int main(void)
+ *     {
+ *         static dws_subject config;
+ *         dws_session *session = dws_open("zk1:2181,zk2:2181/app", NULL, NULL, 0);
+ *         if (session == NULL || dws_follow(session, &config, "/config", show) != DW_OK) {
+ *             return EXIT_FAILURE;
+ *         }
+ *         while (dws_turn(session)) {
+ *         }
+ *         dws_free(session);
+ *     }
+ *
+ * A loop of a program's own has dws_wanted tell what poll is to wait for and how long, and dws_go_on take what poll has told; dws_turn is both
+ * for one session. One thread at a time uses a session. Callbacks may ask, follow and end; they do not wait, go on or free the session.
+ *
+ * A call, a subject and options begin as zeros: static, or by memset, or = {0} in C and = {} in C++. A call is used by one question at a time,
+ * and lives until it is answered; a subject lives until dws_unfollow or dws_free. */
+#ifndef DIRWOLLEU_SESSION_H
+#define DIRWOLLEU_SESSION_H
 
 #include "dirwolleu.h"
 #include "words.h"
 
 #include <ctype.h>
 #include <errno.h>
+#include <fcntl.h>
 #include <inttypes.h>
+#include <limits.h>
 #include <netdb.h>
 #include <netinet/in.h>
 #include <netinet/tcp.h>
@@ -21,325 +44,691 @@
 #include <stdlib.h>
 #include <string.h>
 #include <sys/socket.h>
-#include <sys/time.h>
+#include <sys/types.h>
 #include <time.h>
 #include <unistd.h>
 
+#ifdef __cplusplus
+extern "C" {
+#endif
+
 enum {
-    SESSION_TIMEOUT_MS = 10000,
-    SESSION_PAUSE_MS = 500, /* before each attempt to connect but the first */
-    SESSION_DIAL_S = 3,     /* how long an attempt may take, and a write */
-    SESSION_PATIENCE_S = 3, /* how long a call waits for a server until that is said */
-    SESSION_PATH = 4096,    /* the most bytes of a path */
-    SESSION_LINE = 5120,    /* the most bytes of a message */
-    SESSION_TEXT = 65536    /* the most bytes of data and paths that are shown */
+    DWS_TIMEOUT_MS = 10000,      /* of a session, where options name none */
+    DWS_CLOSE_MS = 1000,         /* the longest wait for the server's word that the session is closed */
+    DWS_FIRST_PAUSE_MS = 100,    /* the longest before the next attempt to connect, and twice as long after each in vain */
+    DWS_LIVE_PAUSE_MS = 1000,    /* the longest while the session may live, and no longer than a tenth of its timeout */
+    DWS_PAUSE_MS = 10000,        /* the longest of all */
+    DWS_BETWEEN_DIALS_MS = 334,  /* from an attempt to the next one, at least: no more than three begin in a second */
+    DWS_SHORTEST_DIAL_MS = 1000, /* an attempt may take a third of the timeout, and this at least */
+    DWS_BETWEEN_READS_MS = 1000, /* from a read of a subject that was refused to the next one */
+    DWS_MOST_PENDING = 1024,     /* calls that wait for their replies; more of them wait here */
+    DWS_MOST_PINGS = 4,          /* that wait for their answers */
+    DWS_MOST_PIECES = 64,        /* that are read before the moment is told */
+    DWS_PIECE = 65536,           /* the most bytes that are read at once */
+    DWS_LONGEST_HOST = 256,      /* the most bytes of a host's name */
+    DWS_LONGEST_LINE = 5120,     /* the most bytes of a message with a path */
+    DWS_REFUSED = 100            /* why a call was not asked: DWS_REFUSED less what the library answered, which is below 0 */
 };
 
-struct session {
-    dw_client client;
-    char host[256], port[8];
-    char path[SESSION_PATH + 1];  /* of the last call */
-    const char *trouble;          /* why the last attempt to connect has failed, in words; NULL where there was none */
+typedef struct dws_session dws_session;
+typedef struct dws_call dws_call;
+typedef struct dws_subject dws_subject;
+typedef struct dws_wire dws_wire;
+
+/* What a session tells besides, with the server and words. */
+enum dws_event {
+    DWS_ATTEMPT_FAILED, /* no connection was made */
+    DWS_CONNECTED,      /* a server has accepted the session */
+    DWS_CUT,            /* the connection is over; the next one is dialled */
+    DWS_READ_REFUSED,   /* the read of a subject was refused; it is read again */
+    DWS_EXPIRED,        /* the session has expired: its ephemeral nodes and its watches are gone */
+    DWS_CLOSED,         /* it was closed, as it was asked */
+    DWS_FAILED          /* memory ran out: the session is over */
+};
+
+/* A connection, for the callbacks of TLS. */
+struct dws_wire {
     int socket;
-    uint64_t ticket;              /* of the last call */
-    bool has_dialled;
-    bool is_answered, is_told;    /* the last call is; something was told besides: a report or a state */
-    dw_output answer;             /* to the last call */
-    char text[SESSION_TEXT + 1];  /* the data or the path that it brought, with a 0 after it */
+    const char *host;             /* the name that was dialled, for certificates */
+    void *state;                  /* the callbacks' own: NULL where the connection begins */
+    void (*release)(void *state); /* called with the state where the connection ends, if it is not NULL */
+    const char *words;            /* why a callback answers -1, where the words of errno do not say it: constant */
+    short wants;                  /* what poll is to wait for, where a callback answers -1 with EAGAIN: POLLIN or POLLOUT; 0 is the usual one */
 };
 
-static inline uint64_t session_now_ms(void)
-{
-    struct timespec now;
-    clock_gettime(CLOCK_MONOTONIC, &now);
-    return (uint64_t)now.tv_sec * 1000 + (uint64_t)now.tv_nsec / 1000000;
-}
+/* How a session is opened. Zeros are the usual way. */
+typedef struct dws_options {
+    int32_t timeout_ms;     /* of the session, as it is asked for: 1 to 2147483647; 0 is 10 seconds */
+    int32_t patience_ms;    /* how long a call waits for a connection; 0 is as long as the timeout, and a second at least */
+    int tries;              /* how often a call is asked again, where that can not do it twice */
+    bool is_in_order;       /* hosts are dialled as they are listed, and not in random order */
+    bool is_over_at_expiry; /* no new session begins where one has expired */
+    const uint8_t *saved;   /* a session that dw_saved gave, to be taken up; NULL begins one */
+    size_t saved_length;
+    void (*told)(dws_session *session, enum dws_event event, const char *server, const char *words);
+    /* As recv and send of a socket that does not block: for TLS. NULL is these. */
+    ssize_t (*read)(dws_wire *wire, void *room, size_t size, void *context);
+    ssize_t (*write)(dws_wire *wire, const void *bytes, size_t size, void *context);
+    void *context;          /* is passed to read and write; dws_context gives it */
+} dws_options;
 
-/* What the library answered, about this path or about none where it is NULL: it ends the program where that is an error. */
-static inline void session_must(enum dw_result result, const char *path)
-{
-    char line[SESSION_LINE];
-    if (result < DW_OK) {
-        write_result(line, sizeof line, result, path);
-        fprintf(stderr, "session: %s\n", line);
-        exit(EXIT_FAILURE);
-    }
-}
+enum dws_kind { DWS_EXISTS, DWS_GET, DWS_CHILDREN, DWS_SET, DWS_CREATE, DWS_DELETE, DWS_CLOSE };
 
-/* Says on standard error why the last call has failed, which is what it answered, and gives the status with which to end the program. */
-static inline int session_fail(const struct session *s, int32_t why)
-{
-    char line[SESSION_LINE];
-    if (why < 0) {
-        write_code(line, sizeof line, why, s->path);
-    } else {
-        write_outcome(line, sizeof line, (enum dw_outcome)why, s->path);
-    }
-    fprintf(stderr, "session: %s\n", line);
-    return EXIT_FAILURE;
-}
+/* A question, and its answer. */
+struct dws_call {
+    void (*then)(dws_session *session, dws_call *call); /* called once with the answer, if it is not NULL: set it before it is asked */
+    void *context;                                      /* the program's own */
+    /* The answer. */
+    bool is_answered;
+    int32_t why;      /* 0, or the server's code, below 0, or enum dw_outcome, above 0, or above DWS_REFUSED. dws_words has words */
+    int64_t zxid;     /* at which a reply holds: of a write its own */
+    dw_stat stat;     /* to exists, get, children and set */
+    char *text;       /* the data, or the path that was made, with a 0 after it: it is the call's, until it asks again or dws_release */
+    size_t length;    /* of the text */
+    bool is_null;     /* the data are null */
+    char **names;     /* of the children, in an order that means nothing */
+    size_t count;     /* how many there are */
+    /* The session's own. */
+    enum dws_kind kind;
+    char *path, *bytes;
+    size_t bytes_length, room, names_room;
+    bool watch, is_null_sent;
+    int32_t number;
+    int tries_left;
+    uint64_t ticket, asked_ms, until_ms, again_ms, pause_ms;
+    dws_call *next;
+};
 
-static inline void session_hang_up(struct session *s)
-{
-    if (s->socket >= 0) {
-        close(s->socket);
-    }
-    s->socket = -1;
-}
+/* A node, or the names of its children, that is read again after each change. What is kept of it: */
+struct dws_subject {
+    enum dw_mark mark;                                           /* 0 where nothing is kept: before the first read, and after an expiry */
+    enum dw_kept kind;                                           /* DW_KEPT_NOTHING, DW_KEPT_ABSENT, DW_KEPT_FULL */
+    dw_data_stat stat;                                           /* of a node */
+    char *text;                                                  /* its data, with a 0 after them */
+    size_t length;
+    bool is_null;
+    char **names;                                                /* of children, in byte order */
+    size_t count;
+    int64_t pzxid;                                               /* of the last change of the names */
+    void *context;                                               /* the program's own */
+    /* The session's own. */
+    void (*changed)(dws_session *session, dws_subject *subject);
+    enum dw_side side;
+    char *path;
+    dws_call read;
+    size_t room, names_room;
+    bool is_asked, is_missing, is_changed;
+    uint64_t read_at_ms;
+    dws_subject *next;
+};
 
-/* Writes the frame that was told last. Where that fails, the connection is closed, and the client is told later. */
-static inline void session_send(struct session *s, size_t length)
-{
-    uint8_t piece[4096];
-    for (size_t from = 0; from < length && s->socket >= 0;) {
-        size_t count = dw_copy(&s->client, from, piece, sizeof piece);
-        ssize_t written = send(s->socket, piece, count < sizeof piece ? count : sizeof piece, MSG_NOSIGNAL);
-        if (written <= 0) {
-            session_hang_up(s);
-        } else {
-            from += (size_t)written;
-        }
-    }
-}
+/* Opens a session at these hosts: HOST:PORT,HOST:PORT/CHROOT, of which the port may be left out where it is 2181, and an IPv6 address is in
+ * brackets. Names are looked up at each attempt to connect, of which the first is made at the first turn. Options may be NULL. NULL where the
+ * text is no such thing, a timeout is out of range, or memory ran out: then `why`, of so many bytes, which may be none, says so. */
+static inline dws_session *dws_open(const char *hosts, const dws_options *options, char *why, size_t size);
 
-static inline void session_keep_answer(struct session *s, const dw_output *output)
-{
-    size_t length = dw_copy(&s->client, 0, s->text, SESSION_TEXT);
-    s->text[length < SESSION_TEXT ? length : SESSION_TEXT] = 0;
-    s->answer = *output;
-    s->is_answered = true;
-}
+/* Lets a session go, and leaves it to its timeout at the servers. Calls that wait are answered, subjects are followed no longer. */
+static inline void dws_free(dws_session *s);
 
-/* Does the outputs of a step, in their order. */
-static inline void session_take(struct session *s, enum dw_result result)
-{
-    dw_output output;
-    session_must(result, s->path);
-    while ((result = dw_next(&s->client, &output)) == DW_OK) {
-        bool is_over = output.kind == DW_KIND_STATE && (output.state == DW_STATE_EXPIRED || output.state == DW_STATE_CLOSED);
-        s->is_told = s->is_told || output.kind == DW_KIND_REPORT || output.kind == DW_KIND_STATE;
-        if (output.kind == DW_KIND_SEND) {
-            session_send(s, output.length);
-        } else if (output.kind == DW_KIND_ANSWER && output.ticket == s->ticket) {
-            session_keep_answer(s, &output);
-        } else if (output.kind == DW_KIND_DROP || is_over) {
-            session_hang_up(s);
-        }
-    }
-    session_must(result, NULL);
-}
+/* Has a session end, with its ephemeral nodes: go on until it is over, which takes a second at most. A second time it is over at once. */
+static inline void dws_end(dws_session *s);
 
-static inline int session_connected_socket(struct session *s)
-{
-    struct addrinfo wanted = {.ai_family = AF_UNSPEC, .ai_socktype = SOCK_STREAM}, *found = NULL;
-    struct timeval longest = {.tv_sec = SESSION_DIAL_S};
-    int made = -1, on = 1;
-    int unknown = getaddrinfo(s->host, s->port, &wanted, &found);
-    if (unknown != 0) {
-        s->trouble = gai_strerror(unknown);
-        return -1;
-    }
-    for (struct addrinfo *one = found; one != NULL && made < 0; one = one->ai_next) {
-        made = socket(one->ai_family, one->ai_socktype, one->ai_protocol);
-        if (made >= 0 && (setsockopt(made, SOL_SOCKET, SO_SNDTIMEO, &longest, sizeof longest) != 0
-                          || setsockopt(made, IPPROTO_TCP, TCP_NODELAY, &on, sizeof on) != 0
-                          || connect(made, one->ai_addr, one->ai_addrlen) != 0)) {
-            s->trouble = strerror(errno);
-            close(made);
-            made = -1;
-        }
-    }
-    freeaddrinfo(found);
-    s->trouble = made >= 0 ? "Connected, and it has not accepted the session" : s->trouble;
-    return made;
-}
+/* Ends a session, waits until it is over, and frees it. */
+static inline void dws_close(dws_session *s);
 
-static inline void session_dial(struct session *s)
-{
-    struct timespec pause = {.tv_nsec = SESSION_PAUSE_MS * 1000000L};
-    if (s->has_dialled) {
-        nanosleep(&pause, NULL);
-    }
-    s->has_dialled = true;
-    s->socket = session_connected_socket(s);
-    if (s->socket >= 0) {
-        session_take(s, dw_opened(&s->client, session_now_ms()));
-    }
-}
+/* Whether nothing more happens: the session was closed or has ended, or memory ran out. */
+static inline bool dws_is_over(const dws_session *s);
 
-/* Takes what the server has sent by the deadline of the client, or tells it the moment. */
-static inline void session_listen(struct session *s)
+/* Waits until something happens or is due, and takes it. Whether the session goes on. A signal ends the wait. */
+static inline bool dws_turn(dws_session *s);
+
+/* Tells what poll is to wait for on behalf of a session, and for how many milliseconds at most; -1 is for ever. */
+static inline int dws_wanted(dws_session *s, struct pollfd *polled);
+
+/* Takes what poll has told of the socket of a session (revents, 0 where nothing), and does what is due. */
+static inline void dws_go_on(dws_session *s, short told);
+
+/* Calls. Each gives the call back, so dws_wait(session, dws_get(session, &call, "/a", false)) is why it has failed, or 0. A call waits for a
+ * connection, as long as the options say, and then for its answer, which comes by `then` or is looked at. */
+
+/* What is known of a node. */
+static inline dws_call *dws_exists(dws_session *s, dws_call *call, const char *path, bool watch);
+
+/* The data of a node, and what is known of it. */
+static inline dws_call *dws_get(dws_session *s, dws_call *call, const char *path, bool watch);
+
+/* The names of the children of a node, and what is known of it. */
+static inline dws_call *dws_children(dws_session *s, dws_call *call, const char *path, bool watch);
+
+/* Sets the data of a node that has this version; -1 is any. Bytes that are NULL are null data. */
+static inline dws_call *dws_set(dws_session *s, dws_call *call, const char *path, const char *bytes, size_t length, int32_t version);
+
+/* Makes a node; the mode is a sum of DW_MODE_EPHEMERAL and DW_MODE_SEQUENTIAL. The answer has its path as the text. */
+static inline dws_call *dws_create(dws_session *s, dws_call *call, const char *path, const char *bytes, size_t length, int mode);
+
+/* Deletes a node that has this version, and no children; -1 is any. */
+static inline dws_call *dws_delete(dws_session *s, dws_call *call, const char *path, int32_t version);
+
+/* Waits for the answer of a call, and gives its `why`. */
+static inline int32_t dws_wait(dws_session *s, dws_call *call);
+
+/* Writes why a call has failed, in words: the reason, the path, and what to do. */
+static inline void dws_words(dws_session *s, const dws_call *call, char *room, size_t size);
+
+/* Frees what a call holds that is answered, or was never asked. */
+static inline void dws_release(dws_call *call);
+
+/* Follows the data of a node: `changed` is called with what is kept of it, at first and at each change of that or of its mark. DW_OK,
+ * DW_NO_MEMORY, DW_NOT_TEXT, DW_NOT_PATH; where it is not DW_OK nothing is followed. */
+static inline enum dw_result dws_follow(dws_session *s, dws_subject *subject, const char *path,
+                                        void (*changed)(dws_session *, dws_subject *));
+
+/* The same of the names of its children. */
+static inline enum dw_result dws_follow_children(dws_session *s, dws_subject *subject, const char *path,
+                                                 void (*changed)(dws_session *, dws_subject *));
+
+/* Follows a subject no longer, and frees what it holds. */
+static inline void dws_unfollow(dws_session *s, dws_subject *subject);
+
+/* Whether what is kept of a subject is good. */
+static inline bool dws_is_good(const dws_subject *subject);
+
+/* The context of the options. */
+static inline void *dws_context(const dws_session *s);
+
+/* The greatest zxid seen: what is marked good holds at it. */
+static inline int64_t dws_last_zxid(dws_session *s);
+
+/* The number of the session: the owner of its ephemeral nodes. It is 0 before a server has accepted it. */
+static inline int64_t dws_id(dws_session *s);
+
+/* What follows is the session's own. */
+
+struct dws_buffer {
+    uint8_t *bytes;
+    size_t length, room;
+};
+
+/* Where a stream of frames is: the length and the xid of a frame, and how many bytes of the frame are left. */
+struct dws_frames {
+    uint8_t head[8];
+    size_t held, left;
+};
+
+struct dws_host {
+    char name[DWS_LONGEST_HOST], port[6];
+};
+
+struct dws_line {
+    dws_call *first, **last;
+    size_t count;
+};
+
+struct dws_session {
+    dw_client client;
+    dws_options options;
+    char *hosts_text, *root;           /* the connection string, and the chroot in it: nothing where there is none */
+    struct dws_host *hosts;            /* in the order in which they are dialled in this round */
+    size_t host_count, host, address;  /* whose turn it is, and which of its addresses */
+    char server[DWS_LONGEST_HOST + 8]; /* the one that was dialled last */
+    char trouble[256];                 /* what became of the last attempt */
+    dws_wire wire;
+    short read_wants, write_wants;     /* what poll is to wait for besides, to read and to write */
+    bool is_connecting, is_admitted, is_expired, is_taken, is_closing, is_over;
+    bool has_more, has_news;           /* bytes that poll does not tell of, and something that a program may wait for */
+    bool must_look;                    /* marks may be others */
+    struct dws_frames sent_frames, came_frames;
+    uint64_t opened_ms, admitted_ms, dialled_ms, heard_ms;
+    uint64_t pinged_ms[DWS_MOST_PINGS];
+    size_t pinged;
+    uint64_t now_ms, due_ms, pause_ms, random;
+    uint64_t rest_ms;                  /* when the first subject is to be read again */
+    struct dws_buffer unsent;
+    struct dws_line queue, sent;
+    uint64_t last_ticket;
+    dws_call close;
+    dws_subject *subjects;
+    enum dw_result result;
+};
+
+#include "session_machine.h"
+#include "session_wires.h"
+#include "session_subjects.h"
+
+/* What a session has to do by itself at a moment. */
+static inline void dws_keep_time(dws_session *s)
 {
-    uint8_t piece[4096];
-    struct pollfd heard = {.fd = s->socket, .events = POLLIN};
-    uint64_t due_ms = 0, now_ms = session_now_ms();
-    dw_deadline(&s->client, &due_ms);
-    if (poll(&heard, 1, due_ms > now_ms ? (int)(due_ms - now_ms) : 0) <= 0) {
-        session_take(s, dw_tick(&s->client, session_now_ms()));
+    if (dws_end_of_waiting(s) <= s->now_ms) {
+        dws_cut(s, "an answer does not come");
+    }
+    if (s->now_ms < s->due_ms || s->is_over) {
         return;
     }
-    ssize_t count = recv(s->socket, piece, sizeof piece, 0);
-    if (count > 0) {
-        session_take(s, dw_bytes(&s->client, session_now_ms(), piece, (size_t)count));
+    if (s->is_closing) {
+        s->is_over = true;
+    } else if (s->wire.socket < 0) {
+        dws_dial(s);
+    } else if (s->is_connecting) {
+        dws_miss(s, strerror(ETIMEDOUT));
+    }
+}
+
+/* Begins a new session where one has expired. It keeps the last zxid, so it meets no server that is behind that. */
+static inline void dws_renew_expired(dws_session *s)
+{
+    if (s->is_over || dw_state(&s->client) != DW_STATE_EXPIRED) {
+        return;
+    }
+    enum dw_result result = dw_renew(&s->client, s->options.timeout_ms);
+    if (result != DW_OK) {
+        dws_fail(s, result);
+    }
+}
+
+/* Whether something is due on the connection: then what it has is read before the moment is told. */
+static inline bool dws_is_late(dws_session *s)
+{
+    uint64_t due;
+    bool is_due = dw_deadline(&s->client, &due) == DW_OK && due <= s->now_ms;
+    return s->wire.socket >= 0 && !s->is_connecting && (is_due || dws_end_of_waiting(s) <= s->now_ms);
+}
+
+/* Looks, shows what has changed, reads what is not good, and asks what waits. */
+static inline void dws_work(dws_session *s)
+{
+    if (s->must_look || s->rest_ms <= s->now_ms) {
+        s->must_look = false;
+        dws_look(s);
+        while (!s->is_over && dws_show_next(s)) {
+        }
+        dws_read_subjects(s);
+    }
+    dws_send_queued(s);
+    dws_transmit(s);
+}
+
+static inline void dws_go_on(dws_session *s, short told)
+{
+    s->has_news = false;
+    if (s->is_over) {
+        return;
+    }
+    s->now_ms = dws_now_ms();
+    if (s->is_connecting) {
+        if (told != 0) {
+            dws_finish_connection(s);
+        }
+    } else if (s->wire.socket >= 0 && ((told & (~POLLOUT | s->read_wants)) != 0 || s->has_more || dws_is_late(s))) {
+        dws_receive(s);
+    }
+    if (s->result == DW_OK) {
+        dws_act(s, dw_tick(&s->client, s->now_ms));
+    }
+    if (s->result == DW_OK) {
+        dws_renew_expired(s);
+        dws_keep_time(s);
+        dws_work(s);
+    }
+    dws_answer_rest(s);
+}
+
+static inline int dws_wanted(dws_session *s, struct pollfd *polled)
+{
+    uint64_t first;
+    s->now_ms = dws_now_ms();
+    if (!s->is_over) {
+        dws_work(s);
+    }
+    polled->fd = s->is_over ? -1 : s->wire.socket;
+    polled->events = (short)(POLLIN | (s->is_connecting ? POLLOUT : s->read_wants) | (s->unsent.length > 0 ? s->write_wants : 0));
+    polled->revents = 0;
+    if (s->has_news || s->is_over || s->has_more) {
+        return 0;
+    }
+    if (dw_deadline(&s->client, &first) != DW_OK) {
+        first = UINT64_MAX;
+    }
+    first = dws_least(first, dws_least(s->due_ms, dws_end_of_waiting(s)));
+    first = dws_least(first, dws_least(dws_end_of_queue(s), s->rest_ms));
+    if (first == UINT64_MAX) {
+        return -1;
+    }
+    return first <= s->now_ms ? 0 : (int)dws_least(first - s->now_ms, INT_MAX);
+}
+
+static inline bool dws_is_over(const dws_session *s)
+{
+    return s->is_over;
+}
+
+static inline bool dws_turn(dws_session *s)
+{
+    struct pollfd polled;
+    int wait_ms = dws_wanted(s, &polled);
+    poll(&polled, 1, wait_ms);
+    dws_go_on(s, polled.revents);
+    return !s->is_over;
+}
+
+/* Puts a call into the queue. */
+static inline void dws_put(dws_session *s, dws_call *call)
+{
+    uint64_t now_ms = dws_now_ms();
+    call->is_answered = false;
+    call->why = 0;
+    call->count = call->length = 0;
+    call->again_ms = 0;
+    call->pause_ms = DWS_FIRST_PAUSE_MS;
+    call->tries_left = s->options.tries;
+    call->asked_ms = now_ms;
+    call->until_ms = now_ms + dws_patience_ms(s);
+    if (s->is_over || s->is_closing) {
+        dws_finish(s, call, dws_why_over(s));
     } else {
-        session_hang_up(s);
+        dws_append(&s->queue, call);
     }
 }
 
-/* Goes on by one step. */
-static inline void session_turn(struct session *s)
+/* The path that the servers know, of one that the program knows. A text that is no path does not become one. */
+static inline char *dws_outer(const dws_session *s, const char *path)
 {
-    int32_t state = dw_state(&s->client);
-    if (s->socket >= 0) {
-        session_listen(s);
-    } else if (state == DW_STATE_CONNECTING || state == DW_STATE_CONNECTED) {
-        session_take(s, dw_cut(&s->client, session_now_ms()));
+    size_t root = path[0] == '/' ? strlen(s->root) : 0, length = strcmp(path, "/") == 0 && root > 0 ? 0 : strlen(path);
+    char *outer = (char *)malloc(root + length + 1);
+    if (outer != NULL) {
+        memcpy(outer, s->root, root);
+        memcpy(outer + root, path, length);
+        outer[root + length] = 0;
+    }
+    return outer;
+}
+
+/* Asks about a path, with these bytes where they are not NULL. */
+static inline dws_call *dws_ask(dws_session *s, dws_call *call, enum dws_kind kind, const char *path, const char *bytes, size_t length)
+{
+    free(call->path);
+    free(call->bytes);
+    call->kind = kind;
+    call->path = dws_outer(s, path);
+    call->bytes = (char *)malloc(length + 1);
+    call->bytes_length = length;
+    call->is_null_sent = bytes == NULL;
+    if (call->path == NULL || call->bytes == NULL) {
+        dws_finish(s, call, DWS_REFUSED - (int32_t)DW_NO_MEMORY);
+    } else if (words_of_path(path) != NULL) {
+        dws_finish(s, call, DWS_REFUSED - (int32_t)DW_NOT_PATH);
     } else {
-        session_dial(s);
+        memcpy(call->bytes, bytes != NULL ? bytes : "", length);
+        dws_put(s, call);
+    }
+    return call;
+}
+
+static inline dws_call *dws_exists(dws_session *s, dws_call *call, const char *path, bool watch)
+{
+    call->watch = watch;
+    return dws_ask(s, call, DWS_EXISTS, path, NULL, 0);
+}
+
+static inline dws_call *dws_get(dws_session *s, dws_call *call, const char *path, bool watch)
+{
+    call->watch = watch;
+    return dws_ask(s, call, DWS_GET, path, NULL, 0);
+}
+
+static inline dws_call *dws_children(dws_session *s, dws_call *call, const char *path, bool watch)
+{
+    call->watch = watch;
+    return dws_ask(s, call, DWS_CHILDREN, path, NULL, 0);
+}
+
+static inline dws_call *dws_set(dws_session *s, dws_call *call, const char *path, const char *bytes, size_t length, int32_t version)
+{
+    call->number = version;
+    return dws_ask(s, call, DWS_SET, path, bytes, length);
+}
+
+static inline dws_call *dws_create(dws_session *s, dws_call *call, const char *path, const char *bytes, size_t length, int mode)
+{
+    call->number = mode;
+    return dws_ask(s, call, DWS_CREATE, path, bytes, length);
+}
+
+static inline dws_call *dws_delete(dws_session *s, dws_call *call, const char *path, int32_t version)
+{
+    call->number = version;
+    return dws_ask(s, call, DWS_DELETE, path, NULL, 0);
+}
+
+static inline int32_t dws_wait(dws_session *s, dws_call *call)
+{
+    while (!call->is_answered && dws_turn(s)) {
+    }
+    return call->why;
+}
+
+static inline void dws_release(dws_call *call)
+{
+    free(call->path);
+    free(call->bytes);
+    free(call->text);
+    free(call->names);
+    memset(call, 0, sizeof *call);
+}
+
+/* The node for which a call is refused: of a create that its parent prevents the parent. */
+static inline void dws_write_place(const dws_session *s, const dws_call *call, char *room, size_t size)
+{
+    bool is_parent = call->kind == DWS_CREATE && (call->why == DW_CODE_NO_NODE || call->why == DW_CODE_NO_CHILDREN_FOR_EPHEMERALS);
+    snprintf(room, size, "%s", call->path != NULL ? dws_inner(s, call->path) : "");
+    char *slash = strrchr(room, '/');
+    if (is_parent && slash != NULL) {
+        slash[slash == room] = 0;
     }
 }
 
-static inline bool session_is_over(struct session *s)
+static inline void dws_words(dws_session *s, const dws_call *call, char *room, size_t size)
 {
-    int32_t state = dw_state(&s->client);
-    return state == DW_STATE_EXPIRED || state == DW_STATE_CLOSED;
-}
-
-/* Goes on until a watch has fired, or the state is another one. */
-static inline void session_wait(struct session *s)
-{
-    for (s->is_told = false; !s->is_told && !session_is_over(s);) {
-        session_turn(s);
+    char path[DWS_LONGEST_LINE];
+    dws_write_place(s, call, path, sizeof path);
+    if (call->why > DWS_REFUSED) {
+        write_result(room, size, (enum dw_result)(DWS_REFUSED - call->why), path);
+    } else if (call->why == DW_OUTCOME_NOT_CONNECTED) {
+        double waited_s = (double)(dws_patience_ms(s) / 100) / 10;
+        const char *form = "no server of %s accepted the session in %g s; last: %s: %s";
+        end_cut(room, size, snprintf(room, size, form, s->hosts_text, waited_s, s->server, s->trouble));
+    } else if (call->why < 0) {
+        write_code(room, size, call->why, path);
+    } else {
+        write_outcome(room, size, (enum dw_outcome)call->why, path);
     }
 }
 
-/* Ends the program where the library is not that of the header. */
-static inline void session_check_version(void)
+/* Follows one side of a path. */
+static inline enum dw_result dws_follow_side(dws_session *s, dws_subject *subject, const char *path, enum dw_side side,
+                                             void (*changed)(dws_session *, dws_subject *))
+{
+    dw_kept_data kept;
+    uint8_t none;
+    subject->path = dws_outer(s, path);
+    subject->side = side;
+    subject->changed = changed;
+    enum dw_result result = subject->path == NULL ? DW_NO_MEMORY : words_of_path(path) != NULL ? DW_NOT_PATH : DW_OK;
+    if (result == DW_OK) {
+        result = dw_peek_data(&s->client, subject->path, strlen(subject->path), &kept, &none, 0);
+    }
+    if (result != DW_OK) {
+        free(subject->path);
+        subject->path = NULL;
+        return result;
+    }
+    subject->next = s->subjects;
+    s->subjects = subject;
+    s->must_look = true;
+    return DW_OK;
+}
+
+static inline enum dw_result dws_follow(dws_session *s, dws_subject *subject, const char *path,
+                                        void (*changed)(dws_session *, dws_subject *))
+{
+    return dws_follow_side(s, subject, path, DW_SIDE_DATA, changed);
+}
+
+static inline enum dw_result dws_follow_children(dws_session *s, dws_subject *subject, const char *path,
+                                                 void (*changed)(dws_session *, dws_subject *))
+{
+    return dws_follow_side(s, subject, path, DW_SIDE_CHILDREN, changed);
+}
+
+/* A read of a subject is on its way no longer: what is answered is nobody's. */
+static inline void dws_drop_read(dws_session *s, struct dws_line *line, dws_call *read)
+{
+    dws_call **at = &line->first;
+    for (size_t i = 0; i < line->count; i++) {
+        if (*at == read) {
+            dws_remove(line, at);
+            s->has_news = true;
+            return;
+        }
+        at = &(*at)->next;
+    }
+}
+
+static inline void dws_unfollow(dws_session *s, dws_subject *subject)
+{
+    dws_subject **at = &s->subjects;
+    while (*at != NULL && *at != subject) {
+        at = &(*at)->next;
+    }
+    if (*at != NULL) {
+        *at = subject->next;
+    }
+    dws_drop_read(s, &s->queue, &subject->read);
+    dws_drop_read(s, &s->sent, &subject->read);
+    free(subject->read.text);
+    free(subject->read.names);
+    free(subject->path);
+    free(subject->text);
+    free(subject->names);
+    memset(subject, 0, sizeof *subject);
+}
+
+/* Whether the library is that of the header; else `why` says so. */
+static inline bool dws_check_version(char *why, size_t size)
 {
     unsigned found = dw_version();
+    const char *form = "the library is of version %u.%u.%u, and dirwolleu.h of %s: take both of one version";
     if (found != DW_VERSION_NUMBER) {
-        fprintf(stderr, "session: the library is of version %u.%u.%u, and dirwolleu.h of %s: take both of one version\n", found / 1000000,
-                found / 1000 % 1000, found % 1000, DW_VERSION);
-        exit(EXIT_FAILURE);
+        snprintf(why, size, form, found / 1000000, found / 1000 % 1000, found % 1000, DW_VERSION);
     }
+    return found == DW_VERSION_NUMBER;
 }
 
-/* Begins a session with the server HOST:PORT. */
-static inline void session_open(struct session *s, const char *server)
+static inline enum dw_result dws_make_client(dws_session *s)
 {
-    session_check_version();
-    *s = (struct session){.socket = -1};
-    if (sscanf(server, "%255[^:]:%7s", s->host, s->port) != 2) {
-        fprintf(stderr, "session: %s is not HOST:PORT\n", server);
-        exit(EXIT_FAILURE);
+    if (s->options.saved != NULL) {
+        return dw_resume(&s->client, s->options.timeout_ms, s->options.saved, s->options.saved_length);
     }
-    session_must(dw_open(&s->client, SESSION_TIMEOUT_MS), NULL);
+    return dw_open(&s->client, s->options.timeout_ms);
 }
 
-/* Begins a new session after one that has expired. Nothing is kept or watched. */
-static inline void session_renew(struct session *s)
+static inline void dws_free(dws_session *s)
 {
-    session_hang_up(s);
-    session_must(dw_renew(&s->client, SESSION_TIMEOUT_MS), NULL);
+    if (s == NULL) {
+        return;
+    }
+    s->is_over = true;
+    while (s->subjects != NULL) {
+        dws_unfollow(s, s->subjects);
+    }
+    dws_answer_rest(s);
+    dws_hang_up(s);
+    dw_close(&s->client);
+    dws_release(&s->close);
+    free(s->unsent.bytes);
+    free(s->hosts);
+    free(s->hosts_text);
+    free(s);
 }
 
-/* The number of the session: the owner of its ephemeral nodes. */
-static inline int64_t session_id(struct session *s)
+static inline dws_session *dws_open(const char *hosts, const dws_options *options, char *why, size_t size)
 {
-    uint8_t saved[8];
+    if (!dws_check_version(why, size)) {
+        return NULL;
+    }
+    dws_session *s = (dws_session *)calloc(1, sizeof *s);
+    enum dw_result result = DW_NO_MEMORY;
+    if (s != NULL) {
+        s->wire.socket = -1;
+        if (options != NULL) {
+            s->options = *options;
+        }
+        if (s->options.timeout_ms == 0) {
+            s->options.timeout_ms = DWS_TIMEOUT_MS;
+        }
+        s->pause_ms = DWS_FIRST_PAUSE_MS;
+        s->now_ms = s->heard_ms = dws_now_ms();
+        s->random = (s->now_ms << 20) ^ (uint64_t)(uintptr_t)s ^ (uint64_t)getpid() << 40 ^ 0x9e3779b97f4a7c15;
+        if (!dws_read_string(s, hosts, why, size)) {
+            dws_free(s);
+            return NULL;
+        }
+        s->host = s->host_count;
+        result = dws_make_client(s);
+    }
+    if (result != DW_OK) {
+        snprintf(why, size, "%s", dw_result_words(result));
+        dws_free(s);
+        return NULL;
+    }
+    return s;
+}
+
+static inline void dws_end(dws_session *s)
+{
+    if (s->is_closing || dw_state(&s->client) != DW_STATE_CONNECTED) {
+        s->is_over = true;
+        dws_answer_rest(s);
+        return;
+    }
+    dws_ask(s, &s->close, DWS_CLOSE, "/", NULL, 0);
+    s->is_closing = true;
+    s->due_ms = dws_now_ms() + DWS_CLOSE_MS;
+}
+
+static inline void dws_close(dws_session *s)
+{
+    dws_end(s);
+    while (!s->is_over && dws_turn(s)) {
+    }
+    dws_free(s);
+}
+
+static inline void *dws_context(const dws_session *s)
+{
+    return s->options.context;
+}
+
+static inline int64_t dws_last_zxid(dws_session *s)
+{
+    return dw_last_zxid(&s->client);
+}
+
+static inline int64_t dws_id(dws_session *s)
+{
+    uint8_t saved[8] = {0};
     size_t count;
     uint64_t id = 0;
-    session_must(dw_saved(&s->client, saved, sizeof saved, &count), NULL);
+    if (dw_saved(&s->client, saved, sizeof saved, &count) != DW_OK) {
+        return 0;
+    }
     for (size_t i = 0; i < sizeof saved; i++) {
         id = id << 8 | saved[i];
     }
     return (int64_t)id;
 }
 
-/* Says that no server was found. */
-static inline void session_complain(const struct session *s)
-{
-    const char *last = s->trouble != NULL ? s->trouble : "No attempt";
-    fprintf(stderr, "session: no server of %s:%s accepted the session in %d s; last: %s:%s: %c%s\n", s->host, s->port,
-            SESSION_PATIENCE_S, s->host, s->port, tolower((unsigned char)last[0]), last + 1);
+#ifdef __cplusplus
 }
-
-static inline void session_wait_for_server(struct session *s)
-{
-    uint64_t complain_ms = session_now_ms() + SESSION_PATIENCE_S * 1000;
-    while (dw_state(&s->client) != DW_STATE_CONNECTED && !session_is_over(s)) {
-        session_turn(s);
-        if (complain_ms <= session_now_ms()) {
-            session_complain(s);
-            complain_ms = UINT64_MAX;
-        }
-    }
-    s->is_answered = false;
-}
-
-/* Waits for a connection, and remembers what is asked about. */
-static inline void session_begin_call(struct session *s, const char *path)
-{
-    snprintf(s->path, sizeof s->path, "%s", path);
-    session_wait_for_server(s);
-}
-
-static inline int32_t session_answer(struct session *s, enum dw_result result)
-{
-    session_take(s, result);
-    while (!s->is_answered) {
-        session_turn(s);
-    }
-    if (s->answer.outcome != DW_OUTCOME_REPLIED) {
-        return (int32_t)s->answer.outcome;
-    }
-    return s->answer.reply == DW_REPLY_CODE ? s->answer.code : 0;
-}
-
-#define SESSION_ASK(step, s, path, ...)   \
-    (session_begin_call(s, path),         \
-     session_answer(s, step(&(s)->client, session_now_ms(), ++(s)->ticket, path, strlen(path), __VA_ARGS__)))
-
-#define session_exists(s, path, watch) SESSION_ASK(dw_exists, s, path, watch)
-#define session_get(s, path, watch) SESSION_ASK(dw_get_data, s, path, watch)
-#define session_children(s, path, watch) SESSION_ASK(dw_get_children, s, path, watch)
-#define session_delete(s, path, version) SESSION_ASK(dw_delete, s, path, version)
-#define session_set(s, path, text, version) \
-    SESSION_ASK(dw_set_data, s, path, (const uint8_t *)(text), strlen(text), false, version)
-
-/* Where the parent is why it fails, session_fail names the parent. */
-static inline int32_t session_create(struct session *s, const char *path, const char *text, int mode)
-{
-    int32_t why = SESSION_ASK(dw_create, s, path, (const uint8_t *)text, strlen(text), false, (uint32_t)mode);
-    if (why == DW_CODE_NO_NODE || why == DW_CODE_NO_CHILDREN_FOR_EPHEMERALS) {
-        char *slash = strrchr(s->path, '/');
-        slash[slash == s->path] = 0;
-    }
-    return why;
-}
-
-/* How many names are kept below a path and good, or -1. */
-static inline long session_good_names(struct session *s, const char *path)
-{
-    dw_kept_names kept;
-    session_must(dw_peek_children(&s->client, path, strlen(path), &kept), path);
-    return kept.mark == DW_MARK_GOOD ? (long)kept.count : -1;
-}
-
-/* The kept name of this index, in byte order, with a 0 after it; the empty text where there is none. */
-static inline void session_name(struct session *s, const char *path, size_t index, char *name, size_t room)
-{
-    size_t count;
-    session_must(dw_peek_name(&s->client, path, strlen(path), index, name, room - 1, &count), path);
-    name[count < room ? count : room - 1] = 0;
-}
-
-/* Whether what is kept about a node is good: its data, with a 0 after them, or that it is not there, by kept->kind. */
-static inline bool session_good_data(struct session *s, const char *path, dw_kept_data *kept, char *text, size_t room)
-{
-    session_must(dw_peek_data(&s->client, path, strlen(path), kept, (uint8_t *)text, room - 1), path);
-    text[kept->length < room ? kept->length : room - 1] = 0;
-    return kept->mark == DW_MARK_GOOD && kept->kind != DW_KEPT_KNOWN;
-}
+#endif
 
 #endif

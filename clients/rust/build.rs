@@ -2,7 +2,8 @@
 //! the prebuilt one of this crate or of the checkout, else by pkg-config.
 
 use std::env;
-use std::path::PathBuf;
+use std::fs;
+use std::path::{Path, PathBuf};
 use std::process::{exit, Command};
 
 const LIBRARY: &str = "libdirwolleu.a";
@@ -38,6 +39,33 @@ fn installed() -> Option<PathBuf> {
     folder.join(LIBRARY).is_file().then_some(folder)
 }
 
+/// The version of the libraries in a folder, by the description that pkg-config has of them, where there is one.
+fn version_in(folder: &Path) -> Option<String> {
+    let places = [
+        folder.join("dirwolleu.pc"),
+        folder.join("pkgconfig/dirwolleu.pc"),
+    ];
+    let described = places
+        .iter()
+        .find_map(|place| fs::read_to_string(place).ok())?;
+    let version = described
+        .lines()
+        .find_map(|line| line.strip_prefix("Version: "))?;
+    Some(String::from(version))
+}
+
+/// Ends the build where the library is known to be of another version than this crate.
+fn check_version(folder: &Path) {
+    let own = env!("CARGO_PKG_VERSION");
+    if let Some(version) = version_in(folder).filter(|version| version != own) {
+        eprintln!(
+            "{} is of version {version}, and this crate of {own}: take both of one version",
+            folder.join(LIBRARY).display()
+        );
+        exit(1);
+    }
+}
+
 fn main() {
     println!("cargo:rerun-if-env-changed=DIRWOLLEU_LIB_DIR");
     println!("cargo:rerun-if-env-changed=PKG_CONFIG");
@@ -64,6 +92,7 @@ fn main() {
         );
         exit(1);
     }
+    check_version(&folder);
     println!("cargo:rerun-if-changed={}", library.display());
     println!("cargo:rustc-link-search=native={}", folder.display());
     println!("cargo:rustc-link-lib=static=dirwolleu");

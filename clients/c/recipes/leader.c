@@ -2,32 +2,33 @@
 #define _POSIX_C_SOURCE 200809L
 #include "session.h"
 
+static dws_subject leader;
+static dws_call candidacy;
+
+static void show(dws_session *session, dws_subject *changed)
+{
+    (void)changed;
+    if (!dws_is_good(&leader)) {
+        return;
+    }
+    if (leader.kind == DW_KEPT_ABSENT) { /* what becomes of it, the watch tells */
+        dws_create(session, &candidacy, "/leader", "host-1", 6, DW_MODE_EPHEMERAL);
+    } else if (leader.stat.ephemeral_owner == dws_id(session)) {
+        printf("leads at zxid %" PRId64 " with token %" PRId64 "\n", dws_last_zxid(session), leader.stat.czxid);
+    } else {
+        printf("follows %s\n", leader.text);
+    }
+    fflush(stdout);
+}
+
 int main(void)
 {
-    static struct session s;
-    char text[256];
-    dw_kept_data kept;
-    session_open(&s, "127.0.0.1:2181");
-    for (;;) {
-        if (session_is_over(&s)) {
-            session_renew(&s);
-        }
-        if (!session_good_data(&s, "/leader", &kept, text, sizeof text)) {
-            if (session_get(&s, "/leader", true) == DW_CODE_NO_NODE) {
-                session_exists(&s, "/leader", true);
-            }
-            continue;
-        }
-        if (kept.kind == DW_KEPT_ABSENT) {
-            session_create(&s, "/leader", "host-1", DW_MODE_EPHEMERAL); /* what became of it, the watch tells */
-            continue;
-        }
-        if (kept.stat.ephemeral_owner == session_id(&s)) {
-            printf("leads at zxid %" PRId64 " with token %" PRId64 "\n", dw_last_zxid(&s.client), kept.stat.czxid);
-        } else {
-            printf("follows %s\n", text);
-        }
-        fflush(stdout);
-        session_wait(&s);
+    dws_session *session = dws_open("127.0.0.1:2181", NULL, NULL, 0);
+    if (session == NULL || dws_follow(session, &leader, "/leader", show) != DW_OK) {
+        return EXIT_FAILURE;
     }
+    while (dws_turn(session)) {
+    }
+    dws_free(session);
+    return EXIT_SUCCESS;
 }

@@ -2,31 +2,26 @@
 #define _POSIX_C_SOURCE 200809L
 #include "session.h"
 
+static dws_subject host, port, workers;
+
+static void show(dws_session *session, dws_subject *changed)
+{
+    (void)changed;
+    if (dws_is_good(&host) && dws_is_good(&port) && dws_is_good(&workers)) { /* all good, looked up with no step between: of one zxid */
+        printf("%s %s with %zu workers at zxid %" PRId64 "\n", host.text, port.text, workers.count, dws_last_zxid(session));
+        fflush(stdout);
+    }
+}
+
 int main(void)
 {
-    static struct session s;
-    static char host[SESSION_TEXT], port[SESSION_TEXT];
-    dw_kept_data kept;
-    session_open(&s, "127.0.0.1:2181");
-    for (;;) {
-        int32_t why = 0;
-        if (session_is_over(&s)) {
-            session_renew(&s);
-        }
-        if (!session_good_data(&s, "/host", &kept, host, sizeof host)) {
-            why = session_get(&s, "/host", true);
-        } else if (!session_good_data(&s, "/port", &kept, port, sizeof port)) {
-            why = session_get(&s, "/port", true);
-        } else if (session_good_names(&s, "/workers") < 0) {
-            why = session_children(&s, "/workers", true);
-        } else { /* all good, looked up with no step between: of one zxid */
-            printf("%s %s with %ld workers at zxid %" PRId64 "\n", host, port, session_good_names(&s, "/workers"),
-                   dw_last_zxid(&s.client));
-            fflush(stdout);
-            session_wait(&s);
-        }
-        if (why < 0) {
-            return session_fail(&s, why);
-        }
+    dws_session *session = dws_open("127.0.0.1:2181", NULL, NULL, 0);
+    if (session == NULL || dws_follow(session, &host, "/host", show) != DW_OK || dws_follow(session, &port, "/port", show) != DW_OK
+        || dws_follow_children(session, &workers, "/workers", show) != DW_OK) {
+        return EXIT_FAILURE;
     }
+    while (dws_turn(session)) {
+    }
+    dws_free(session);
+    return EXIT_SUCCESS;
 }

@@ -6,11 +6,24 @@
 
 int main(int argc, char **argv)
 {
-    static struct session s;
-    if (argc != 3 && argc != 4) {
+    static dws_call call;
+    char why[DWS_LONGEST_LINE];
+    dws_options options = {.timeout_ms = 3000};
+    dws_session *session = argc == 3 || argc == 4 ? dws_open(argv[1], &options, why, sizeof why) : NULL;
+    if (session == NULL) {
         return 2;
     }
-    session_open(&s, argv[1]);
-    int32_t why = argc == 3 ? session_get(&s, argv[2], false) : session_create(&s, argv[2], argv[3], DW_MODE_PERSISTENT);
-    return why == 0 ? EXIT_SUCCESS : session_fail(&s, why);
+    if (argc == 3) {
+        dws_get(session, &call, argv[2], false);
+    } else {
+        dws_create(session, &call, argv[2], argv[3], strlen(argv[3]), DW_MODE_PERSISTENT);
+    }
+    int32_t failed = dws_wait(session, &call);
+    if (failed != 0) {
+        dws_words(session, &call, why, sizeof why);
+        fprintf(stderr, "session: %s\n", why);
+    }
+    dws_release(&call);
+    dws_free(session);
+    return failed == 0 ? EXIT_SUCCESS : EXIT_FAILURE;
 }

@@ -363,7 +363,7 @@ class Follow(unittest.TestCase):
         self.assertEqual(done.returncode, 1)
 
     def test_words_that_are_refused(self):
-        for status, *words in ((2,), (2, "127.0.0.1", "/"), (2, "127.0.0.1:", "/"), (2, "a:1,,b:2", "/"), (1, "127.0.0.1:1", "config")):
+        for status, *words in ((2,), (2, "127.0.0.1:", "/"), (2, "a:1,,b:2", "/"), (1, "127.0.0.1:1", "config")):
             done = subprocess.run([PROGRAM, *words], capture_output=True, timeout=BOUND, check=False)
             self.assertEqual((done.returncode, done.stdout), (status, b""), words)
 

@@ -218,6 +218,19 @@ _FUNCTIONS: dict[str, tuple[Any, tuple[Any, ...]]] = {
     "dw_lacking": (c_int32, (_HANDLE, c_char_p, c_size_t, c_size_t, POINTER(c_char), c_size_t, POINTER(c_size_t))),
     "dw_forget": (c_int32, (_HANDLE,)),
 }
+
+_RESULT_WORDS = {
+    HALTED: "out of memory within a step; take the saved session, and resume it",
+    NO_MEMORY: "out of memory; hand the same in again",
+    CLOSED: "the handle holds no client; open one",
+    NOT_TEXT: "the path is no UTF-8",
+    NOT_PATH: "the text is no path",
+    BAD_TIMEOUT: "the timeout is not 1 to 2147483647 milliseconds",
+    NO_SUCH_MODE: "the mode is no sum of EPHEMERAL and SEQUENTIAL",
+    NOT_SAVED: "the bytes are no saved session; take all of those that a client has saved",
+    NOT_WHOLE: "some of the subtree is not kept, or not good; read what is lacking, with a watch",
+    TOO_MANY: "the subtree has more nodes than were asked for; ask for more, or for a path below",
+}
 # end of what is made
 
 _HERE = pathlib.Path(__file__).resolve().parent
@@ -383,25 +396,14 @@ def _checked(code: int) -> None:
     """Raises what a code below 0 says."""
     if code >= OK:
         return
-    if code == HALTED:
-        raise Halted("the client ran out of memory")
-    if code == NO_MEMORY:
-        raise MemoryError
-    if code == CLOSED:
-        raise Closed("the machine is closed")
-    if code == NOT_WHOLE:
-        raise NotWhole("some of the subtree is not kept, or not good")
-    if code == TOO_MANY:
-        raise TooManyNodes("the subtree has more nodes than were asked for")
-    raise ValueError(
-        {
-            NOT_TEXT: "the path is no UTF-8",
-            NOT_PATH: "the text is no path",
-            BAD_TIMEOUT: "the timeout is not 1 to 2147483647 milliseconds",
-            NO_SUCH_MODE: "the mode is no sum of EPHEMERAL and SEQUENTIAL",
-            NOT_SAVED: "these bytes are no saved session: take all of those that a client has saved",
-        }[_known("result", code, (NOT_TEXT, NOT_PATH, BAD_TIMEOUT, NO_SUCH_MODE, NOT_SAVED))]
-    )
+    words = _RESULT_WORDS[_known("result", code, _RESULT_WORDS)]
+    raise {
+        HALTED: Halted,
+        NO_MEMORY: MemoryError,
+        CLOSED: Closed,
+        NOT_WHOLE: NotWhole,
+        TOO_MANY: TooManyNodes,
+    }.get(code, ValueError)(words)
 
 
 def _texts_in(spelled: bytes) -> Iterator[str]:
@@ -623,7 +625,8 @@ class Machine:
             given = room.bytes, len(room.bytes)
             self._check(_library.dw_peek_data(self._handle, spelled, len(spelled), byref(kept), *given), path)
             is_whole = not room.widen(kept.length)
-        _known("kind of what is kept", kept.kind, range(NOTHING, FULL + 1))
+        _known("kind of what is kept", kept.kind, (NOTHING, ABSENT, KNOWN, FULL))
+        _known("mark", kept.mark, (0, GOOD, STALE))
         stat = DataStat._make(_fields_of_data_stat(kept.stat)) if kept.kind in (KNOWN, FULL) else None
         data = string_at(room.bytes, kept.length) if kept.kind == FULL and not kept.is_null else None
         return KeptData(kept.kind, kept.mark, stat, data)
@@ -631,7 +634,7 @@ class Machine:
     def _side_kept(self, path: str) -> tuple[int, int]:
         kept, spelled = _KeptNames(), self._root.spell(path)
         self._check(_library.dw_peek_children(self._handle, spelled, len(spelled), byref(kept)), path)
-        return kept.mark, kept.pzxid
+        return _known("mark", kept.mark, (0, GOOD, STALE)), kept.pzxid
 
     def _names_kept(self, path: str) -> tuple[str, ...]:
         spelled = self._root.spell(path)

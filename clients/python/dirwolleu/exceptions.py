@@ -213,7 +213,29 @@ class TooLargeError(ZookeeperError):
     _advice = "send less"
 
 
-_THROTTLED = -127
+# made by scripts/interface from include/interface.toml
+_OTHERS = {
+    -1: ("the server has failed", ""),
+    -2: ("the server has found itself inconsistent", ""),
+    -3: ("the server has found its data inconsistent", ""),
+    -5: ("the server can not read the request", ""),
+    -7: ("the server has not done it in time", ""),
+    -12: ("the server does not know the session", ""),
+    -13: ("no quorum of the new servers is connected", ""),
+    -14: ("the servers are being changed", "call again later"),
+    -100: ("the server refuses the request", ""),
+    -113: ("the callback is refused", ""),
+    -115: ("the server does not take these credentials", ""),
+    -119: ("the server is read-only", ""),
+    -120: ("a local session makes no ephemeral nodes", ""),
+    -121: ("no such watch is set", ""),
+    -122: ("the leader has not answered the server in time", ""),
+    -123: ("the servers are not to be changed by clients", ""),
+    -124: ("the server wants SASL, and has closed the session", ""),
+    -125: ("the quota would be exceeded", ""),
+    -127: ("the server has too much to do", "call again later"),
+}
+# end of what is made
 
 
 def error_of(code: int) -> ZookeeperError:
@@ -221,8 +243,6 @@ def error_of(code: int) -> ZookeeperError:
     for kind in ZookeeperError.__subclasses__():
         if kind.code == code:
             return kind()
-    error = ZookeeperError(f"the server answers {code}")
-    if code == _THROTTLED:
-        error = ZookeeperError("the server has too much to do", "call again later")
+    error = ZookeeperError(*_OTHERS.get(code, (f"the server answers {code}", "")))
     error.code = code
     return error

@@ -59,17 +59,29 @@ fn read_watched(session: &mut impl Asks, path: &str) -> Result<Option<Node>, Err
 macro_rules! calls {
     ($this:ident: [$($receiver:tt)+] $asks:expr) => {
         /// What is known of a node, and none where there is none.
+        ///
+        /// # Errors
+        ///
+        /// As [`call`](Self::call).
         pub fn exists($($receiver)+, path: &str) -> Result<Option<Stat>, Error> {
             $this.call(Request::exists(path))
         }
 
         /// The data of a node. Where there is none it fails with [`Code::NO_NODE`](crate::Code::NO_NODE).
+        ///
+        /// # Errors
+        ///
+        /// As [`call`](Self::call).
         pub fn get($($receiver)+, path: &str) -> Result<Node, Error> {
             $this.call(Request::get(path))
         }
 
         /// The names of the children of a node, in an order that means nothing, and what is known of it. Where there is no node it
         /// fails with [`Code::NO_NODE`](crate::Code::NO_NODE).
+        ///
+        /// # Errors
+        ///
+        /// As [`call`](Self::call).
         pub fn children($($receiver)+, path: &str) -> Result<(Vec<String>, Stat), Error> {
             $this.call(Request::children(path))
         }
@@ -79,26 +91,47 @@ macro_rules! calls {
         ///
         /// A read that the server has refused is followed by no other one of the path within a second: the next call waits until then.
         /// Where there is a node, of which the server says that it has no data, they are read again after a second, until the two agree.
+        ///
+        /// # Errors
+        ///
+        /// As [`call`](Self::call).
         pub fn watch($($receiver)+, path: &str) -> Result<Option<Node>, Error> {
             watch($asks, path)
         }
 
         /// The same as [`children`](Self::children), and it leaves a watch where there is a node; what it brings is kept then.
+        ///
+        /// # Errors
+        ///
+        /// As [`call`](Self::call).
         pub fn watch_children($($receiver)+, path: &str) -> Result<(Vec<String>, Stat), Error> {
             $this.call(Request::children(path).watched())
         }
 
         /// Sets the data of a node that has this version; [`ANY_VERSION`](crate::ANY_VERSION) is that of each node.
+        ///
+        /// # Errors
+        ///
+        /// As [`call`](Self::call): of the server [`Code::NO_NODE`](crate::Code::NO_NODE) and [`Code::BAD_VERSION`](crate::Code::BAD_VERSION).
         pub fn set($($receiver)+, path: &str, data: &[u8], version: i32) -> Result<Stat, Error> {
             $this.call(Request::set(path, data, version))
         }
 
         /// Makes a node, and tells its path, which ends in ten digits more where it is sequential.
+        ///
+        /// # Errors
+        ///
+        /// As [`call`](Self::call): of the server [`Code::NODE_EXISTS`](crate::Code::NODE_EXISTS), and where the parent is not there
+        /// [`Code::NO_NODE`](crate::Code::NO_NODE).
         pub fn create($($receiver)+, path: &str, data: &[u8], mode: Mode) -> Result<String, Error> {
             $this.call(Request::create(path, data, mode))
         }
 
         /// Makes a node with this ACL. As [`create`](Self::create) says otherwise.
+        ///
+        /// # Errors
+        ///
+        /// As [`create`](Self::create), and [`Code::INVALID_ACL`](crate::Code::INVALID_ACL).
         pub fn create_with_acls(
             $($receiver)+,
             path: &str,
@@ -110,28 +143,49 @@ macro_rules! calls {
         }
 
         /// The ACL of a node, and what is known of it.
+        ///
+        /// # Errors
+        ///
+        /// As [`call`](Self::call).
         pub fn acls($($receiver)+, path: &str) -> Result<(Vec<Acl>, Stat), Error> {
             $this.call(Request::acls(path))
         }
 
         /// Sets the ACL of a node whose ACL has this version ([`Stat::aversion`]); [`ANY_VERSION`](crate::ANY_VERSION) is that of each.
+        ///
+        /// # Errors
+        ///
+        /// As [`call`](Self::call): of the server [`Code::BAD_VERSION`](crate::Code::BAD_VERSION) and [`Code::INVALID_ACL`](crate::Code::INVALID_ACL).
         pub fn set_acls($($receiver)+, path: &str, acls: &[Acl], version: i32) -> Result<Stat, Error> {
             $this.call(Request::set_acls(path, acls, version))
         }
 
         /// Tells the server who the session is, in the words of a scheme, as `digest` and `user:password`: now, and on each later
         /// connection. It fails with [`Code::AUTH_FAILED`](crate::Code::AUTH_FAILED) where the server does not take it.
+        ///
+        /// # Errors
+        ///
+        /// As [`call`](Self::call).
         pub fn add_auth($($receiver)+, scheme: &str, credentials: &[u8]) -> Result<(), Error> {
             $this.call(Request::auth(scheme, credentials))
         }
 
         /// Has the server that the session is connected to catch up with the leader: a read that is asked after it is of no state that
         /// is older than what the leader had when this was asked.
+        ///
+        /// # Errors
+        ///
+        /// As [`call`](Self::call).
         pub fn sync($($receiver)+, path: &str) -> Result<(), Error> {
             $this.call(Request::sync(path))
         }
 
         /// Deletes a node that has this version and no children; [`ANY_VERSION`](crate::ANY_VERSION) is that of each node.
+        ///
+        /// # Errors
+        ///
+        /// As [`call`](Self::call): of the server [`Code::NO_NODE`](crate::Code::NO_NODE), [`Code::BAD_VERSION`](crate::Code::BAD_VERSION)
+        /// and [`Code::NOT_EMPTY`](crate::Code::NOT_EMPTY).
         pub fn delete($($receiver)+, path: &str, version: i32) -> Result<(), Error> {
             $this.call(Request::delete(path, version))
         }
@@ -147,21 +201,37 @@ macro_rules! look_ups {
         }
 
         /// What is kept about the data of a path that was read with a watch, with its mark; see [`View::peek`].
+        ///
+        /// # Errors
+        ///
+        /// [`Fault::NotPath`], [`Fault::NoMemory`] and [`Fault::UnknownNumber`].
         pub fn peek(&self, path: &str) -> Result<Option<Kept<DataAnswer>>, Fault> {
             self.view(|view| view.peek(path))
         }
 
         /// What is kept about the children of a path that were read with a watch, with its mark; see [`View::peek_children`].
+        ///
+        /// # Errors
+        ///
+        /// As [`peek`](Self::peek).
         pub fn peek_children(&self, path: &str) -> Result<Option<Kept<Children>>, Fault> {
             self.view(|view| view.peek_children(path))
         }
 
         /// The mark of what is kept about the data of a path; see [`View::data_mark`].
+        ///
+        /// # Errors
+        ///
+        /// As [`peek`](Self::peek).
         pub fn data_mark(&self, path: &str) -> Result<Option<Mark>, Fault> {
             self.view(|view| view.data_mark(path))
         }
 
         /// The mark of what is kept about the children of a path; see [`View::children_mark`].
+        ///
+        /// # Errors
+        ///
+        /// As [`peek`](Self::peek).
         pub fn children_mark(&self, path: &str) -> Result<Option<Mark>, Fault> {
             self.view(|view| view.children_mark(path))
         }
@@ -177,12 +247,19 @@ macro_rules! look_ups {
         }
 
         /// The number of the session, which its ephemeral nodes have as their owner; see [`View::id`].
+        ///
+        /// # Errors
+        ///
+        /// [`Fault::NoMemory`] alone.
         pub fn id(&self) -> Result<i64, Fault> {
             self.view(|view| view.id())
         }
 
-        /// The session, to be taken up by [`SessionOptions::resume`](crate::SessionOptions::resume), maybe in another process. It fails
-        /// with [`Fault::NoMemory`] alone.
+        /// The session, to be taken up by [`SessionOptions::resume`](crate::SessionOptions::resume), maybe in another process.
+        ///
+        /// # Errors
+        ///
+        /// [`Fault::NoMemory`] alone.
         pub fn saved(&self) -> Result<SavedSession, Fault> {
             self.view(|view| view.saved())
         }

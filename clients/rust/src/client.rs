@@ -1,6 +1,6 @@
 //! The client.
 
-use crate::fault::{unknown, Fault};
+use crate::fault::Fault;
 use crate::ffi::{Call, Handle, KeptData};
 use crate::kept::{mark_of, Children, DataAnswer, Kept, Mark};
 use crate::moment::Moment;
@@ -10,6 +10,8 @@ use crate::saved::SavedSession;
 use crate::subtree::{lacking_in, nodes_in, Lacking, Subtree};
 use std::fmt;
 use std::time::Duration;
+
+pub use crate::numbers::State;
 
 /// The room that a text of unknown length is given at first.
 const FIRST_ROOM: usize = 256;
@@ -42,21 +44,6 @@ pub(crate) fn texts_in(count: usize, mut spelled: &[u8]) -> Vec<String> {
     texts
 }
 
-/// The state of a session, as its client knows it.
-#[derive(Clone, Copy, Debug, PartialEq, Eq, Hash)]
-pub enum State {
-    /// There is no connection. What is kept stays kept, with its marks.
-    Idle,
-    /// The connection stands, and the server has not answered for the session yet.
-    Connecting,
-    /// A server has accepted the session.
-    Connected,
-    /// The servers have given the session up. Nothing is kept or watched, and that is final.
-    Expired,
-    /// The session was closed, as it was asked. Nothing is kept or watched, and that is final.
-    Closed,
-}
-
 impl State {
     /// Whether no other state comes after it.
     pub fn is_final(self) -> bool {
@@ -70,8 +57,9 @@ impl State {
 /// moment at which it noticed it, does what the outputs say, and wakes at the latest at the [`deadline`](Client::deadline).
 /// [`Session`](crate::Session) is such a program over TCP.
 ///
-/// Each step forgets the outputs of the step before. It fails with [`Fault::Halted`] where memory ran out within it, and with the
-/// faults that it names besides; these leave the client as it was.
+/// Each step forgets the outputs of the step before. It fails with [`Fault::Halted`] where memory ran out within it, with
+/// [`Fault::UnknownNumber`] where the library is of another version than this crate, and with the faults that it names besides; these leave
+/// the client as it was.
 ///
 /// A client may be moved, and handed to another thread. It is used by one thread at a time:
 ///
@@ -90,7 +78,7 @@ impl State {
 /// let mut client = Client::open(Duration::from_secs(9))?;
 /// let mut to_server = Vec::new();
 /// let mut outputs = client.opened(Moment::from_millis(1_000))?;
-/// while let Some(output) = outputs.next() {
+/// while let Some(output) = outputs.next()? {
 ///     match output {
 ///         Output::Send(frame) => frame.append_to(&mut to_server),
 ///         other => println!("{other:?}"),
@@ -104,6 +92,7 @@ impl State {
 /// ```
 pub struct Client {
     pub(crate) handle: Handle,
+    state: State,
 }
 
 /// The number of milliseconds of a timeout, in whole ones.
@@ -113,51 +102,90 @@ fn timeout_ms(timeout: Duration) -> Result<i32, Fault> {
 
 /// How a client begins.
 impl Client {
-    /// A client of no session yet, which asks for this timeout, in whole milliseconds: 1 to 2,147,483,647, else [`Fault::BadTimeout`].
-    /// Else it fails with [`Fault::NoMemory`], and with [`Fault::OtherVersion`] where the library that is linked is not this crate's.
+    /// A client of no session yet, which asks for this timeout, in whole milliseconds: 1 to 2,147,483,647.
+    ///
+    /// # Errors
+    ///
+    /// [`Fault::BadTimeout`], [`Fault::NoMemory`], [`Fault::UnknownNumber`], and [`Fault::OtherVersion`] where the library that is linked
+    /// is not this crate's.
     pub fn open(timeout: Duration) -> Result<Client, Fault> {
-        let handle = Handle::open(timeout_ms(timeout)?)?;
-        Ok(Client { handle })
+        Client::of(Handle::open(timeout_ms(timeout)?)?)
     }
 
-    /// The same, of a session that was put away. Also [`Fault::NotSaved`].
+    /// The same, of a session that was put away.
+    ///
+    /// # Errors
+    ///
+    /// As [`open`](Client::open), and [`Fault::NotSaved`].
     pub fn resume(timeout: Duration, saved: &SavedSession) -> Result<Client, Fault> {
-        let handle = Handle::resume(timeout_ms(timeout)?, saved.as_bytes())?;
-        Ok(Client { handle })
+        Client::of(Handle::resume(timeout_ms(timeout)?, saved.as_bytes())?)
     }
 
     /// Begins a new session, which asks for this timeout: after an expiry, a close and [`Fault::Halted`]. Nothing is kept or watched, and
     /// the greatest zxid seen stays, so that no server which is behind it admits the session. Close the connection of the old session
-    /// before. It fails as [`open`](Client::open), and is then as it was.
+    /// before.
+    ///
+    /// # Errors
+    ///
+    /// As [`open`](Client::open); then the client is as it was.
     pub fn renew(&mut self, timeout: Duration) -> Result<(), Fault> {
-        self.handle.renew(timeout_ms(timeout)?)
+        let timeout = timeout_ms(timeout)?;
+        self.step(|handle| handle.renew(timeout)).map(drop)
+    }
+
+    fn of(handle: Handle) -> Result<Client, Fault> {
+        let state = State::try_from(handle.state())?;
+        Ok(Client { handle, state })
+    }
+
+    /// Takes a step. The state is noted, also where the step has failed.
+    fn step(
+        &mut self,
+        step: impl FnOnce(&mut Handle) -> Result<(), Fault>,
+    ) -> Result<Outputs<'_>, Fault> {
+        let done = step(&mut self.handle);
+        self.state = State::try_from(self.handle.state())?;
+        done?;
+        Ok(Outputs::of(self))
     }
 }
 
 /// Steps: what happened.
 impl Client {
     /// A connection to a server begins. Hand in [`cut`](Client::cut) before, where one is open still.
+    ///
+    /// # Errors
+    ///
+    /// [`Fault::Halted`] and [`Fault::UnknownNumber`].
     pub fn opened(&mut self, now: Moment) -> Result<Outputs<'_>, Fault> {
-        self.handle.opened(now)?;
-        Ok(Outputs::of(self))
+        self.step(|handle| handle.opened(now))
     }
 
     /// The connection is over.
+    ///
+    /// # Errors
+    ///
+    /// [`Fault::Halted`] and [`Fault::UnknownNumber`].
     pub fn cut(&mut self, now: Moment) -> Result<Outputs<'_>, Fault> {
-        self.handle.cut(now)?;
-        Ok(Outputs::of(self))
+        self.step(|handle| handle.cut(now))
     }
 
     /// A moment, and nothing else: at the latest at the [`deadline`](Client::deadline).
+    ///
+    /// # Errors
+    ///
+    /// [`Fault::Halted`] and [`Fault::UnknownNumber`].
     pub fn tick(&mut self, now: Moment) -> Result<Outputs<'_>, Fault> {
-        self.handle.tick(now)?;
-        Ok(Outputs::of(self))
+        self.step(|handle| handle.tick(now))
     }
 
-    /// Bytes came from the server, in any pieces. Also [`Fault::NoMemory`]: the same bytes can be handed in again.
+    /// Bytes came from the server, in any pieces.
+    ///
+    /// # Errors
+    ///
+    /// [`Fault::Halted`], [`Fault::UnknownNumber`], and [`Fault::NoMemory`]: then the same bytes can be handed in again.
     pub fn bytes(&mut self, now: Moment, bytes: &[u8]) -> Result<Outputs<'_>, Fault> {
-        self.handle.bytes(now, bytes)?;
-        Ok(Outputs::of(self))
+        self.step(|handle| handle.bytes(now, bytes))
     }
 }
 
@@ -165,6 +193,10 @@ impl Client {
 macro_rules! calls {
     ($($(#[$doc:meta])* $name:ident($($word:ident: $kind:ty),*);)*) => {$(
         $(#[$doc])*
+        ///
+        /// # Errors
+        ///
+        /// [`Fault::NotPath`] and [`Fault::NoMemory`]: then nothing has happened. [`Fault::Halted`] and [`Fault::UnknownNumber`].
         pub fn $name(
             &mut self,
             now: Moment,
@@ -172,14 +204,13 @@ macro_rules! calls {
             path: &str,
             $($word: $kind),*
         ) -> Result<Outputs<'_>, Fault> {
-            self.handle.$name(Call { now, ticket, path }, $($word),*)?;
-            Ok(Outputs::of(self))
+            self.step(|handle| handle.$name(Call { now, ticket, path }, $($word),*))
         }
     )*};
 }
 
 /// Steps: calls. The ticket is the caller's own number, and comes back with the answer, which is an output of this step or of a later
-/// one. Each also fails with [`Fault::NoMemory`], and [`Fault::NotPath`] where it has a path.
+/// one.
 impl Client {
     calls! {
         /// Asks whether there is a node, and what is known of it.
@@ -203,9 +234,12 @@ impl Client {
     }
 
     /// Asks to end the session.
+    ///
+    /// # Errors
+    ///
+    /// [`Fault::NoMemory`]: then nothing has happened. [`Fault::Halted`] and [`Fault::UnknownNumber`].
     pub fn close_session(&mut self, now: Moment, ticket: u64) -> Result<Outputs<'_>, Fault> {
-        self.handle.close_session(now, ticket)?;
-        Ok(Outputs::of(self))
+        self.step(|handle| handle.close_session(now, ticket))
     }
 }
 
@@ -213,8 +247,7 @@ impl Client {
 impl Client {
     /// The state.
     pub fn state(&self) -> State {
-        let state = self.handle.state();
-        State::of(state).unwrap_or_else(|| unknown("state", state))
+        self.state
     }
 
     /// The greatest zxid seen, not below 0. A good answer is what the servers' history has at it.
@@ -233,33 +266,46 @@ impl Client {
         self.handle.deadline()
     }
 
-    /// The session, to be taken up by [`resume`](Client::resume). It fails with [`Fault::NoMemory`] alone.
+    /// The session, to be taken up by [`resume`](Client::resume).
+    ///
+    /// # Errors
+    ///
+    /// [`Fault::NoMemory`] alone.
     pub fn saved(&self) -> Result<SavedSession, Fault> {
         whole(|room| self.handle.saved(room)).map(SavedSession::from_bytes)
     }
 
-    /// What is kept about the data of a path that was read with a watch, and none where nothing is. The data are copied. It fails with
-    /// [`Fault::NotPath`] and [`Fault::NoMemory`].
+    /// What is kept about the data of a path that was read with a watch, and none where nothing is. The data are copied.
+    ///
+    /// # Errors
+    ///
+    /// [`Fault::NotPath`], [`Fault::NoMemory`] and [`Fault::UnknownNumber`].
     pub fn peek_data(&self, path: &str) -> Result<Option<Kept<DataAnswer>>, Fault> {
         let mut kept = KeptData::default();
         let data = whole(|room| {
             kept = self.handle.peek_data(path, room)?;
-            Ok(kept.length)
+            Ok::<_, Fault>(kept.length)
         })?;
-        Ok(Kept::of_data(&kept, data))
+        Ok(Kept::of_data(&kept, data)?)
     }
 
-    /// The mark of what is kept about the data of a path, and none where nothing is. It copies no data, and fails as
-    /// [`peek_data`](Client::peek_data).
+    /// The mark of what is kept about the data of a path, and none where nothing is. It copies no data.
+    ///
+    /// # Errors
+    ///
+    /// As [`peek_data`](Client::peek_data).
     pub fn data_mark(&self, path: &str) -> Result<Option<Mark>, Fault> {
-        Ok(mark_of(self.handle.peek_data(path, &mut [])?.mark))
+        Ok(mark_of(self.handle.peek_data(path, &mut [])?.mark)?)
     }
 
-    /// What is kept about the children of a path that were read with a watch, and none where nothing is. The names are copied. It fails
-    /// as [`peek_data`](Client::peek_data).
+    /// What is kept about the children of a path that were read with a watch, and none where nothing is. The names are copied.
+    ///
+    /// # Errors
+    ///
+    /// As [`peek_data`](Client::peek_data).
     pub fn peek_children(&self, path: &str) -> Result<Option<Kept<Children>>, Fault> {
         let kept = self.handle.peek_children(path)?;
-        let Some(mark) = mark_of(kept.mark) else {
+        let Some(mark) = mark_of(kept.mark)? else {
             return Ok(None);
         };
         let spelled = whole(|room| self.handle.peek_names(path, room))?;
@@ -270,10 +316,13 @@ impl Client {
         }))
     }
 
-    /// The mark of what is kept about the children of a path, and none where nothing is. It copies no names, and fails as
-    /// [`peek_data`](Client::peek_data).
+    /// The mark of what is kept about the children of a path, and none where nothing is. It copies no names.
+    ///
+    /// # Errors
+    ///
+    /// As [`peek_data`](Client::peek_data).
     pub fn children_mark(&self, path: &str) -> Result<Option<Mark>, Fault> {
-        Ok(mark_of(self.handle.peek_children(path)?.mark))
+        Ok(mark_of(self.handle.peek_children(path)?.mark)?)
     }
 
     /// All nodes at and below a path, at most this many, and none where some of it is not kept good: then read what is

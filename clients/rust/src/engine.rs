@@ -52,7 +52,7 @@ pub(crate) enum Plan {
 #[derive(Clone, Copy, Debug, PartialEq, Eq)]
 enum Standing {
     GoesOn,
-    /// Memory ran out within a step.
+    /// The client has no use any more: memory ran out within a step, or the library is of another version.
     Halted,
     /// The servers do not take its credentials.
     Barred,
@@ -89,6 +89,7 @@ pub(crate) struct Engine {
     introductions: Introductions,
     is_closing: bool,
     standing: Standing,
+    halt: Fault,
 }
 
 /// How it begins, goes on with another client, and ends.
@@ -114,6 +115,7 @@ impl Engine {
             introductions: Introductions::of(beginning.credentials),
             is_closing: false,
             standing: Standing::GoesOn,
+            halt: Fault::Halted,
         }
     }
 
@@ -186,7 +188,7 @@ impl Engine {
     /// It fails where the client has halted.
     pub(crate) fn halt(&self) -> Result<(), Fault> {
         if self.standing == Standing::Halted {
-            return Err(Fault::Halted);
+            return Err(self.halt.clone());
         }
         Ok(())
     }
@@ -225,10 +227,9 @@ impl Engine {
         };
         let patience = self.client.timeout().max(SHORTEST_PATIENCE);
         let until = self.clock.now().saturating_add(patience);
-        if self.standing == Standing::Barred {
+        if let Some(refusal) = self.refusal_of_all() {
             let ticket = self.calls.begin(slot);
-            self.calls
-                .end(ticket, Err(ErrorKind::Server(Code::AUTH_FAILED)));
+            self.calls.end(ticket, Err(refusal));
             return false;
         }
         if is_waiting && self.standing == Standing::GoesOn {
@@ -237,6 +238,15 @@ impl Engine {
         }
         self.put(&Queued::now(asked, slot));
         false
+    }
+
+    /// Why no call is asked any more.
+    fn refusal_of_all(&self) -> Option<ErrorKind> {
+        match self.standing {
+            Standing::Barred => Some(ErrorKind::Server(Code::AUTH_FAILED)),
+            Standing::Halted => Some(self.halt.clone().into()),
+            Standing::GoesOn | Standing::Stopped => None,
+        }
     }
 
     /// Takes a call back, where it was not sent yet.
@@ -286,7 +296,7 @@ impl Engine {
     /// Why the lane may not write now.
     fn refusal_of_lane(&self) -> Option<ErrorKind> {
         let reason = match self.client.state() {
-            _ if self.standing == Standing::Halted => return Some(Fault::Halted.into()),
+            _ if self.standing == Standing::Halted => return Some(self.halt.clone().into()),
             State::Connected if !self.is_closing => return None,
             State::Idle | State::Connecting => NoReply::NotConnected,
             State::Expired => NoReply::SessionExpired,
@@ -379,24 +389,25 @@ impl Engine {
         F: for<'a> FnOnce(&'a mut Client, Moment) -> Result<Outputs<'a>, Fault>,
     {
         let outputs = step(&mut self.client, now);
-        let taken = outputs.map(|outputs| self.told.take(outputs));
+        let taken = outputs.and_then(|outputs| self.told.take(outputs));
         self.settle(now, taken)
     }
 
-    /// Does what the client has said at a step. The connection is over where the client says so or has halted, and where a write
+    /// Does what the client has said at a step. The connection is over where the client says so or has no use any more, and where a write
     /// fails.
     fn settle(&mut self, now: Moment, step: Result<(), Fault>) -> Result<(), Fault> {
         let is_admitted = self.note_news(now);
         let is_sent = self.send(now);
-        let has_halted = step == Err(Fault::Halted);
-        if mem::take(&mut self.told.is_over) || !is_sent || has_halted {
+        let halt = step.as_ref().err().filter(|fault| fault.is_final());
+        if mem::take(&mut self.told.is_over) || !is_sent || halt.is_some() {
             self.hang_up();
         }
-        if has_halted {
+        if let Some(fault) = halt {
             if self.standing == Standing::GoesOn {
                 self.standing = Standing::Halted;
+                self.halt = fault.clone();
             }
-            self.calls.end_all(&Fault::Halted.into());
+            self.calls.end_all(&fault.clone().into());
         }
         if !is_sent {
             self.step(now, Client::cut)?;
@@ -532,7 +543,7 @@ impl Engine {
             .lane
             .take(bytes, &self.chroot, &mut self.inbox, &mut self.answers);
         let outputs = self.client.bytes(self.in_time(now), &self.inbox);
-        let taken = outputs.map(|outputs| self.told.take(outputs));
+        let taken = outputs.and_then(|outputs| self.told.take(outputs));
         if taken.is_ok() {
             self.waiting.hears(&self.inbox);
             self.inbox.clear();
@@ -591,5 +602,34 @@ impl Engine {
             line.close();
             self.pauses.ends(self.clock.now(), self.client.timeout());
         }
+    }
+}
+
+#[cfg(test)]
+mod tests {
+    use super::{Beginning, Client, Engine, Fault, Hosts, Moment, Slot};
+    use crate::client::State;
+    use crate::request::Request;
+    use std::time::Duration;
+
+    #[test]
+    fn a_library_of_another_version_ends_a_session_in_words() {
+        let timeout = Duration::from_secs(1);
+        let mut engine = Engine::new(Beginning {
+            client: Client::open(timeout).unwrap(),
+            timeout,
+            hosts: Hosts::default(),
+            renews: true,
+            credentials: Vec::new(),
+        });
+        let fault = Fault::from(State::try_from(9).unwrap_err());
+        let settled = engine.settle(Moment::from_millis(1), Err(fault.clone()));
+        assert_eq!(settled, Err(fault.clone()));
+        assert!(engine.is_over());
+        assert_eq!(engine.halt(), Err(fault.clone()));
+        let slot = Slot::new(Some("/a"));
+        assert!(!engine.ask(Request::get("/a").asked, slot));
+        let (_, ending) = engine.take_answers().remove(0);
+        assert_eq!(ending.unwrap_err().kind(), &fault.into());
     }
 }

@@ -1,9 +1,46 @@
 //! Why something was not done: by the library, on the way to the server, or by the server.
 
-use crate::numbers::{code, result, VERSION};
+use crate::numbers::{advice, result, words, VERSION};
 use crate::path_fault::{PathFault, Shown};
 use std::error;
 use std::fmt;
+
+pub use crate::numbers::NoReply;
+
+/// The number of the library for something is one that this crate does not know: the two are of different versions.
+#[derive(Clone, Copy, Debug, PartialEq, Eq, Hash)]
+pub struct UnknownNumber {
+    what: &'static str,
+    number: i32,
+}
+
+impl UnknownNumber {
+    /// The number of a thing that the header has under this name.
+    pub(crate) fn of(what: &'static str, number: i32) -> UnknownNumber {
+        UnknownNumber { what, number }
+    }
+
+    /// What it is a number of: a state, an event, ..
+    #[must_use]
+    pub fn what(&self) -> &'static str {
+        self.what
+    }
+
+    /// The number.
+    #[must_use]
+    pub fn number(&self) -> i32 {
+        self.number
+    }
+}
+
+impl fmt::Display for UnknownNumber {
+    fn fmt(&self, f: &mut fmt::Formatter<'_>) -> fmt::Result {
+        let UnknownNumber { what, number } = self;
+        write!(f, "the library gives the {what} {number}, which this crate does not know: take both of one version")
+    }
+}
+
+impl error::Error for UnknownNumber {}
 
 /// Why a step or a look-up was not made. But for [`Fault::Halted`], nothing has happened.
 #[derive(Clone, Debug, PartialEq, Eq, Hash)]
@@ -36,6 +73,8 @@ pub enum Fault {
         /// The version of the library, as a number in which 1.2.3 is 1002003.
         library: u32,
     },
+    /// The library gives a number that this crate does not know. The client has no use any more, and neither has one that resumes it.
+    UnknownNumber(UnknownNumber),
 }
 
 impl Fault {
@@ -57,30 +96,35 @@ impl Fault {
         }
     }
 
+    /// The number that the library has for it. It has none where it is of another version.
+    fn number(&self) -> Option<i32> {
+        Some(match self {
+            Fault::Halted => result::HALTED,
+            Fault::NoMemory => result::NO_MEMORY,
+            Fault::NotPath { .. } => result::NOT_PATH,
+            Fault::BadTimeout => result::BAD_TIMEOUT,
+            Fault::NotSaved => result::NOT_SAVED,
+            Fault::NotWhole => result::NOT_WHOLE,
+            Fault::TooManyNodes => result::TOO_MANY,
+            Fault::OtherVersion { .. } | Fault::UnknownNumber(_) => return None,
+        })
+    }
+
     pub(crate) fn reason(&self) -> &'static str {
-        match self {
-            Fault::Halted => "out of memory within a step",
-            Fault::NoMemory => "out of memory",
-            Fault::NotPath { .. } => "the text is no path",
-            Fault::BadTimeout => "the timeout is not 1 to 2147483647 milliseconds",
-            Fault::NotSaved => "the bytes are no saved session",
-            Fault::NotWhole => "some of the subtree is not kept, or not good",
-            Fault::TooManyNodes => "the subtree has more nodes than were asked for",
-            Fault::OtherVersion { .. } => "the library is of another version than this crate",
+        match self.number() {
+            Some(number) => words::result(number).unwrap_or_default(),
+            None => "the library is of another version than this crate",
         }
     }
 
     /// What to do. Nothing where the reason says it.
     pub(crate) fn advice(&self) -> &'static str {
-        match self {
-            Fault::Halted => "take the saved session, and resume it",
-            Fault::NoMemory => "hand the same in again",
-            Fault::NotSaved => "take all of those that a client has saved",
-            Fault::NotWhole => "read what is lacking, with a watch",
-            Fault::TooManyNodes => "ask for more, or for a path below",
-            Fault::OtherVersion { .. } => "take both of one version",
-            Fault::NotPath { .. } | Fault::BadTimeout => "",
-        }
+        self.number().map_or("take both of one version", advice::result)
+    }
+
+    /// Whether the client has no use any more.
+    pub(crate) fn is_final(&self) -> bool {
+        matches!(self, Fault::Halted | Fault::UnknownNumber(_))
     }
 }
 
@@ -100,6 +144,7 @@ impl fmt::Display for Fault {
                 version_text(VERSION),
                 self.advice()
             ),
+            Fault::UnknownNumber(unknown) => unknown.fmt(f),
             _ if self.advice().is_empty() => f.write_str(self.reason()),
             _ => write!(f, "{}; {}", self.reason(), self.advice()),
         }
@@ -114,9 +159,10 @@ fn version_text(number: u32) -> String {
     format!("{major}.{minor}.{}", number % 1000)
 }
 
-/// Ends the program, since the library that is linked is of another version: what it gives, this crate does not know.
-pub(crate) fn unknown(what: &str, number: i32) -> ! {
-    panic!("the library gives the {what} {number}, which this crate does not know: take both of one version")
+impl From<UnknownNumber> for Fault {
+    fn from(unknown: UnknownNumber) -> Fault {
+        Fault::UnknownNumber(unknown)
+    }
 }
 
 /// What a code of the library says of a step or a look-up at this path. The other codes of the header have no cause here: a handle is
@@ -131,7 +177,7 @@ pub(crate) fn done_at(path: &str, code: i32) -> Result<(), Fault> {
         result::NOT_SAVED => Err(Fault::NotSaved),
         result::NOT_WHOLE => Err(Fault::NotWhole),
         result::TOO_MANY => Err(Fault::TooManyNodes),
-        _ => unknown("result", code),
+        _ => Err(UnknownNumber::of("result", code).into()),
     }
 }
 
@@ -140,90 +186,27 @@ pub(crate) fn done(code: i32) -> Result<(), Fault> {
     done_at("", code)
 }
 
-/// Why a call has no reply. But for [`NoReply::ConnectionLoss`], nothing was sent and nothing has changed.
-#[derive(Clone, Copy, Debug, PartialEq, Eq, Hash)]
-pub enum NoReply {
-    /// The connection ended before the reply: the call may or may not have happened.
-    ConnectionLoss,
-    /// The session has expired.
-    SessionExpired,
-    /// The session is closed, or about to be.
-    SessionClosed,
-    /// There is no connection on which a server has accepted the session.
-    NotConnected,
-    /// 65,536 paths of this side are watched.
-    TooManyWatches,
-    /// The payload would have more than 1,048,575 bytes.
-    TooLarge,
-    /// 1,024 calls wait for their reply.
-    TooManyPending,
-}
-
 impl NoReply {
     /// What to do.
     pub(crate) fn advice(self) -> &'static str {
-        match self {
-            NoReply::ConnectionLoss => "it may or may not have happened: read again",
-            NoReply::SessionExpired => "renew it",
-            NoReply::SessionClosed => "open another one",
-            NoReply::NotConnected => "call again later",
-            NoReply::TooManyWatches => "read without a watch, or in another session",
-            NoReply::TooLarge => "send less",
-            NoReply::TooManyPending => "call again when one was answered",
-        }
+        advice::outcome(self.into())
     }
 }
 
 impl fmt::Display for NoReply {
     fn fmt(&self, f: &mut fmt::Formatter<'_>) -> fmt::Result {
-        f.write_str(match self {
-            NoReply::ConnectionLoss => "the connection ended before the reply",
-            NoReply::SessionExpired => "the session has expired",
-            NoReply::SessionClosed => "the session is closed",
-            NoReply::NotConnected => "no server has accepted the session",
-            NoReply::TooManyWatches => "65536 paths are watched",
-            NoReply::TooLarge => "the request has more than 1048575 bytes",
-            NoReply::TooManyPending => "1024 calls wait for their reply",
-        })
+        f.write_str(words::outcome((*self).into()).unwrap_or_default())
     }
 }
 
 impl error::Error for NoReply {}
 
-/// The error of a server about one call: the number of a reply's header. It changes no state.
+/// The error of a server about one call: the number of a reply's header. It changes no state. Each number that ZooKeeper's own library
+/// knows has a name here; a server may answer with another one.
 #[derive(Clone, Copy, Debug, PartialEq, Eq, Hash)]
 pub struct Code(pub i32);
 
 impl Code {
-    /// The connection was lost within the servers: the call may or may not have happened.
-    pub const CONNECTION_LOSS: Code = Code(code::CONNECTION_LOSS);
-    /// The server does not know the request.
-    pub const UNIMPLEMENTED: Code = Code(code::UNIMPLEMENTED);
-    /// The server refuses the path, the mode or the data.
-    pub const BAD_ARGUMENTS: Code = Code(code::BAD_ARGUMENTS);
-    /// There is no node; for a create, no parent.
-    pub const NO_NODE: Code = Code(code::NO_NODE);
-    /// The node's ACL does not admit this client, which has no credentials.
-    pub const NO_AUTH: Code = Code(code::NO_AUTH);
-    /// The node's version is another one than the call says.
-    pub const BAD_VERSION: Code = Code(code::BAD_VERSION);
-    /// The parent is an ephemeral node.
-    pub const NO_CHILDREN_FOR_EPHEMERALS: Code = Code(code::NO_CHILDREN_FOR_EPHEMERALS);
-    /// There is a node already.
-    pub const NODE_EXISTS: Code = Code(code::NODE_EXISTS);
-    /// The node has children.
-    pub const NOT_EMPTY: Code = Code(code::NOT_EMPTY);
-    /// The session has expired, by the word of this reply; the state of the client tells it by the next connection.
-    pub const SESSION_EXPIRED: Code = Code(code::SESSION_EXPIRED);
-    /// The server does not take this ACL.
-    pub const INVALID_ACL: Code = Code(code::INVALID_ACL);
-    /// The server does not take these credentials, or does not know their scheme.
-    pub const AUTH_FAILED: Code = Code(-115);
-    /// The session was taken up over another connection.
-    pub const SESSION_MOVED: Code = Code(code::SESSION_MOVED);
-    /// The server has more requests to do than it admits at a time.
-    pub const THROTTLED: Code = Code(-127);
-
     /// Whether the same read may be answered later, after a while: the server was busy, or has lost a connection or the session.
     pub fn is_passing(self) -> bool {
         matches!(
@@ -232,45 +215,16 @@ impl Code {
         )
     }
 
-    /// The reason in words. None for a number that this crate does not know.
-    fn reason(self) -> Option<&'static str> {
-        Some(match self {
-            Code::CONNECTION_LOSS => "the servers have lost the connection",
-            Code::UNIMPLEMENTED => "the server does not know the request",
-            Code::BAD_ARGUMENTS => "the server refuses the path, the mode or the data",
-            Code::NO_NODE => "no node",
-            Code::NO_AUTH => "the node's ACL does not admit this client",
-            Code::BAD_VERSION => "the node has another version",
-            Code::NO_CHILDREN_FOR_EPHEMERALS => "an ephemeral node has no children",
-            Code::NODE_EXISTS => "there is a node already",
-            Code::NOT_EMPTY => "the node has children",
-            Code::SESSION_EXPIRED => "the session has expired, the server says",
-            Code::INVALID_ACL => "the server does not take this ACL",
-            Code::AUTH_FAILED => "the server does not take these credentials",
-            Code::SESSION_MOVED => "the session was taken up over another connection",
-            Code::THROTTLED => "the server has too much to do",
-            Code(_) => return None,
-        })
-    }
-
     /// What to do. Nothing where the reason says it.
     pub(crate) fn advice(self) -> &'static str {
-        match self {
-            Code::CONNECTION_LOSS => "it may or may not have happened: read again",
-            Code::BAD_VERSION => "read it again",
-            Code::NOT_EMPTY => "delete them first",
-            Code::SESSION_EXPIRED => "call again",
-            Code::SESSION_MOVED => "have one program use it",
-            Code::THROTTLED => "call again later",
-            Code(_) => "",
-        }
+        advice::code(self.0)
     }
 }
 
 /// The reason in words, or the number where this crate has no words for it.
 impl fmt::Display for Code {
     fn fmt(&self, f: &mut fmt::Formatter<'_>) -> fmt::Result {
-        match self.reason() {
+        match words::code(self.0) {
             Some(reason) => f.write_str(reason),
             None => write!(f, "the server answers {}", self.0),
         }
@@ -278,3 +232,43 @@ impl fmt::Display for Code {
 }
 
 impl error::Error for Code {}
+
+#[cfg(test)]
+mod tests {
+    use super::{done_at, Code, Fault, NoReply, UnknownNumber};
+    use crate::client::State;
+
+    #[test]
+    fn each_number_of_a_function_is_told() {
+        assert_eq!(done_at("/a", 0), Ok(()));
+        for (number, fault) in [
+            (-1, Fault::Halted),
+            (-2, Fault::NoMemory),
+            (-5, Fault::not_path("/a")),
+            (-7, UnknownNumber::of("result", -7).into()),
+            (-9, UnknownNumber::of("result", -9).into()),
+        ] {
+            assert_eq!(fault.number(), number);
+            assert_eq!(done_at("/a", number), Err(fault));
+        }
+    }
+
+    #[test]
+    fn a_number_that_nobody_knows_says_so() {
+        let unknown = State::try_from(5).unwrap_err();
+        assert_eq!((unknown.what(), unknown.number()), ("state", 5));
+        assert_eq!(
+            Fault::from(unknown).to_string(),
+            "the library gives the state 5, which this crate does not know: take both of one version"
+        );
+        assert!(NoReply::try_from(0).is_err() && NoReply::try_from(8).is_err());
+        assert_eq!(NoReply::try_from(4), Ok(NoReply::NotConnected));
+        assert_eq!(i32::from(NoReply::NotConnected), 4);
+    }
+
+    #[test]
+    fn a_code_without_a_name_is_told_by_its_number() {
+        assert_eq!(Code(-126).to_string(), "the server answers -126");
+        assert_eq!(Code::THROTTLED.to_string(), "the server has too much to do");
+    }
+}

@@ -299,11 +299,14 @@ impl Handle {
     }
 
     /// The next output of the last step, and none where all were told.
-    pub(crate) fn next(&mut self) -> Option<Output> {
+    pub(crate) fn next(&mut self) -> Result<Option<Output>, Fault> {
         let mut output = Output::default();
         // SAFETY: as `Handle` says.
         let code = unsafe { dw_next(self.raw.get_mut(), &mut output) };
-        (code == OK).then_some(output)
+        if code == result::NONE {
+            return Ok(None);
+        }
+        done(code).map(|()| Some(output))
     }
 
     /// Copies the text of the output that was told last, and tells how many bytes there are from that place on.

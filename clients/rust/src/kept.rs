@@ -1,22 +1,15 @@
 //! What a client keeps of the paths that were read with a watch.
 
-use crate::fault::unknown;
+use crate::fault::UnknownNumber;
 use crate::ffi;
 use crate::node::DataStat;
 use crate::numbers::kept;
 
-/// Whether anything that the client was told has ended what is kept. It tells of a zxid, and not of a time.
-#[derive(Clone, Copy, Debug, PartialEq, Eq, Hash)]
-pub enum Mark {
-    /// ZooKeeper held this at the greatest zxid seen, and nothing that the client was told has ended it.
-    Good,
-    /// A change was told since, and the path was not read again.
-    Stale,
-}
+pub use crate::numbers::Mark;
 
 /// The mark of a number, and none where nothing is kept.
-pub(crate) fn mark_of(number: i32) -> Option<Mark> {
-    (number != 0).then(|| Mark::of(number).unwrap_or_else(|| unknown("mark", number)))
+pub(crate) fn mark_of(number: i32) -> Result<Option<Mark>, UnknownNumber> {
+    (number != 0).then(|| Mark::try_from(number)).transpose()
 }
 
 /// An answer that is kept, and its mark.
@@ -54,8 +47,13 @@ pub struct Children {
 }
 
 impl Kept<DataAnswer> {
-    pub(crate) fn of_data(found: &ffi::KeptData, data: Vec<u8>) -> Option<Kept<DataAnswer>> {
-        let mark = mark_of(found.mark)?;
+    pub(crate) fn of_data(
+        found: &ffi::KeptData,
+        data: Vec<u8>,
+    ) -> Result<Option<Kept<DataAnswer>>, UnknownNumber> {
+        let Some(mark) = mark_of(found.mark)? else {
+            return Ok(None);
+        };
         let answer = match found.kind {
             kept::ABSENT => DataAnswer::Absent,
             kept::KNOWN => DataAnswer::Known(found.stat),
@@ -63,8 +61,8 @@ impl Kept<DataAnswer> {
                 data: (!found.is_null).then_some(data),
                 stat: found.stat,
             },
-            other => unknown("kind of what is kept", other),
+            other => return Err(UnknownNumber::of("kind of what is kept", other)),
         };
-        Some(Kept { answer, mark })
+        Ok(Some(Kept { answer, mark }))
     }
 }

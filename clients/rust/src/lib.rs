@@ -20,8 +20,6 @@
 //! The core takes its memory by `malloc`. Use no client in the forked child of a process with threads.
 #![deny(missing_docs, unsafe_op_in_unsafe_fn, unsafe_code)]
 #![warn(clippy::pedantic)]
-// Functions that fail alike are in one group, whose comment says how.
-#![allow(clippy::missing_errors_doc)]
 // A look-up whose value is dropped does no harm, and an attribute at each would hide those where one matters.
 #![allow(clippy::must_use_candidate)]
 
@@ -68,7 +66,7 @@ mod waiting;
 pub use acl::{Acl, Permissions};
 pub use client::{Client, State};
 pub use error::{Error, ErrorKind};
-pub use fault::{Code, Fault, NoReply};
+pub use fault::{Code, Fault, NoReply, UnknownNumber};
 pub use follow::Follow;
 pub use hosts::{Hosts, HostsFault};
 pub use kept::{Children, DataAnswer, Kept, Mark};

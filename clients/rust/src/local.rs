@@ -89,12 +89,17 @@ impl LocalSession {
     }
 }
 
-/// Calls. Each fails with the error of the server, with why there is no reply, or with [`Fault::NotPath`], [`Fault::NoMemory`] or
-/// [`Fault::Halted`].
+/// Calls.
 impl LocalSession {
     calls! { self: [&mut self] self }
 
     /// Asks a request, and waits for its answer.
+    ///
+    /// # Errors
+    ///
+    /// [`ErrorKind::Server`](crate::ErrorKind::Server) where the server refuses it, [`ErrorKind::NoReply`](crate::ErrorKind::NoReply) with why
+    /// there is no reply, and [`ErrorKind::Fault`](crate::ErrorKind::Fault) of [`Fault::NotPath`], [`Fault::NoMemory`], [`Fault::Halted`]
+    /// or [`Fault::UnknownNumber`].
     pub fn call<T>(&mut self, request: Request<T>) -> Result<T, Error> {
         self.keeper.catch_up_if_late()?;
         let ticket = ask(self.keeper.shared(), request);
@@ -125,7 +130,7 @@ impl Asks for LocalSession {
     }
 }
 
-/// What is heard and kept. Look-ups ask nobody; those of a path fail with [`Fault::NotPath`] and [`Fault::NoMemory`].
+/// What is heard and kept. Look-ups ask nobody.
 impl LocalSession {
     look_ups! {}
 

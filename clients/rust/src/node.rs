@@ -1,5 +1,9 @@
 //! What is said of nodes, and asked of them.
 
+use crate::numbers::mode;
+
+pub use crate::numbers::{NodeEvent, Side};
+
 /// What is known of a node, as the protocol has it.
 #[repr(C)]
 #[derive(Clone, Copy, Debug, Default, PartialEq, Eq)]
@@ -77,6 +81,7 @@ impl Watch {
 
 /// What kind of a node is made.
 #[derive(Clone, Copy, Debug, PartialEq, Eq, Hash)]
+#[non_exhaustive]
 pub enum Mode {
     /// It stays until it is deleted.
     Persistent,
@@ -89,35 +94,14 @@ pub enum Mode {
 }
 
 impl Mode {
-    /// The number of the protocol: 1 where it goes with the session, and 2 more where its name gets a number.
+    /// The number of the protocol.
     pub(crate) fn number(self) -> u32 {
-        match self {
-            Mode::Persistent => 0,
-            Mode::Ephemeral => 1,
-            Mode::PersistentSequential => 2,
-            Mode::EphemeralSequential => 3,
-        }
+        let sum = match self {
+            Mode::Persistent => mode::PERSISTENT,
+            Mode::Ephemeral => mode::EPHEMERAL,
+            Mode::PersistentSequential => mode::SEQUENTIAL,
+            Mode::EphemeralSequential => mode::EPHEMERAL | mode::SEQUENTIAL,
+        };
+        sum.unsigned_abs()
     }
-}
-
-/// What may be watched of a path.
-#[derive(Clone, Copy, Debug, PartialEq, Eq, Hash)]
-pub enum Side {
-    /// Whether there is a node, and its data.
-    Data,
-    /// The names of its children.
-    Children,
-}
-
-/// What has happened to a node whose watch has fired.
-#[derive(Clone, Copy, Debug, PartialEq, Eq, Hash)]
-pub enum NodeEvent {
-    /// It was made.
-    Created,
-    /// It was deleted.
-    Deleted,
-    /// Its data were changed.
-    DataChanged,
-    /// The set of its children was changed.
-    ChildrenChanged,
 }

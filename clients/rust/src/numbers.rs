@@ -1,10 +1,7 @@
 //! The numbers of the interface, made by scripts/interface from include/interface.toml.
-#![allow(dead_code)]
+#![allow(dead_code)] // one table for all who take from it
 
-use crate::client::State;
-use crate::fault::NoReply;
-use crate::kept::Mark;
-use crate::node::{NodeEvent, Side};
+use crate::fault::{Code, UnknownNumber};
 
 /// The version, as a number in which 1.2.3 is 1002003.
 pub(crate) const VERSION: u32 = 3000;
@@ -113,67 +110,388 @@ pub(crate) mod kept {
     pub(crate) const FULL: i32 = 3;
 }
 
-impl State {
-    /// The one of this number, and none where the interface has no such number.
-    pub(crate) fn of(number: i32) -> Option<State> {
-        match number {
-            0 => Some(State::Idle),
-            1 => Some(State::Connecting),
-            2 => Some(State::Connected),
-            3 => Some(State::Expired),
-            4 => Some(State::Closed),
-            _ => None,
+/// The state of a session, as its client knows it.
+#[derive(Clone, Copy, Debug, PartialEq, Eq, Hash)]
+pub enum State {
+    /// There is no connection. What is kept stays kept, with its marks.
+    Idle,
+    /// The connection stands, and the server has not answered for the session yet.
+    Connecting,
+    /// A server has accepted the session.
+    Connected,
+    /// The servers have given the session up. Nothing is kept or watched, and that is final.
+    Expired,
+    /// The session was closed, as it was asked. Nothing is kept or watched, and that is final.
+    Closed,
+}
+
+/// By its number in the header.
+impl TryFrom<i32> for State {
+    type Error = UnknownNumber;
+
+    fn try_from(number: i32) -> Result<State, UnknownNumber> {
+        Ok(match number {
+            0 => State::Idle,
+            1 => State::Connecting,
+            2 => State::Connected,
+            3 => State::Expired,
+            4 => State::Closed,
+            _ => return Err(UnknownNumber::of("state", number)),
+        })
+    }
+}
+
+/// Its number in the header.
+impl From<State> for i32 {
+    fn from(state: State) -> i32 {
+        match state {
+            State::Idle => 0,
+            State::Connecting => 1,
+            State::Connected => 2,
+            State::Expired => 3,
+            State::Closed => 4,
         }
     }
 }
 
-impl NodeEvent {
-    /// The one of this number, and none where the interface has no such number.
-    pub(crate) fn of(number: i32) -> Option<NodeEvent> {
-        match number {
-            1 => Some(NodeEvent::Created),
-            2 => Some(NodeEvent::Deleted),
-            3 => Some(NodeEvent::DataChanged),
-            4 => Some(NodeEvent::ChildrenChanged),
-            _ => None,
+/// What has happened to a node whose watch has fired.
+#[derive(Clone, Copy, Debug, PartialEq, Eq, Hash)]
+#[non_exhaustive]
+pub enum NodeEvent {
+    /// It was made.
+    Created,
+    /// It was deleted.
+    Deleted,
+    /// Its data were changed.
+    DataChanged,
+    /// The set of its children was changed.
+    ChildrenChanged,
+}
+
+/// By its number in the header.
+impl TryFrom<i32> for NodeEvent {
+    type Error = UnknownNumber;
+
+    fn try_from(number: i32) -> Result<NodeEvent, UnknownNumber> {
+        Ok(match number {
+            1 => NodeEvent::Created,
+            2 => NodeEvent::Deleted,
+            3 => NodeEvent::DataChanged,
+            4 => NodeEvent::ChildrenChanged,
+            _ => return Err(UnknownNumber::of("event", number)),
+        })
+    }
+}
+
+/// Its number in the header.
+impl From<NodeEvent> for i32 {
+    fn from(node_event: NodeEvent) -> i32 {
+        match node_event {
+            NodeEvent::Created => 1,
+            NodeEvent::Deleted => 2,
+            NodeEvent::DataChanged => 3,
+            NodeEvent::ChildrenChanged => 4,
         }
     }
 }
 
-impl Side {
-    /// The one of this number, and none where the interface has no such number.
-    pub(crate) fn of(number: i32) -> Option<Side> {
-        match number {
-            1 => Some(Side::Data),
-            2 => Some(Side::Children),
-            _ => None,
+/// What may be watched of a path.
+#[derive(Clone, Copy, Debug, PartialEq, Eq, Hash)]
+#[non_exhaustive]
+pub enum Side {
+    /// Whether there is a node, and its data.
+    Data,
+    /// The names of its children.
+    Children,
+}
+
+/// By its number in the header.
+impl TryFrom<i32> for Side {
+    type Error = UnknownNumber;
+
+    fn try_from(number: i32) -> Result<Side, UnknownNumber> {
+        Ok(match number {
+            1 => Side::Data,
+            2 => Side::Children,
+            _ => return Err(UnknownNumber::of("side", number)),
+        })
+    }
+}
+
+/// Its number in the header.
+impl From<Side> for i32 {
+    fn from(side: Side) -> i32 {
+        match side {
+            Side::Data => 1,
+            Side::Children => 2,
         }
     }
 }
 
-impl NoReply {
-    /// The one of this number, and none where the interface has no such number.
-    pub(crate) fn of(number: i32) -> Option<NoReply> {
-        match number {
-            1 => Some(NoReply::ConnectionLoss),
-            2 => Some(NoReply::SessionExpired),
-            3 => Some(NoReply::SessionClosed),
-            4 => Some(NoReply::NotConnected),
-            5 => Some(NoReply::TooManyWatches),
-            6 => Some(NoReply::TooLarge),
-            7 => Some(NoReply::TooManyPending),
-            _ => None,
+/// Why a call has no reply. But for [`NoReply::ConnectionLoss`], nothing was sent and nothing has changed.
+#[derive(Clone, Copy, Debug, PartialEq, Eq, Hash)]
+#[non_exhaustive]
+pub enum NoReply {
+    /// The connection ended before the reply: the call may or may not have happened.
+    ConnectionLoss,
+    /// The session has expired.
+    SessionExpired,
+    /// The session is closed, or about to be.
+    SessionClosed,
+    /// There is no connection on which a server has accepted the session.
+    NotConnected,
+    /// 65,536 paths of this side are watched.
+    TooManyWatches,
+    /// The payload would have more than 1,048,575 bytes.
+    TooLarge,
+    /// 1,024 calls wait for their reply.
+    TooManyPending,
+}
+
+/// By its number in the header.
+impl TryFrom<i32> for NoReply {
+    type Error = UnknownNumber;
+
+    fn try_from(number: i32) -> Result<NoReply, UnknownNumber> {
+        Ok(match number {
+            1 => NoReply::ConnectionLoss,
+            2 => NoReply::SessionExpired,
+            3 => NoReply::SessionClosed,
+            4 => NoReply::NotConnected,
+            5 => NoReply::TooManyWatches,
+            6 => NoReply::TooLarge,
+            7 => NoReply::TooManyPending,
+            _ => return Err(UnknownNumber::of("outcome", number)),
+        })
+    }
+}
+
+/// Its number in the header.
+impl From<NoReply> for i32 {
+    fn from(no_reply: NoReply) -> i32 {
+        match no_reply {
+            NoReply::ConnectionLoss => 1,
+            NoReply::SessionExpired => 2,
+            NoReply::SessionClosed => 3,
+            NoReply::NotConnected => 4,
+            NoReply::TooManyWatches => 5,
+            NoReply::TooLarge => 6,
+            NoReply::TooManyPending => 7,
         }
     }
 }
 
-impl Mark {
-    /// The one of this number, and none where the interface has no such number.
-    pub(crate) fn of(number: i32) -> Option<Mark> {
+/// Whether anything that the client was told has ended what is kept. It tells of a zxid, and not of a time.
+#[derive(Clone, Copy, Debug, PartialEq, Eq, Hash)]
+pub enum Mark {
+    /// ZooKeeper held this at the greatest zxid seen, and nothing that the client was told has ended it.
+    Good,
+    /// A change was told since, and the path was not read again.
+    Stale,
+}
+
+/// By its number in the header.
+impl TryFrom<i32> for Mark {
+    type Error = UnknownNumber;
+
+    fn try_from(number: i32) -> Result<Mark, UnknownNumber> {
+        Ok(match number {
+            1 => Mark::Good,
+            2 => Mark::Stale,
+            _ => return Err(UnknownNumber::of("mark", number)),
+        })
+    }
+}
+
+/// Its number in the header.
+impl From<Mark> for i32 {
+    fn from(mark: Mark) -> i32 {
+        match mark {
+            Mark::Good => 1,
+            Mark::Stale => 2,
+        }
+    }
+}
+
+/// The codes of servers.
+impl Code {
+    /// The connection was lost within the servers: the call may or may not have happened.
+    pub const CONNECTION_LOSS: Code = Code(-4);
+    /// The server does not know the request.
+    pub const UNIMPLEMENTED: Code = Code(-6);
+    /// The server refuses the path, the mode or the data.
+    pub const BAD_ARGUMENTS: Code = Code(-8);
+    /// There is no node; for a create, no parent.
+    pub const NO_NODE: Code = Code(-101);
+    /// The node's ACL does not admit this client with the credentials that it has.
+    pub const NO_AUTH: Code = Code(-102);
+    /// The node's version is another one than the call says.
+    pub const BAD_VERSION: Code = Code(-103);
+    /// The parent is an ephemeral node.
+    pub const NO_CHILDREN_FOR_EPHEMERALS: Code = Code(-108);
+    /// There is a node already.
+    pub const NODE_EXISTS: Code = Code(-110);
+    /// The node has children.
+    pub const NOT_EMPTY: Code = Code(-111);
+    /// The session has expired, by the word of this reply; the state of the client tells it by the next connection.
+    pub const SESSION_EXPIRED: Code = Code(-112);
+    /// The server does not take this ACL.
+    pub const INVALID_ACL: Code = Code(-114);
+    /// The session was taken up over another connection.
+    pub const SESSION_MOVED: Code = Code(-118);
+    /// The server has failed, and says no more.
+    pub const SYSTEM_ERROR: Code = Code(-1);
+    /// The server has found itself inconsistent.
+    pub const RUNTIME_INCONSISTENCY: Code = Code(-2);
+    /// The server has found its data inconsistent.
+    pub const DATA_INCONSISTENCY: Code = Code(-3);
+    /// The server can not read the request.
+    pub const MARSHALLING_ERROR: Code = Code(-5);
+    /// The server has not done it in time.
+    pub const OPERATION_TIMEOUT: Code = Code(-7);
+    /// The server does not know the session.
+    pub const UNKNOWN_SESSION: Code = Code(-12);
+    /// No quorum of the new configuration is connected.
+    pub const NEW_CONFIG_NO_QUORUM: Code = Code(-13);
+    /// The configuration of the servers is being changed already.
+    pub const RECONFIG_IN_PROGRESS: Code = Code(-14);
+    /// The server refuses the request.
+    pub const API_ERROR: Code = Code(-100);
+    /// A callback is refused. Servers do not answer it to this client.
+    pub const INVALID_CALLBACK: Code = Code(-113);
+    /// The server does not take these credentials, or does not know their scheme.
+    pub const AUTH_FAILED: Code = Code(-115);
+    /// The server is read-only, and was asked to write.
+    pub const NOT_READ_ONLY: Code = Code(-119);
+    /// A local session makes no ephemeral nodes.
+    pub const EPHEMERAL_ON_LOCAL_SESSION: Code = Code(-120);
+    /// There is no watch to be removed.
+    pub const NO_WATCHER: Code = Code(-121);
+    /// The leader has not answered the server in time.
+    pub const REQUEST_TIMEOUT: Code = Code(-122);
+    /// The configuration of the servers is not to be changed by clients.
+    pub const RECONFIG_DISABLED: Code = Code(-123);
+    /// The server admits clients by SASL alone, and has closed the session.
+    pub const SESSION_CLOSED_REQUIRE_SASL_AUTH: Code = Code(-124);
+    /// The quota of a node above would be exceeded.
+    pub const QUOTA_EXCEEDED: Code = Code(-125);
+    /// The server has more requests to do than it admits at a time.
+    pub const THROTTLED: Code = Code(-127);
+}
+
+/// The reason in words. None where there are none for a number.
+#[rustfmt::skip]
+#[allow(clippy::match_same_arms)] // a line for each number
+pub(crate) mod words {
+    pub(crate) fn result(number: i32) -> Option<&'static str> {
+        Some(match number {
+            0 => "done",
+            1 => "there is none",
+            -1 => "out of memory within a step",
+            -2 => "out of memory",
+            -3 => "the handle holds no client",
+            -4 => "the path is no UTF-8",
+            -5 => "the text is no path",
+            -6 => "the timeout is not 1 to 2147483647 milliseconds",
+            -7 => "the mode is no sum of DW_MODE_EPHEMERAL and DW_MODE_SEQUENTIAL",
+            -8 => "the bytes are no saved session",
+            -9 => "some of the subtree is not kept, or not good",
+            -10 => "the subtree has more nodes than were asked for",
+            _ => return None,
+        })
+    }
+
+    pub(crate) fn outcome(number: i32) -> Option<&'static str> {
+        Some(match number {
+            0 => "there is a reply",
+            1 => "the connection ended before the reply",
+            2 => "the session has expired",
+            3 => "the session is closed",
+            4 => "no server has accepted the session",
+            5 => "65536 paths are watched",
+            6 => "the request has more than 1048575 bytes",
+            7 => "1024 calls wait for their reply",
+            _ => return None,
+        })
+    }
+
+    pub(crate) fn code(number: i32) -> Option<&'static str> {
+        Some(match number {
+            -4 => "the servers have lost the connection",
+            -6 => "the server does not know the request",
+            -8 => "the server refuses the path, the mode or the data",
+            -101 => "no node",
+            -102 => "the node's ACL does not admit this client",
+            -103 => "the node has another version",
+            -108 => "an ephemeral node has no children",
+            -110 => "there is a node already",
+            -111 => "the node has children",
+            -112 => "the session has expired, the server says",
+            -114 => "the server does not take this ACL",
+            -118 => "the session was taken up over another connection",
+            -1 => "the server has failed",
+            -2 => "the server has found itself inconsistent",
+            -3 => "the server has found its data inconsistent",
+            -5 => "the server can not read the request",
+            -7 => "the server has not done it in time",
+            -12 => "the server does not know the session",
+            -13 => "no quorum of the new servers is connected",
+            -14 => "the servers are being changed",
+            -100 => "the server refuses the request",
+            -113 => "the callback is refused",
+            -115 => "the server does not take these credentials",
+            -119 => "the server is read-only",
+            -120 => "a local session makes no ephemeral nodes",
+            -121 => "no such watch is set",
+            -122 => "the leader has not answered the server in time",
+            -123 => "the servers are not to be changed by clients",
+            -124 => "the server wants SASL, and has closed the session",
+            -125 => "the quota would be exceeded",
+            -127 => "the server has too much to do",
+            _ => return None,
+        })
+    }
+}
+
+/// What to do, where the reason does not say it.
+#[rustfmt::skip]
+#[allow(clippy::match_same_arms)] // a line for each number
+pub(crate) mod advice {
+    pub(crate) fn result(number: i32) -> &'static str {
         match number {
-            1 => Some(Mark::Good),
-            2 => Some(Mark::Stale),
-            _ => None,
+            -1 => "take the saved session, and resume it",
+            -2 => "hand the same in again",
+            -3 => "open one",
+            -8 => "take all of those that a client has saved",
+            -9 => "read what is lacking, with a watch",
+            -10 => "ask for more, or for a path below",
+            _ => "",
+        }
+    }
+
+    pub(crate) fn outcome(number: i32) -> &'static str {
+        match number {
+            1 => "it may or may not have happened: read again",
+            2 => "renew it",
+            3 => "open another one",
+            4 => "call again later",
+            5 => "read without a watch, or in another session",
+            6 => "send less",
+            7 => "call again when one was answered",
+            _ => "",
+        }
+    }
+
+    pub(crate) fn code(number: i32) -> &'static str {
+        match number {
+            -4 => "it may or may not have happened: read again",
+            -103 => "read it again",
+            -111 => "delete them first",
+            -112 => "call again",
+            -118 => "have one program use it",
+            -14 => "call again later",
+            -127 => "call again later",
+            _ => "",
         }
     }
 }

@@ -1,7 +1,7 @@
 //! What a client says at a step.
 
 use crate::client::{texts_in, whole, whole_text, Client, State};
-use crate::fault::{unknown, Code, Fault, NoReply};
+use crate::fault::{Code, Fault, NoReply, UnknownNumber};
 use crate::ffi::{self, Handle};
 use crate::node::{NodeEvent, Side, Stat};
 use crate::numbers::{brought, cause, kind, outcome};
@@ -34,10 +34,16 @@ impl<'a> Outputs<'a> {
     }
 
     /// The next output, and none where all were told.
+    ///
+    /// # Errors
+    ///
+    /// [`Fault::UnknownNumber`] alone, where the library is of another version than this crate.
     #[allow(clippy::should_implement_trait)] // an iterator can't lend
-    pub fn next(&mut self) -> Option<Output<'_>> {
-        let flat = self.client.handle.next()?;
-        Some(Output::of(&self.client.handle, &flat))
+    pub fn next(&mut self) -> Result<Option<Output<'_>>, Fault> {
+        let Some(flat) = self.client.handle.next()? else {
+            return Ok(None);
+        };
+        Ok(Some(Output::of(&self.client.handle, &flat)?))
     }
 
     /// The client, for look-ups between two outputs.
@@ -48,6 +54,7 @@ impl<'a> Outputs<'a> {
 
 /// What a client says.
 #[derive(Debug)]
+#[non_exhaustive]
 pub enum Output<'a> {
     /// One frame: write all of it to the server.
     Send(Bytes<'a>),
@@ -74,31 +81,29 @@ pub enum Output<'a> {
 }
 
 impl<'a> Output<'a> {
-    fn of(handle: &'a Handle, flat: &ffi::Output) -> Output<'a> {
+    fn of(handle: &'a Handle, flat: &ffi::Output) -> Result<Output<'a>, UnknownNumber> {
         let bytes = Bytes {
             handle,
             length: flat.length,
         };
-        match flat.kind {
+        Ok(match flat.kind {
             kind::SEND => Output::Send(bytes),
             kind::ANSWER => Output::Answer {
                 ticket: flat.ticket,
-                outcome: Reply::of(handle, flat, bytes),
+                outcome: Reply::of(handle, flat, bytes)?,
             },
             kind::REPORT => Output::Report {
                 path: Text { bytes },
-                side: Side::of(flat.result).unwrap_or_else(|| unknown("side", flat.result)),
-                event: NodeEvent::of(flat.detail).unwrap_or_else(|| unknown("event", flat.detail)),
+                side: Side::try_from(flat.result)?,
+                event: NodeEvent::try_from(flat.detail)?,
             },
-            kind::STATE => Output::State(
-                State::of(flat.detail).unwrap_or_else(|| unknown("state", flat.detail)),
-            ),
+            kind::STATE => Output::State(State::try_from(flat.detail)?),
             kind::DROP => Output::Drop(GivenUp {
-                cause: Cause::of(flat),
+                cause: Cause::of(flat)?,
                 code: Text { bytes },
             }),
-            other => unknown("output", other),
-        }
+            other => return Err(UnknownNumber::of("output", other)),
+        })
     }
 
     /// Whether the connection is over with this output, so that the program is to close it.
@@ -120,20 +125,25 @@ pub struct Reply<'a> {
 }
 
 impl<'a> Reply<'a> {
-    fn of(handle: &'a Handle, flat: &ffi::Output, bytes: Bytes<'a>) -> Result<Reply<'a>, NoReply> {
+    /// The reply, or why there is none.
+    fn of(
+        handle: &'a Handle,
+        flat: &ffi::Output,
+        bytes: Bytes<'a>,
+    ) -> Result<Result<Reply<'a>, NoReply>, UnknownNumber> {
         if flat.detail != outcome::REPLIED {
-            let reason = NoReply::of(flat.detail);
-            return Err(reason.unwrap_or_else(|| unknown("outcome", flat.detail)));
+            return NoReply::try_from(flat.detail).map(Err);
         }
-        Ok(Reply {
+        Ok(Ok(Reply {
             zxid: flat.zxid,
-            result: Brought::of(handle, flat, bytes),
-        })
+            result: Brought::of(handle, flat, bytes)?,
+        }))
     }
 }
 
 /// What a reply brings.
 #[derive(Debug)]
+#[non_exhaustive]
 pub enum Brought<'a> {
     /// To [`exists`](Client::exists) and [`set_data`](Client::set_data): what is known of the node.
     Stat(Stat),
@@ -158,9 +168,14 @@ pub enum Brought<'a> {
 }
 
 impl<'a> Brought<'a> {
-    fn of(handle: &'a Handle, flat: &ffi::Output, bytes: Bytes<'a>) -> Result<Brought<'a>, Code> {
+    /// What it brings, or the error of the server.
+    fn of(
+        handle: &'a Handle,
+        flat: &ffi::Output,
+        bytes: Bytes<'a>,
+    ) -> Result<Result<Brought<'a>, Code>, UnknownNumber> {
         let stat = flat.stat;
-        match flat.result {
+        Ok(match flat.result {
             brought::CODE => Err(Code(flat.code)),
             brought::STAT => Ok(Brought::Stat(stat)),
             brought::DATA => Ok(Brought::Data {
@@ -176,8 +191,8 @@ impl<'a> Brought<'a> {
             }),
             brought::CREATED => Ok(Brought::Created(Text { bytes })),
             brought::DONE => Ok(Brought::Done),
-            other => unknown("result of a reply", other),
-        }
+            other => return Err(UnknownNumber::of("result of a reply", other)),
+        })
     }
 }
 
@@ -304,6 +319,7 @@ impl fmt::Debug for Names<'_> {
 
 /// Why a client gives its connection up.
 #[derive(Clone, Copy, Debug, PartialEq, Eq, Hash)]
+#[non_exhaustive]
 pub enum Cause {
     /// The length of a frame is out of its range.
     Frame,
@@ -324,8 +340,8 @@ pub enum Cause {
 }
 
 impl Cause {
-    fn of(flat: &ffi::Output) -> Cause {
-        match flat.detail {
+    fn of(flat: &ffi::Output) -> Result<Cause, UnknownNumber> {
+        Ok(match flat.detail {
             cause::BAD_FRAME => Cause::Frame,
             cause::BAD_PAYLOAD => Cause::Payload,
             cause::SILENT => Cause::Silence,
@@ -333,8 +349,8 @@ impl Cause {
             cause::WATCHES_REFUSED => Cause::WatchesRefused {
                 code: Code(flat.code),
             },
-            other => unknown("cause", other),
-        }
+            other => return Err(UnknownNumber::of("cause", other)),
+        })
     }
 }
 
@@ -348,9 +364,45 @@ pub struct GivenUp<'a> {
 }
 
 impl GivenUp<'_> {
-    /// Why, in words. [`Fault::NoMemory`] where there is no memory for them.
+    /// Why, in words.
+    ///
+    /// # Errors
+    ///
+    /// [`Fault::NoMemory`] where there is no memory for them.
     pub fn words(&self) -> Result<String, Fault> {
         let handle = self.code.bytes.handle;
         whole(|room| handle.words(room)).map(whole_text)
+    }
+}
+
+#[cfg(test)]
+mod tests {
+    use super::Output;
+    use crate::ffi::{self, Handle};
+
+    #[test]
+    fn a_number_that_nobody_knows_is_a_fault() {
+        let handle = Handle::open(1_000).unwrap();
+        for (numbers, what) in [
+            ((0, 0, 0), "output"),
+            ((6, 0, 0), "output"),
+            ((2, 0, 0), "result of a reply"),
+            ((2, 0, 7), "result of a reply"),
+            ((2, 8, 0), "outcome"),
+            ((3, 1, 3), "side"),
+            ((3, 5, 1), "event"),
+            ((4, 5, 0), "state"),
+            ((5, 6, 0), "cause"),
+        ] {
+            let (kind, detail, result) = numbers;
+            let flat = ffi::Output {
+                kind,
+                detail,
+                result,
+                ..ffi::Output::default()
+            };
+            let unknown = Output::of(&handle, &flat).unwrap_err();
+            assert_eq!(unknown.what(), what, "{numbers:?}");
+        }
     }
 }

@@ -141,12 +141,18 @@ impl Drop for Session {
     }
 }
 
-/// Calls. Each waits for its answer, and fails with the error of the server, with why there is no reply, with [`ErrorKind::TimedOut`](crate::ErrorKind::TimedOut), or with
-/// [`Fault::NotPath`], [`Fault::NoMemory`] or [`Fault::Halted`].
+/// Calls. Each waits for its answer.
 impl Session {
     calls! { self: [&self] &mut &*self }
 
     /// Asks a request, waits for its answer, and asks again where the session's [`Retry`] says so.
+    ///
+    /// # Errors
+    ///
+    /// [`ErrorKind::Server`](crate::ErrorKind::Server) where the server refuses it, [`ErrorKind::NoReply`](crate::ErrorKind::NoReply) with why
+    /// there is no reply, [`ErrorKind::TimedOut`](crate::ErrorKind::TimedOut) where the limit has passed, and
+    /// [`ErrorKind::Fault`](crate::ErrorKind::Fault) of [`Fault::NotPath`], [`Fault::NoMemory`], [`Fault::Halted`] or
+    /// [`Fault::UnknownNumber`].
     pub fn call<T>(&self, request: Request<T>) -> Result<T, Error> {
         let until = self
             .limit
@@ -199,7 +205,7 @@ impl Asks for &Session {
     }
 }
 
-/// What is heard and kept. Look-ups ask nobody; those of a path fail with [`Fault::NotPath`] and [`Fault::NoMemory`].
+/// What is heard and kept. Look-ups ask nobody.
 impl Session {
     look_ups! {}
 
@@ -217,7 +223,7 @@ impl Session {
     ///
     /// # Errors
     ///
-    /// [`Fault::Halted`] alone.
+    /// [`Fault::Halted`] and [`Fault::UnknownNumber`].
     pub fn next_event(&self, until: Option<Instant>) -> Result<Option<Event>, Fault> {
         self.shared.next_event(until)
     }

@@ -4,7 +4,7 @@ use crate::acl::Acl;
 use crate::chroot::Chroot;
 use crate::client::State;
 use crate::error::ErrorKind;
-use crate::fault::NoReply;
+use crate::fault::{Fault, NoReply};
 use crate::node::{NodeEvent, Side, Stat};
 use crate::output::{Brought, Cause, GivenUp, Output, Outputs, Reply};
 use crate::transaction::Change;
@@ -130,8 +130,8 @@ impl Told {
     }
 
     /// Takes what a client says.
-    pub(crate) fn take(&mut self, mut outputs: Outputs<'_>) {
-        while let Some(output) = outputs.next() {
+    pub(crate) fn take(&mut self, mut outputs: Outputs<'_>) -> Result<(), Fault> {
+        while let Some(output) = outputs.next()? {
             self.is_over |= output.ends_connection();
             match output {
                 Output::Send(frame) => frame.append_to(&mut self.frames),
@@ -148,6 +148,7 @@ impl Told {
                 Output::Drop(given_up) => self.tell(dropped(&given_up)),
             }
         }
+        Ok(())
     }
 
     fn tell_state(&mut self, state: State) {

@@ -78,6 +78,10 @@ impl View<'_> {
     }
 
     /// What is kept about the data of a path that was read with a watch, with its mark, and none where nothing is. The data are copied.
+    ///
+    /// # Errors
+    ///
+    /// [`Fault::NotPath`], [`Fault::NoMemory`] and [`Fault::UnknownNumber`].
     pub fn peek(&self, path: &str) -> Result<Option<Kept<DataAnswer>>, Fault> {
         self.at(path, Client::peek_data)
     }
@@ -91,17 +95,29 @@ impl View<'_> {
     }
 
     /// The mark of what is kept about the data of a path, and none where nothing is. It copies no data.
+    ///
+    /// # Errors
+    ///
+    /// As [`peek`](View::peek).
     pub fn data_mark(&self, path: &str) -> Result<Option<Mark>, Fault> {
         self.at(path, Client::data_mark)
     }
 
     /// What is kept about the children of a path that were read with a watch, with its mark, and none where nothing is. The names are
     /// copied.
+    ///
+    /// # Errors
+    ///
+    /// As [`peek`](View::peek).
     pub fn peek_children(&self, path: &str) -> Result<Option<Kept<Children>>, Fault> {
         self.at(path, Client::peek_children)
     }
 
     /// The mark of what is kept about the children of a path, and none where nothing is. It copies no names.
+    ///
+    /// # Errors
+    ///
+    /// As [`peek`](View::peek).
     pub fn children_mark(&self, path: &str) -> Result<Option<Mark>, Fault> {
         self.at(path, Client::children_mark)
     }

@@ -16,7 +16,7 @@ const SESSION: i64 = 0x1234_5678;
 /// What was said, with all bytes, as text.
 fn said(mut outputs: Outputs<'_>) -> Vec<String> {
     let mut lines = Vec::new();
-    while let Some(output) = outputs.next() {
+    while let Some(output) = outputs.next().unwrap() {
         lines.push(match &output {
             Output::Send(frame) => format!("Send({:?})", frame.to_vec()),
             Output::Answer {
@@ -40,7 +40,7 @@ fn said(mut outputs: Outputs<'_>) -> Vec<String> {
 /// The frames that were said.
 fn frames(mut outputs: Outputs<'_>) -> Vec<Vec<u8>> {
     let mut frames = Vec::new();
-    while let Some(output) = outputs.next() {
+    while let Some(output) = outputs.next().unwrap() {
         if let Output::Send(frame) = output {
             frames.push(frame.to_vec());
         }
@@ -50,7 +50,7 @@ fn frames(mut outputs: Outputs<'_>) -> Vec<Vec<u8>> {
 
 /// The reply to the call of this ticket, which is said next.
 fn reply_to<'a>(ticket: u64, outputs: &'a mut Outputs<'_>) -> Reply<'a> {
-    match outputs.next() {
+    match outputs.next().unwrap() {
         Some(Output::Answer {
             ticket: answered,
             outcome: Ok(reply),
@@ -92,10 +92,10 @@ fn a_connection_begins_with_a_connect_request() {
         .bytes(START, &Record::accepted(6_000, SESSION))
         .unwrap();
     assert!(matches!(
-        outputs.next(),
+        outputs.next().unwrap(),
         Some(Output::State(State::Connected))
     ));
-    assert!(outputs.next().is_none());
+    assert!(outputs.next().unwrap().is_none());
     assert_eq!(outputs.client().timeout(), Duration::from_secs(6));
 }
 
@@ -259,12 +259,12 @@ fn a_watch_is_reported_once_and_its_answer_is_stale() {
     assert_eq!(client.data_mark("/a").unwrap(), Some(Mark::Good));
     let notice = Record::notice(3, "/a");
     let mut outputs = client.bytes(START, &notice).unwrap();
-    let Some(Output::Report { path, side, event }) = outputs.next() else {
+    let Some(Output::Report { path, side, event }) = outputs.next().unwrap() else {
         panic!("no report");
     };
     assert_eq!((String::from(path).as_str(), side), ("/a", Side::Data));
     assert_eq!(event, NodeEvent::DataChanged);
-    assert!(outputs.next().is_none());
+    assert!(outputs.next().unwrap().is_none());
     let kept = client.peek_data("/a").unwrap().unwrap();
     assert_eq!(kept.mark, Mark::Stale);
     let DataAnswer::Full {
@@ -358,13 +358,16 @@ fn pings_and_silence_are_due_at_a_third_and_two_thirds() {
     let silent_at = START.saturating_add(TIMEOUT / 3 * 2);
     assert_eq!(client.deadline(), Some(silent_at));
     let mut outputs = client.tick(silent_at).unwrap();
-    let Some(Output::Drop(given_up)) = outputs.next() else {
+    let Some(Output::Drop(given_up)) = outputs.next().unwrap() else {
         panic!("the connection goes on");
     };
     assert_eq!(given_up.cause, Cause::Silence);
     assert_eq!(String::from(given_up.code), "D1");
     assert!(!given_up.words().unwrap().is_empty());
-    assert!(matches!(outputs.next(), Some(Output::State(State::Idle))));
+    assert!(matches!(
+        outputs.next().unwrap(),
+        Some(Output::State(State::Idle))
+    ));
     assert_eq!(client.deadline(), None);
 }
 
@@ -373,11 +376,14 @@ fn a_cut_answers_what_waits_and_watches_are_set_again() {
     let mut client = watching();
     let _ = client.exists(START, 8, "/b", Watch::No).unwrap();
     let mut outputs = client.cut(START).unwrap();
-    let Some(Output::Answer { ticket: 8, outcome }) = outputs.next() else {
+    let Some(Output::Answer { ticket: 8, outcome }) = outputs.next().unwrap() else {
         panic!("no answer");
     };
     assert_eq!(outcome.unwrap_err(), NoReply::ConnectionLoss);
-    assert!(matches!(outputs.next(), Some(Output::State(State::Idle))));
+    assert!(matches!(
+        outputs.next().unwrap(),
+        Some(Output::State(State::Idle))
+    ));
     let _ = client.opened(START).unwrap();
     let outputs = client
         .bytes(START, &Record::accepted(9_000, SESSION))
@@ -395,7 +401,7 @@ fn a_cut_answers_what_waits_and_watches_are_set_again() {
 fn a_frame_out_of_range_ends_the_connection() {
     let mut client = connected();
     let mut outputs = client.bytes(START, &[0xFF; 4]).unwrap();
-    let Some(output) = outputs.next() else {
+    let Some(output) = outputs.next().unwrap() else {
         panic!("the connection goes on");
     };
     assert!(output.ends_connection());
@@ -412,7 +418,7 @@ fn a_reply_that_is_behind_ends_the_connection() {
     let _ = client.exists(START, 8, "/b", Watch::Yes).unwrap();
     let reply = Record::reply(2, 4, 0).stat(4, 0, 0, 0).framed();
     let mut outputs = client.bytes(START, &reply).unwrap();
-    let Some(Output::Drop(given_up)) = outputs.next() else {
+    let Some(Output::Drop(given_up)) = outputs.next().unwrap() else {
         panic!("the connection goes on");
     };
     assert_eq!(given_up.cause, Cause::Behind { zxid: 4 });
@@ -427,7 +433,7 @@ fn watches_that_are_refused_end_the_connection() {
     let _ = client.bytes(START, &accepted).unwrap();
     let refused = Record::reply(jute::WATCHES_SET, 5, -6).framed();
     let mut outputs = client.bytes(START, &refused).unwrap();
-    let Some(Output::Drop(given_up)) = outputs.next() else {
+    let Some(Output::Drop(given_up)) = outputs.next().unwrap() else {
         panic!("the connection goes on");
     };
     assert_eq!(given_up.cause, Cause::WatchesRefused { code: Code(-6) });
@@ -440,13 +446,13 @@ fn an_expired_session_keeps_nothing() {
     let _ = client.opened(START).unwrap();
     let refused = Record::new().int(0).int(0).long(0).buffer(&[0; 16]);
     let mut outputs = client.bytes(START, &refused.framed()).unwrap();
-    let Some(output) = outputs.next() else {
+    let Some(output) = outputs.next().unwrap() else {
         panic!("no state");
     };
     assert!(matches!(output, Output::State(State::Expired)) && output.ends_connection());
     assert_eq!(client.peek_data("/a").unwrap(), None);
     let mut outputs = client.delete(START, 9, "/a", 0).unwrap();
-    let Some(Output::Answer { ticket: 9, outcome }) = outputs.next() else {
+    let Some(Output::Answer { ticket: 9, outcome }) = outputs.next().unwrap() else {
         panic!("no answer");
     };
     assert_eq!(outcome.unwrap_err(), NoReply::SessionExpired);

@@ -1,0 +1,191 @@
+/* A part of session.h, which includes it: nodes that are followed. */
+#ifndef DIRWOLLEU_SESSION_SUBJECTS_H
+#define DIRWOLLEU_SESSION_SUBJECTS_H
+
+/* The names that follow one another in this room, each after its length in four bytes, as texts with a 0 after each. */
+static inline void dws_point_at_names(char **names, char *at, size_t count)
+{
+    for (size_t i = 0; i < count; i++) {
+        const uint8_t *spelled = (const uint8_t *)at;
+        size_t length = (size_t)spelled[0] << 24 | (size_t)spelled[1] << 16 | (size_t)spelled[2] << 8 | spelled[3];
+        *at = 0;
+        names[i] = at + 4;
+        at += 4 + length;
+    }
+    *at = 0;
+}
+
+/* Copies the names that are kept of a subject. */
+static inline enum dw_result dws_look_at_names(dws_session *s, dws_subject *subject, const dw_kept_names *kept)
+{
+    size_t length = 0, table = kept->count * sizeof(char *), path_length = strlen(subject->path);
+    uint8_t none;
+    enum dw_result result = dw_peek_names(&s->client, subject->path, path_length, &none, 0, &length);
+    if (result != DW_OK) {
+        return result;
+    }
+    if (!dws_reserve_names(&subject->names, &subject->names_room, table + length + 1)) {
+        return DW_NO_MEMORY;
+    }
+    char *block = (char *)subject->names + table;
+    result = dw_peek_names(&s->client, subject->path, path_length, (uint8_t *)block, length, &length);
+    if (result == DW_OK) {
+        dws_point_at_names(subject->names, block, kept->count);
+        subject->count = kept->count;
+    }
+    return result;
+}
+
+/* Copies the data that are kept of a subject. */
+static inline enum dw_result dws_look_at_data(dws_session *s, dws_subject *subject, dw_kept_data *kept)
+{
+    if (!dws_reserve_text(&subject->text, &subject->room, kept->length + 1)) {
+        return DW_NO_MEMORY;
+    }
+    subject->text[kept->length] = 0;
+    subject->length = kept->length;
+    subject->is_null = kept->is_null;
+    subject->stat = kept->stat;
+    return dw_peek_data(&s->client, subject->path, strlen(subject->path), kept, (uint8_t *)subject->text, kept->length);
+}
+
+/* Looks at what is kept of the data of a subject. Whether it is another thing than before. */
+static inline bool dws_look_at_node(dws_session *s, dws_subject *subject, enum dw_result *result)
+{
+    dw_kept_data kept;
+    uint8_t none;
+    *result = dw_peek_data(&s->client, subject->path, strlen(subject->path), &kept, &none, 0);
+    if (*result != DW_OK) {
+        return false;
+    }
+    if (kept.kind == DW_KEPT_KNOWN) { /* another read has found a node, of which the data are not known yet */
+        bool was_good = subject->mark == DW_MARK_GOOD;
+        subject->mark = was_good ? DW_MARK_STALE : subject->mark;
+        return was_good;
+    }
+    if (kept.kind == subject->kind && kept.mark == subject->mark && kept.stat.czxid == subject->stat.czxid
+        && kept.stat.mzxid == subject->stat.mzxid) {
+        return false;
+    }
+    subject->kind = kept.kind;
+    subject->mark = kept.mark;
+    *result = dws_look_at_data(s, subject, &kept);
+    return true;
+}
+
+/* The same of names. Where there is no node, that is kept of its data. */
+static inline bool dws_look_at_children(dws_session *s, dws_subject *subject, enum dw_result *result)
+{
+    dw_kept_names kept;
+    dw_kept_data data;
+    uint8_t none;
+    *result = dw_peek_children(&s->client, subject->path, strlen(subject->path), &kept);
+    if (*result == DW_OK) {
+        *result = dw_peek_data(&s->client, subject->path, strlen(subject->path), &data, &none, 0);
+    }
+    if (*result != DW_OK) {
+        return false;
+    }
+    bool is_absent = data.kind == DW_KEPT_ABSENT && kept.mark != DW_MARK_GOOD;
+    enum dw_kept kind = is_absent ? DW_KEPT_ABSENT : kept.mark != 0 ? DW_KEPT_FULL : DW_KEPT_NOTHING;
+    enum dw_mark mark = is_absent ? data.mark : kept.mark;
+    if (kind == subject->kind && mark == subject->mark && (kind != DW_KEPT_FULL || kept.pzxid == subject->pzxid)) {
+        return false;
+    }
+    subject->kind = kind;
+    subject->mark = mark;
+    subject->pzxid = kept.pzxid;
+    subject->count = 0;
+    *result = kind == DW_KEPT_FULL ? dws_look_at_names(s, subject, &kept) : DW_OK;
+    return true;
+}
+
+/* Looks at all subjects, with no step between: those that are good are of one moment, that of the last zxid. */
+static inline void dws_look(dws_session *s)
+{
+    for (dws_subject *one = s->subjects; one != NULL; one = one->next) {
+        enum dw_result result = DW_OK;
+        bool is_changed = one->side == DW_SIDE_DATA ? dws_look_at_node(s, one, &result) : dws_look_at_children(s, one, &result);
+        one->is_changed = one->is_changed || is_changed;
+        if (result != DW_OK) {
+            dws_fail(s, result);
+        }
+    }
+}
+
+/* Shows a subject of which another thing is kept, where there is one. */
+static inline bool dws_show_next(dws_session *s)
+{
+    for (dws_subject *one = s->subjects; one != NULL; one = one->next) {
+        if (one->is_changed) {
+            one->is_changed = false;
+            s->has_news = true;
+            if (one->changed != NULL) {
+                one->changed(s, one);
+            }
+            return true;
+        }
+    }
+    return false;
+}
+
+static inline bool dws_is_good(const dws_subject *subject)
+{
+    return subject->mark == DW_MARK_GOOD;
+}
+
+static inline void dws_put(dws_session *s, dws_call *call);
+
+/* A read of a subject is answered. A read of data or names leaves no watch where there is no node: then it is asked whether there is one,
+ * which does. */
+static inline void dws_take_read(dws_session *s, dws_call *call)
+{
+    dws_subject *subject = (dws_subject *)call->context;
+    bool is_question = call->kind == DWS_EXISTS;
+    subject->is_asked = false;
+    subject->is_missing = !is_question && call->why == DW_CODE_NO_NODE;
+    if (call->why == DW_OUTCOME_LOST || call->why == DW_OUTCOME_NOT_CONNECTED) {
+        return;
+    }
+    if ((call->why != 0 && call->why != DW_CODE_NO_NODE) || (is_question && call->why == 0)) {
+        subject->read_at_ms = s->now_ms + DWS_BETWEEN_READS_MS; /* a read was refused, or has found no node that is there */
+        s->rest_ms = dws_least(s->rest_ms, subject->read_at_ms);
+    }
+    if (call->why < 0 && call->why != DW_CODE_NO_NODE) {
+        char line[DWS_LONGEST_LINE];
+        write_code(line, sizeof line, call->why, dws_inner(s, subject->path));
+        dws_tell(s, DWS_READ_REFUSED, line);
+    }
+}
+
+/* Reads a subject of which nothing good is kept. */
+static inline void dws_read_subject(dws_session *s, dws_subject *subject)
+{
+    dws_call *read = &subject->read;
+    enum dws_kind kind = subject->side == DW_SIDE_DATA ? DWS_GET : DWS_CHILDREN;
+    subject->is_asked = true;
+    read->kind = subject->is_missing ? DWS_EXISTS : kind;
+    read->path = subject->path;
+    read->watch = true;
+    read->then = dws_take_read;
+    read->context = subject;
+    dws_put(s, read);
+}
+
+static inline void dws_read_subjects(dws_session *s)
+{
+    bool is_connected = dw_state(&s->client) == DW_STATE_CONNECTED && !s->is_closing;
+    s->rest_ms = UINT64_MAX;
+    for (dws_subject *one = s->subjects; one != NULL && is_connected; one = one->next) {
+        if (one->is_asked || dws_is_good(one)) {
+            continue;
+        }
+        if (one->read_at_ms <= s->now_ms) {
+            dws_read_subject(s, one);
+        } else {
+            s->rest_ms = dws_least(s->rest_ms, one->read_at_ms);
+        }
+    }
+}
+
+#endif

@@ -1,0 +1,67 @@
+/* What the example programs share: they tell what happens to connections, and end well at a signal. */
+#ifndef TOLD_H
+#define TOLD_H
+
+#include "session.h"
+
+#include <signal.h>
+
+/* Both ends of a pipe, through which a signal wakes poll. */
+static int wakes[2];
+
+static inline void wake(int signal_number)
+{
+    int kept = errno;
+    ssize_t written = write(wakes[1], "", 1);
+    (void)signal_number;
+    (void)written;
+    errno = kept;
+}
+
+/* Tells what happens to connections on standard error. */
+static inline void tell(dws_session *session, enum dws_event event, const char *server, const char *words)
+{
+    (void)session;
+    if (event == DWS_READ_REFUSED) {
+        fprintf(stderr, "%s\n", words);
+    } else {
+        fprintf(stderr, "%s: %s\n", server, words);
+    }
+}
+
+/* Prints bytes in quotes. */
+static inline void print_quoted(const char *bytes, size_t length)
+{
+    printf(" \"");
+    for (size_t i = 0; i < length; i++) {
+        unsigned char one = (unsigned char)bytes[i];
+        printf(one >= ' ' && one <= '~' && one != '"' && one != '\\' ? "%c" : "\\x%02x", one);
+    }
+    putchar('"');
+}
+
+/* Goes on until the session is over. SIGINT and SIGTERM end it; a second one does not wait for the server's word. */
+static inline void turn_until_signal(dws_session *session)
+{
+    struct sigaction woken;
+    char byte;
+    memset(&woken, 0, sizeof woken);
+    woken.sa_handler = wake;
+    if (pipe(wakes) != 0 || sigaction(SIGINT, &woken, NULL) != 0 || sigaction(SIGTERM, &woken, NULL) != 0) {
+        perror("signals");
+        return;
+    }
+    while (!dws_is_over(session)) {
+        struct pollfd polled[2];
+        memset(polled, 0, sizeof polled);
+        polled[0].fd = wakes[0];
+        polled[0].events = POLLIN;
+        poll(polled, 2, dws_wanted(session, &polled[1]));
+        if (polled[0].revents != 0 && read(wakes[0], &byte, 1) == 1) {
+            dws_end(session);
+        }
+        dws_go_on(session, polled[1].revents);
+    }
+}
+
+#endif

@@ -1,0 +1,188 @@
+/* A session by session.h that does what it is told, for the table of cases: session HOSTS TRIES. */
+#define _POSIX_C_SOURCE 200809L
+#include "lock.h"
+
+static dws_call call;
+static dws_lock lock;
+static dws_subject followed;
+static bool is_news;
+static int64_t last_token;
+
+static void print_line(const char *text)
+{
+    printf("%s\n", text);
+    fflush(stdout);
+}
+
+static void note(dws_session *session, dws_subject *subject)
+{
+    (void)session;
+    is_news = is_news || dws_is_good(subject);
+}
+
+static int compare(const void *one, const void *other)
+{
+    return strcmp(*(char *const *)one, *(char *const *)other);
+}
+
+/* Waits for the call, and prints why it has failed. Whether it has not. */
+static bool is_done(dws_session *session)
+{
+    char why[DWS_LONGEST_LINE];
+    if (dws_wait(session, &call) == 0) {
+        return true;
+    }
+    dws_words(session, &call, why, sizeof why);
+    print_line(why);
+    return false;
+}
+
+static void print_names(void)
+{
+    qsort(call.names, call.count, sizeof call.names[0], compare);
+    for (size_t i = 0; i < call.count; i++) {
+        printf("%s%s", i > 0 ? " " : "", call.names[i]);
+    }
+    print_line("");
+}
+
+static void print_found(void)
+{
+    if (call.why == DW_CODE_NO_NODE) {
+        print_line("none");
+    } else {
+        printf("version %" PRId32 "\n", call.stat.version);
+        fflush(stdout);
+    }
+}
+
+static void read_by(dws_session *session, const char *name, const char *path)
+{
+    if (strcmp(name, "get") == 0) {
+        dws_get(session, &call, path, false);
+        if (is_done(session)) {
+            printf("data %s version %" PRId32 "\n", call.text, call.stat.version);
+            fflush(stdout);
+        }
+    } else if (strcmp(name, "children") == 0) {
+        dws_children(session, &call, path, false);
+        if (is_done(session)) {
+            print_names();
+        }
+    } else if (dws_wait(session, dws_exists(session, &call, path, false)) == DW_CODE_NO_NODE || is_done(session)) {
+        print_found();
+    }
+}
+
+static void create_by(dws_session *session, const char *name, const char *path, const char *data)
+{
+    int mode = strcmp(name, "sequential") == 0 ? DW_MODE_SEQUENTIAL : strcmp(name, "ephemeral") == 0 ? DW_MODE_EPHEMERAL : DW_MODE_PERSISTENT;
+    dws_create(session, &call, path, data, strlen(data), mode);
+    if (is_done(session)) {
+        print_line(call.text);
+    }
+}
+
+static void write_by(dws_session *session, const char *name, const char *path, const char *data, const char *version)
+{
+    if (strcmp(name, "set") == 0) {
+        dws_set(session, &call, path, data, strlen(data), (int32_t)strtol(version, NULL, 10));
+        if (is_done(session)) {
+            print_found();
+        }
+    } else if (strcmp(name, "delete") == 0) {
+        dws_delete(session, &call, path, (int32_t)strtol(data, NULL, 10));
+        if (is_done(session)) {
+            print_line("done");
+        }
+    } else {
+        create_by(session, name, path, data);
+    }
+}
+
+static void print_next(dws_session *session)
+{
+    while (!is_news && dws_turn(session)) {
+    }
+    is_news = false;
+    bool is_there = followed.kind == DW_KEPT_FULL;
+    printf("%s%s\n", is_there ? "data " : "none", is_there ? followed.text : "");
+    fflush(stdout);
+}
+
+static void take_lock(dws_session *session, const char *path)
+{
+    dws_lock_take(session, &lock, path, DWS_EXCLUSIVE, "", NULL);
+    while (!lock.is_held && dws_turn(session)) {
+    }
+    print_line(last_token != 0 && lock.token > last_token ? "held with a greater token" : "held");
+    last_token = lock.token;
+}
+
+static void use_lock(dws_session *session, const char *name)
+{
+    if (strcmp(name, "check") == 0) {
+        dws_wait(session, dws_lock_check(session, &lock, &call));
+        print_line(call.why == 0 && call.stat.czxid == lock.token ? "is held" : "is lost");
+    } else {
+        dws_wait(session, dws_lock_let_go(session, &lock));
+        print_line("done");
+    }
+}
+
+/* Does what a line says. False where it is the last one. */
+static bool obey(dws_session *session, char *line)
+{
+    char *name = strtok(line, " \n"), *path = strtok(NULL, " \n"), *data = strtok(NULL, " \n"), *version = strtok(NULL, " \n");
+    data = data != NULL && strcmp(data, "-") == 0 ? data + 1 : data;
+    if (strcmp(name, "get") == 0 || strcmp(name, "children") == 0 || strcmp(name, "exists") == 0) {
+        read_by(session, name, path);
+    } else if (strcmp(name, "follow") == 0) {
+        dws_follow(session, &followed, path, note);
+    } else if (strcmp(name, "next") == 0) {
+        print_next(session);
+    } else if (strcmp(name, "lock") == 0) {
+        take_lock(session, path);
+    } else if (strcmp(name, "check") == 0 || strcmp(name, "release") == 0) {
+        use_lock(session, name);
+    } else if (strcmp(name, "close") == 0) {
+        return false;
+    } else {
+        write_by(session, name, path, data, version);
+    }
+    return true;
+}
+
+/* Goes on until standard input has a line. */
+static bool next_line(dws_session *session, char *line, int size)
+{
+    struct pollfd polled[2];
+    memset(polled, 0, sizeof polled);
+    while (polled[0].revents == 0) {
+        polled[0].fd = STDIN_FILENO;
+        polled[0].events = POLLIN;
+        poll(polled, 2, dws_wanted(session, &polled[1]));
+        dws_go_on(session, polled[1].revents);
+    }
+    return fgets(line, size, stdin) != NULL;
+}
+
+int main(int argc, char **argv)
+{
+    char line[1000];
+    dws_options options;
+    memset(&options, 0, sizeof options);
+    options.tries = argc == 3 ? (int)strtol(argv[2], NULL, 10) : 0;
+    dws_session *session = argc == 3 ? dws_open(argv[1], &options, NULL, 0) : NULL;
+    setvbuf(stdin, NULL, _IONBF, 0); /* so that poll tells of each line */
+    while (session != NULL && next_line(session, line, sizeof line) && obey(session, line)) {
+    }
+    dws_release(&call);
+    dws_release(&lock.call);
+    dws_release(&lock.removal);
+    if (session != NULL) {
+        dws_close(session);
+        print_line("closed");
+    }
+    return EXIT_SUCCESS;
+}

@@ -1,0 +1,114 @@
+"""A session by the client for Python that does what it is told, for the table of cases: session.py HOSTS TRIES."""
+
+from __future__ import annotations
+
+import pathlib
+import sys
+from typing import Callable
+
+sys.path.insert(0, str(pathlib.Path(__file__).resolve().parents[1] / "python"))
+
+import dirwolleu  # noqa: E402
+
+
+def data_of(word: str) -> bytes:
+    return b"" if word == "-" else word.encode()
+
+
+class Told:
+    def __init__(self, client: dirwolleu.Client) -> None:
+        self.client = client
+        self.token = 0
+
+    def get(self, path: str) -> str:
+        data, stat = self.client.get(path)
+        return f"data {(data or b'').decode()} version {stat.version}"
+
+    def exists(self, path: str) -> str:
+        stat = self.client.exists(path)
+        return "none" if stat is None else f"version {stat.version}"
+
+    def create(self, path: str, data: str) -> str:
+        return self.client.create(path, data_of(data))
+
+    def sequential(self, path: str, data: str) -> str:
+        return self.client.create(path, data_of(data), sequence=True)
+
+    def ephemeral(self, path: str, data: str) -> str:
+        return self.client.create(path, data_of(data), ephemeral=True)
+
+    def set(self, path: str, data: str, version: str) -> str:
+        return f"version {self.client.set(path, data_of(data), int(version)).version}"
+
+    def delete(self, path: str, version: str) -> str:
+        self.client.delete(path, int(version))
+        return "done"
+
+    def children(self, path: str) -> str:
+        return " ".join(sorted(self.client.get_children(path)))
+
+    def follow(self, path: str) -> None:
+        self.followed = self.client.follow(path)
+
+    def next(self) -> str:
+        kept = next(self.followed)
+        return f"data {(kept.data or b'').decode()}" if kept.exists else "none"
+
+    def lock(self, path: str) -> str:
+        self.held = dirwolleu.Lock(self.client, path).acquire()
+        before, self.token = self.token, self.held.token
+        return "held with a greater token" if self.token > before > 0 else "held"
+
+    def check(self) -> str:
+        self.held.check()
+        return "is held"
+
+    def release(self) -> str:
+        self.held.release()
+        return "done"
+
+    def transaction(self, *words: str) -> str:
+        transaction, left = self.client.transaction(), list(words)
+        counts = {"check": 2, "delete": 1, "set": 2, "create": 2}
+        while left:
+            name, path, *rest = left[: 1 + counts[left[0]]]
+            del left[: 1 + counts[name]]
+            if name == "check":
+                transaction.check(path, int(rest[0]))
+            elif name == "delete":
+                transaction.delete(path)
+            elif name == "set":
+                transaction.set_data(path, data_of(rest[0]))
+            else:
+                transaction.create(path, data_of(rest[0]))
+        paths = [path for word, path in zip(words, words[1:]) if word in ("set", "create", "delete")]
+        transaction.commit()
+        return " ".join(paths)
+
+    def sync(self, path: str) -> str:
+        self.client.sync(path)
+        return "done"
+
+    def close(self) -> str:
+        self.client.close()
+        return "closed"
+
+
+def main() -> None:
+    hosts, tries = sys.argv[1:]
+    retry = dirwolleu.Retry(tries=int(tries) + 1) if int(tries) else None
+    client = dirwolleu.Client(hosts, timeout=10.0, retry=retry)
+    client.start()
+    told = Told(client)
+    for line in sys.stdin:
+        name, *words = line.split()
+        act: Callable[..., object] = getattr(told, name)
+        try:
+            printed = act(*words)
+        except Exception as error:
+            printed = error
+        if printed is not None:
+            print(printed, flush=True)
+
+
+main()

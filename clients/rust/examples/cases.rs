@@ -1,0 +1,174 @@
+//! A session that does what it is told, for the table of cases, `clients/cases`: `cases HOSTS TRIES`.
+
+use dirwolleu::{Follow, Lock, Mode, Retry, Session, SessionOptions, Sharing};
+use std::env;
+use std::error::Error;
+use std::io;
+use std::time::Duration;
+
+type Answer = Result<String, Box<dyn Error>>;
+
+/// What a program has to remember between two lines.
+struct Told<'a> {
+    session: &'a Session,
+    followed: Option<Follow<'a>>,
+    lock: Option<Lock<'a>>,
+    token: i64,
+}
+
+fn data_of(word: &str) -> &[u8] {
+    if word == "-" {
+        b""
+    } else {
+        word.as_bytes()
+    }
+}
+
+fn shown(data: Option<Vec<u8>>) -> String {
+    String::from_utf8_lossy(&data.unwrap_or_default()).into_owned()
+}
+
+impl Told<'_> {
+    fn read(&self, name: &str, path: &str) -> Answer {
+        Ok(match name {
+            "get" => {
+                let node = self.session.get(path)?;
+                let version = node.stat.version;
+                format!("data {} version {version}", shown(node.data))
+            }
+            "children" => {
+                let (mut names, _) = self.session.children(path)?;
+                names.sort();
+                names.join(" ")
+            }
+            _ => match self.session.exists(path)? {
+                Some(stat) => format!("version {}", stat.version),
+                None => String::from("none"),
+            },
+        })
+    }
+
+    fn write(&self, name: &str, path: &str, word: &str) -> Answer {
+        let mode = match name {
+            "sequential" => Mode::PersistentSequential,
+            "ephemeral" => Mode::Ephemeral,
+            "create" => Mode::Persistent,
+            _ => {
+                self.session.delete(path, word.parse()?)?;
+                return Ok(String::from("done"));
+            }
+        };
+        Ok(self.session.create(path, data_of(word), mode)?)
+    }
+
+    fn next(&mut self) -> Answer {
+        let followed = self.followed.as_mut().ok_or("nothing is followed")?;
+        let node = followed.next().ok_or("the session is over")??;
+        let data = node.map(|node| format!("data {}", shown(node.data)));
+        Ok(data.unwrap_or_else(|| String::from("none")))
+    }
+
+    fn lock(&mut self, path: &str) -> Answer {
+        let lock = Lock::acquire(self.session, path, Sharing::Exclusive, b"")?;
+        let is_greater = self.token > 0 && lock.token() > self.token;
+        self.token = lock.token();
+        self.lock = Some(lock);
+        let greater = if is_greater {
+            " with a greater token"
+        } else {
+            ""
+        };
+        Ok(format!("held{greater}"))
+    }
+
+    fn check(&self) -> Answer {
+        let lock = self.lock.as_ref().ok_or("there is no lock")?;
+        let held = if lock.check()? { "held" } else { "lost" };
+        Ok(format!("is {held}"))
+    }
+
+    fn release(&mut self) -> Answer {
+        self.lock.take().ok_or("there is no lock")?.release()?;
+        Ok(String::from("done"))
+    }
+
+    fn commit(&self, mut words: &[&str]) -> Answer {
+        let (mut transaction, mut paths) = (self.session.transaction(), Vec::new());
+        loop {
+            (transaction, words) = match words {
+                ["check", path, version, rest @ ..] => {
+                    (transaction.check(path, version.parse()?), rest)
+                }
+                ["delete", path, rest @ ..] => (transaction.delete(path, -1), rest),
+                ["set", path, data, rest @ ..] => {
+                    paths.push(*path);
+                    (transaction.set(path, data_of(data), -1), rest)
+                }
+                ["create", path, data, rest @ ..] => {
+                    paths.push(*path);
+                    let created = transaction.create(path, data_of(data), Mode::Persistent);
+                    (created, rest)
+                }
+                _ => break,
+            };
+        }
+        transaction.commit()?;
+        Ok(paths.join(" "))
+    }
+
+    /// Does what a line says. Nothing is answered where it is to be gone on.
+    fn obey(&mut self, words: &[&str]) -> Result<Option<String>, Box<dyn Error>> {
+        Ok(Some(match words {
+            ["follow", path] => {
+                self.followed = Some(self.session.follow(path));
+                return Ok(None);
+            }
+            ["next"] => self.next()?,
+            ["lock", path] => self.lock(path)?,
+            ["check"] => self.check()?,
+            ["release"] => self.release()?,
+            ["transaction", words @ ..] => self.commit(words)?,
+            ["sync", path] => {
+                self.session.sync(path)?;
+                String::from("done")
+            }
+            ["set", path, data, version] => {
+                let set = self.session.set(path, data_of(data), version.parse()?);
+                format!("version {}", set?.version)
+            }
+            [name, path] => self.read(name, path)?,
+            [name, path, word] => self.write(name, path, word)?,
+            _ => return Err("this is no command".into()),
+        }))
+    }
+}
+
+fn main() -> Result<(), Box<dyn Error>> {
+    let mut words = env::args().skip(1);
+    let hosts = words.next().unwrap_or_default();
+    let tries = words.next().unwrap_or_default().parse()?;
+    let options = SessionOptions::new(Duration::from_secs(10)).renews(true);
+    let session = options.retry(Retry::times(tries)).open(&hosts)?;
+    let mut told = Told {
+        session: &session,
+        followed: None,
+        lock: None,
+        token: 0,
+    };
+    for line in io::stdin().lines() {
+        let line = line?;
+        let words: Vec<&str> = line.split(' ').collect();
+        if words == ["close"] {
+            break;
+        }
+        match told.obey(&words) {
+            Ok(Some(printed)) => println!("{printed}"),
+            Ok(None) => {}
+            Err(error) => println!("{error}"),
+        }
+    }
+    drop(told);
+    session.close()?;
+    println!("closed");
+    Ok(())
+}
