@@ -327,8 +327,11 @@ impl Client {
 
     /// All nodes at and below a path, at most this many, and none where some of it is not kept good: then read what is
     /// [`lacking`](Client::lacking). There is a subtree exactly where the path, and each node that is reached from it through kept names,
-    /// is kept good with its data, and its names are kept good. It is the servers' at that zxid, and no other node was there. It fails
-    /// as [`peek_data`](Client::peek_data), and with [`Fault::TooManyNodes`] where more nodes are reached.
+    /// is kept good with its data, and its names are kept good. It is the servers' at that zxid, and no other node was there.
+    ///
+    /// # Errors
+    ///
+    /// As [`peek_data`](Client::peek_data), and [`Fault::TooManyNodes`] where more nodes are reached.
     pub fn subtree(&self, path: &str, most: usize) -> Result<Option<Subtree>, Fault> {
         match whole(|room| self.handle.subtree(path, most, room)) {
             Ok(spelled) => Ok(Some(Subtree {
@@ -341,9 +344,12 @@ impl Client {
     }
 
     /// The reads, with a watch, that are lacking before there is a [`subtree`](Client::subtree) of a path with at most this many nodes:
-    /// none exactly where there is one. All can be asked at once; what lies below a node shows when its names are there. It fails as
-    /// [`peek_data`](Client::peek_data), with [`Fault::TooManyNodes`], and with [`Fault::NotWhole`] where a name makes no path, so that no
-    /// read helps.
+    /// none exactly where there is one. All can be asked at once; what lies below a node shows when its names are there.
+    ///
+    /// # Errors
+    ///
+    /// As [`peek_data`](Client::peek_data), [`Fault::TooManyNodes`], and [`Fault::NotWhole`] where a name makes no path, so that no read
+    /// helps.
     pub fn lacking(&self, path: &str, most: usize) -> Result<Vec<Lacking>, Fault> {
         let spelled = whole(|room| self.handle.lacking(path, most, room))?;
         Ok(lacking_in(&spelled))

@@ -119,7 +119,8 @@ impl Fault {
 
     /// What to do. Nothing where the reason says it.
     pub(crate) fn advice(&self) -> &'static str {
-        self.number().map_or("take both of one version", advice::result)
+        self.number()
+            .map_or("take both of one version", advice::result)
     }
 
     /// Whether the client has no use any more.
@@ -245,11 +246,15 @@ mod tests {
             (-1, Fault::Halted),
             (-2, Fault::NoMemory),
             (-5, Fault::not_path("/a")),
-            (-7, UnknownNumber::of("result", -7).into()),
-            (-9, UnknownNumber::of("result", -9).into()),
+            (-9, Fault::NotWhole),
+            (-10, Fault::TooManyNodes),
         ] {
-            assert_eq!(fault.number(), number);
+            assert_eq!(fault.number(), Some(number));
             assert_eq!(done_at("/a", number), Err(fault));
+        }
+        for number in [-7, -11] {
+            let unknown = UnknownNumber::of("result", number);
+            assert_eq!(done_at("/a", number), Err(unknown.into()));
         }
     }
 

@@ -295,7 +295,11 @@ impl<'a> Names<'a> {
         self.count == 0
     }
 
-    /// Copies of all of them, in the order of the reply, by one call of the library. [`Fault::NoMemory`] where it has no memory for them.
+    /// Copies of all of them, in the order of the reply, by one call of the library.
+    ///
+    /// # Errors
+    ///
+    /// [`Fault::NoMemory`] where the library has no memory for them.
     pub fn to_vec(&self) -> Result<Vec<String>, Fault> {
         let spelled = whole(|room| self.handle.names(room))?;
         Ok(texts_in(self.count, &spelled))

@@ -76,7 +76,7 @@ pub(crate) fn lacking_in(spelled: &[u8]) -> Vec<Lacking> {
     all(spelled, |reader| {
         Some(Lacking {
             path: reader.text()?,
-            side: Side::of(reader.int()?)?,
+            side: Side::try_from(reader.int()?).ok()?,
         })
     })
 }
