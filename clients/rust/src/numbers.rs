@@ -9,6 +9,7 @@ pub(crate) const VERSION: u32 = 3000;
 pub(crate) mod result {
     pub(crate) const OK: i32 = 0;
     pub(crate) const NONE: i32 = 1;
+    pub(crate) const WAITS: i32 = 2;
     pub(crate) const HALTED: i32 = -1;
     pub(crate) const NO_MEMORY: i32 = -2;
     pub(crate) const CLOSED: i32 = -3;
@@ -19,6 +20,7 @@ pub(crate) mod result {
     pub(crate) const NOT_SAVED: i32 = -8;
     pub(crate) const NOT_WHOLE: i32 = -9;
     pub(crate) const TOO_MANY: i32 = -10;
+    pub(crate) const NOT_TEXTS: i32 = -11;
 }
 
 pub(crate) mod kind {
@@ -387,6 +389,7 @@ pub(crate) mod words {
         Some(match number {
             0 => "done",
             1 => "there is none",
+            2 => "another session stands before this one",
             -1 => "out of memory within a step",
             -2 => "out of memory",
             -3 => "the handle holds no client",
@@ -397,6 +400,7 @@ pub(crate) mod words {
             -8 => "the bytes are no saved session",
             -9 => "some of the subtree is not kept, or not good",
             -10 => "the subtree has more nodes than were asked for",
+            -11 => "the bytes are no texts, each after its length",
             _ => return None,
         })
     }
