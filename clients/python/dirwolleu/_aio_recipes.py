@@ -76,14 +76,12 @@ class Lock(BaseLock["Client", Held]):
         return Held(self._client, holding, self._on_lost)
 
     async def __aenter__(self) -> Held:
-        held = await self.acquire()
-        self._entered.append(held)
-        return held
+        return self._enter(asyncio.current_task(), await self.acquire())
 
     async def __aexit__(
         self, kind: Optional[type[BaseException]], error: Optional[BaseException], trace: Optional[TracebackType]
     ) -> None:
-        await self._entered.pop().release()
+        await self._exit(asyncio.current_task()).release()
 
 
 class WriteLock(Lock):
@@ -118,14 +116,12 @@ class Semaphore(BaseSemaphore["Client", Held]):
         return Held(self._client, holding, self._on_lost)
 
     async def __aenter__(self) -> Held:
-        held = await self.acquire()
-        self._entered.append(held)
-        return held
+        return self._enter(asyncio.current_task(), await self.acquire())
 
     async def __aexit__(
         self, kind: Optional[type[BaseException]], error: Optional[BaseException], trace: Optional[TracebackType]
     ) -> None:
-        await self._entered.pop().release()
+        await self._exit(asyncio.current_task()).release()
 
 
 class Election:

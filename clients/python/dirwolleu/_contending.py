@@ -358,7 +358,19 @@ class BaseTaker(Generic[AnyClient, AnyHeld]):
     ) -> None:
         self._client, self._path, self._data = client, path, identifier.encode()
         self._on_lost, self._keeps = on_lost, keeps_while_suspended
-        self._entered: list[AnyHeld] = []
+        self._entered: dict[object, list[AnyHeld]] = {}
+
+    def _enter(self, who: object, held: AnyHeld) -> AnyHeld:
+        """Keeps what a thread or a task has taken by `with`, which it gives back at the end of the block."""
+        self._entered.setdefault(who, []).append(held)
+        return held
+
+    def _exit(self, who: object) -> AnyHeld:
+        found = who if who in self._entered else next(reversed(self._entered))
+        held = self._entered[found].pop()
+        if not self._entered[found]:
+            del self._entered[found]
+        return held
 
     def _held(self, holding: Holding) -> AnyHeld:
         raise NotImplementedError

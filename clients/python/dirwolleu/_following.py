@@ -65,19 +65,27 @@ class Follower(Generic[Told]):
     since; with `is_strict` one that is good now alone.
     """
 
-    def __init__(self, engine: Engine, subject: Subject[Told], news: News, is_strict: bool = False) -> None:
-        self._engine, self._subject, self._news, self._is_strict = engine, subject, news, is_strict
+    def __init__(
+        self,
+        engine: Engine,
+        subject: Subject[Told],
+        news: News,
+        is_strict: bool = False,
+        is_wanted: Callable[[], bool] = lambda: True,
+    ) -> None:
+        self._engine, self._subject, self._news = engine, subject, news
+        self._is_strict, self._is_wanted = is_strict, is_wanted
         self._told: Optional[Told] = None
         self._read_at: Optional[float] = None
 
     @contextmanager
     def listening(self) -> Iterator[Callable[[], Steps[Optional[Told]]]]:
-        """What it gives makes the steps to the next answer: None where the client was stopped."""
+        """What it gives makes the steps to the next answer: None where the client was stopped, or none is wanted."""
         with self._engine.news(self._news.set, self._subject.path, self._subject.settled) as found:
             yield lambda: self._next(lambda: found.pop() if found and not self._is_strict else None)
 
     def _next(self, found: Callable[[], Optional[Told]]) -> Steps[Optional[Told]]:
-        while self._engine.is_running:
+        while self._engine.is_running and self._is_wanted():
             self._news.clear()
             for kept in (found(), self._subject.settled()):
                 if kept is not None and self._is_another(kept):
@@ -103,6 +111,8 @@ class Follower(Generic[Told]):
         self._read_at = now
         try:
             yield from self._subject.read()
+        except ConnectionClosedError:
+            pass  # it was stopped meanwhile, and may have been started again
         except ZookeeperError as error:
             if not is_passing(error):
                 raise
@@ -117,13 +127,14 @@ def watching(
     engine: Engine, subject: Subject[Told], news: News, call: Callable[[Told], Any], is_wanted: Callable[[], bool]
 ) -> Steps[None]:
     """Calls a function with each good answer, until it answers False. It goes on where the client is started again."""
-    with Follower(engine, subject, news, is_strict=True).listening() as next_one:
+    with Follower(engine, subject, news, is_strict=True, is_wanted=is_wanted).listening() as next_one:
         while is_wanted():
             kept = yield from next_one()
-            if kept is None:
+            if kept is not None:
+                if is_wanted() and (yield from _called(call, kept)) is False:
+                    return
+            elif is_wanted():
                 yield Wait(None)
-            elif is_wanted() and (yield from _called(call, kept)) is False:
-                return
 
 
 def _called(call: Callable[[Told], Any], kept: Told) -> Steps[Any]:

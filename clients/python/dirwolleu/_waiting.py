@@ -172,17 +172,20 @@ class Task:
         end: Callable[[Any, Optional[BaseException]], object],
     ) -> None:
         self._client, self._end = client, end
-        self._is_news, self._waits, self._number = False, False, 0
+        self._is_news, self._is_told, self._waits, self._number = False, False, False, 0
         self._steps: Optional[Generator[Step, Any, Any]] = begin(self)
 
     def start(self) -> None:
+        """Begins, or goes on in the threads of a client that was started again."""
+        self._is_told = False
         self.soon(0, None, None)
+        self.set()
 
     def set(self) -> None:
         """There is news. Any thread may say so."""
-        if not self._is_news:
-            self._is_news = True
-            self._client._tell(self._wake, None)
+        self._is_news = True
+        if not self._is_told:
+            self._is_told = self._client._tell(self._wake, None)
 
     def clear(self) -> None:
         self._is_news = False
@@ -198,6 +201,7 @@ class Task:
             self._go_on(came)
 
     def _wake(self, _: object) -> None:
+        self._is_told = False
         if self._waits and self._is_news:
             self._go_on((self._number, None, None))
 

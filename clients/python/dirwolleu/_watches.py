@@ -6,7 +6,9 @@ import logging
 from typing import TYPE_CHECKING, Any, Callable, Generic, Optional
 
 from dirwolleu import _following as following
+from dirwolleu._engine import News
 from dirwolleu._following import Subject, Told
+from dirwolleu._steps import Steps
 from dirwolleu.types import Kept, KeptChildren
 
 if TYPE_CHECKING:
@@ -24,6 +26,7 @@ class _Watch(Generic[Told]):
         self._client, self._path = client, path
         self._function: Optional[Function] = None
         self._is_wanted = True
+        self._news: Optional[News] = None
         if function is not None:
             self(function)
 
@@ -34,17 +37,19 @@ class _Watch(Generic[Told]):
         self._function = function
         subject = self._subject()
         subject.settled()  # a ValueError where the path is none
-        self._client._begin(
-            lambda news: following.watching(
-                self._client._engine, subject, news, self._call, lambda: self._is_wanted
-            ),
-            self._end,
-        )
+
+        def begin(news: News) -> Steps[None]:
+            self._news = news
+            return following.watching(self._client._engine, subject, news, self._call, lambda: self._is_wanted)
+
+        self._client._begin(begin, self._end)
         return function
 
     def stop(self) -> None:
         """Calls the function no more. It may be called again."""
         self._is_wanted = False
+        if self._news is not None:
+            self._news.set()
 
     def _end(self, _: Any, error: Optional[BaseException]) -> None:
         self._is_wanted = False

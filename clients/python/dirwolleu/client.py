@@ -98,7 +98,7 @@ class Client(Shown):
         super().__init__(hosts, timeout, saved, auth_data, retry, randomize_hosts)
         self._tls = ssl
         self._running: dict[str, Threads] = {}  # a dict's functions are single steps of the interpreter: no lock
-        self._tasks: list[Task] = []
+        self._tasks: dict[Task, None] = {}
 
     def __enter__(self) -> Client:
         self.start()
@@ -486,11 +486,16 @@ class Client(Shown):
     ) -> None:
         """Has the thread of the callbacks do steps, from the start of the client on."""
         self._engine.check_process()
-        task = Task(self, begin, end)
+        tasks = self._tasks
+
+        def ended(result: Any, error: Optional[BaseException]) -> None:
+            tasks.pop(task, None)
+            end(result, error)
+
+        task = Task(self, begin, ended)
+        tasks[task] = None
         if self._threads() is not None:
             task.start()
-        else:
-            self._tasks.append(task)
 
     def _begin_plan(self, plan: Plan[Any]) -> Future:
         """Has the thread of the callbacks ask what a plan asks for."""
@@ -562,8 +567,8 @@ class Client(Shown):
             if self._running.setdefault("threads", threads) is threads:
                 _started.add(self)
                 threads.start()
-                while self._tasks:
-                    self._tasks.pop().start()
+                for task in list(self._tasks):
+                    task.start()
             else:
                 threads.loop.stop(lambda: None)
 

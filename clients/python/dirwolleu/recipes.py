@@ -94,14 +94,12 @@ class Lock(BaseLock[Client, Held]):
         return Held(self._client, holding, self._on_lost)
 
     def __enter__(self) -> Held:
-        held = self.acquire()
-        self._entered.append(held)
-        return held
+        return self._enter(threading.get_ident(), self.acquire())
 
     def __exit__(
         self, kind: Optional[type[BaseException]], error: Optional[BaseException], trace: Optional[TracebackType]
     ) -> None:
-        self._entered.pop().release()
+        self._exit(threading.get_ident()).release()
 
 
 class WriteLock(Lock):
@@ -160,14 +158,12 @@ class Semaphore(BaseSemaphore[Client, Held]):
         return Held(self._client, holding, self._on_lost)
 
     def __enter__(self) -> Held:
-        held = self.acquire()
-        self._entered.append(held)
-        return held
+        return self._enter(threading.get_ident(), self.acquire())
 
     def __exit__(
         self, kind: Optional[type[BaseException]], error: Optional[BaseException], trace: Optional[TracebackType]
     ) -> None:
-        self._entered.pop().release()
+        self._exit(threading.get_ident()).release()
 
 
 class Election:

@@ -10,6 +10,7 @@ import importlib
 import inspect
 import io
 import pathlib
+import re
 import textwrap
 import unittest
 from collections.abc import Iterator
@@ -98,6 +99,18 @@ class DocsTest(PartnerCase):
                     for own, part in vars(found).items():
                         if inspect.isfunction(part) and not own.startswith("_"):
                             self.assertTrue(part.__doc__, f"{name}.{own}")
+
+    def test_the_readme_names_each_public_name(self) -> None:
+        readme = (CLIENTS / "python" / "README.md").read_text()
+        names = {*dirwolleu.__all__, *dirwolleu.aio.__all__}
+        for kind in (dirwolleu.Client, dirwolleu.Held, dirwolleu.Lock, dirwolleu.Semaphore, dirwolleu.Registration, dirwolleu.Queue):
+            names.update(own for own in dir(kind) if not own.startswith("_") and not own.endswith("_async"))
+        self.assertEqual([name for name in sorted(names) if not re.search(rf"\b{name}\b", readme)], [])
+
+    def test_both_clients_and_their_recipes_have_the_same_names(self) -> None:
+        for name in ("Client", *dirwolleu.recipes.__all__):
+            ours, theirs = ({own for own in dir(getattr(one, name)) if not own.startswith("_")} for one in (dirwolleu, dirwolleu.aio))
+            self.assertEqual(ours - {"size"}, theirs - {"size"}, name)
 
     def test_prompts(self) -> None:
         for file in PACKAGE.glob("*.py"):

@@ -23,6 +23,7 @@ from dirwolleu import (
     Lock,
     LockLostError,
     LockTimeout,
+    ReadLock,
     Registration,
     State,
     aio,
@@ -190,6 +191,24 @@ class LockTest(RecipeCase):
         with self.assertRaises(LockTimeout):
             Lock(self.one, "/locks").acquire(0.1)
         self.assertLess(time.monotonic() - began, 4.0)
+
+    def test_each_thread_gives_back_what_it_has_taken(self) -> None:
+        lock, may_end, helds = ReadLock(self.one, "/locks"), threading.Event(), queue.Queue[Held]()
+        self.addCleanup(may_end.set)
+
+        def work() -> None:
+            with lock as held:
+                helds.put(held)
+                may_end.wait(WAIT)
+
+        end = self.in_thread(work)
+        first = helds.get(timeout=WAIT)
+        with lock as second:
+            may_end.set()
+            self.assertIsNone(end.get(timeout=WAIT))
+            self.assertFalse(first.is_held)
+            second.check()
+        self.assertFalse(second.is_held)
 
     def test_what_locks_have_left_is_forgotten(self) -> None:
         with mock.patch("dirwolleu._engine.RECIPES_BEFORE_FORGETTING", 3):

@@ -173,6 +173,29 @@ class WatchRules(BothCase):
         client.start(WAIT)
         self.assertEqual(self.next_of(told), b"one")
 
+    def test_a_stop_within_a_read_does_not_end_a_watch(self) -> None:
+        reads = list[bytes]()
+
+        def serve(peer: Peer) -> None:
+            peer.admit()
+            while True:
+                asked = peer.take()
+                if asked.kind != GET_DATA:
+                    peer.send(reply(asked))
+                elif len(reads) != 1:
+                    peer.send(data_reply(asked, reads and b"two" or b"one"), *([] if reads else [notice("/a")]))
+                if asked.kind == GET_DATA:
+                    reads.append(b"")
+
+        client, told = self.client(self.raw_server(serve).host, 1.5), queue.Queue[Any]()
+        with self.assertLogs("dirwolleu") as logs:
+            self.watch(client, "DataWatch", "/a", lambda data, _: told.put(data))
+            within(lambda: len(reads) == 2)
+            client.stop()
+            client.start(WAIT)
+            within(lambda: self.next_of(told) == b"two")
+        self.assertNotIn("ERROR", [record.levelname for record in logs.records])
+
 
 class FreshRules(BothCase):
     def test_what_is_good_after_it_has_each_write_that_was_answered(self) -> None:
