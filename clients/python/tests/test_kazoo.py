@@ -3,6 +3,8 @@
 from __future__ import annotations
 
 import contextlib
+import doctest
+import inspect
 import logging
 import subprocess
 import sys
@@ -15,7 +17,8 @@ from unittest import mock
 
 from support import CLIENTS, WAIT, Partner, PartnerCase, Peer, within
 
-from dirwolleu.kazoo import exceptions
+from dirwolleu.kazoo import client, exceptions, security
+from dirwolleu.kazoo import retry as retries
 from dirwolleu.kazoo._session import Ask
 from dirwolleu.kazoo.client import KazooClient, KazooState, KeeperState, WatchedEvent
 from dirwolleu.kazoo.exceptions import (
@@ -34,8 +37,10 @@ from dirwolleu.kazoo.exceptions import (
     RuntimeInconsistency,
     SessionExpiredError,
 )
+from dirwolleu.kazoo.handlers import threading as threads
 from dirwolleu.kazoo.handlers.threading import AsyncResult, KazooTimeoutError, SequentialThreadingHandler
-from dirwolleu.kazoo.protocol import paths
+from dirwolleu.kazoo.protocol import paths, serialization, states
+from dirwolleu.kazoo.recipe import election, lock, party, watchers
 from dirwolleu.kazoo.recipe.watchers import DataWatch
 from dirwolleu.kazoo.retry import ForceRetryError, InterruptedError, KazooRetry, RetryFailedError
 from dirwolleu.kazoo.security import CREATOR_ALL_ACL, OPEN_ACL_UNSAFE, make_acl, make_digest_acl
@@ -246,6 +251,18 @@ class StatesTest(KazooCase):
         self.assertLess(time.monotonic() - begin, WAIT)
         with self.assertRaises(ConnectionClosedError):
             zk.get("/")
+
+    def test_a_server_that_accepts_no_session_has_its_part_of_the_timeout(self) -> None:
+        def serve(peer: Peer) -> None:
+            peer.take_payload()
+            time.sleep(WAIT)
+
+        silent = self.raw_server(serve)
+        zk = KazooClient([silent.host, self.server.host, "127.0.0.1:1"], timeout=4.5, randomize_hosts=False)
+        self.addCleanup(zk.stop)
+        begin = time.monotonic()
+        zk.start(WAIT)
+        self.assertTrue(1.4 < time.monotonic() - begin < 2.9)
 
     def test_start_async(self) -> None:
         zk = self.unstarted()
@@ -726,6 +743,22 @@ class RetryTest(KazooCase):
         self.assertEqual([paths.normpath(path) for path in ("//a//b/", "/", "", "a/")], ["/a/b", "/", "", "a"])
         self.assertEqual((paths.basename("/a/b"), paths.isabs("a"), paths.own_path("a")), ("b", False, "/a"))
         self.assertRaises(ValueError, paths.normpath, "/a/./b")
+
+
+class DocsTest(KazooCase):
+    def setUp(self) -> None: ...
+
+    def test_prompts(self) -> None:
+        for module in (paths, security):
+            outcome = doctest.testmod(module)
+            self.assertEqual((outcome.failed, outcome.attempted > 0), (0, True))
+
+    def test_each_public_name_says_what_it_is(self) -> None:
+        for module in (client, exceptions, election, lock, party, watchers, threads, retries, states, serialization):
+            for name, found in vars(module).items():
+                if inspect.isclass(found) and found.__module__ == module.__name__ and not name.startswith("_"):
+                    parts = [part for own, part in vars(found).items() if inspect.isfunction(part) and own[0] != "_"]
+                    self.assertTrue(all(part.__doc__ for part in [found, *parts]), name)
 
 
 class InstallTest(KazooCase):

@@ -58,7 +58,7 @@ def main(words: list[str]) -> None:
         use_dirwolleu()
     use_server(words[0], words[1])
     outcome = unittest.TextTestRunner(sys.stdout, verbosity=2).run(tests_of(words[0]))
-    sys.exit(0 if outcome.wasSuccessful() and outcome.testsRun else 1)
+    sys.exit(0 if outcome.wasSuccessful() and outcome.testsRun > len(outcome.skipped) else 1)
 
 
 main(sys.argv[1:])

@@ -41,6 +41,10 @@ logger = logging.getLogger("dirwolleu.connection")
 PASSWORD_LENGTH = 16
 
 
+def _count_of_hosts(servers: Servers) -> int:
+    return len(servers.hosts.servers)
+
+
 class Ask(NamedTuple):
     """A request, and the form that kazoo gives to its result."""
 
@@ -111,7 +115,8 @@ class KazooEngine(Engine):
     """An engine that also gives up a connection whose server was not heard for a read timeout, as kazoo does.
 
     Where half of that has passed without a byte, it asks for the root, and where nothing comes for the other half, the
-    connection is over. Without a read timeout the rules of `Engine` hold alone.
+    connection is over. Without a read timeout the rules of `Engine` hold alone. And a server has no longer to accept the
+    session than its part of the timeout, where each host has one.
     """
 
     read_timeout_ms: Optional[int] = None
@@ -123,9 +128,11 @@ class KazooEngine(Engine):
         tell: Tell,
         root: Root,
         credentials: Iterable[Credential],
+        count_of_hosts: Callable[[], int],
         on_refused: Callable[[], object],
     ) -> None:
         self._probed_at: Optional[int] = None
+        self._count_of_hosts = count_of_hosts
         self._on_refused, self._is_refusal_told = on_refused, False
         super().__init__(timeout, saved, tell, root, credentials)
 
@@ -159,6 +166,12 @@ class KazooEngine(Engine):
         """Has the connection closed. The session goes on."""
         if self.state is State.CONNECTED:
             self._give_up(why)
+
+    def _patience_ends(self) -> Optional[int]:
+        ends = super()._patience_ends()
+        if ends is None or self._opened_at is None:
+            return ends
+        return min(ends, self._opened_at + self._timeout_ms // max(self._count_of_hosts(), 1))
 
     def _half_ms(self) -> Optional[int]:
         is_watched = self.read_timeout_ms is not None and self.state is State.CONNECTED
@@ -233,7 +246,7 @@ class KazooDriver(Driver):
             self.stop(self._engine.end)
             on_end()
 
-        self._pauses = KazooPauses(retry, lambda: len(self._servers.hosts.servers), give_up)
+        self._pauses = KazooPauses(retry, functools.partial(_count_of_hosts, self._servers), give_up)
 
     def place(self) -> Optional[Place]:
         """The server of the connection."""
@@ -296,7 +309,10 @@ class Session(Client):
         tls: Optional[ssl.SSLContext],
     ) -> None:
         saved = None if identity is None else identity.spelled()
-        engine = KazooEngine(timeout, saved, self._tell, servers.hosts.root, credentials, owner._told_refusal)
+        count_of_hosts = functools.partial(_count_of_hosts, servers)
+        engine = KazooEngine(
+            timeout, saved, self._tell, servers.hosts.root, credentials, count_of_hosts, owner._told_refusal
+        )
         self._servers, self._engine, self._retry = servers, engine, None
         self._owner, self._tls, self._timeout = owner, tls, timeout
         self._running, self._tasks = {}, []

@@ -11,24 +11,23 @@ import ssl
 import threading
 import warnings
 from collections.abc import Iterable, Sequence
-from types import TracebackType
 from typing import Any, Callable, Optional, Union
 
 from dirwolleu import _lane as lane
 from dirwolleu import _plans as plans
 from dirwolleu import _requests as requests
 from dirwolleu import exceptions as own
-from dirwolleu import transaction as own_transaction
 from dirwolleu._engine import Credential
 from dirwolleu._hosts import Hosts, Servers, hosts_of
-from dirwolleu._jute import Malformed, Reader
-from dirwolleu._lane import Created, LaneRequest
+from dirwolleu._lane import Created
 from dirwolleu._library import Answer
 from dirwolleu._plans import AnyRequest, Plan
 from dirwolleu._requests import Request
 from dirwolleu._root import Root
 from dirwolleu._shown import credential_of
+from dirwolleu.kazoo._checks import Acls, check, check_acls, check_flags, check_watch, checked_path, own_acls
 from dirwolleu.kazoo._session import PASSWORD_LENGTH, Ask, Identity, Session, Told
+from dirwolleu.kazoo._transaction import TransactionRequest
 from dirwolleu.kazoo.exceptions import (
     AuthFailedError,
     ConfigurationError,
@@ -37,12 +36,9 @@ from dirwolleu.kazoo.exceptions import (
     KazooException,
     SessionExpiredError,
     error_of,
-    error_of_code,
 )
 from dirwolleu.kazoo.handlers.threading import AsyncResult, SequentialThreadingHandler
-from dirwolleu.kazoo.protocol import serialization as operations_of
 from dirwolleu.kazoo.protocol.paths import normpath, own_path
-from dirwolleu.kazoo.protocol.serialization import CheckVersion, Create, Delete, Operation, SetData
 from dirwolleu.kazoo.protocol.states import Callback, EventType, KazooState, KeeperState, WatchedEvent, ZnodeStat
 from dirwolleu.kazoo.recipe.election import Election
 from dirwolleu.kazoo.recipe.lock import Lock, ReadLock, WriteLock
@@ -81,11 +77,9 @@ __all__ = [
 log = logging.getLogger(__name__)
 
 HostList = Union[str, Sequence[str]]
-Acls = Optional[Sequence[ACL]]
 Watch = Optional[Callable[[WatchedEvent], object]]
 Listener = Callable[[str], object]
 
-_CLOSED_STATES = (KeeperState.EXPIRED_SESSION, KeeperState.AUTH_FAILED, KeeperState.CLOSED)
 _LEFT_OUT = (
     "Barrier",
     "Counter",
@@ -133,37 +127,6 @@ class _Children(Request[Any]):
         return names, _stat(answer.stat)
 
 
-def _check(name: str, value: object, kind: Union[type, tuple[type, ...]], words: str) -> None:
-    if not isinstance(value, kind):
-        raise TypeError(f"Invalid type for '{name}' ({words} expected)")
-
-
-def _check_path(path: object) -> str:
-    _check("path", path, str, "string")
-    assert isinstance(path, str)
-    return own_path(path)
-
-
-def _check_watch(watch: object) -> None:
-    if watch and not callable(watch):
-        raise TypeError("Invalid type for 'watch' (must be a callable)")
-
-
-def _check_acls(acls: object) -> None:
-    if isinstance(acls, ACL) or not isinstance(acls, (tuple, list)):
-        raise TypeError("Invalid type for 'acl' (acl must be a tuple/list of ACL's)")
-
-
-def _check_flags(**flags: object) -> None:
-    for name, value in flags.items():
-        _check(name, value, bool, "bool")
-
-
-def _own_acls(acls: Acls) -> Acls:
-    """The ACL as dirwolleu takes it: None for the open one, so that the proved core makes the node."""
-    return None if not acls or list(acls) == OPEN_ACL_UNSAFE else acls
-
-
 def _hosts(hosts: HostList) -> Hosts:
     """What a text or a list of hosts says, with the chroot in kazoo's form. Raises `ValueError`."""
     if not isinstance(hosts, str):
@@ -186,6 +149,18 @@ def _policy(name: str, policy: object, handler: SequentialThreadingHandler) -> K
     if policy.sleep_func != handler.sleep_func:
         raise ConfigurationError(f"{name} and the handler must use the same sleep func")
     return policy
+
+
+def _refuse(sasl_options: object, read_only: object, handler: object, others: dict[str, Any]) -> None:
+    """Raises an error that names the keyword which asks for what is not done."""
+    if others:
+        raise TypeError(f"__init__() got unexpected keyword arguments: {', '.join(sorted(others))}")
+    if sasl_options:
+        raise ConfigurationError("sasl_options: dirwolleu.kazoo does no SASL")
+    if read_only:
+        raise ConfigurationError("read_only: dirwolleu.kazoo connects to no server that only reads")
+    if inspect.isclass(handler):
+        raise ConfigurationError(f"handler is an instance of a class, and not the class {handler!r}")
 
 
 class Connection:
@@ -261,20 +236,12 @@ class KazooClient:
         verify_certs: bool = True,
         **kwargs: Any,
     ) -> None:
-        if kwargs:
-            raise TypeError(f"__init__() got unexpected keyword arguments: {', '.join(sorted(kwargs))}")
-        if sasl_options:
-            raise ConfigurationError("sasl_options: dirwolleu.kazoo does no SASL")
-        if read_only:
-            raise ConfigurationError("read_only: dirwolleu.kazoo connects to no server that only reads")
+        _refuse(sasl_options, read_only, handler, kwargs)
         self.logger = logger or log
         self.handler = SequentialThreadingHandler() if handler is None else handler
-        if inspect.isclass(self.handler):
-            raise ConfigurationError(f"handler is an instance of a class, and not the class {handler!r}")
-        self.default_acl, self.auth_data = default_acl, set(auth_data or ())
+        self.default_acl, self.auth_data, self.read_only = default_acl, set(auth_data or ()), read_only
         if any(scheme == "sasl" for scheme, _ in self.auth_data):
             raise ConfigurationError("auth_data: dirwolleu.kazoo does no SASL")
-        self.read_only = read_only
         self.use_ssl, self.verify_certs, self.ca = use_ssl, verify_certs, ca
         self.certfile, self.keyfile, self.keyfile_password = certfile, keyfile, keyfile_password
         self._found: Optional[Hosts] = None
@@ -608,7 +575,7 @@ class KazooClient:
         return _Run(self, plan, form).begin()
 
     def _told(self, watch: Watch) -> Optional[Told]:
-        _check_watch(watch)
+        check_watch(watch)
         return Told(self, watch) if watch else None
 
     def retry(self, func: Callable[..., Any], *args: Any, **kwargs: Any) -> Any:
@@ -622,7 +589,7 @@ class KazooClient:
 
     def exists_async(self, path: str, watch: Watch = None) -> AsyncResult:
         """`exists`, which does not wait."""
-        return self._send(requests.exists(_check_path(path), self._told(watch)), _stat)
+        return self._send(requests.exists(checked_path(path), self._told(watch)), _stat)
 
     def get(self, path: str, watch: Watch = None) -> tuple[Optional[bytes], ZnodeStat]:
         """The data of a node, and what is known of it. Raises `NoNodeError`."""
@@ -631,7 +598,7 @@ class KazooClient:
 
     def get_async(self, path: str, watch: Watch = None) -> AsyncResult:
         """`get`, which does not wait."""
-        return self._send(requests.get(_check_path(path), self._told(watch)), _data)
+        return self._send(requests.get(checked_path(path), self._told(watch)), _data)
 
     def get_children(self, path: str, watch: Watch = None, include_data: bool = False) -> Any:
         """The names of a node's children; with `include_data` also what is known of the node. Raises `NoNodeError`."""
@@ -639,8 +606,8 @@ class KazooClient:
 
     def get_children_async(self, path: str, watch: Watch = None, include_data: bool = False) -> AsyncResult:
         """`get_children`, which does not wait."""
-        _check_flags(include_data=include_data)
-        request: AnyRequest[Any] = requests.get_children(_check_path(path), self._told(watch))
+        check_flags(include_data=include_data)
+        request: AnyRequest[Any] = requests.get_children(checked_path(path), self._told(watch))
         if include_data:
             request = _Children(**{field.name: getattr(request, field.name) for field in dataclasses.fields(request)})
         return self._send(request)
@@ -674,11 +641,11 @@ class KazooClient:
         """`create`, which does not wait."""
         acl = acl or self.default_acl
         if acl:
-            _check_acls(acl)
+            check_acls(acl)
         if value is not None:
-            _check("value", value, bytes, "must be a byte string")
-        _check_flags(ephemeral=ephemeral, sequence=sequence, makepath=makepath, include_data=include_data)
-        found, spelled = _own_acls(acl), _check_path(path)
+            check("value", value, bytes, "must be a byte string")
+        check_flags(ephemeral=ephemeral, sequence=sequence, makepath=makepath, include_data=include_data)
+        found, spelled = own_acls(acl), checked_path(path)
         if sequence and path.endswith("/"):
             raise ValueError(f"{path}: a node with a number needs a name before it, and no slash at its end")
         request: AnyRequest[Any]
@@ -694,7 +661,7 @@ class KazooClient:
 
     def ensure_path_async(self, path: str, acl: Acls = None) -> AsyncResult:
         """`ensure_path`, which does not wait."""
-        return self._run(plans.ensure_path(_check_path(path), _own_acls(acl or self.default_acl)), _true)
+        return self._run(plans.ensure_path(checked_path(path), own_acls(acl or self.default_acl)), _true)
 
     def set(self, path: str, value: Optional[bytes], version: int = -1) -> ZnodeStat:
         """Sets the data of a node of this version, where -1 is any. Raises `NoNodeError` and `BadVersionError`."""
@@ -704,24 +671,24 @@ class KazooClient:
     def set_async(self, path: str, value: Optional[bytes], version: int = -1) -> AsyncResult:
         """`set`, which does not wait."""
         if value is not None:
-            _check("value", value, bytes, "must be a byte string")
-        _check("version", version, int, "int")
-        return self._send(requests.set(_check_path(path), value, version), _stat)
+            check("value", value, bytes, "must be a byte string")
+        check("version", version, int, "int")
+        return self._send(requests.set(checked_path(path), value, version), _stat)
 
     def delete(self, path: str, version: int = -1, recursive: bool = False) -> bool:
         """Deletes a node of this version, where -1 is any; with `recursive` of any version, with all below it.
 
         Raises `NoNodeError`, `BadVersionError`, `NotEmptyError`; with `recursive` it is no error where there is none.
         """
-        _check_flags(recursive=recursive)
+        check_flags(recursive=recursive)
         if recursive:
-            return bool(self._run(plans.delete(_check_path(path), -1, True), _true).get())
+            return bool(self._run(plans.delete(checked_path(path), -1, True), _true).get())
         return bool(self.delete_async(path, version).get())
 
     def delete_async(self, path: str, version: int = -1) -> AsyncResult:
         """`delete` of one node, which does not wait."""
-        _check("version", version, int, "int")
-        return self._send(requests.delete(_check_path(path), version), _true)
+        check("version", version, int, "int")
+        return self._send(requests.delete(checked_path(path), version), _true)
 
     def sync(self, path: str) -> str:
         """Has the server take in all that was done before it answers."""
@@ -729,7 +696,7 @@ class KazooClient:
 
     def sync_async(self, path: str) -> AsyncResult:
         """`sync`, which does not wait."""
-        return self._send(lane.sync(_check_path(path)))
+        return self._send(lane.sync(checked_path(path)))
 
     def get_acls(self, path: str) -> tuple[list[ACL], ZnodeStat]:
         """The ACL of a node, and what is known of it. Raises `NoNodeError`."""
@@ -738,7 +705,7 @@ class KazooClient:
 
     def get_acls_async(self, path: str) -> AsyncResult:
         """`get_acls`, which does not wait."""
-        return self._send(lane.get_acls(_check_path(path)), _acls)
+        return self._send(lane.get_acls(checked_path(path)), _acls)
 
     def set_acls(self, path: str, acls: Sequence[ACL], version: int = -1) -> ZnodeStat:
         """Sets the ACL of a node whose `aversion` is this one, where -1 is any.
@@ -750,9 +717,9 @@ class KazooClient:
 
     def set_acls_async(self, path: str, acls: Sequence[ACL], version: int = -1) -> AsyncResult:
         """`set_acls`, which does not wait."""
-        _check_acls(acls)
-        _check("version", version, int, "int")
-        return self._send(lane.set_acls(_check_path(path), acls, version), _stat)
+        check_acls(acls)
+        check("version", version, int, "int")
+        return self._send(lane.set_acls(checked_path(path), acls, version), _stat)
 
     def add_auth(self, scheme: str, credential: str) -> bool:
         """Says who the session is, now and on each later connection.
@@ -763,8 +730,8 @@ class KazooClient:
 
     def add_auth_async(self, scheme: str, credential: str) -> AsyncResult:
         """`add_auth`, which does not wait."""
-        _check("scheme", scheme, str, "string")
-        _check("credential", credential, str, "string")
+        check("scheme", scheme, str, "string")
+        check("credential", credential, str, "string")
         known = credential_of(scheme, credential)
         outcome = self.handler.async_result()
         answer = AsyncResult(self.handler)
@@ -866,110 +833,3 @@ class _Run:
         else:
             cause = error.__cause__ if isinstance(error.__cause__, own.ZookeeperError) else error
             self._go_on(lambda: self._plan.throw(cause))
-
-
-class TransactionRequest:
-    """Several changes that happen together or not at all, in their order. `with` commits them at its end."""
-
-    def __init__(self, client: KazooClient) -> None:
-        self.client = client
-        self.operations: list[Operation] = []
-        self.committed = False
-
-    def create(
-        self,
-        path: str,
-        value: bytes = b"",
-        acl: Acls = None,
-        ephemeral: bool = False,
-        sequence: bool = False,
-    ) -> None:
-        """Makes a node. Its result is its path."""
-        acl = acl or self.client.default_acl
-        if acl:
-            _check_acls(acl)
-        _check("value", value, bytes, "must be a byte string")
-        _check_flags(ephemeral=ephemeral, sequence=sequence)
-        self._add(Create(_check_path(path), value, _own_acls(acl), lane.flags_of(ephemeral, sequence)))
-
-    def delete(self, path: str, version: int = -1) -> None:
-        """Deletes a node of this version, where -1 is any. Its result is True."""
-        _check("version", version, int, "int")
-        self._add(Delete(_check_path(path), version))
-
-    def set_data(self, path: str, value: bytes, version: int = -1) -> None:
-        """Sets the data of a node of this version, where -1 is any. Its result is the node's `ZnodeStat`."""
-        _check("value", value, bytes, "must be a byte string")
-        _check("version", version, int, "int")
-        self._add(SetData(_check_path(path), value, version))
-
-    def check(self, path: str, version: int) -> None:
-        """Lets the transaction happen only if the node has this version. Its result is True."""
-        _check("version", version, int, "int")
-        self._add(CheckVersion(_check_path(path), version))
-
-    def commit(self) -> list[Any]:
-        """Does all of it, and tells what each operation has brought.
-
-        Where one is refused, nothing has happened, and the results are errors: that of the one which was refused,
-        `RolledBackError` for those before it and `RuntimeInconsistency` for those after it. None is raised.
-        """
-        results: list[Any] = self.commit_async().get()
-        return results
-
-    def commit_async(self) -> AsyncResult:
-        """`commit`, which does not wait."""
-        self._check_open()
-        self.committed = True
-        return self.client._send(_request_of(self.operations))
-
-    def __enter__(self) -> TransactionRequest:
-        return self
-
-    def __exit__(
-        self, kind: Optional[type[BaseException]], error: Optional[BaseException], trace: Optional[TracebackType]
-    ) -> None:
-        if error is None:
-            self.commit()
-
-    def _check_open(self) -> None:
-        if self.committed:
-            raise ValueError("Transaction already committed")
-
-    def _add(self, operation: Operation) -> None:
-        self._check_open()
-        self.operations.append(operation)
-
-
-def _request_of(operations: Sequence[Operation]) -> LaneRequest[Any]:
-    """The request of a transaction, whose result is kazoo's."""
-    asked = own_transaction._Operations()
-    for one in operations:
-        if isinstance(one, Create):
-            asked.create(one.path, one.data, acl=one.acl, ephemeral=bool(one.flags & 1), sequence=bool(one.flags & 2))
-        elif isinstance(one, Delete):
-            asked.delete(one.path, one.version)
-        elif isinstance(one, SetData):
-            asked.set_data(one.path, one.data, one.version)
-        else:
-            asked.check(one.path, one.version)
-    request: LaneRequest[Any] = asked.request()
-    return dataclasses.replace(request, read=functools.partial(_results, len(operations)))
-
-
-def _results(count: int, reader: Reader, root: Root) -> list[Any]:
-    return [_result(reader, root) for _ in range(count)]
-
-
-def _result(reader: Reader, root: Root) -> Any:
-    """What one operation has brought, or its error. Raises `Malformed`."""
-    operation, _, _ = reader.integer(), reader.boolean(), reader.integer()
-    if operation == operations_of.ERROR:
-        return error_of_code(reader.integer())
-    if operation == operations_of.CREATE:
-        return root.own(reader.text())
-    if operation == operations_of.SET_DATA:
-        return ZnodeStat(*reader.stat())
-    if operation in (operations_of.DELETE, operations_of.CHECK):
-        return True
-    raise Malformed

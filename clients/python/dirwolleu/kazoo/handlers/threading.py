@@ -59,7 +59,7 @@ class AsyncResult:
         if block:
             self.wait(timeout)
         if not self._is_ready:
-            raise self._handler.timeout_exception("no answer has come in time")
+            raise KazooTimeoutError("no answer has come in time")
         if self.exception is not None:
             raise self.exception
         return self.value
