@@ -30,6 +30,8 @@ enum Stage {
 
 /// What a node holds, at first and at each change, and none where there is no node: of [`Session::follow`]. It is an iterator, which
 /// waits, and by [`poll_next`](Follow::poll_next) a stream of no runtime.
+///
+/// Its functions, and [`Session::follow`], have examples.
 #[must_use = "it reads nothing before it is asked for the next"]
 pub struct Follow<'a> {
     session: &'a Session,

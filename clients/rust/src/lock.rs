@@ -21,6 +21,19 @@ const SHARED_OF_CURATOR: &str = "__READ__";
 const DIGITS: usize = 10;
 
 /// With whom a lock is held at once.
+///
+/// ```no_run
+/// use dirwolleu::{Lock, Session, Sharing};
+/// use std::time::Duration;
+///
+/// # fn main() -> Result<(), Box<dyn std::error::Error>> {
+/// let session = Session::open("127.0.0.1:2181", Duration::from_secs(10))?;
+/// let limit = Duration::from_secs(5);
+/// let reads = Lock::acquire_within(&session, "/locks/ledger", Sharing::Shared, b"host-1", limit)?;
+/// assert!(reads.check()?);
+/// # Ok(())
+/// # }
+/// ```
 #[derive(Clone, Copy, Debug, PartialEq, Eq, Hash)]
 pub enum Sharing {
     /// With nobody.
