@@ -124,13 +124,19 @@ static inline const char *dws_lock_mine(const dws_lock *lock, const dws_call *li
     return mine;
 }
 
+/* Whether a place is of one who shares the lock: by kazoo's name, or by Curator's. */
+static inline bool dws_lock_is_shared(const char *name)
+{
+    return strstr(name, "__rlock__") != NULL || strstr(name, "__READ__") != NULL;
+}
+
 /* The last place before one's own that is to be waited for. */
 static inline const char *dws_lock_before(const dws_lock *lock, const dws_call *listed, const char *mine)
 {
     const char *before = NULL;
     for (size_t i = 0; i < listed->count; i++) {
         const char *name = listed->names[i];
-        bool is_awaited = dws_lock_number(name) != NULL && (lock->sharing == DWS_EXCLUSIVE || strstr(name, "__rlock__") == NULL);
+        bool is_awaited = dws_lock_number(name) != NULL && (lock->sharing == DWS_EXCLUSIVE || !dws_lock_is_shared(name));
         if (is_awaited && dws_lock_is_before(name, mine) && (before == NULL || dws_lock_is_before(before, name))) {
             before = name;
         }

@@ -164,7 +164,7 @@ struct dws_subject {
 
 /* Opens a session at these hosts: HOST:PORT,HOST:PORT/CHROOT, of which the port may be left out where it is 2181, and an IPv6 address is in
  * brackets. Names are looked up at each attempt to connect, of which the first is made at the first turn. Options may be NULL. NULL where the
- * text is no such thing, a timeout is out of range, or memory ran out: then `why`, of so many bytes, which may be none, says so. */
+ * text is no such thing, a timeout is out of range, or memory ran out: then `why`, which has `size` bytes and may be NULL with none, says so. */
 static inline dws_session *dws_open(const char *hosts, const dws_options *options, char *why, size_t size);
 
 /* Lets a session go, and leaves it to its timeout at the servers. Calls that wait are answered, subjects are followed no longer. */

@@ -23,6 +23,18 @@ fn refusal_of<T>(ending: &Result<T, Error>) -> Option<Code> {
     ending.as_ref().err().and_then(Error::code)
 }
 
+/// A read of this path was answered: a server may have refused it.
+pub(crate) fn note_read(shared: &Shared, path: &str, is_refused: bool) {
+    shared.with(|engine| {
+        let now = engine.clock().now();
+        if is_refused {
+            engine.refusals().note(path, now);
+        } else {
+            engine.refusals().forget(path);
+        }
+    });
+}
+
 /// Reads the data of a node, and leaves a watch on its path whether there is a node or not.
 pub(crate) fn watch(session: &mut impl Asks, path: &str) -> Result<Option<Node>, Error> {
     loop {
@@ -32,13 +44,7 @@ pub(crate) fn watch(session: &mut impl Asks, path: &str) -> Result<Option<Node>,
         }
         let found = read_watched(session, path);
         let refusal = refusal_of(&found);
-        session.inner().with(|engine| match refusal {
-            Some(_) => {
-                let now = engine.clock().now();
-                engine.refusals().note(path, now);
-            }
-            None => engine.refusals().forget(path),
-        });
+        note_read(session.inner(), path, refusal.is_some());
         if refusal != Some(Code::NO_NODE) {
             return found;
         }

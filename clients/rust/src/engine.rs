@@ -82,6 +82,7 @@ pub(crate) struct Engine {
     calls: Calls,
     told: Told,
     refusals: Refusals,
+    alarm: Option<Moment>,
     line: Option<Box<dyn Outgoing>>,
     inbox: Vec<u8>,
     lane: Lane,
@@ -108,6 +109,7 @@ impl Engine {
             waiting: Waiting::default(),
             calls: Calls::default(),
             refusals: Refusals::default(),
+            alarm: None,
             line: None,
             inbox: Vec::new(),
             lane: Lane::default(),
@@ -197,9 +199,19 @@ impl Engine {
         self.told.next_event()
     }
 
-    /// Whether who waits for events has something to look at.
-    pub(crate) fn has_event(&self) -> bool {
-        self.told.has_event() || self.is_over()
+    /// Whether who waits for events, or for a moment, has something to look at.
+    pub(crate) fn has_event(&mut self) -> bool {
+        let is_due = self.alarm.is_some_and(|alarm| alarm <= self.clock.now());
+        if is_due {
+            self.alarm = None;
+        }
+        is_due || self.told.has_event() || self.is_over()
+    }
+
+    /// Has who polls look again at this moment. Where the session waits for its server it may be later, until it pings.
+    pub(crate) fn wakes_at(&mut self, moment: Moment) {
+        let before = self.alarm.filter(|alarm| self.clock.now() < *alarm);
+        self.alarm = Some(before.map_or(moment, |alarm| alarm.min(moment)));
     }
 
     /// The answers that are to be handed out.
@@ -479,7 +491,8 @@ impl Engine {
     }
 
     fn patience(&self) -> Moment {
-        self.calls.patience().unwrap_or(NEVER)
+        let patience = self.calls.patience().unwrap_or(NEVER);
+        patience.min(self.alarm.unwrap_or(NEVER))
     }
 
     /// Until when the connection is read, before something else is to be looked at.

@@ -7,6 +7,15 @@ use std::fmt;
 use std::time::Duration;
 
 /// Of what kind an [`Error`] is.
+///
+/// ```
+/// use dirwolleu::{Code, ErrorKind, NoReply};
+///
+/// let refused = ErrorKind::from(Code::BAD_VERSION);
+/// assert!(!refused.may_have_happened() && !refused.is_passing());
+/// let lost = ErrorKind::from(NoReply::ConnectionLoss);
+/// assert!(lost.may_have_happened() && lost.is_passing());
+/// ```
 #[derive(Clone, Debug, PartialEq, Eq, Hash)]
 #[non_exhaustive]
 pub enum ErrorKind {

@@ -8,6 +8,13 @@ use std::fmt;
 pub use crate::numbers::NoReply;
 
 /// The number of the library for something is one that this crate does not know: the two are of different versions.
+///
+/// ```
+/// use dirwolleu::State;
+///
+/// let unknown = State::try_from(9).unwrap_err();
+/// assert_eq!((unknown.what(), unknown.number()), ("state", 9));
+/// ```
 #[derive(Clone, Copy, Debug, PartialEq, Eq, Hash)]
 pub struct UnknownNumber {
     what: &'static str,
@@ -43,6 +50,19 @@ impl fmt::Display for UnknownNumber {
 impl error::Error for UnknownNumber {}
 
 /// Why a step or a look-up was not made. But for [`Fault::Halted`], nothing has happened.
+///
+/// ```
+/// use dirwolleu::{Client, Fault, SavedSession};
+/// use std::time::Duration;
+///
+/// let timeout = Duration::from_secs(10);
+/// assert_eq!(Client::open(Duration::ZERO).unwrap_err(), Fault::BadTimeout);
+/// let saved = SavedSession::from_bytes(vec![1, 2, 3]);
+/// assert_eq!(Client::resume(timeout, &saved).unwrap_err(), Fault::NotSaved);
+/// let fault = Client::open(timeout)?.data_mark("/a//b").unwrap_err();
+/// assert_eq!(fault.to_string(), "/a//b is no path: an empty name");
+/// # Ok::<(), Fault>(())
+/// ```
 #[derive(Clone, Debug, PartialEq, Eq, Hash)]
 #[non_exhaustive]
 pub enum Fault {
@@ -204,6 +224,15 @@ impl error::Error for NoReply {}
 
 /// The error of a server about one call: the number of a reply's header. It changes no state. Each number that ZooKeeper's own library
 /// knows has a name here; a server may answer with another one.
+///
+/// ```
+/// use dirwolleu::Code;
+///
+/// assert_eq!(Code::NO_NODE, Code(-101));
+/// assert_eq!(Code::NO_NODE.to_string(), "no node");
+/// assert_eq!(Code(-999).to_string(), "the server answers -999");
+/// assert!(Code::THROTTLED.is_passing());
+/// ```
 #[derive(Clone, Copy, Debug, PartialEq, Eq, Hash)]
 pub struct Code(pub i32);
 

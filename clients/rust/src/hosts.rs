@@ -61,6 +61,14 @@ pub struct Hosts {
 }
 
 /// Why a text is no list of hosts.
+///
+/// ```
+/// use dirwolleu::{Hosts, HostsFault};
+///
+/// let fault = "zk1:2181,zk2:port".parse::<Hosts>().unwrap_err();
+/// assert_eq!(fault, HostsFault::NotHost("zk2:port".into()));
+/// assert_eq!(fault.to_string(), "'zk2:port' is no HOST:PORT");
+/// ```
 #[derive(Clone, Debug, PartialEq, Eq)]
 #[non_exhaustive]
 pub enum HostsFault {

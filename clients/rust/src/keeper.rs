@@ -8,7 +8,9 @@ use crate::request::Request;
 use crate::stream::{self, Dial, Incoming, Server};
 use crate::ticket::{Slot, TakesBack, Ticket};
 use crate::told::Event;
+use std::mem;
 use std::sync::{Arc, Condvar, Mutex, MutexGuard, PoisonError, Weak};
+use std::task::{Context, Poll, Waker};
 use std::thread;
 use std::time::{Duration, Instant};
 
@@ -28,6 +30,7 @@ const WAIT_FOR_MEMORY: Duration = Duration::from_millis(10);
 pub(crate) struct Shared {
     engine: Mutex<Engine>,
     changed: Condvar,
+    wakers: Mutex<Vec<Waker>>,
 }
 
 impl Shared {
@@ -35,6 +38,7 @@ impl Shared {
         Arc::new(Shared {
             engine: Mutex::new(engine),
             changed: Condvar::new(),
+            wakers: Mutex::default(),
         })
     }
 
@@ -59,14 +63,39 @@ impl Shared {
             slot.tell(ending);
         }
         if is_news {
-            self.changed.notify_all();
+            self.tell_all();
         }
+    }
+
+    /// Has all look again: who rests, and who was told to poll later.
+    fn tell_all(&self) {
+        self.changed.notify_all();
+        let wakers = mem::take(&mut *self.wakers());
+        wakers.into_iter().for_each(Waker::wake);
+    }
+
+    fn wakers(&self) -> MutexGuard<'_, Vec<Waker>> {
+        self.wakers.lock().unwrap_or_else(PoisonError::into_inner)
+    }
+
+    /// Looks, and where nothing is found, has the waker of this context wake who is to look again. Another thread may do so at once.
+    pub(crate) fn poll<R>(
+        &self,
+        context: &Context<'_>,
+        look: impl FnOnce(&mut Engine) -> Poll<R>,
+    ) -> Poll<R> {
+        let mut wakers = self.wakers();
+        if !wakers.iter().any(|waker| waker.will_wake(context.waker())) {
+            wakers.push(context.waker().clone());
+        }
+        drop(wakers);
+        look(&mut self.lock())
     }
 
     /// Has whoever rests look again. It waits until none of them is between a look and its rest.
     pub(crate) fn wake(&self) {
         drop(self.lock());
-        self.changed.notify_all();
+        self.tell_all();
     }
 
     /// Waits until something is changed, for so long at most.

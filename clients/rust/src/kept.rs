@@ -13,6 +13,22 @@ pub(crate) fn mark_of(number: i32) -> Result<Option<Mark>, UnknownNumber> {
 }
 
 /// An answer that is kept, and its mark.
+///
+/// ```no_run
+/// use dirwolleu::{DataAnswer, Kept, Mark, Session};
+/// use std::time::Duration;
+///
+/// # fn main() -> Result<(), Box<dyn std::error::Error>> {
+/// let session = Session::open("127.0.0.1:2181", Duration::from_secs(10))?;
+/// session.watch("/config")?;
+/// match session.peek("/config")? {
+///     Some(Kept { answer: DataAnswer::Full { data, .. }, mark: Mark::Good }) => println!("{data:?} at zxid {}", session.last_zxid()),
+///     Some(Kept { mark: Mark::Stale, .. }) => println!("a change was told"),
+///     _ => println!("no node, or nothing is known"),
+/// }
+/// # Ok(())
+/// # }
+/// ```
 #[derive(Clone, Debug, PartialEq, Eq)]
 pub struct Kept<T> {
     /// What was answered.
@@ -22,6 +38,8 @@ pub struct Kept<T> {
 }
 
 /// What is kept about the data of a path.
+///
+/// [`Kept`] has an example.
 #[derive(Clone, Debug, PartialEq, Eq)]
 pub enum DataAnswer {
     /// There is no node.
@@ -38,6 +56,8 @@ pub enum DataAnswer {
 }
 
 /// What is kept about the children of a path.
+///
+/// [`Kept`] has an example.
 #[derive(Clone, Debug, PartialEq, Eq)]
 pub struct Children {
     /// Their names, in byte order.

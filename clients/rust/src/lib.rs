@@ -17,6 +17,8 @@
 //! between those of the core, and takes their answers out of the stream before the core is handed it. So for the core, what they change
 //! is changed by others: marks stay right, and what a transaction made stale is stale when its caller goes on. They leave no watch.
 //!
+//! Enums that a later version may add to are `non_exhaustive`. [`State`], [`Mark`], [`Sharing`] and [`Watch`] are whole.
+//!
 //! The core takes its memory by `malloc`. Use no client in the forked child of a process with threads.
 #![deny(missing_docs, unsafe_op_in_unsafe_fn, unsafe_code)]
 #![warn(clippy::pedantic)]
@@ -77,6 +79,7 @@ pub use moment::{Clock, Moment};
 pub use node::{DataStat, Mode, Node, NodeEvent, Side, Stat, Watch, ANY_VERSION};
 pub use options::{OpenError, SessionOptions};
 pub use output::{Brought, Bytes, Cause, GivenUp, Names, Output, Outputs, Reply, Text};
+pub use path_fault::PathFault;
 pub use registration::Registration;
 pub use request::Request;
 pub use retry::Retry;

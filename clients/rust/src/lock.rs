@@ -14,10 +14,26 @@ use std::time::{Duration, Instant};
 const EXCLUSIVE: &str = "__lock__";
 const SHARED: &str = "__rlock__";
 
+/// What Curator's shared locks have there.
+const SHARED_OF_CURATOR: &str = "__READ__";
+
 /// How many digits the server adds to a name.
 const DIGITS: usize = 10;
 
 /// With whom a lock is held at once.
+///
+/// ```no_run
+/// use dirwolleu::{Lock, Session, Sharing};
+/// use std::time::Duration;
+///
+/// # fn main() -> Result<(), Box<dyn std::error::Error>> {
+/// let session = Session::open("127.0.0.1:2181", Duration::from_secs(10))?;
+/// let limit = Duration::from_secs(5);
+/// let reads = Lock::acquire_within(&session, "/locks/ledger", Sharing::Shared, b"host-1", limit)?;
+/// assert!(reads.check()?);
+/// # Ok(())
+/// # }
+/// ```
 #[derive(Clone, Copy, Debug, PartialEq, Eq, Hash)]
 pub enum Sharing {
     /// With nobody.
@@ -36,7 +52,8 @@ impl Sharing {
 
     /// Whether a place before one's own, of this name, is to be waited for.
     fn waits_for(self, name: &str) -> bool {
-        self == Sharing::Exclusive || !name.contains(SHARED)
+        let is_shared = name.contains(SHARED) || name.contains(SHARED_OF_CURATOR);
+        self == Sharing::Exclusive || !is_shared
     }
 }
 
@@ -58,7 +75,7 @@ fn in_order(mut names: Vec<String>) -> Vec<String> {
 
 /// A lock that is held, until it is let go or the session has expired.
 ///
-/// Its nodes are those of kazoo's locks: each who wants it makes an ephemeral node, and the first one has it; who shares it, once no
+/// Its nodes are those of kazoo's locks, and those of Curator's at the same path count too: each who wants it makes an ephemeral node, and the first one has it; who shares it, once no
 /// exclusive one is before it. A program that was held up, or whose packets were lost, believes that it has the lock for a while after
 /// its session has expired. So hand the [token](Lock::token) on with each request to what is protected, and have that refuse a token
 /// below the greatest one that it has seen.
@@ -412,6 +429,8 @@ mod tests {
     fn only_those_that_share_do_not_wait_for_one_another() {
         let [shared, exclusive] = ["z__rlock__0000000001", "a__lock__0000000002"];
         assert!(Sharing::Exclusive.waits_for(shared) && Sharing::Exclusive.waits_for(exclusive));
+        assert!(!Sharing::Shared.waits_for(shared) && Sharing::Shared.waits_for(exclusive));
+        let [shared, exclusive] = ["a-__READ__0000000001", "a-__WRIT__0000000002"];
         assert!(!Sharing::Shared.waits_for(shared) && Sharing::Shared.waits_for(exclusive));
     }
 }

@@ -5,6 +5,15 @@ use std::time::{Duration, Instant};
 /// A moment: milliseconds of a clock that does not go back, from any beginning.
 ///
 /// A client compares the moments that it is handed with one another alone, and takes one below an earlier one for the earlier one.
+///
+/// ```
+/// use dirwolleu::{Clock, Moment};
+/// use std::time::Duration;
+///
+/// let due = Moment::from_millis(1_000).saturating_add(Duration::from_millis(500));
+/// assert_eq!(due.as_millis(), 1_500);
+/// assert!(Clock::start().now() < due);
+/// ```
 #[derive(Clone, Copy, Debug, Default, PartialEq, Eq, PartialOrd, Ord, Hash)]
 pub struct Moment(u64);
 
@@ -42,6 +51,8 @@ impl Moment {
 }
 
 /// A clock of moments over [`Instant`], which begins at 0.
+///
+/// [`Moment`] has an example.
 #[derive(Clone, Copy, Debug)]
 pub struct Clock {
     beginning: Instant,

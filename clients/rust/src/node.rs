@@ -5,6 +5,14 @@ use crate::numbers::mode;
 pub use crate::numbers::{NodeEvent, Side};
 
 /// What is known of a node, as the protocol has it.
+///
+/// ```
+/// use dirwolleu::{Node, Stat};
+///
+/// let node = Node { data: Some(b"one".to_vec()), stat: Stat { version: 3, ..Stat::default() } };
+/// assert_eq!(node.stat.version, 3); // for the next set
+/// assert_eq!(node.stat.ephemeral_owner, 0); // it stays
+/// ```
 #[repr(C)]
 #[derive(Clone, Copy, Debug, Default, PartialEq, Eq)]
 pub struct Stat {
@@ -53,6 +61,8 @@ pub struct DataStat {
 }
 
 /// A node that was read.
+///
+/// [`Stat`] has an example.
 #[derive(Clone, Debug, PartialEq, Eq)]
 pub struct Node {
     /// The data: none where they are null, which is another thing than no bytes.
@@ -80,6 +90,17 @@ impl Watch {
 }
 
 /// What kind of a node is made.
+///
+/// ```
+/// use dirwolleu::{Client, Mode, Moment, NoReply, Output};
+/// use std::time::Duration;
+///
+/// let mut client = Client::open(Duration::from_secs(10))?;
+/// let mut outputs = client.create(Moment::from_millis(1), 7, "/queue/job-", Some(b"one"), Mode::PersistentSequential)?;
+/// let Some(Output::Answer { ticket: 7, outcome }) = outputs.next()? else { panic!("it is answered") };
+/// assert_eq!(outcome.unwrap_err(), NoReply::NotConnected);
+/// # Ok::<(), dirwolleu::Fault>(())
+/// ```
 #[derive(Clone, Copy, Debug, PartialEq, Eq, Hash)]
 #[non_exhaustive]
 pub enum Mode {

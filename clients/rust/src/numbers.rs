@@ -113,6 +113,13 @@ pub(crate) mod kept {
 }
 
 /// The state of a session, as its client knows it.
+///
+/// ```
+/// use dirwolleu::State;
+///
+/// assert_eq!(State::try_from(2), Ok(State::Connected));
+/// assert!(State::Expired.is_final());
+/// ```
 #[derive(Clone, Copy, Debug, PartialEq, Eq, Hash)]
 pub enum State {
     /// There is no connection. What is kept stays kept, with its marks.
@@ -231,6 +238,13 @@ impl From<Side> for i32 {
 }
 
 /// Why a call has no reply. But for [`NoReply::ConnectionLoss`], nothing was sent and nothing has changed.
+///
+/// ```
+/// use dirwolleu::NoReply;
+///
+/// assert_eq!(NoReply::try_from(6), Ok(NoReply::TooLarge));
+/// assert_eq!(NoReply::TooLarge.to_string(), "the request has more than 1048575 bytes");
+/// ```
 #[derive(Clone, Copy, Debug, PartialEq, Eq, Hash)]
 #[non_exhaustive]
 pub enum NoReply {

@@ -18,6 +18,15 @@ use std::io;
 use std::time::Duration;
 
 /// Why a session was not opened.
+///
+/// ```
+/// use dirwolleu::{OpenError, Session};
+/// use std::time::Duration;
+///
+/// let refused = Session::open("zk1:2181,", Duration::from_secs(10)).unwrap_err();
+/// assert!(matches!(refused, OpenError::Hosts(_)));
+/// assert_eq!(refused.to_string(), "'' is no HOST:PORT");
+/// ```
 #[derive(Debug)]
 #[non_exhaustive]
 pub enum OpenError {

@@ -53,6 +53,19 @@ impl<'a> Outputs<'a> {
 }
 
 /// What a client says.
+///
+/// ```
+/// use dirwolleu::{Client, Moment, Output, State};
+/// use std::time::Duration;
+///
+/// let mut client = Client::open(Duration::from_secs(9))?;
+/// let mut outputs = client.opened(Moment::from_millis(1))?;
+/// let Some(Output::Send(frame)) = outputs.next()? else { panic!("a connection begins with a frame") };
+/// assert_eq!(frame.to_vec()[..4], 45_u32.to_be_bytes());
+/// assert!(matches!(outputs.next()?, Some(Output::State(State::Connecting))));
+/// assert!(outputs.next()?.is_none());
+/// # Ok::<(), dirwolleu::Fault>(())
+/// ```
 #[derive(Debug)]
 #[non_exhaustive]
 pub enum Output<'a> {
@@ -116,6 +129,8 @@ impl<'a> Output<'a> {
 }
 
 /// The reply of a server.
+///
+/// [`Output`] has an example.
 #[derive(Debug)]
 pub struct Reply<'a> {
     /// The zxid at which it holds. With an error of the server it says nothing.
@@ -142,6 +157,8 @@ impl<'a> Reply<'a> {
 }
 
 /// What a reply brings.
+///
+/// [`Output`] has an example.
 #[derive(Debug)]
 #[non_exhaustive]
 pub enum Brought<'a> {
@@ -197,6 +214,8 @@ impl<'a> Brought<'a> {
 }
 
 /// The bytes of a frame or of data, which stay in the library until they are copied.
+///
+/// [`Output`] has an example.
 #[derive(Clone, Copy)]
 pub struct Bytes<'a> {
     handle: &'a Handle,
@@ -322,6 +341,8 @@ impl fmt::Debug for Names<'_> {
 }
 
 /// Why a client gives its connection up.
+///
+/// [`Output`] has an example.
 #[derive(Clone, Copy, Debug, PartialEq, Eq, Hash)]
 #[non_exhaustive]
 pub enum Cause {

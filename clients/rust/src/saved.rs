@@ -6,6 +6,19 @@ use std::fmt;
 /// [`Client::resume`](crate::Client::resume), maybe in another process: its number, its password and the greatest zxid seen.
 ///
 /// Its bytes are a secret: whoever has them has the session. They are not printed.
+///
+/// ```
+/// use dirwolleu::{Client, SavedSession};
+/// use std::time::Duration;
+///
+/// let client = Client::open(Duration::from_secs(10))?;
+/// let bytes = client.saved()?.as_bytes().to_vec(); // to a file that nobody else reads
+/// let saved = SavedSession::from_bytes(bytes);
+/// assert_eq!(saved.id(), Some(0)); // no server has admitted it yet
+/// let again = Client::resume(Duration::from_secs(10), &saved)?;
+/// assert_eq!(again.last_zxid(), client.last_zxid());
+/// # Ok::<(), dirwolleu::Fault>(())
+/// ```
 #[derive(Clone, PartialEq, Eq)]
 pub struct SavedSession {
     bytes: Vec<u8>,

@@ -1,7 +1,7 @@
 //! A session that a thread of its own keeps alive.
 
 use crate::acl::Acl;
-use crate::both::{calls, look_ups, watch, Asks};
+use crate::both::{calls, look_ups, note_read, watch, Asks};
 use crate::client::State;
 use crate::engine::Engine;
 use crate::error::Error;
@@ -24,6 +24,7 @@ use std::fmt;
 use std::io;
 use std::ops::Deref;
 use std::sync::Arc;
+use std::task::{Context, Poll};
 use std::thread::{self, Builder};
 use std::time::{Duration, Instant};
 
@@ -226,6 +227,52 @@ impl Session {
     /// [`Fault::Halted`] and [`Fault::UnknownNumber`].
     pub fn next_event(&self, until: Option<Instant>) -> Result<Option<Event>, Fault> {
         self.shared.next_event(until)
+    }
+
+    /// The same for a runtime: where no event waits, the waker of this context is woken when there may be one. It is the session's thread
+    /// that wakes it, so it serves under each runtime, or without one.
+    ///
+    /// ```no_run
+    /// use dirwolleu::{Event, Fault, Session};
+    /// use std::future::poll_fn;
+    ///
+    /// /// Prints what happens to a session, until it is over.
+    /// async fn tell(session: &Session) -> Result<(), Fault> {
+    ///     while let Some(event) = poll_fn(|context| session.poll_event(context)).await? {
+    ///         println!("{event:?}");
+    ///     }
+    ///     Ok(())
+    /// }
+    /// ```
+    ///
+    /// # Errors
+    ///
+    /// As [`next_event`](Session::next_event).
+    pub fn poll_event(&self, context: &mut Context<'_>) -> Poll<Result<Option<Event>, Fault>> {
+        self.shared.poll(context, |engine| {
+            if let Some(event) = engine.next_event() {
+                return Poll::Ready(Ok(Some(event)));
+            }
+            match engine.halt() {
+                Err(fault) => Poll::Ready(Err(fault)),
+                Ok(()) if engine.is_over() => Poll::Ready(Ok(None)),
+                Ok(()) => Poll::Pending,
+            }
+        })
+    }
+
+    /// A read of this path was answered: a server may have refused it.
+    pub(crate) fn note_read(&self, path: &str, is_refused: bool) {
+        note_read(&self.shared, path, is_refused);
+    }
+
+    /// Looks, and is woken later where nothing is found.
+    pub(crate) fn poll<R>(
+        &self,
+        context: &Context<'_>,
+        look: impl FnOnce(&mut Engine) -> Poll<R>,
+    ) -> Poll<R> {
+        self.shared.poll(context, look)
     }
 
     /// Follows a node: the iterator waits, and gives what the node holds at first, and at each change, also where it changed while there

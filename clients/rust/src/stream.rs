@@ -9,6 +9,8 @@ use std::time::Duration;
 const SHORTEST_WAIT: Duration = Duration::from_millis(1);
 
 /// The server that is dialled.
+///
+/// [`Dial`] has an example.
 #[derive(Clone, Copy, Debug, PartialEq, Eq)]
 #[non_exhaustive]
 pub struct Server<'a> {
@@ -25,6 +27,8 @@ impl<'a> Server<'a> {
 }
 
 /// The half of a connection that is read. One thread has it.
+///
+/// [`Connection`] has an example.
 pub trait Incoming: Send {
     /// Waits until there are bytes, for so long at most, and reads as many as there are and there is room for. `Ok(0)` says that the
     /// stream has ended.
@@ -37,6 +41,8 @@ pub trait Incoming: Send {
 }
 
 /// The half of a connection that is written. Any thread writes to it, one at a time, while another one reads.
+///
+/// [`Connection`] has an example.
 pub trait Outgoing: Send {
     /// Writes all of these bytes and has them sent. It waits for room for as long as the attempt to connect could have taken.
     ///
@@ -50,6 +56,30 @@ pub trait Outgoing: Send {
 }
 
 /// A connection to a server.
+///
+/// ```
+/// use dirwolleu::{Connection, Incoming, Outgoing};
+/// use std::{io, time::Duration};
+///
+/// /// A server that has gone, for a test.
+/// struct Gone;
+///
+/// impl Incoming for Gone {
+///     fn read(&mut self, _: &mut [u8], _: Duration) -> io::Result<usize> {
+///         Ok(0)
+///     }
+/// }
+///
+/// impl Outgoing for Gone {
+///     fn write_all(&mut self, _: &[u8]) -> io::Result<()> {
+///         Err(io::ErrorKind::BrokenPipe.into())
+///     }
+///
+///     fn close(&mut self) {}
+/// }
+///
+/// let connection = Connection { incoming: Box::new(Gone), outgoing: Box::new(Gone) };
+/// ```
 pub struct Connection {
     /// What comes from the server.
     pub incoming: Box<dyn Incoming>,
@@ -95,6 +125,8 @@ where
 }
 
 /// Connections over TCP, each frame sent at once.
+///
+/// [`Dial`] has an example.
 #[derive(Clone, Copy, Debug, Default)]
 pub struct Tcp;
 

@@ -15,6 +15,23 @@ use std::mem;
 const MOST_EVENTS: usize = 1_024;
 
 /// What a session hears without having asked.
+///
+/// ```no_run
+/// use dirwolleu::{Event, Session, State};
+/// use std::time::Duration;
+///
+/// # fn main() -> Result<(), Box<dyn std::error::Error>> {
+/// let session = Session::open("127.0.0.1:2181", Duration::from_secs(10))?;
+/// while let Some(event) = session.next_event(None)? {
+///     match event {
+///         Event::State(State::Expired) => session.renew()?,
+///         Event::Report { path, .. } => println!("{path} is to be read again"),
+///         other => println!("{other:?}"),
+///     }
+/// }
+/// # Ok(())
+/// # }
+/// ```
 #[derive(Clone, Debug, PartialEq, Eq)]
 #[non_exhaustive]
 pub enum Event {

@@ -10,7 +10,10 @@ use crate::ticket::Ticket;
 use std::fmt;
 
 /// What an operation of a transaction has brought.
+///
+/// [`Transaction`] has an example.
 #[derive(Clone, Debug, PartialEq, Eq)]
+#[non_exhaustive]
 pub enum Change {
     /// A node was made: its path, which ends in ten digits more where it is sequential.
     Created(String),
@@ -121,6 +124,13 @@ impl fmt::Debug for Transaction<'_> {
 }
 
 /// Operations that happen together or not at all, for [`Request::transaction`]. [`Session::transaction`] has the same in one.
+///
+/// ```
+/// use dirwolleu::{Operations, Request};
+///
+/// let operations = Operations::new().check("/config", 3).set("/config/host", b"beta", 7);
+/// let request = Request::transaction(operations); // for `Session::ask`
+/// ```
 #[derive(Clone, Default)]
 #[must_use = "nothing is asked before it is a request"]
 pub struct Operations {

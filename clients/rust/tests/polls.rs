@@ -1,0 +1,136 @@
+//! The forms of no runtime: what is polled, and woken by the thread of the session.
+
+mod jute;
+mod partner;
+mod server;
+
+use dirwolleu::{Event, Node, Session, SessionOptions, State};
+use jute::{Record, EXISTS, GET_DATA, PING, PONG};
+use partner::{Line, Partner};
+use server::Server;
+use std::future::{poll_fn, Future};
+use std::pin::pin;
+use std::sync::mpsc;
+use std::sync::Arc;
+use std::task::{Context, Poll, Wake};
+use std::thread::{self, Thread};
+use std::time::{Duration, Instant};
+
+/// How long what is awaited may take.
+const PATIENCE: Duration = Duration::from_secs(30);
+
+/// Wakes a thread.
+struct Unpark(Thread);
+
+impl Wake for Unpark {
+    fn wake(self: Arc<Self>) {
+        self.0.unpark();
+    }
+}
+
+/// Waits for a future that others wake.
+fn block_on<F: Future>(future: F) -> F::Output {
+    let mut future = pin!(future);
+    let waker = Arc::new(Unpark(thread::current())).into();
+    let mut context = Context::from_waker(&waker);
+    let until = Instant::now() + PATIENCE;
+    loop {
+        match future.as_mut().poll(&mut context) {
+            Poll::Ready(output) => return output,
+            Poll::Pending => thread::park_timeout(PATIENCE),
+        }
+        assert!(Instant::now() < until, "nobody has woken it");
+    }
+}
+
+fn renewing(server: &Server) -> Session {
+    let options = SessionOptions::new(Duration::from_secs(10)).renews(true);
+    options.open(server.address).unwrap()
+}
+
+fn text(node: Option<Node>) -> Option<String> {
+    node.map(|node| String::from_utf8(node.data.unwrap()).unwrap())
+}
+
+#[test]
+fn a_node_is_followed_by_any_runtime() {
+    let Some(mut server) = Server::start(&[]) else {
+        return;
+    };
+    let session = renewing(&server).shared();
+    let mut nodes = session.follow("/a");
+    let mut next = || {
+        let node = block_on(poll_fn(|context| nodes.poll_next(context)));
+        text(node.expect("the session lives").unwrap())
+    };
+    assert_eq!(next(), None);
+    server.tell("create /a one");
+    assert_eq!(next().as_deref(), Some("one"));
+    server.tell("down");
+    server.tell("set /a two");
+    server.tell("up");
+    assert_eq!(next().as_deref(), Some("two"));
+    server.tell("expire");
+    assert_eq!(next().as_deref(), Some("two"));
+    server.tell("delete /a");
+    assert_eq!(next(), None);
+    session.close().unwrap();
+    let over = block_on(poll_fn(|context| nodes.poll_next(context)));
+    assert!(over.is_none(), "{over:?}");
+}
+
+#[test]
+fn events_are_told_to_any_runtime() {
+    let Some(mut server) = Server::start(&[]) else {
+        return;
+    };
+    server.tell("create /a one");
+    let session = renewing(&server).shared();
+    let next = || block_on(poll_fn(|context| session.poll_event(context)));
+    assert_eq!(next(), Ok(Some(Event::State(State::Connecting))));
+    assert_eq!(next(), Ok(Some(Event::State(State::Connected))));
+    session.watch("/a").unwrap();
+    server.tell("set /a two");
+    assert!(matches!(next(), Ok(Some(Event::Report { .. }))));
+    session.close().unwrap();
+    assert_eq!(next(), Ok(Some(Event::State(State::Closed))));
+    assert_eq!(next(), Ok(None));
+}
+
+/// Refuses the first read, says that there is a node, and then has data.
+fn deny_once(mut line: Line, reads: &mpsc::Sender<Instant>) {
+    line.admit(3_000);
+    let mut is_denied = false;
+    while let Some(request) = line.request() {
+        match request.kind {
+            PING => line.send(&Record::reply(PONG, 5, 0).framed()),
+            EXISTS => line.tell_stat(request.xid),
+            GET_DATA => {
+                let _ = reads.send(Instant::now());
+                if is_denied {
+                    line.tell_data(request.xid)
+                } else {
+                    is_denied = true;
+                    line.refuse(request.xid, -101)
+                }
+            }
+            _ => false,
+        };
+    }
+}
+
+#[test]
+fn a_read_that_is_denied_is_polled_again_after_a_second() {
+    let (sender, reads) = mpsc::channel();
+    let partner = Partner::start(move |_, line| deny_once(line, &sender));
+    let session = Session::open(partner.address, Duration::from_secs(3)).unwrap();
+    let mut nodes = session.follow("/a");
+    let node = block_on(poll_fn(|context| nodes.poll_next(context)));
+    assert_eq!(text(node.unwrap().unwrap()).as_deref(), Some("one"));
+    let [first, second] = [(); 2].map(|()| reads.recv_timeout(PATIENCE).unwrap());
+    let pause = second - first;
+    assert!(
+        pause > Duration::from_millis(950) && pause < Duration::from_secs(8),
+        "{pause:?}"
+    );
+}
