@@ -8,6 +8,8 @@ use zk_link::Stop;
 pub enum End {
     /// Its time was over, and it is closed.
     Over,
+    /// The same, and no session was ever established.
+    Never,
     /// A step of the client ran out of memory.
     Halted,
     /// Memory ran out elsewhere.
@@ -16,22 +18,46 @@ pub enum End {
     Stream,
 }
 
-impl From<AllocError> for End {
+/// Why a watch ends before its time.
+#[derive(Clone, Copy)]
+pub(crate) enum Short {
+    Halted,
+    Memory,
+    Stream,
+}
+
+impl Short {
     ghost use Rattle.std.specs.Prelude.{◌≡◌};
-    ghost use Rattle.zk_watch.specs.declared.end.End.TheVariants.{Memory};
+    ghost use Rattle.zk_watch.specs.Watching.{short_end};
 
-    ghost from_gives = { λ _ end. end ≡ Memory };
-
-    fn from(_fault: AllocError) -> End {
-        End::Memory
+    /// How it ends then.
+    pub(crate) fn end(self) -> End
+        ensures { result ≡ short_end self }
+    {
+        match self {
+            Short::Halted => End::Halted,
+            Short::Memory => End::Memory,
+            Short::Stream => End::Stream,
+        }
     }
 }
 
-impl From<Stop> for End {
-    fn from(stop: Stop) -> End {
+impl From<AllocError> for Short {
+    ghost use Rattle.std.specs.Prelude.{◌≡◌};
+    ghost use Rattle.zk_watch.specs.declared.end.Short.TheVariants.{Memory};
+
+    ghost from_gives = { λ _ why. why ≡ Memory };
+
+    fn from(_fault: AllocError) -> Short {
+        Short::Memory
+    }
+}
+
+impl From<Stop> for Short {
+    fn from(stop: Stop) -> Short {
         match stop {
-            Stop::Halted => End::Halted,
-            Stop::Memory => End::Memory,
+            Stop::Halted => Short::Halted,
+            Stop::Memory => Short::Memory,
         }
     }
 }

@@ -315,7 +315,7 @@ class Session(Client):
         )
         self._servers, self._engine, self._retry = servers, engine, None
         self._owner, self._tls, self._timeout = owner, tls, timeout
-        self._running, self._tasks = {}, []
+        self._running, self._tasks = {}, {}
         self._dials: Optional[KazooDriver] = None
         engine.add_listener(owner._told_state)
 
