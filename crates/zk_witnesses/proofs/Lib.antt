@@ -1,2 +1,2 @@
-pub mod Met
-pub mod Rising
+pub mod Meets
+pub mod Lined

@@ -75,6 +75,7 @@ names_at zxid name there = go (tree_at two_in_line zxid (name ∷ line)) refl th
     of_made : (node : Node) → IsMade name node → (name ≡ first_name) ⊎ (name ≡ second_name)
     of_made node (inl a) = inl a.0
     of_made node (inr b) = inr b.0
+
     go : (found : Option Node) → tree_at two_in_line zxid (name ∷ line) ≡ found → is_some found ≡ true → (name ≡ first_name) ⊎ (name ≡ second_name)
     go None e s = absurd cc
     go (Some node) e s = of_made node (made_at zxid name node e)
