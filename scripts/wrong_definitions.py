@@ -20,7 +20,7 @@ The last line is `N seen, M unseen`, and the exit status is 1 where an edit is u
   scripts/wrong_definitions.py WORD..     those whose names, or whose definitions, have one of the words
   scripts/wrong_definitions.py --touched    those whose files the last commit or the work tree has changed, as the gate does
   scripts/wrong_definitions.py --check    tries none: says where an edit stands no longer, and which definition has none
-  --jobs N                                so many edits side by side (2)
+  --jobs N                                this many edits side by side (2)
 """
 import argparse
 import os
