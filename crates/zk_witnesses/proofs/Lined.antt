@@ -1,4 +1,4 @@
--- Two stand in line, one after the other, and their names rise.
+-- Two wait in line, one after the other, and their names rise.
 use Rattle.std.proofs.Common.{◌≡◌, ◌≤◌, ℕ, pos, Bool, true, false, ◌&&◌, cond, List, [], ◌∷◌, refl, sym, ap, subst, arith, inl, inr, ◌⊎◌, Option, Some, None, is_some}
 use Rattle.std.specs.Prelude.{bytes_eq, nat_le}
 use Rattle.std.proofs.lemmas.Slice.Eq.{bytes_eq-Decides}

@@ -24,7 +24,7 @@ pub fn clients_are_served()
     ensures expired { IsServedFrom three_changes (shown_after until_expired) }
 {}
 
-/// Names rise with creation (`NamesRise`) where two sessions stand in line: one holds by the token 5, and after it the other by 6.
+/// Names rise with creation (`NamesRise`) where two sessions wait in line: one holds by the token 5, and after it the other by 6.
 #[tactic(auto, using(crate::proofs::Lined::line_history, crate::proofs::Lined::names_rise, crate::proofs::Lined::first_holds, crate::proofs::Lined::second_holds))]
 pub fn names_rise_in_line()
     ensures history { IsHistory two_in_line }
