@@ -22,6 +22,7 @@ from dirwolleu.exceptions import (
     ZookeeperError,
 )
 from dirwolleu.tls import tls_context
+from dirwolleu.tree import TreeNode, TreeSnapshot
 from dirwolleu.types import DataStat, Kept, KeptChildren, Stat, State
 
 DESCRIPTION = "Shows and changes the nodes of ZooKeeper, and watches them."
@@ -138,26 +139,21 @@ def show_delete(client: Client, chosen: argparse.Namespace) -> Shown:
     return Shown({"path": chosen.path}, [])
 
 
-def _nodes(client: Client, path: str, depth: int) -> Iterator[tuple[int, str, Optional[bytes]]]:
-    """The nodes at and below a path, with their depths. One that goes meanwhile is left out."""
-    try:
-        data, _ = client.get(path)
-        names = sorted(client.get_children(path))
-    except NoNodeError:
-        if depth == 0:
-            raise
-        return
-    yield depth, path, data
-    for name in names:
-        yield from _nodes(client, f"{path.rstrip('/')}/{name}", depth + 1)
+def _in_order(snapshot: TreeSnapshot, path: str, depth: int) -> Iterator[tuple[int, TreeNode]]:
+    """The nodes at and below a path, each before those below it, with their depths."""
+    yield depth, snapshot[path]
+    for name in snapshot.children(path):
+        yield from _in_order(snapshot, f"{path.rstrip('/')}/{name}", depth + 1)
 
 
 def show_tree(client: Client, chosen: argparse.Namespace) -> Shown:
+    with client.tree(chosen.path) as tree:
+        snapshot = tree.wait(chosen.timeout)
     values, lines = [], []
-    for depth, path, data in _nodes(client, chosen.path, 0):
-        name = path if depth == 0 else path.rpartition("/")[2]
-        values.append({"path": path, **_data_fields(data)})
-        lines.append(f"{'  ' * depth}{name}  {_text(data)}" if data else "  " * depth + name)
+    for depth, node in _in_order(snapshot, chosen.path, 0):
+        name = node.path if depth == 0 else node.path.rpartition("/")[2]
+        values.append({"path": node.path, "zxid": snapshot.zxid, **_data_fields(node.data)})
+        lines.append(f"{'  ' * depth}{name}  {_text(node.data)}" if node.data else "  " * depth + name)
     return Shown(values, lines)
 
 
@@ -200,7 +196,7 @@ COMMANDS: dict[str, tuple[str, Optional[Callable[[Client, argparse.Namespace], S
     "set": ("sets the data of a node", show_set),
     "create": ("makes a node, and tells its path", show_create),
     "delete": ("deletes a node", show_delete),
-    "tree": ("a node and all below it, with their data; nodes are read one after the other", show_tree),
+    "tree": ("a node and all below it, with their data, of one moment", show_tree),
     "watch": ("what a node holds, and each change of it, until it is interrupted", None),
 }
 

@@ -79,7 +79,9 @@ class ShellTest(PartnerCase):
         self.assertEqual(told("ls", "/a"), ["b"])
         self.assertEqual({**told("get", "/a"), "ctime": 0, "mtime": 0}["data"], "one")
         self.assertEqual(told("stat", "/a")["num_children"], 1)
-        self.assertEqual(told("tree", "/a"), [{"path": "/a", "data": "one"}, {"path": "/a/b", "data": ""}])
+        tree = told("tree", "/a")
+        self.assertEqual(len({node.pop("zxid") for node in tree}), 1)
+        self.assertEqual(tree, [{"path": "/a", "data": "one"}, {"path": "/a/b", "data": ""}])
         self.assertEqual(told("create", "/a/c"), {"path": "/a/c"})
 
     def test_exit_statuses(self) -> None:
