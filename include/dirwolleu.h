@@ -20,7 +20,7 @@
  *   - pointers are not null, also beside a length of 0, buffers have the length that is told, and what one call writes does not
  *     overlap with what else it is given;
  *   - malloc, realloc and free are those of one allocator, whose blocks are aligned to 16 bytes;
- *   - a bool is 0 or 1, and this header is that of the library that is linked.
+ *   - a bool is 0 or 1, and this header is that of the library that is linked: dw_version tells that one.
  *
  * What the library promises, and is proved of each function, whatever comes in:
  *   - an answer that is marked good is what the servers' history has at the last seen zxid;
@@ -68,7 +68,9 @@ enum dw_result DW_AS_INT32 {
   DW_NOT_PATH = -5, /* the text is no path of a node */
   DW_BAD_TIMEOUT = -6, /* the timeout is not above 0 */
   DW_NO_SUCH_MODE = -7,
-  DW_NOT_SAVED = -8 /* the bytes are no saved session */
+  DW_NOT_SAVED = -8, /* the bytes are no saved session */
+  DW_NOT_WHOLE = -9, /* some of the subtree is not kept, or not good */
+  DW_TOO_MANY = -10 /* the subtree has more nodes than were asked for */
 };
 
 /* A handle: zeros before its first use, which are {0} in C and {} in C++. Its fields are the library's own. */
@@ -180,6 +182,10 @@ typedef struct dw_output {
   dw_stat stat;
 } dw_output;
 
+/* The version of the library, as DW_VERSION_NUMBER has that of this header. Where the two differ, go no further: take the header and the
+ * library of one version. */
+uint32_t dw_version(void);
+
 /* Makes a client of no session yet, which asks for this timeout in milliseconds. What the handle held is freed first.
  * DW_OK, DW_BAD_TIMEOUT, DW_NO_MEMORY; where it is not DW_OK, the handle holds nothing. */
 enum dw_result dw_open(dw_client *handle, int32_t timeout_ms);
@@ -244,6 +250,11 @@ size_t dw_copy(dw_client *handle, size_t from, void *out, size_t room);
 /* Copies the name of this index, from 0 on in the order of the reply, of the DW_REPLY_NAMES that was told last, as much as there is room
  * for. Answers how many bytes the name has: 0 where there is no such name, and for a closed handle. */
 size_t dw_name(dw_client *handle, size_t index, char *out, size_t room);
+
+/* Copies all names of the DW_REPLY_NAMES that was told last, in the order of the reply, as many bytes as there is room for, and writes how
+ * many bytes there are: 0 where another output was told last. Each name stands after its length, as dw_peek_names spells it. It takes
+ * memory for them too, within the call. DW_OK, DW_NO_MEMORY, DW_CLOSED; unless it answers DW_OK, the count is 0. */
+enum dw_result dw_names(dw_client *handle, uint8_t *out, size_t room, size_t *count);
 
 /* Writes why the connection is given up, in words, of the DW_KIND_DROP that was told last, as many bytes as there is room for, and how
  * many there are: 0 where another output was told last. DW_OK, DW_NO_MEMORY, DW_CLOSED; unless it answers DW_OK, the count is 0. */
@@ -322,6 +333,26 @@ enum dw_result dw_peek_name(dw_client *handle, const char *path, size_t path_len
  * too, within the call. It answers what dw_peek_data does; unless that is DW_OK, the count is 0. */
 enum dw_result dw_peek_names(dw_client *handle, const char *path, size_t path_length, uint8_t *out, size_t room, size_t *count);
 
+/* Copies all nodes at and below a path, as many bytes as there is room for, and writes how many bytes there are. It does so exactly where
+ * the path, and each node that is reached from it through kept names, is kept good as DW_KEPT_FULL, its names are kept good, and each name
+ * makes a path; and these are at most `most` nodes. Then they are the subtree of the servers' history at dw_last_zxid: each node is as it
+ * is told, and no other one is there. Each stands after its parent, as zookeeper.jute spells these fields:
+ *   ustring path; buffer data; long czxid, mzxid, ctime, mtime; int version; long ephemeralOwner; int dataLength; long pzxid;
+ * It takes memory for them too, within the call. Where there was too little room, give more and call again: with no step between it tells
+ * the same. DW_OK, and what dw_peek_data answers; DW_NOT_WHOLE: read what dw_lacking tells, with a watch, and ask again; DW_TOO_MANY: more
+ * nodes than that are reached. Unless it answers DW_OK, the count is 0. */
+enum dw_result dw_subtree(dw_client *handle, const char *path, size_t path_length, size_t most, uint8_t *out, size_t room,
+                          size_t *count);
+
+/* Copies the reads that are still lacking before dw_subtree tells the nodes at and below a path, as it does: of all nodes that good names
+ * lead to, those whose data are not kept good as DW_KEPT_FULL, and then those whose names are not kept good. There is none exactly where
+ * dw_subtree answers DW_OK. Each is spelled as `ustring path; int side`, with DW_SIDE_DATA for dw_get_data and DW_SIDE_CHILDREN for
+ * dw_get_children. All can be asked at once, with a watch; what lies below the names shows when these are there. Of a path without a node
+ * the data are lacking for as long as there is none. DW_OK, and what dw_peek_data answers; DW_NOT_WHOLE: a name makes no path, so no read
+ * helps; DW_TOO_MANY. Unless it answers DW_OK, the count is 0. */
+enum dw_result dw_lacking(dw_client *handle, const char *path, size_t path_length, size_t most, uint8_t *out, size_t room,
+                          size_t *count);
+
 /* Forgets all stale answers. It takes no memory, and leaves the outputs. DW_OK, DW_CLOSED. */
 enum dw_result dw_forget(dw_client *handle);
 
@@ -339,6 +370,8 @@ static inline const char *dw_result_words(enum dw_result result) {
   case DW_BAD_TIMEOUT: return "the timeout is not 1 to 2147483647 milliseconds";
   case DW_NO_SUCH_MODE: return "the mode is no sum of DW_MODE_EPHEMERAL and DW_MODE_SEQUENTIAL";
   case DW_NOT_SAVED: return "the bytes are no saved session";
+  case DW_NOT_WHOLE: return "some of the subtree is not kept, or not good";
+  case DW_TOO_MANY: return "the subtree has more nodes than were asked for";
   }
   return "the library answers a number that its header does not have";
 }

@@ -213,9 +213,21 @@ static inline void session_wait(struct session *s)
     }
 }
 
+/* Ends the program where the library is not that of the header. */
+static inline void session_check_version(void)
+{
+    unsigned found = dw_version();
+    if (found != DW_VERSION_NUMBER) {
+        fprintf(stderr, "session: the library is of version %u.%u.%u, and dirwolleu.h of %s: take both of one version\n", found / 1000000,
+                found / 1000 % 1000, found % 1000, DW_VERSION);
+        exit(EXIT_FAILURE);
+    }
+}
+
 /* Begins a session with the server HOST:PORT. */
 static inline void session_open(struct session *s, const char *server)
 {
+    session_check_version();
     *s = (struct session){.socket = -1};
     if (sscanf(server, "%255[^:]:%7s", s->host, s->port) != 2) {
         fprintf(stderr, "session: %s is not HOST:PORT\n", server);

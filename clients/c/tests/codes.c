@@ -47,6 +47,9 @@ static void expect_closed_outputs(dw_client *none)
     EXPECT_NUMBER(0, dw_name(none, 0, room, sizeof room));
     EXPECT_NUMBER(DW_CLOSED, dw_words(none, room, sizeof room, &count));
     EXPECT_NUMBER(0, count);
+    count = 1;
+    EXPECT_NUMBER(DW_CLOSED, dw_names(none, (uint8_t *)room, sizeof room, &count));
+    EXPECT_NUMBER(0, count);
     expect_untouched(room, sizeof room);
 }
 
@@ -85,6 +88,12 @@ static void expect_no_look_up(dw_client *client, enum dw_result result, const ch
     EXPECT_NUMBER(0, count);
     count = 1;
     EXPECT_NUMBER(result, dw_peek_names(client, path, length, room, sizeof room, &count));
+    EXPECT_NUMBER(0, count);
+    count = 1;
+    EXPECT_NUMBER(result, dw_subtree(client, path, length, 1, room, sizeof room, &count));
+    EXPECT_NUMBER(0, count);
+    count = 1;
+    EXPECT_NUMBER(result, dw_lacking(client, path, length, 1, room, sizeof room, &count));
     EXPECT_NUMBER(0, count);
     expect_untouched(room, sizeof room);
     expect_untouched(name, sizeof name);

@@ -105,6 +105,35 @@ static enum dw_result peek_names(struct play *play)
     return add_kept_names(&play->lines, &play->client, "/a");
 }
 
+/* All names of the listing that was told last: none, since no output of this step is one. */
+static enum dw_result names(struct play *play)
+{
+    uint8_t room[8];
+    size_t count = 1;
+    enum dw_result result = dw_names(&play->client, room, sizeof room, &count);
+    EXPECT_NUMBER(0, count);
+    return result;
+}
+
+/* What is lacking below /a, which a notice has made stale: its data, and the data and names of its children. */
+static enum dw_result lacking(struct play *play)
+{
+    uint8_t room[256];
+    size_t count = 1;
+    enum dw_result result = dw_lacking(&play->client, PATH, sizeof PATH, 3, room, sizeof room, &count);
+    EXPECT_NUMBER(result == DW_OK ? 10 + 2 * 15 + 2 * 16 : 0, count);
+    return result;
+}
+
+static enum dw_result subtree(struct play *play)
+{
+    uint8_t room[8];
+    size_t count = 1;
+    enum dw_result result = dw_subtree(&play->client, PATH, sizeof PATH, 3, room, sizeof room, &count);
+    EXPECT_NUMBER(0, count);
+    return result == DW_NOT_WHOLE ? DW_OK : result;
+}
+
 static enum dw_result save(struct play *play)
 {
     enum dw_result result = dw_saved(&play->client, play->saved, sizeof play->saved, &play->saved_length);
@@ -188,6 +217,9 @@ static const struct move MOVES[] = {
     {replied, STEP | REFUSES},
     {peek_data, REFUSES},
     {peek_names, REFUSES},
+    {names, REFUSES},
+    {lacking, REFUSES},
+    {subtree, REFUSES},
     {forget, 0},
     {cut, STEP},
     {opened, STEP},

@@ -102,6 +102,11 @@ class NumberTest(unittest.TestCase):
         with self.assertRaises(library.UnknownNumber):
             library._checked(-99)
 
+    def test_the_version_is_compared(self) -> None:
+        with mock.patch.object(library, "VERSION", 1002003):
+            with self.assertRaisesRegex(ImportError, r"is of version 0\.3\.0, and this package of 1\.2\.3: install both of one version"):
+                library._load(library._find())
+
     def test_a_library_of_another_version_is_told_as_that(self) -> None:
         with mock.patch.dict(library._FUNCTIONS, {"dw_of_tomorrow": (None, ())}):
             with self.assertRaisesRegex(ImportError, "of another version than this package: it has no dw_of_tomorrow"):
@@ -196,6 +201,28 @@ class MachineTest(unittest.TestCase):
         machine.received(300, reply(1, 9, 0, spelled + STAT_BYTES))
         self.assertEqual(machine.peek_children("/a"), ((1, tuple(sorted(names)), STAT.pzxid), 9))
         self.assertEqual(machine.peek_children("/b"), ((0, (), 0), 9))
+
+    def test_a_subtree_is_told_once_nothing_is_lacking(self) -> None:
+        machine, data_of = connected(), library.DATA_SIDE
+        self.assertEqual(machine.lacking("/a", 9), [("/a", data_of), ("/a", library.CHILDREN_SIDE)])
+        self.assertEqual(machine.subtree("/a", 9), (None, 0))
+        machine.get_data(200, 1, "/a", True)
+        machine.get_children(200, 2, "/a", True)
+        machine.received(300, reply(1, 9, 0, buffer(b"hello") + STAT_BYTES))
+        machine.received(300, reply(2, 9, 0, struct.pack(">i", 1) + buffer("ö".encode()) + STAT_BYTES))
+        self.assertEqual(machine.lacking("/a", 9), [("/a/ö", data_of), ("/a/ö", library.CHILDREN_SIDE)])
+        machine.get_data(400, 3, "/a/ö", True)
+        machine.get_children(400, 4, "/a/ö", True)
+        machine.received(500, reply(3, 9, 0, struct.pack(">i", -1) + STAT_BYTES))
+        machine.received(500, reply(4, 9, 0, struct.pack(">i", 0) + STAT_BYTES))
+        self.assertEqual(machine.lacking("/a", 9), [])
+        stat = DataStat(2, 5, 1000, 2000, 3, 0, 5)
+        nodes = [library.SubtreeNode("/a", b"hello", stat, 6), library.SubtreeNode("/a/ö", None, stat, 6)]
+        self.assertEqual(machine.subtree("/a", 2), (nodes, 9))
+        with self.assertRaises(library.TooManyNodes):
+            machine.subtree("/a", 1)
+        with self.assertRaises(ValueError):
+            machine.subtree("a", 1)
 
     def test_a_bad_frame_ends_the_connection(self) -> None:
         machine = connected()

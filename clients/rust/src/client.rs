@@ -7,6 +7,7 @@ use crate::moment::Moment;
 use crate::node::{Mode, Watch};
 use crate::output::Outputs;
 use crate::saved::SavedSession;
+use crate::subtree::{lacking_in, nodes_in, Lacking, Subtree};
 use std::fmt;
 use std::time::Duration;
 
@@ -31,7 +32,7 @@ pub(crate) fn whole_text(bytes: Vec<u8>) -> String {
 }
 
 /// This many texts, which follow one another, each after its length in four bytes.
-fn texts_in(count: usize, mut spelled: &[u8]) -> Vec<String> {
+pub(crate) fn texts_in(count: usize, mut spelled: &[u8]) -> Vec<String> {
     let mut texts = Vec::with_capacity(count);
     while let [a, b, c, d, rest @ ..] = spelled {
         let (text, rest) = rest.split_at(u32::from_be_bytes([*a, *b, *c, *d]) as usize);
@@ -113,7 +114,7 @@ fn timeout_ms(timeout: Duration) -> Result<i32, Fault> {
 /// How a client begins.
 impl Client {
     /// A client of no session yet, which asks for this timeout, in whole milliseconds: 1 to 2,147,483,647, else [`Fault::BadTimeout`].
-    /// Else it fails with [`Fault::NoMemory`] alone.
+    /// Else it fails with [`Fault::NoMemory`], and with [`Fault::OtherVersion`] where the library that is linked is not this crate's.
     pub fn open(timeout: Duration) -> Result<Client, Fault> {
         let handle = Handle::open(timeout_ms(timeout)?)?;
         Ok(Client { handle })
@@ -273,6 +274,30 @@ impl Client {
     /// [`peek_data`](Client::peek_data).
     pub fn children_mark(&self, path: &str) -> Result<Option<Mark>, Fault> {
         Ok(mark_of(self.handle.peek_children(path)?.mark))
+    }
+
+    /// All nodes at and below a path, at most this many, and none where some of it is not kept good: then read what is
+    /// [`lacking`](Client::lacking). There is a subtree exactly where the path, and each node that is reached from it through kept names,
+    /// is kept good with its data, and its names are kept good. It is the servers' at that zxid, and no other node was there. It fails
+    /// as [`peek_data`](Client::peek_data), and with [`Fault::TooManyNodes`] where more nodes are reached.
+    pub fn subtree(&self, path: &str, most: usize) -> Result<Option<Subtree>, Fault> {
+        match whole(|room| self.handle.subtree(path, most, room)) {
+            Ok(spelled) => Ok(Some(Subtree {
+                zxid: self.last_zxid(),
+                nodes: nodes_in(&spelled),
+            })),
+            Err(Fault::NotWhole) => Ok(None),
+            Err(other) => Err(other),
+        }
+    }
+
+    /// The reads, with a watch, that are lacking before there is a [`subtree`](Client::subtree) of a path with at most this many nodes:
+    /// none exactly where there is one. All can be asked at once; what lies below a node shows when its names are there. It fails as
+    /// [`peek_data`](Client::peek_data), with [`Fault::TooManyNodes`], and with [`Fault::NotWhole`] where a name makes no path, so that no
+    /// read helps.
+    pub fn lacking(&self, path: &str, most: usize) -> Result<Vec<Lacking>, Fault> {
+        let spelled = whole(|room| self.handle.lacking(path, most, room))?;
+        Ok(lacking_in(&spelled))
     }
 
     /// Forgets all stale answers. What is kept is bounded by nothing but memory: who goes from path to path calls this now and then.

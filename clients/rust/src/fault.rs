@@ -1,6 +1,6 @@
 //! Why something was not done: by the library, on the way to the server, or by the server.
 
-use crate::numbers::{code, result};
+use crate::numbers::{code, result, VERSION};
 use crate::path_fault::{PathFault, Shown};
 use std::error;
 use std::fmt;
@@ -26,6 +26,16 @@ pub enum Fault {
     BadTimeout,
     /// The bytes are no saved session.
     NotSaved,
+    /// Some of the subtree is not kept, or not good.
+    NotWhole,
+    /// The subtree has more nodes than were asked for.
+    TooManyNodes,
+    /// The library that is linked is of another version than this crate.
+    #[non_exhaustive]
+    OtherVersion {
+        /// The version of the library, as a number in which 1.2.3 is 1002003.
+        library: u32,
+    },
 }
 
 impl Fault {
@@ -54,6 +64,9 @@ impl Fault {
             Fault::NotPath { .. } => "the text is no path",
             Fault::BadTimeout => "the timeout is not 1 to 2147483647 milliseconds",
             Fault::NotSaved => "the bytes are no saved session",
+            Fault::NotWhole => "some of the subtree is not kept, or not good",
+            Fault::TooManyNodes => "the subtree has more nodes than were asked for",
+            Fault::OtherVersion { .. } => "the library is of another version than this crate",
         }
     }
 
@@ -63,6 +76,9 @@ impl Fault {
             Fault::Halted => "take the saved session, and resume it",
             Fault::NoMemory => "hand the same in again",
             Fault::NotSaved => "take all of those that a client has saved",
+            Fault::NotWhole => "read what is lacking, with a watch",
+            Fault::TooManyNodes => "ask for more, or for a path below",
+            Fault::OtherVersion { .. } => "take both of one version",
             Fault::NotPath { .. } | Fault::BadTimeout => "",
         }
     }
@@ -77,6 +93,13 @@ impl fmt::Display for Fault {
                 reason: Some(reason),
             } => write!(f, "{} is no path: {reason}", Shown(path)),
             Fault::NotPath { path, reason: None } => write!(f, "{} is no path", Shown(path)),
+            Fault::OtherVersion { library } => write!(
+                f,
+                "the library is of version {}, and this crate of {}; {}",
+                version_text(*library),
+                version_text(VERSION),
+                self.advice()
+            ),
             _ if self.advice().is_empty() => f.write_str(self.reason()),
             _ => write!(f, "{}; {}", self.reason(), self.advice()),
         }
@@ -84,6 +107,12 @@ impl fmt::Display for Fault {
 }
 
 impl error::Error for Fault {}
+
+/// A version as people write it.
+fn version_text(number: u32) -> String {
+    let (major, minor) = (number / 1_000_000, number / 1000 % 1000);
+    format!("{major}.{minor}.{}", number % 1000)
+}
 
 /// Ends the program, since the library that is linked is of another version: what it gives, this crate does not know.
 pub(crate) fn unknown(what: &str, number: i32) -> ! {
@@ -100,6 +129,8 @@ pub(crate) fn done_at(path: &str, code: i32) -> Result<(), Fault> {
         result::NOT_PATH => Err(Fault::not_path(path)),
         result::BAD_TIMEOUT => Err(Fault::BadTimeout),
         result::NOT_SAVED => Err(Fault::NotSaved),
+        result::NOT_WHOLE => Err(Fault::NotWhole),
+        result::TOO_MANY => Err(Fault::TooManyNodes),
         _ => unknown("result", code),
     }
 }

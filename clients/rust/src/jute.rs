@@ -65,6 +65,10 @@ impl<'a> Reader<'a> {
         Some(taken)
     }
 
+    pub(crate) fn is_empty(&self) -> bool {
+        self.bytes.is_empty()
+    }
+
     pub(crate) fn int(&mut self) -> Option<i32> {
         Some(i32::from_be_bytes(self.take(4)?.try_into().ok()?))
     }
@@ -75,6 +79,14 @@ impl<'a> Reader<'a> {
 
     pub(crate) fn boolean(&mut self) -> Option<bool> {
         Some(self.take(1)? != [0])
+    }
+
+    /// Bytes, and none of them where they are null.
+    pub(crate) fn buffer(&mut self) -> Option<Option<Vec<u8>>> {
+        match self.int()? {
+            -1 => Some(None),
+            length => Some(Some(self.take(usize::try_from(length).ok()?)?.to_vec())),
+        }
     }
 
     pub(crate) fn text(&mut self) -> Option<String> {

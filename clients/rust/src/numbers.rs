@@ -6,6 +6,9 @@ use crate::fault::NoReply;
 use crate::kept::Mark;
 use crate::node::{NodeEvent, Side};
 
+/// The version, as a number in which 1.2.3 is 1002003.
+pub(crate) const VERSION: u32 = 3000;
+
 pub(crate) mod result {
     pub(crate) const OK: i32 = 0;
     pub(crate) const NONE: i32 = 1;
@@ -17,6 +20,8 @@ pub(crate) mod result {
     pub(crate) const BAD_TIMEOUT: i32 = -6;
     pub(crate) const NO_SUCH_MODE: i32 = -7;
     pub(crate) const NOT_SAVED: i32 = -8;
+    pub(crate) const NOT_WHOLE: i32 = -9;
+    pub(crate) const TOO_MANY: i32 = -10;
 }
 
 pub(crate) mod kind {

@@ -3,8 +3,8 @@
 mod jute;
 
 use dirwolleu::{
-    Brought, Cause, Client, Code, DataAnswer, Fault, Kept, Mark, Mode, Moment, NoReply, NodeEvent,
-    Output, Outputs, Reply, SavedSession, Side, State, Watch, ANY_VERSION,
+    Brought, Cause, Client, Code, DataAnswer, Fault, Kept, Lacking, Mark, Mode, Moment, NoReply,
+    NodeEvent, Output, Outputs, Reply, SavedSession, Side, State, Subtree, Watch, ANY_VERSION,
 };
 use jute::Record;
 use std::time::Duration;
@@ -294,11 +294,58 @@ fn names_of_each_length_are_kept_in_byte_order() {
         panic!("no names");
     };
     assert_eq!(names.iter().collect::<Vec<_>>(), ["z", &long, "", "b"]);
+    assert_eq!(names.to_vec().unwrap(), ["z", &long, "", "b"]);
     let kept = client.peek_children("/a").unwrap().unwrap();
     assert_eq!(kept.answer.names, ["", "b", &long, "z"]);
     assert_eq!((kept.answer.pzxid, kept.mark), (5, Mark::Good));
     assert_eq!(client.children_mark("/a").unwrap(), Some(Mark::Good));
     assert_eq!(client.peek_children("/b").unwrap(), None);
+}
+
+#[test]
+fn a_subtree_is_told_once_nothing_is_lacking() {
+    let mut client = connected();
+    let read = |path: &str, side| Lacking {
+        path: String::from(path),
+        side,
+    };
+    let both = |path| vec![read(path, Side::Data), read(path, Side::Children)];
+    assert_eq!(client.lacking("/a", 9).unwrap(), both("/a"));
+    assert_eq!(client.subtree("/a", 9).unwrap(), None);
+    let _ = client.get_data(START, 1, "/a", Watch::Yes).unwrap();
+    let _ = client.get_children(START, 2, "/a", Watch::Yes).unwrap();
+    let data = Record::reply(1, 5, 0).buffer(b"one").stat(5, 2, 3, 1);
+    let names = Record::reply(2, 5, 0).texts(&["b"]).stat(5, 2, 3, 1);
+    let came = [data.framed(), names.framed()].concat();
+    let _ = client.bytes(START, &came).unwrap();
+    assert_eq!(client.lacking("/a", 9).unwrap(), both("/a/b"));
+    let _ = client.get_data(START, 3, "/a/b", Watch::Yes).unwrap();
+    let _ = client.get_children(START, 4, "/a/b", Watch::Yes).unwrap();
+    let data = Record::reply(3, 6, 0).int(-1).stat(6, 0, 0, 0);
+    let names = Record::reply(4, 6, 0).texts(&[]).stat(6, 0, 0, 0);
+    let came = [data.framed(), names.framed()].concat();
+    let _ = client.bytes(START, &came).unwrap();
+    assert_eq!(client.lacking("/a", 9).unwrap(), []);
+    let Subtree { zxid, nodes } = client.subtree("/a", 2).unwrap().unwrap();
+    let [root, leaf] = nodes.as_slice() else {
+        panic!("{nodes:?}");
+    };
+    assert_eq!((zxid, root.path.as_str(), root.pzxid), (6, "/a", 5));
+    assert_eq!(
+        (root.data.as_deref(), root.stat.version),
+        (Some(b"one".as_slice()), 2)
+    );
+    assert_eq!(
+        (root.stat.czxid, root.stat.ctime, root.stat.mtime),
+        (5, 1_000, 2_000)
+    );
+    assert_eq!((root.stat.data_length, root.stat.ephemeral_owner), (3, 0));
+    assert_eq!(
+        (leaf.path.as_str(), &leaf.data, leaf.stat.mzxid),
+        ("/a/b", &None, 6)
+    );
+    assert_eq!(client.subtree("/a", 1), Err(Fault::TooManyNodes));
+    assert!(matches!(client.lacking("a", 1), Err(Fault::NotPath { .. })));
 }
 
 #[test]

@@ -5,3 +5,5 @@ pub mod Outputs
 pub mod Refused
 pub mod Sessions
 pub mod Steps
+pub mod Subtrees
+pub mod Texts

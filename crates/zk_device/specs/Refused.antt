@@ -29,3 +29,9 @@ RefusesTimeout timeout code = ⊥
 abbrev pub RefusesCreate : (path : List ℕ) (mode : ℕ) → ℤ → Type 0
 RefusesCreate path mode (negsuc (suc (suc (suc (suc (suc (suc zero))))))) = 3 < mode
 RefusesCreate path mode code = RefusesPath path code
+
+-- All nodes at and below a path: those of the path, and -9 and -10 where these two are so.
+abbrev pub RefusesNodes : (lacking many : Type 0) (path : List ℕ) → ℤ → Type 0
+RefusesNodes lacking many path (negsuc (suc (suc (suc (suc (suc (suc (suc (suc zero))))))))) = lacking
+RefusesNodes lacking many path (negsuc (suc (suc (suc (suc (suc (suc (suc (suc (suc zero)))))))))) = many
+RefusesNodes lacking many path code = RefusesPath path code

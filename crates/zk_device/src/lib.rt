@@ -11,6 +11,8 @@ mod outputs;
 mod paths;
 mod refusal;
 mod sessions;
+mod subtrees;
+mod texts;
 
 pub use copying::copy_into;
 pub use device::Device;

@@ -20,6 +20,8 @@ pub enum Event {
     Sets(&'static str, Option<&'static str>, i32),
     Deletes(&'static str, i32),
     Peeks(&'static str),
+    /// All nodes at and below a path, at most this many, and what is lacking.
+    Collects(&'static str, usize),
 }
 
 /// A session that expires.
@@ -66,4 +68,26 @@ pub static CLOSES: [Event; 11] = [
     Event::Peeks("/a"),
     Event::Closes,
     Event::Reads("/a"),
+];
+
+/// A session that asks for all nodes at and below a path.
+pub static COLLECTS: [Event; 18] = [
+    Event::Opens,
+    Event::Collects("/a", 4),
+    Event::Creates("/a", Some("one"), 0),
+    Event::Reads("/a"),
+    Event::Collects("/a", 4),
+    Event::Lists("/a"),
+    Event::Collects("/a", 4),
+    Event::Creates("/a/b", None, 1),
+    Event::Collects("/a", 4),
+    Event::Lists("/a"),
+    Event::Collects("/a", 4),
+    Event::Reads("/a/b"),
+    Event::Lists("/a/b"),
+    Event::Collects("/a", 2),
+    Event::Collects("/a", 1),
+    Event::Collects("/a/b", 1),
+    Event::Collects("/a/", 4),
+    Event::Collects("/a", 0),
 ];
