@@ -429,10 +429,9 @@ def _nodes_in(spelled: bytes, root: Root) -> Iterator[SubtreeNode]:
     while at < len(spelled):
         path, at = _buffer_at(spelled, at)
         data, at = _buffer_at(spelled, at)
-        czxid, mzxid, ctime, mtime, version, owner, length, pzxid = _FIELDS_OF_A_NODE.unpack_from(spelled, at)
+        *fields, pzxid = _FIELDS_OF_A_NODE.unpack_from(spelled, at)
         at += _FIELDS_OF_A_NODE.size
-        stat = DataStat(czxid, mzxid, ctime, mtime, owner, version, length)
-        yield SubtreeNode(root.read(path or b""), data, stat, pzxid)
+        yield SubtreeNode(root.read(path or b""), data, DataStat._make(fields), pzxid)
 
 
 def _lacking_in(spelled: bytes, root: Root) -> Iterator[Lacking]:
