@@ -19,6 +19,8 @@ static inline const char *advice_of_result(enum dw_result result)
     case DW_NO_MEMORY: return "hand the same in again";
     case DW_CLOSED: return "open one";
     case DW_NOT_SAVED: return "take all of those that dw_saved gave";
+    case DW_NOT_WHOLE: return "read what dw_lacking tells, with a watch";
+    case DW_TOO_MANY: return "ask for more, or for a path below";
     case DW_OK:
     case DW_NONE:
     case DW_NOT_TEXT:
