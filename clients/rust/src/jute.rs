@@ -81,12 +81,8 @@ impl<'a> Reader<'a> {
         Some(self.take(1)? != [0])
     }
 
-    /// Bytes, and none of them where they are null.
-    pub(crate) fn buffer(&mut self) -> Option<Option<Vec<u8>>> {
-        match self.int()? {
-            -1 => Some(None),
-            length => Some(Some(self.take(usize::try_from(length).ok()?)?.to_vec())),
-        }
+    pub(crate) fn bytes(&mut self, count: usize) -> Option<Vec<u8>> {
+        self.take(count).map(<[u8]>::to_vec)
     }
 
     pub(crate) fn text(&mut self) -> Option<String> {

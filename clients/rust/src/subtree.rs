@@ -45,9 +45,14 @@ fn all<T>(spelled: &[u8], mut read: impl FnMut(&mut Reader<'_>) -> Option<T>) ->
 }
 
 fn node(reader: &mut Reader<'_>) -> Option<SubtreeNode> {
+    let path = reader.text()?;
+    let data = match usize::try_from(reader.int()?) {
+        Ok(length) => Some(reader.bytes(length)?),
+        Err(_) => None,
+    };
     Some(SubtreeNode {
-        path: reader.text()?,
-        data: reader.buffer()?,
+        path,
+        data,
         stat: DataStat {
             czxid: reader.long()?,
             mzxid: reader.long()?,
