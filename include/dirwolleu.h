@@ -60,6 +60,7 @@ extern "C" {
 enum dw_result DW_AS_INT32 {
   DW_OK = 0,
   DW_NONE = 1, /* there is none */
+  DW_WAITS = 2, /* another session stands before this one */
   DW_HALTED = -1, /* out of memory within the step: the client has no use any more, each later step answers the same, nothing
                      is kept or watched. Its state, zxid and session can still be asked for: take dw_saved, and dw_resume. */
   DW_NO_MEMORY = -2, /* no memory for what was given */
@@ -70,7 +71,8 @@ enum dw_result DW_AS_INT32 {
   DW_NO_SUCH_MODE = -7,
   DW_NOT_SAVED = -8, /* the bytes are no saved session */
   DW_NOT_WHOLE = -9, /* some of the subtree is not kept, or not good */
-  DW_TOO_MANY = -10 /* the subtree has more nodes than were asked for */
+  DW_TOO_MANY = -10, /* the subtree has more nodes than were asked for */
+  DW_NOT_TEXTS = -11 /* the bytes are no texts, each after its length */
 };
 
 /* A handle: zeros before its first use, which are {0} in C and {} in C++. Its fields are the library's own. */
@@ -353,6 +355,23 @@ enum dw_result dw_subtree(dw_client *handle, const char *path, size_t path_lengt
 enum dw_result dw_lacking(dw_client *handle, const char *path, size_t path_length, size_t most, uint8_t *out, size_t room,
                           size_t *count);
 
+/* Tells whether the session stands first in a directory by its node of this name: for locks and elections whose nodes are sequential ones. The
+ * names are those of a dw_get_children of the directory, asked without a watch after the node was made, as dw_names copies them; `listed` is the
+ * zxid of that answer. A name counts where it ends in ten digits, right after a marker: the markers, spelled as names are, are that of the own
+ * kind, and then those of its rivals, as `lock-`, `lock-`. Who has the smaller number is before.
+ *   DW_OK     it stands first at dw_last_zxid, where numbers rise with creation, and stays so while what is kept of its node is good. The
+ *             token is written, which is the node's czxid: whoever the lock protects refuses a smaller one than it has seen. So it is where
+ *             the node's data, or that it exists, are kept good and its owner is this session; no listed rival is before it; and the listing
+ *             is neither older than the node nor newer than dw_last_zxid.
+ *   DW_WAITS  the last rival before it is this one, whose name is copied, as many bytes as there is room for, with their count: watch that
+ *             node alone, by dw_exists, and list again when it is gone.
+ *   DW_NONE   neither is so: read the own node with a watch, or list again.
+ * Also DW_NO_MEMORY, DW_CLOSED, DW_NOT_TEXT, DW_NOT_PATH, and DW_NOT_TEXTS where names or markers are not spelled so, or there is no marker.
+ * The token is 0 unless it answers DW_OK, and the count unless it answers DW_WAITS. */
+enum dw_result dw_standing(dw_client *handle, const char *directory, size_t directory_length, const char *name,
+                           size_t name_length, const uint8_t *names, size_t names_length, int64_t listed, const uint8_t *markers,
+                           size_t markers_length, int64_t *token, char *out, size_t room, size_t *count);
+
 /* Forgets all stale answers. It takes no memory, and leaves the outputs. DW_OK, DW_CLOSED. */
 enum dw_result dw_forget(dw_client *handle);
 
@@ -362,6 +381,7 @@ static inline const char *dw_result_words(enum dw_result result) {
   switch (result) {
   case DW_OK: return "done";
   case DW_NONE: return "there is none";
+  case DW_WAITS: return "another session stands before this one";
   case DW_HALTED: return "out of memory within a step";
   case DW_NO_MEMORY: return "out of memory";
   case DW_CLOSED: return "the handle holds no client";
@@ -372,6 +392,7 @@ static inline const char *dw_result_words(enum dw_result result) {
   case DW_NOT_SAVED: return "the bytes are no saved session";
   case DW_NOT_WHOLE: return "some of the subtree is not kept, or not good";
   case DW_TOO_MANY: return "the subtree has more nodes than were asked for";
+  case DW_NOT_TEXTS: return "the bytes are no texts, each after its length";
   }
   return "the library answers a number that its header does not have";
 }

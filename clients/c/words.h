@@ -23,6 +23,8 @@ static inline const char *advice_of_result(enum dw_result result)
     case DW_TOO_MANY: return "ask for more, or for a path below";
     case DW_OK:
     case DW_NONE:
+    case DW_WAITS:
+    case DW_NOT_TEXTS:
     case DW_NOT_TEXT:
     case DW_NOT_PATH:
     case DW_BAD_TIMEOUT:

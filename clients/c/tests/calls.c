@@ -153,6 +153,37 @@ static void collect_a_leaf(dw_client *client)
     EXPECT_NUMBER(0, count);
 }
 
+/* The node that was made is read with a watch: whoever has the least number stands first, by its czxid, and another one waits. */
+static void stand_first(dw_client *client)
+{
+    dw_stat stat = {6, 6, 0, 0, SESSION, 6, 0, 0, 0, 1, 0};
+    struct bytes came, names, markers;
+    int64_t token = 1;
+    size_t count = 1;
+    char rival[16];
+    came.length = names.length = markers.length = 0;
+    EXPECT_NUMBER(DW_OK, dw_get_data(client, 1, 11, "/n-0000000000", 13, true));
+    add_data(&came, 6, 6, "x", &stat);
+    hand_in(client, &came);
+    put_buffer(&names, "n-0000000001", 12);
+    put_buffer(&names, "n-0000000000", 12);
+    put_buffer(&markers, "n-", 2);
+    put_buffer(&markers, "n-", 2);
+    EXPECT_NUMBER(DW_OK, dw_standing(client, "/", 1, "n-0000000000", 12, names.at, names.length, 6, markers.at, markers.length, &token,
+                                     rival, sizeof rival, &count));
+    EXPECT(token == 6 && count == 0);
+    EXPECT_NUMBER(DW_WAITS, dw_standing(client, "/", 1, "n-0000000001", 12, names.at, names.length, 6, markers.at, markers.length, &token,
+                                        rival, sizeof rival, &count));
+    EXPECT(token == 0 && count == 12 && memcmp(rival, "n-0000000000", 12) == 0);
+    EXPECT_NUMBER(DW_NONE, dw_standing(client, "/", 1, "n-0000000000", 12, names.at, names.length, 5, markers.at, markers.length, &token,
+                                       rival, sizeof rival, &count));
+    EXPECT_NUMBER(DW_NOT_TEXTS, dw_standing(client, "/", 1, "n-0000000000", 12, names.at, names.length - 1, 6, markers.at,
+                                            markers.length, &token, rival, sizeof rival, &count));
+    EXPECT_NUMBER(DW_NOT_TEXTS, dw_standing(client, "/", 1, "n-0000000000", 12, names.at, names.length, 6, markers.at, 0, &token, rival,
+                                            sizeof rival, &count));
+    EXPECT(token == 0 && count == 0);
+}
+
 /* All names of a listing, in the order of the reply. */
 static void list_names(dw_client *client)
 {
@@ -240,6 +271,7 @@ int main(void)
     create_a_node(&client);
     collect_a_leaf(&client);
     list_names(&client);
+    stand_first(&client);
     lose_the_connection(&client);
     dw_close(&client);
     printf("calls: passed\n");

@@ -77,6 +77,7 @@ static void expect_no_look_up(dw_client *client, enum dw_result result, const ch
     char name[ROOM];
     dw_kept_data data;
     dw_kept_names names;
+    int64_t token = 1;
     size_t count = 1;
     memset(room, UNTOUCHED, sizeof room);
     memset(name, UNTOUCHED, sizeof name);
@@ -95,6 +96,10 @@ static void expect_no_look_up(dw_client *client, enum dw_result result, const ch
     count = 1;
     EXPECT_NUMBER(result, dw_lacking(client, path, length, 1, room, sizeof room, &count));
     EXPECT_NUMBER(0, count);
+    count = 1;
+    EXPECT_NUMBER(result, dw_standing(client, path, length, TEXT("n-0000000000"), DATA("\0\0\0\1n"), 1, DATA("\0\0\0\1n"), &token, name,
+                                      sizeof name, &count));
+    EXPECT(token == 0 && count == 0);
     expect_untouched(room, sizeof room);
     expect_untouched(name, sizeof name);
     expect_untouched(&data, sizeof data);

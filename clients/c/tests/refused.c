@@ -134,6 +134,20 @@ static enum dw_result subtree(struct play *play)
     return result == DW_NOT_WHOLE ? DW_OK : result;
 }
 
+/* A rival is listed before this session. */
+static enum dw_result standing(struct play *play)
+{
+    static const uint8_t listed[] = "\0\0\0\xc" "n-0000000000\0\0\0\xc" "n-0000000001", markers[] = "\0\0\0\2n-\0\0\0\2n-";
+    char rival[16];
+    int64_t token = 1;
+    size_t count = 1;
+    enum dw_result result = dw_standing(&play->client, PATH, sizeof PATH, "n-0000000001", 12, listed, sizeof listed - 1, 5, markers,
+                                        sizeof markers - 1, &token, rival, sizeof rival, &count);
+    EXPECT_NUMBER(0, token);
+    EXPECT_NUMBER(result == DW_WAITS ? 12 : 0, count);
+    return result == DW_WAITS ? DW_OK : result;
+}
+
 static enum dw_result save(struct play *play)
 {
     enum dw_result result = dw_saved(&play->client, play->saved, sizeof play->saved, &play->saved_length);
@@ -220,6 +234,7 @@ static const struct move MOVES[] = {
     {names, REFUSES},
     {lacking, REFUSES},
     {subtree, REFUSES},
+    {standing, REFUSES},
     {forget, 0},
     {cut, STEP},
     {opened, STEP},

@@ -19,7 +19,7 @@ from collections.abc import Collection
 from ctypes import POINTER, Structure, byref, string_at
 from ctypes import c_bool, c_char, c_char_p, c_int32, c_int64, c_size_t, c_uint32, c_uint64, c_void_p
 from operator import attrgetter
-from typing import Any, Callable, Iterator, NamedTuple, Optional, TypeVar, Union
+from typing import Any, Callable, Iterable, Iterator, NamedTuple, Optional, TypeVar, Union
 
 from dirwolleu._paths import no_path
 from dirwolleu._root import Root
@@ -30,6 +30,7 @@ VERSION = 3000
 
 OK = 0
 NONE = 1
+WAITS = 2
 HALTED = -1
 NO_MEMORY = -2
 CLOSED = -3
@@ -40,6 +41,7 @@ NO_SUCH_MODE = -7
 NOT_SAVED = -8
 NOT_WHOLE = -9
 TOO_MANY = -10
+NOT_TEXTS = -11
 
 SEND = 1
 ANSWER = 2
@@ -216,6 +218,10 @@ _FUNCTIONS: dict[str, tuple[Any, tuple[Any, ...]]] = {
     "dw_peek_names": (c_int32, (_HANDLE, c_char_p, c_size_t, POINTER(c_char), c_size_t, POINTER(c_size_t))),
     "dw_subtree": (c_int32, (_HANDLE, c_char_p, c_size_t, c_size_t, POINTER(c_char), c_size_t, POINTER(c_size_t))),
     "dw_lacking": (c_int32, (_HANDLE, c_char_p, c_size_t, c_size_t, POINTER(c_char), c_size_t, POINTER(c_size_t))),
+    "dw_standing": (
+        c_int32,
+        (_HANDLE, c_char_p, c_size_t, c_char_p, c_size_t, c_char_p, c_size_t, c_int64, c_char_p, c_size_t, POINTER(c_int64), POINTER(c_char), c_size_t, POINTER(c_size_t)),
+    ),
     "dw_forget": (c_int32, (_HANDLE,)),
 }
 # end of what is made
@@ -352,6 +358,13 @@ class Lacking(NamedTuple):
     side: int
 
 
+class Standing(NamedTuple):
+    """Where a session stands in a directory: first, by a token; or after a rival; or neither is shown."""
+
+    token: Optional[int]
+    rival: Optional[str]
+
+
 class NotWhole(LookupError):
     """Some of the subtree is not kept, or not good."""
 
@@ -399,8 +412,9 @@ def _checked(code: int) -> None:
             NOT_PATH: "the text is no path",
             BAD_TIMEOUT: "the timeout is not 1 to 2147483647 milliseconds",
             NO_SUCH_MODE: "the mode is no sum of EPHEMERAL and SEQUENTIAL",
+            NOT_TEXTS: "there is no marker, or a text is too long",
             NOT_SAVED: "these bytes are no saved session: take all of those that a client has saved",
-        }[_known("result", code, (NOT_TEXT, NOT_PATH, BAD_TIMEOUT, NO_SUCH_MODE, NOT_SAVED))]
+        }[_known("result", code, (NOT_TEXT, NOT_PATH, BAD_TIMEOUT, NO_SUCH_MODE, NOT_SAVED, NOT_TEXTS))]
     )
 
 
@@ -442,6 +456,11 @@ def _lacking_in(spelled: bytes, root: Root) -> Iterator[Lacking]:
         side = int.from_bytes(spelled[at : at + 4], "big")
         at += 4
         yield Lacking(root.read(path or b""), _known("side", side, (DATA_SIDE, CHILDREN_SIDE)))
+
+
+def _spelled(texts: Iterable[str]) -> bytes:
+    """Texts that follow one another, each after its length in four bytes."""
+    return b"".join(len(text).to_bytes(4, "big") + text for text in map(str.encode, texts))
 
 
 class _Room:
@@ -608,6 +627,21 @@ class Machine:
         if spelled is None:
             raise NotWhole(f"a name below {path} makes no path")
         return list(_lacking_in(spelled, self._root))
+
+    def standing(self, directory: str, name: str, names: Iterable[str], listed: int, markers: Iterable[str]) -> Standing:
+        """Where the session stands by its node of this name in a directory, by the names of a listing, which needs no watch,
+        and the zxid of that answer. The first marker is that of the own name, the others are those of its rivals."""
+        spelled, own, room = self._root.spell(directory), name.encode(), _Room()
+        listing, kinds, token, count = _spelled(names), _spelled(markers), c_int64(), c_size_t()
+        contender = (spelled, len(spelled), own, len(own), listing, len(listing), listed, kinds, len(kinds))
+        is_whole = False
+        while not is_whole:
+            given = room.bytes, len(room.bytes)
+            code = _library.dw_standing(self._handle, *contender, byref(token), *given, byref(count))
+            self._check(code, directory)
+            is_whole = not room.widen(count.value)
+        rival = string_at(room.bytes, count.value).decode() if code == WAITS else None
+        return Standing(token.value if code == OK else None, rival)
 
     def forget(self) -> None:
         """Forgets all stale answers."""

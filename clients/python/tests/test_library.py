@@ -224,6 +224,20 @@ class MachineTest(unittest.TestCase):
         with self.assertRaises(ValueError):
             machine.subtree("a", 1)
 
+    def test_who_stands_first_has_a_token_and_others_wait(self) -> None:
+        machine, own, other = connected(), "x-lock-0000000007", "a-lock-0000000008"
+        machine.get_data(200, 1, f"/l/{own}", True)
+        owned = struct.pack(">qqqqiiiqiiq", *Stat(88, 88, 0, 0, 0, 0, 0, 0x1234, 0, 0, 88))
+        machine.received(300, reply(1, 90, 0, buffer(b"") + owned))
+        names, markers = [other, own, "y-0000000001"], ["lock-", "lock-"]
+        self.assertEqual(machine.standing("/l", own, names, 90, markers), (88, None))
+        self.assertEqual(machine.standing("/l", own, names, 87, markers), (None, None))
+        self.assertEqual(machine.standing("/l", other, names, 90, markers), (None, own))
+        with self.assertRaises(ValueError):
+            machine.standing("/l", own, names, 90, [])
+        with self.assertRaises(ValueError):
+            machine.standing("/l", "a/b", names, 90, markers)
+
     def test_a_bad_frame_ends_the_connection(self) -> None:
         machine = connected()
         machine.get_data(200, 1, "/a", False)

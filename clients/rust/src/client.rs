@@ -5,8 +5,10 @@ use crate::ffi::{Call, Handle, KeptData};
 use crate::kept::{mark_of, Children, DataAnswer, Kept, Mark};
 use crate::moment::Moment;
 use crate::node::{Mode, Watch};
+use crate::numbers::result;
 use crate::output::Outputs;
 use crate::saved::SavedSession;
+use crate::standing::{spelled, Contender, Standing};
 use crate::subtree::{lacking_in, nodes_in, Lacking, Subtree};
 use std::fmt;
 use std::time::Duration;
@@ -298,6 +300,30 @@ impl Client {
     pub fn lacking(&self, path: &str, most: usize) -> Result<Vec<Lacking>, Fault> {
         let spelled = whole(|room| self.handle.lacking(path, most, room))?;
         Ok(lacking_in(&spelled))
+    }
+
+    /// Where the session stands in a directory by its node there, and by one listing of it that needs no watch: it stands
+    /// [`First`](Standing::First) where what is kept of the node's data, or that it exists, is good, its owner is this session, no listed
+    /// rival is before it, and the listing is neither older than the node nor newer than [`last_zxid`](Client::last_zxid). It stays so
+    /// while what is kept of its node is good, where numbers rise with creation. It fails as [`peek_data`](Client::peek_data), of the
+    /// directory and of the name.
+    pub fn standing(&self, contender: &Contender<'_>) -> Result<Standing, Fault> {
+        let names = spelled(contender.names.iter().map(String::as_str));
+        let (own, against) = (contender.markers.own, contender.markers.against);
+        let markers = spelled([own].into_iter().chain(against.iter().copied()));
+        let (mut code, mut token) = (0, 0);
+        let rival = whole(|room| {
+            let found = self.handle.standing(contender, &names, &markers, room)?;
+            (code, token) = (found.0, found.1);
+            Ok(found.2)
+        })?;
+        Ok(match code {
+            result::OK => Standing::First { token },
+            result::WAITS => Standing::After {
+                rival: whole_text(rival),
+            },
+            _ => Standing::Unsure,
+        })
     }
 
     /// Forgets all stale answers. What is kept is bounded by nothing but memory: who goes from path to path calls this now and then.

@@ -6,6 +6,7 @@ use crate::fault::{done, done_at, Fault};
 use crate::moment::Moment;
 use crate::node::{DataStat, Mode, Stat, Watch};
 use crate::numbers::{result, VERSION};
+use crate::standing::Contender;
 use std::cell::UnsafeCell;
 use std::ptr;
 
@@ -97,6 +98,7 @@ extern "C" {
     fn dw_peek_names(handle: *mut Raw, path: *const u8, path_length: usize, out: *mut u8, room: usize, count: *mut usize) -> i32;
     fn dw_subtree(handle: *mut Raw, path: *const u8, path_length: usize, most: usize, out: *mut u8, room: usize, count: *mut usize) -> i32;
     fn dw_lacking(handle: *mut Raw, path: *const u8, path_length: usize, most: usize, out: *mut u8, room: usize, count: *mut usize) -> i32;
+    fn dw_standing(handle: *mut Raw, directory: *const u8, directory_length: usize, name: *const u8, name_length: usize, names: *const u8, names_length: usize, listed: i64, markers: *const u8, markers_length: usize, token: *mut i64, out: *mut u8, room: usize, count: *mut usize) -> i32;
     fn dw_forget(handle: *mut Raw) -> i32;
 }
 // end of what is made
@@ -416,6 +418,42 @@ impl Handle {
     /// Copies the reads that are lacking before there is a subtree, as the header spells them.
     pub(crate) fn lacking(&self, path: &str, most: usize, room: &mut [u8]) -> Result<usize, Fault> {
         self.collect(dw_lacking, path, most, room)
+    }
+
+    /// What the library answers of where a session stands, by names and markers that are spelled: its code, the token, and how many bytes
+    /// the name of the rival has, of which it copies as many as there is room for.
+    pub(crate) fn standing(
+        &self,
+        contender: &Contender<'_>,
+        names: &[u8],
+        markers: &[u8],
+        room: &mut [u8],
+    ) -> Result<(i32, i64, usize), Fault> {
+        let (mut token, mut count) = (0, 0);
+        let (directory, name) = (contender.directory, contender.name);
+        // SAFETY: as `Handle` says.
+        let code = unsafe {
+            dw_standing(
+                self.raw.get(),
+                directory.as_ptr(),
+                directory.len(),
+                name.as_ptr(),
+                name.len(),
+                names.as_ptr(),
+                names.len(),
+                contender.listed,
+                markers.as_ptr(),
+                markers.len(),
+                &mut token,
+                room.as_mut_ptr(),
+                room.len(),
+                &mut count,
+            )
+        };
+        if !matches!(code, result::WAITS | result::NONE) {
+            done_at(directory, code)?;
+        }
+        Ok((code, token, count))
     }
 
     /// Forgets stale answers, which an open client always does.

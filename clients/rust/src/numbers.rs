@@ -12,6 +12,7 @@ pub(crate) const VERSION: u32 = 3000;
 pub(crate) mod result {
     pub(crate) const OK: i32 = 0;
     pub(crate) const NONE: i32 = 1;
+    pub(crate) const WAITS: i32 = 2;
     pub(crate) const HALTED: i32 = -1;
     pub(crate) const NO_MEMORY: i32 = -2;
     pub(crate) const CLOSED: i32 = -3;
@@ -22,6 +23,7 @@ pub(crate) mod result {
     pub(crate) const NOT_SAVED: i32 = -8;
     pub(crate) const NOT_WHOLE: i32 = -9;
     pub(crate) const TOO_MANY: i32 = -10;
+    pub(crate) const NOT_TEXTS: i32 = -11;
 }
 
 pub(crate) mod kind {

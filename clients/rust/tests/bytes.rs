@@ -3,8 +3,9 @@
 mod jute;
 
 use dirwolleu::{
-    Brought, Cause, Client, Code, DataAnswer, Fault, Kept, Lacking, Mark, Mode, Moment, NoReply,
-    NodeEvent, Output, Outputs, Reply, SavedSession, Side, State, Subtree, Watch, ANY_VERSION,
+    Brought, Cause, Client, Code, Contender, DataAnswer, Fault, Kept, Lacking, Mark, Markers, Mode,
+    Moment, NoReply, NodeEvent, Output, Outputs, Reply, SavedSession, Side, Standing, State,
+    Subtree, Watch, ANY_VERSION,
 };
 use jute::Record;
 use std::time::Duration;
@@ -346,6 +347,41 @@ fn a_subtree_is_told_once_nothing_is_lacking() {
     );
     assert_eq!(client.subtree("/a", 1), Err(Fault::TooManyNodes));
     assert!(matches!(client.lacking("a", 1), Err(Fault::NotPath { .. })));
+}
+
+#[test]
+fn who_stands_first_has_a_token_and_others_wait() {
+    let mut client = connected();
+    let _ = client
+        .get_data(START, 1, "/l/x-lock-0000000007", Watch::Yes)
+        .unwrap();
+    let longs = Record::reply(1, 90, 0).buffer(b"").long(88).long(88);
+    let owned = longs.long(0).long(0).int(0).int(0).int(0).long(SESSION);
+    let data = owned.int(0).int(0).long(88).framed();
+    let _ = client.bytes(START, &data).unwrap();
+    let names = ["a-lock-0000000008", "x-lock-0000000007", "y-0000000001"].map(String::from);
+    let mut contender = Contender {
+        directory: "/l",
+        name: "x-lock-0000000007",
+        names: &names,
+        listed: 90,
+        markers: Markers {
+            own: "lock-",
+            against: &["lock-"],
+        },
+    };
+    let first = Standing::First { token: 88 };
+    assert_eq!(client.standing(&contender), Ok(first));
+    contender.listed = 87;
+    assert_eq!(client.standing(&contender), Ok(Standing::Unsure));
+    contender.name = "a-lock-0000000008";
+    let rival = String::from("x-lock-0000000007");
+    assert_eq!(client.standing(&contender), Ok(Standing::After { rival }));
+    contender.name = "a/b";
+    assert!(matches!(
+        client.standing(&contender),
+        Err(Fault::NotPath { .. })
+    ));
 }
 
 #[test]

@@ -1,11 +1,11 @@
 -- The numbers that a caller is told.
 use Rattle.std.specs.Prelude.{⊤, ℤ, pos, negsuc, Result, Ok, Err}
 use Rattle.zk_device.specs.declared.refusal.Refusal.{Refusal}
-use Rattle.zk_device.specs.declared.refusal.Refusal.TheVariants.{Halted, Memory, NotText, NotPath, BadTimeout, NoSuchMode, NotSaved, NotWhole, TooMany}
+use Rattle.zk_device.specs.declared.refusal.Refusal.TheVariants.{Halted, Memory, NotText, NotPath, BadTimeout, NoSuchMode, NotSaved, NotWhole, TooMany, NotTexts}
 use Rattle.zk_conclusions.specs.declared.no_subtree.NoSubtree.{NoSubtree}
 use Rattle.zk_conclusions.specs.declared.no_subtree.NoSubtree.TheVariants as why
 
--- the number of a refusal: -1, -2, and -4 to -10
+-- the number of a refusal: -1, -2, and -4 to -11
 abbrev pub refusal_code : Refusal → ℤ
 refusal_code Halted = negsuc 0
 refusal_code Memory = negsuc 1
@@ -16,6 +16,7 @@ refusal_code NoSuchMode = negsuc 6
 refusal_code NotSaved = negsuc 7
 refusal_code NotWhole = negsuc 8
 refusal_code TooMany = negsuc 9
+refusal_code NotTexts = negsuc 10
 
 -- why there is no subtree, as a refusal
 abbrev pub refusal_of : NoSubtree → Refusal

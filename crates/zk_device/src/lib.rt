@@ -11,6 +11,7 @@ mod outputs;
 mod paths;
 mod refusal;
 mod sessions;
+mod standings;
 mod subtrees;
 mod texts;
 
@@ -20,3 +21,4 @@ pub use flat::{Flat, FlatStat};
 pub use kept::{FlatDataStat, KeptData, KeptNames};
 pub use paths::path_of;
 pub use refusal::{Refusal, code_of};
+pub use standings::{Contender, Stands};

@@ -28,6 +28,8 @@ pub enum Refusal {
     NotWhole,
     /// There are more of them than were asked for.
     TooMany,
+    /// The bytes are no texts that follow one another, each after its length.
+    NotTexts,
 }
 
 impl Refusal {
@@ -45,6 +47,7 @@ impl Refusal {
             Refusal::NotSaved => -8,
             Refusal::NotWhole => -9,
             Refusal::TooMany => -10,
+            Refusal::NotTexts => -11,
         }
     }
 }
