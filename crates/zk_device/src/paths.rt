@@ -51,6 +51,6 @@ pub(crate) fn child_of(
     match directory.join(alloc, name) {
         Ok(path) => Ok(path),
         Err(PathFault::Memory) => Err(Refusal::Memory),
-        Err(_) => Err(Refusal::NotPath),
+        Err(_fault) => Err(Refusal::NotPath),
     }
 }

@@ -22,6 +22,8 @@ pub enum Event {
     Peeks(&'static str),
     /// All nodes at and below a path, at most this many, and what is lacking.
     Collects(&'static str, usize),
+    /// Where the session stands in `/l` by its node of this name, by these names that were listed at a zxid.
+    Stands(&'static str, &'static [&'static str], i64),
 }
 
 /// A session that expires.
@@ -90,4 +92,38 @@ pub static COLLECTS: [Event; 18] = [
     Event::Collects("/a/b", 1),
     Event::Collects("/a/", 4),
     Event::Collects("/a", 0),
+];
+
+/// A session that waits for another one's node, and then stands first.
+pub static STANDS: [Event; 14] = [
+    Event::Opens,
+    Event::Creates("/l", None, 0),
+    Event::Creates("/l/a-lock-", None, 2),
+    Event::Creates("/l/x-lock-", None, 3),
+    Event::Stands(
+        "x-lock-0000000001",
+        &["x-lock-0000000001", "a-lock-0000000000"],
+        3,
+    ),
+    Event::Reads("/l/x-lock-0000000001"),
+    Event::Stands(
+        "x-lock-0000000001",
+        &["x-lock-0000000001", "a-lock-0000000000"],
+        3,
+    ),
+    Event::Deletes("/l/a-lock-0000000000", -1),
+    Event::Stands("x-lock-0000000001", &["x-lock-0000000001"], 4),
+    Event::Stands("x-lock-0000000001", &["x-lock-0000000001"], 2),
+    Event::Stands(
+        "x-lock-0000000001",
+        &["a-lock-0000000000", "x-lock-0000000001"],
+        5,
+    ),
+    Event::Stands(
+        "x-lock-0000000001",
+        &["x-lock-0000000001", "a-0000000000"],
+        4,
+    ),
+    Event::Stands("a/b", &[], 4),
+    Event::Stands("x-lock-1", &[], 4),
 ];

@@ -1,7 +1,7 @@
 //! A device and the server that it speaks to.
 
 use crate::devices::events::Event;
-use crate::devices::told::{tell, tell_collected, tell_kept, tell_number};
+use crate::devices::told::{tell, tell_collected, tell_kept, tell_number, tell_standing};
 use anyhow::Result;
 use std::alloc::Global;
 use zk_bench::{Bench, History};
@@ -115,6 +115,9 @@ impl Session {
         }
         if let Event::Collects(path, most) = event {
             return tell_collected(self.alloc, &self.device, path, most, told);
+        }
+        if let Event::Stands(name, names, listed) = event {
+            return tell_standing(self.alloc, &self.device, name, names, listed, told);
         }
         let done = self.happen(event);
         tell_number("event", code_of(done), told)?;

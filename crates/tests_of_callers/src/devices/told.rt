@@ -3,7 +3,7 @@
 use anyhow::Result;
 use std::alloc::Global;
 use std::fmt::Write;
-use zk_device::{Device, Flat, Refusal};
+use zk_device::{Contender, Device, Flat, Refusal, Stands};
 
 /// More outputs than one step has.
 const OUTPUTS: usize = 100;
@@ -144,4 +144,40 @@ pub fn tell_collected(
     tell_copied("nodes", nodes, &room, told)?;
     let lacking = device.lacking(alloc, path.as_bytes(), most, &mut room);
     tell_copied("lacking", lacking, &room, told)
+}
+
+/// A text after its length, which is below 128.
+fn add_text(text: &str, spelled: &mut Vec<u8>) -> Result<()> {
+    let length = u8::try_from(text.len()).unwrap_or(u8::MAX);
+    spelled.extend_from_slice(&[0, 0, 0, length])?;
+    Ok(spelled.extend_from_slice(text.as_bytes())?)
+}
+
+/// Tells where the session stands in `/l`, where names have the marker `lock-` before their number.
+pub fn tell_standing(
+    alloc: Global,
+    device: &Device,
+    name: &str,
+    names: &[&str],
+    listed: i64,
+    told: &mut String,
+) -> Result<()> {
+    let (mut spelled, mut room) = (Vec::new(alloc), [0; ROOM]);
+    for listed_name in names {
+        add_text(*listed_name, &mut spelled)?;
+    }
+    let contender = Contender {
+        directory: b"/l",
+        name: name.as_bytes(),
+        names: spelled.as_slice(),
+        listed,
+        markers: b"\0\0\0\x05lock-\0\0\0\x05lock-",
+    };
+    match device.standing(alloc, &contender, &mut room) {
+        Ok(Stands::First(token)) => writeln!(told, "first {token}")?,
+        Ok(Stands::After(count)) => tell_text(alloc, &room[..count.min(ROOM)], told)?,
+        Ok(Stands::Unsure) => writeln!(told, "unsure")?,
+        Err(refusal) => writeln!(told, "standing {}", refusal.code())?,
+    }
+    Ok(())
 }
