@@ -1,6 +1,6 @@
 -- What is refused leaves the device as it was.
 use mathlib.Core.Path.{refl}
-use Rattle.std.proofs.Common.{inl, inr, subst, sym}
+use Rattle.std.proofs.Common.{inr, subst, sym}
 use Rattle.std.specs.Prelude.{◌≡◌, ◌∷◌, List, ℕ, ℤ, negsuc, Result, Ok, Err, IfErr, IsErrAnd}
 use Rattle.zk_turns.specs.Turns.{Input}
 use Rattle.zk_device.specs.declared.device.Device.{Device}

@@ -1,5 +1,4 @@
-use Rattle.std.proofs.Common.{◌≡◌, ◌++◌, ◌∙◌, ℕ, List, [], Some, length, map, refl, rules, sym}
-use Rattle.std.specs.List.{flat_map}
+use Rattle.std.proofs.Common.{◌≡◌, ◌∙◌, [], map, refl, rules, sym}
 use Rattle.zk_jute.specs.Cursor.{bytes_left}
 use Rattle.zk_device.proofs.Spelled.{no_more, shorter}
 use Rattle.zk_device.proofs.texts.lent_texts.Goals as goal

@@ -1,4 +1,4 @@
-use Rattle.std.proofs.Common.{◌≡◌, ◌++◌, ℕ, Some, length, map}
+use Rattle.std.proofs.Common.{◌≡◌, ◌++◌, Some, length, map}
 use Rattle.std.specs.List.{AllByRecursion, flat_map}
 use Rattle.zk_jute.specs.Cursor.{bytes_left}
 use Rattle.zk_jute.specs.Layout.{ustring}
