@@ -357,15 +357,15 @@ enum dw_result dw_lacking(dw_client *handle, const char *path, size_t path_lengt
 
 /* Tells whether the session stands first in a directory by its node of this name: for locks and elections whose nodes are sequential ones. The
  * names are those of a dw_get_children of the directory, asked without a watch after the node was made, as dw_names copies them; `listed` is the
- * zxid of that answer. A name counts where it ends in ten digits, right after a marker: the markers, spelled as names are, are that of the own
- * kind, and then those of its rivals, as `lock-`, `lock-`. Who has the smaller number is before.
+ * zxid of that answer. A name counts where it ends in ten digits, right after a marker: the markers, spelled as names are, are that of its
+ * kind, and then those of its rivals, as `lock-`, `lock-`. The smaller number is before the greater one.
  *   DW_OK     it stands first at dw_last_zxid, where numbers rise with creation, and stays so while what is kept of its node is good. The
  *             token is written, which is the node's czxid: whoever the lock protects refuses a smaller one than it has seen. So it is where
  *             the node's data, or that it exists, are kept good and its owner is this session; no listed rival is before it; and the listing
  *             is neither older than the node nor newer than dw_last_zxid.
  *   DW_WAITS  the last rival before it is this one, whose name is copied, as many bytes as there is room for, with their count: watch that
  *             node alone, by dw_exists, and list again when it is gone.
- *   DW_NONE   neither is so: read the own node with a watch, or list again.
+ *   DW_NONE   neither is so: read its node with a watch, or list again.
  * Also DW_NO_MEMORY, DW_CLOSED, DW_NOT_TEXT, DW_NOT_PATH, and DW_NOT_TEXTS where names or markers are not spelled so, or there is no marker.
  * The token is 0 unless it answers DW_OK, and the count unless it answers DW_WAITS. */
 enum dw_result dw_standing(dw_client *handle, const char *directory, size_t directory_length, const char *name,

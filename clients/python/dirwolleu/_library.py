@@ -359,7 +359,7 @@ class Lacking(NamedTuple):
 
 
 class Standing(NamedTuple):
-    """Where a session stands in a directory: first, by a token; or after a rival; or neither is shown."""
+    """Whether a session comes first in a directory, by a token; or after a rival; or neither is shown."""
 
     token: Optional[int]
     rival: Optional[str]
@@ -630,7 +630,7 @@ class Machine:
 
     def standing(self, directory: str, name: str, names: Iterable[str], listed: int, markers: Iterable[str]) -> Standing:
         """Where the session stands by its node of this name in a directory, by the names of a listing, which needs no watch,
-        and the zxid of that answer. The first marker is that of the own name, the others are those of its rivals."""
+        and the zxid of that answer. The first marker is that of its name, the others are those of its rivals."""
         spelled, own, room = self._root.spell(directory), name.encode(), _Room()
         listing, kinds, token, count = _spelled(names), _spelled(markers), c_int64(), c_size_t()
         contender = (spelled, len(spelled), own, len(own), listing, len(listing), listed, kinds, len(kinds))

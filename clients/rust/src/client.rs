@@ -302,7 +302,7 @@ impl Client {
         Ok(lacking_in(&spelled))
     }
 
-    /// Where the session stands in a directory by its node there, and by one listing of it that needs no watch: it stands
+    /// Whether the session comes first in a directory by its node there, and by one listing of it that needs no watch: it does so
     /// [`First`](Standing::First) where what is kept of the node's data, or that it exists, is good, its owner is this session, no listed
     /// rival is before it, and the listing is neither older than the node nor newer than [`last_zxid`](Client::last_zxid). It stays so
     /// while what is kept of its node is good, where numbers rise with creation. It fails as [`peek_data`](Client::peek_data), of the

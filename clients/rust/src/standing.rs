@@ -3,9 +3,9 @@
 /// How contenders are named: a name counts where it ends in ten digits, as that of a sequential node does, right after a marker.
 #[derive(Clone, Copy, Debug, PartialEq, Eq)]
 pub struct Markers<'a> {
-    /// That of the own name.
+    /// That of the session's name.
     pub own: &'a str,
-    /// Those of the names of rivals, for which the own one waits.
+    /// Those of the names of rivals, for which it waits.
     pub against: &'a [&'a str],
 }
 
@@ -14,9 +14,9 @@ pub struct Markers<'a> {
 pub struct Contender<'a> {
     /// The path of the directory.
     pub directory: &'a str,
-    /// The name of the own node in it.
+    /// The name of its node there.
     pub name: &'a str,
-    /// The names that a [`get_children`](crate::Client::get_children) of the directory has brought, asked after the own node was made.
+    /// The names that a [`get_children`](crate::Client::get_children) of the directory has brought, asked after that node was made.
     pub names: &'a [String],
     /// The zxid of that reply.
     pub listed: i64,
@@ -24,7 +24,7 @@ pub struct Contender<'a> {
     pub markers: Markers<'a>,
 }
 
-/// Where a session stands in a directory.
+/// Whether a session comes first in a directory.
 #[derive(Clone, Debug, PartialEq, Eq, Hash)]
 pub enum Standing {
     /// First, by this token: the zxid of the transaction that made its node.
@@ -37,7 +37,7 @@ pub enum Standing {
         /// The name.
         rival: String,
     },
-    /// Neither is shown: read the own node with a watch, or list again.
+    /// Neither is shown: read the session's node with a watch, or list again.
     Unsure,
 }
 

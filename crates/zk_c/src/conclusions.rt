@@ -95,8 +95,8 @@ fn write_stands(stands: Result<Stands, Refusal>, token: &mut i64, count: &mut us
     }
 }
 
-/// Tells where the session stands in a directory by its node of this name, by the names of a listing that was answered at a zxid, and by
-/// markers, the own one first: writes its token where it stands first, and else copies the name of the last rival before it.
+/// Tells whether the session comes first in a directory by its node of this name, by the names of a listing that was answered at a zxid,
+/// and by markers, that of its name first: writes its token where it stands first, and else copies the name of the last rival before it.
 #[unsafe(no_mangle)]
 pub extern "C" fn dw_standing(
     alloc: Global,

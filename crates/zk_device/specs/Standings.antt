@@ -1,4 +1,4 @@
--- Where a session stands in a directory, by one listing.
+-- Whether a session comes first in a directory, by one listing.
 use Rattle.std.specs.Prelude.{◌≡◌, ◌≢◌, ⊤, ◌⊎◌, IsSome, ℕ, zero, suc, ℤ, negsuc, List, ◌∷◌, None}
 use Rattle.std.specs.Str.{IsUtf8}
 use Rattle.zk_nodes.specs.Path.{Text, Name, path_of, child_text}
@@ -15,7 +15,7 @@ use Rattle.zk_device.specs.declared.standings.Stands.TheVariants.{First, After, 
 use Rattle.zk_device.specs.Kept.{WritesText}
 use Rattle.zk_device.specs.Texts.{AreTexts, AreNoTexts}
 
--- These bytes spell the names of a listing, and those the markers: the own one, and then those of the rivals.
+-- These bytes spell the names of a listing, and those the markers: that of the session's name, and then those of its rivals.
 pub record IsAsked (names markers : List ℕ) (listing : List Name) (kind : Kind) : Type 0 where
   pub listed : AreTexts listing names
   pub marked : AreTexts (kind.own ∷ kind.against) markers

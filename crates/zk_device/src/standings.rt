@@ -1,4 +1,4 @@
-//! Where a session stands in a directory, by one listing.
+//! Whether a session comes first in a directory, by one listing.
 
 ghost use Rattle.std.specs.Prelude.{◌≡◌, ◌≢◌, [], ◌∷◌, IfErr, IfOk, IfSome, None, OnErr, OnOk, map, string_bytes};
 ghost use Rattle.zk_client.specs.Clients.{view_of};
@@ -29,7 +29,7 @@ pub enum Stands {
 }
 
 /// What is asked of a contender: its directory and its name there; the names of a listing and the zxid of that answer; and the markers,
-/// the own one first. Names and markers follow one another, each after its length.
+/// that of its name first. Names and markers follow one another, each after its length.
 #[derive(Clone, Copy)]
 pub struct Contender<'a> {
     pub directory: &'a [u8],
@@ -60,7 +60,7 @@ fn stands_by(
     }
 }
 
-// How contenders are named, where there is a marker: the first is that of the own name.
+// How contenders are named, where there is a marker: the first is that of the session's name.
 fn kind_in<'a>(markers: &'a [&'a str]) -> Option<Kind<'a>>
     ensures some { IfSome result (λ kind. (kind_of kind).own ∷ (kind_of kind).against ≡ map (λ marker. marker.now) markers.now) }
     ensures none { result ≡ None → markers.now ≡ [] }

@@ -22,7 +22,7 @@ pub enum Event {
     Peeks(&'static str),
     /// All nodes at and below a path, at most this many, and what is lacking.
     Collects(&'static str, usize),
-    /// Where the session stands in `/l` by its node of this name, by these names that were listed at a zxid.
+    /// Whether the session comes first in `/l` by its node of this name, by these names that were listed at a zxid.
     Stands(&'static str, &'static [&'static str], i64),
 }
 

@@ -153,7 +153,7 @@ fn add_text(text: &str, spelled: &mut Vec<u8>) -> Result<()> {
     Ok(spelled.extend_from_slice(text.as_bytes())?)
 }
 
-/// Tells where the session stands in `/l`, where names have the marker `lock-` before their number.
+/// Tells whether the session comes first in `/l`, where names have the marker `lock-` before their number.
 pub fn tell_standing(
     alloc: Global,
     device: &Device,
