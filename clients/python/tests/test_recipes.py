@@ -56,8 +56,10 @@ class RecipeCase(PartnerCase):
 
 class LockTest(RecipeCase):
     def setUp(self) -> None:
-        self.server = self.partner()
-        self.one, self.other = self.client(self.server.host), self.client(self.server.host)
+        self.server, self.root = self.shared_partner(), self.own_root()
+        self.host = self.server.host + self.root
+        self.one, self.other = self.client(self.host), self.client(self.host)
+        self.one.ensure_path("/")
 
     def test_one_holds_and_the_next_has_a_greater_token(self) -> None:
         first, second = Lock(self.one, "/locks/x", "one"), Lock(self.other, "/locks/x", "other")
@@ -92,16 +94,17 @@ class LockTest(RecipeCase):
         self.assertEqual(in_line([curator, "x-lock--0000000001"]), ["x-lock--0000000001", curator])
 
     def test_one_of_kazoo_that_is_first_is_waited_for(self) -> None:
-        self.server.do("create /locks", "create /locks/other", "create /locks/b5a4__lock__0000000000 k")
+        kazoos = f"{self.root}/locks/b5a4__lock__0000000000"
+        self.server.do(f"create {self.root}/locks", f"create {self.root}/locks/other", f"create {kazoos} k")
         waits = self.in_thread(lambda: Lock(self.one, "/locks", "one").acquire(3 * WAIT))
         within(lambda: Lock(self.other, "/locks").contenders() == ["k", "one"])
         time.sleep(0.1)
         self.assertTrue(waits.empty())
-        self.server.do("delete /locks/b5a4__lock__0000000000")
+        self.server.do(f"delete {kazoos}")
         waits.get(timeout=WAIT).release()
 
     def test_each_watches_the_one_before_it_alone(self) -> None:
-        clients = self.one, self.other, self.client(self.server.host)
+        clients = self.one, self.other, self.client(self.host)
         first, second, third = (Lock(client, "/locks") for client in clients)
         held = first.acquire(WAIT)
         waits = self.in_thread(lambda: second.acquire(3 * WAIT))
@@ -186,6 +189,7 @@ class LockTest(RecipeCase):
 
     def test_a_wait_without_a_connection_ends_in_time(self) -> None:
         self.server.do("down")
+        self.addCleanup(self.server.do, "up")
         within(lambda: self.one.state is State.SUSPENDED)
         began = time.monotonic()
         with self.assertRaises(LockTimeout):

@@ -35,8 +35,9 @@ def in_thread(call: Callable[[], Any]) -> queue.Queue[Any]:
 class SharingRules(BothCase):
     def setUp(self) -> None:
         super().setUp()
-        self.server = self.partner()
-        self.one, self.other = self.client(self.server.host), self.client(self.server.host)
+        self.server, self.root = self.shared_partner(), self.own_root()
+        self.one, self.other = (self.client(self.server.host + self.root) for _ in range(2))
+        self.one.ensure_path("/")
 
     def names_below(self, path: str) -> list[str]:
         return sorted(self.one.get_children(path))
@@ -258,7 +259,7 @@ class SharingRules(BothCase):
         self.assertEqual(waits.get(timeout=WAIT), b"one")
         for value, priority in ((b"late", 200), (b"first", 0), (b"a", 100), (b"b", 100)):
             entries.put(value, priority)
-        self.server.do("create /queue/entry-100-0000000003 kazoos")
+        self.server.do(f"create {self.root}/queue/entry-100-0000000003 kazoos")
         self.assertEqual([entries.get(0) for _ in range(5)], [b"first", b"kazoos", b"a", b"b", b"late"])
         with self.assertRaises(ValueError):
             entries.put(b"", 1000)
