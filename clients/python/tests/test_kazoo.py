@@ -769,7 +769,7 @@ class InstallTest(KazooCase):
             program.write(lines)
             program.flush()
             command = [sys.executable, *(words or ("-m", "dirwolleu.kazoo")), program.name, "word"]
-            done = subprocess.run(command, cwd=CLIENTS / "python", capture_output=True, text=True, timeout=WAIT)
+            done = subprocess.run(command, cwd=CLIENTS / "python", capture_output=True, text=True, timeout=6 * WAIT)
         self.assertEqual(done.stderr, "")
         return done.stdout
 

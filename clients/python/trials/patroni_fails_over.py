@@ -23,6 +23,7 @@ import json
 import logging
 import os
 import pathlib
+import random
 import shutil
 import signal
 import socket
@@ -37,19 +38,22 @@ from typing import Any, Callable, NamedTuple, Optional
 
 import psycopg2  # type: ignore[import]
 from kazoo.client import KazooClient  # type: ignore[import]
-from kazoo.exceptions import NoNodeError  # type: ignore[import]
+from kazoo.exceptions import KazooException  # type: ignore[import]
+from kazoo.handlers.threading import KazooTimeoutError  # type: ignore[import]
 
 TTL, LOOP_WAIT, RETRY_TIMEOUT = 10, 2, 3
 """What patroni is told, in seconds."""
-TICK, SYNC_LIMIT = 0.5, 8
+TICK, SYNC_LIMIT = 0.5, 20
 """The tick of the servers, by which the end of a session is rounded up, in seconds, and their `syncLimit` in ticks."""
 LATEST = TTL + 2 * TICK + 1
-"""When the leader's key has to have its next holder at the latest, in seconds after the old one was ended."""
-ELECTION = 2 * SYNC_LIMIT * TICK
-"""How much later that is where the ZooKeeper server that is hit leads the others: the one that they elect counts the
-timeouts of all sessions from then on.
+"""When the leader's key has to have its next holder at the latest, in seconds after the old one was ended.
+
+Servers of ZooKeeper that have lost their leader serve nobody until they have elected another one, and that one counts the
+timeouts of all sessions from then on. So it is in seconds after they serve again, where that is later.
 """
 PATIENCE = 180.0
+PORTS = (20000, 32000)
+_given: set[int] = set()
 BIN = pathlib.Path("/usr/lib/postgresql/15/bin")
 JARS = "/usr/share/java/zookeeper.jar:/usr/share/java/slf4j-simple.jar"
 TOP = pathlib.Path(__file__).resolve().parents[3]
@@ -75,10 +79,13 @@ def within(what: str, condition: Callable[[], Any], seconds: float = PATIENCE) -
 
 
 def free_ports(count: int) -> list[int]:
-    taken = [socket.create_server(("127.0.0.1", 0)) for _ in range(count)]
-    ports = [one.getsockname()[1] for one in taken]
-    for one in taken:
-        one.close()
+    """Ports that nothing listens at, and that the system gives to no connection while a node is down."""
+    ports: list[int] = []
+    while len(ports) < count:
+        port = random.randrange(*PORTS)
+        with contextlib.suppress(OSError), socket.create_server(("127.0.0.1", port)):
+            ports += [port] if port not in _given else []
+            _given.add(port)
     return ports
 
 
@@ -328,6 +335,26 @@ class Lookout(threading.Thread):
             return False
 
 
+class Service(threading.Thread):
+    """Looks whether servers have a leader."""
+
+    def __init__(self, servers: list[Server]) -> None:
+        super().__init__(daemon=True)
+        self._servers, self._is_over, self._last_lack = servers, threading.Event(), 0.0
+        self.start()
+
+    def run(self) -> None:
+        while not self._is_over.wait(0.1):
+            if not any(server.serves(b"leader") for server in self._servers):
+                self._last_lack = time.monotonic()
+
+    def end(self) -> float:
+        """The last moment at which there was none."""
+        self._is_over.set()
+        self.join(PATIENCE)
+        return self._last_lack
+
+
 class Writer(threading.Thread):
     """Writes numbers, one after the other, at whichever node takes them, and remembers which were answered."""
 
@@ -365,14 +392,14 @@ class Found(NamedTuple):
     """When its key has another holder."""
     answered: float
     """When a write is answered."""
-    elects: bool
-    """Whether the ZooKeeper server that was hit led the others."""
+    served: float
+    """Since when there is a leader of the servers: 0 where there was one all the time."""
 
     def is_late(self) -> bool:
-        return self.keyed > LATEST + (ELECTION if self.elects else 0)
+        return self.keyed > LATEST + self.served
 
     def __str__(self) -> str:
-        led = ", which led the others" if self.elects else ""
+        led = f" (ZooKeeper serves after {self.served:.1f} s)" if self.served else ""
         late = ", LATE" if self.is_late() else ""
         return f"{self.kind}{led}: a new leader after {self.keyed:.1f} s, a write after {self.answered:.1f} s{late}"
 
@@ -392,14 +419,17 @@ class Trial:
         for node in self.nodes:
             stack.callback(node.kill)
         within("three servers serve", lambda: all(server.serves() for server in self.servers))
-        self.zk = KazooClient(",".join(f"127.0.0.1:{server.port}" for server in self.servers), timeout=20)
-        self.zk.start(30)
-        stack.callback(self.zk.stop)
+        self.eyes = [KazooClient(f"127.0.0.1:{server.port}", timeout=20) for server in self.servers]
+        for eye in self.eyes:
+            stack.callback(eye.stop)
+            eye.start(30)
+        self.eye = 0
         self.lookout, self.writer = Lookout(self.nodes), Writer(self.nodes)
 
     def text_of(self, name: str) -> str:
-        with contextlib.suppress(NoNodeError):
-            return str(self.zk.retry(self.zk.get, f"/service/trial/{name}")[0].decode())
+        """What a node of the cluster holds, as a server that is not hit has it: nothing where none answers."""
+        with contextlib.suppress(KazooException, KazooTimeoutError):
+            return str(self.eyes[self.eye].get_async(f"/service/trial/{name}").get(timeout=1.0)[0].decode())
         return ""
 
     def leader(self) -> Optional[int]:
@@ -449,7 +479,7 @@ class Trial:
         leader = self.the_leader()
         other = 1 - leader
         hit = self.the_server_of(other)
-        elects = kind.startswith("server") and self.servers[hit].serves(b"leader")
+        self.eye = (hit + 1) % len(self.servers)
         if kind == "server killed":
             self.servers[hit].kill()
         elif kind == "server paused":
@@ -459,14 +489,16 @@ class Trial:
             self.doors.cut(leader)
         else:
             self.nodes[leader].kill()
+        service = Service([server for number, server in enumerate(self.servers) if number != hit or "server" not in kind])
         within("the other node has the leader's key", lambda: self.leader() == other)
         keyed = time.monotonic() - begin
+        served = max(service.end() - begin, 0)
         within("the other node takes writes", lambda: self.nodes[other].takes_writes())
         now = time.monotonic()
         within("a write is answered", lambda: self.writer.has_written_since(now))
         answered = time.monotonic() - begin
         self.mend(kind, leader, hit)
-        return Found(kind, keyed, answered, elects)
+        return Found(kind, keyed, answered, served)
 
     def mend(self, kind: str, leader: int, hit: int) -> None:
         if kind == "server killed":
@@ -523,11 +555,9 @@ def run(folder: pathlib.Path, rounds: int) -> bool:
 
 def tell(found: list[Found], trial: Trial, lost: list[int]) -> bool:
     """Prints what was found, and answers whether all went well."""
-    plain = [one.keyed for one in found if not one.elects]
-    say(f"a new leader after {statistics.median(plain):.1f} s in the middle, {max(plain):.1f} s at most, with a ttl of {TTL} s")
-    led = [one.keyed for one in found if one.elects]
-    if led:
-        say(f"where the ZooKeeper server that was hit led the others: after {max(led):.1f} s at most, in {len(led)} rounds")
+    since = [one.keyed - one.served for one in found]
+    say(f"a new leader after {statistics.median(since):.1f} s in the middle, {max(since):.1f} s at most, with a ttl of {TTL} s,")
+    say(f"counted from when the servers serve again in {sum(one.served > 0 for one in found)} rounds")
     say(f"{len(trial.writer.answered)} writes were answered, {len(lost)} of them are lost")
     say(f"of {trial.lookout.looks} looks, {len(trial.lookout.doubles)} found two nodes that take writes")
     late = [one for one in found if one.is_late()]
