@@ -98,9 +98,10 @@ static inline void dws_finish(dws_session *s, dws_call *call, int32_t why)
     }
 }
 
+/* Answers as many calls as there are in a line. A callback may take others out of it. */
 static inline void dws_finish_all(dws_session *s, struct dws_line *line, int32_t why)
 {
-    for (size_t count = line->count; count > 0; count--) {
+    for (size_t count = line->count; count > 0 && line->count > 0; count--) {
         dws_finish(s, dws_remove(line, &line->first), why);
     }
 }
@@ -477,20 +478,32 @@ static inline void dws_send(dws_session *s, dws_call *call)
     }
 }
 
+/* The first call of the queue that can be asked, or has waited for a connection for too long; NULL where there is none. */
+static inline dws_call *dws_next_queued(dws_session *s, bool is_connected)
+{
+    dws_call **at = &s->queue.first;
+    for (size_t i = 0; i < s->queue.count && s->sent.count < DWS_MOST_PENDING; i++) {
+        if ((is_connected ? (*at)->again_ms : (*at)->until_ms) <= s->now_ms) {
+            return dws_remove(&s->queue, at);
+        }
+        at = &(*at)->next;
+    }
+    return NULL;
+}
+
 /* Asks what waits, where a server has accepted the session. What has waited for that for too long is answered. */
 static inline void dws_send_queued(dws_session *s)
 {
-    dws_call **at = &s->queue.first;
-    for (size_t count = s->queue.count; count > 0 && s->queue.count > 0; count--) {
-        dws_call *call = *at;
-        bool is_connected = dw_state(&s->client) == DW_STATE_CONNECTED;
-        if (is_connected && call->again_ms <= s->now_ms && s->sent.count < DWS_MOST_PENDING) {
-            dws_send(s, dws_remove(&s->queue, at));
-        } else if (!is_connected && call->until_ms <= s->now_ms) {
-            dws_finish(s, dws_remove(&s->queue, at), DW_OUTCOME_NOT_CONNECTED);
+    bool is_connected = dw_state(&s->client) == DW_STATE_CONNECTED;
+    dws_call *call = dws_next_queued(s, is_connected);
+    for (size_t count = s->queue.count; call != NULL && s->result == DW_OK; count--) {
+        if (is_connected) {
+            dws_send(s, call);
         } else {
-            at = &call->next;
+            dws_finish(s, call, DW_OUTCOME_NOT_CONNECTED);
         }
+        is_connected = dw_state(&s->client) == DW_STATE_CONNECTED;
+        call = count > 0 ? dws_next_queued(s, is_connected) : NULL;
     }
 }
 

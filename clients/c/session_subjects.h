@@ -103,13 +103,13 @@ static inline bool dws_look_at_children(dws_session *s, dws_subject *subject, en
 /* Looks at all subjects, with no step between: those that are good are of one moment, that of the last zxid. */
 static inline void dws_look(dws_session *s)
 {
-    for (dws_subject *one = s->subjects; one != NULL; one = one->next) {
-        enum dw_result result = DW_OK;
+    enum dw_result result = DW_OK;
+    for (dws_subject *one = s->subjects; one != NULL && result == DW_OK; one = one->next) {
         bool is_changed = one->side == DW_SIDE_DATA ? dws_look_at_node(s, one, &result) : dws_look_at_children(s, one, &result);
         one->is_changed = one->is_changed || is_changed;
-        if (result != DW_OK) {
-            dws_fail(s, result);
-        }
+    }
+    if (result != DW_OK) {
+        dws_fail(s, result);
     }
 }
 
