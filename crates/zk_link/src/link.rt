@@ -102,13 +102,6 @@ impl<'a, A: Allocator + Copy, D: Dial + Drop, C: Clock + Drop> Link<'a, A, D, C>
         self.clock.now().max(self.joint.latest)
     }
 
-    /// The latest moment that the client was told, and 0 before the first.
-    pub fn latest(&self) -> u64
-        ensures { result ≡ self.now.joint.latest }
-    {
-        self.joint.latest
-    }
-
     /// Hands in a call, at the clock's moment.
     pub fn ask(
         &mut self,
@@ -179,19 +172,6 @@ impl<'a, A: Allocator + Copy, D: Dial + Drop, C: Clock + Drop> Link<'a, A, D, C>
             self.round(until, outputs)?;
         }
         self.joint.tell(until, outputs)
-    }
-
-    /// Goes on by one read, one attempt to connect or one pause, where [`go_on`](Link::go_on) makes as many as it takes: for a caller that
-    /// tells of attempts which fail. It waits no longer than that, and does nothing where this moment was told, or the session is over.
-    #[tactic(auto, using(crate::proofs::TrailLemmas::nothing))]
-    pub fn step(&mut self, until: u64, outputs: &mut Vec<Output<A>, A>) -> Result<(), Stop>
-        ensures ok { OnOk result (Comes (trail_of self.old.joint outputs.old.items) (trail_of self.new.joint outputs.new.items)) }
-        ensures err { IfErr result (λ stop. Stops stop (trail_of self.old.joint outputs.old.items) (trail_of self.new.joint outputs.new.items)) }
-    {
-        if self.is_done(until) {
-            return Ok(());
-        }
-        self.round(until, outputs)
     }
 
     /// Whether the moment was told, or the session is over.

@@ -1,12 +1,12 @@
 -- What is printed, one piece after another.
-use Rattle.std.proofs.Common.{◌≡◌, ◌≢◌, ◌<◌, ◌≤◌, ◌⊎◌, inl, inr, ℕ, ℤ, length, map, Bool, true, false, List, [], ◌∷◌, ◌++◌, refl, sym, ap, subst, ◌∙◌, append_assoc}
+use Rattle.std.proofs.Common.{arith, ◌+◌, ◌≡◌, ◌≢◌, ◌<◌, ◌≤◌, ◌⊎◌, inl, inr, ℕ, ℤ, length, map, Bool, true, false, List, [], ◌∷◌, ◌++◌, refl, sym, ap, subst, ◌∙◌, append_assoc}
 use Rattle.std.specs.Prelude.{Option, Result, Ok, Err, OnOk, codes}
 use Rattle.std.specs.Io.KnownBytes.{Appends}
 use Rattle.std.proofs.KnownBytes.{Appends-nil, Appends-trans}
 use Rattle.std.specs.List.{filter, slice_index_or, slice_set, Contains, FoldsTo}
-use Rattle.std.proofs.lemmas.List.{append-nil, length-map}
+use Rattle.std.proofs.lemmas.List.{append-nil, get_or_default, get_or-set_other, get_or-set_same, length-map, length-set}
 use Rattle.std.proofs.Math.ListN.{get_or-map}
-use Rattle.std.proofs.Math.Nat.{le_trans}
+use Rattle.std.proofs.Math.Nat.{eq-or-lt_of_le, le_trans}
 use Rattle.zk_nodes.specs.Path.{Text}
 use Rattle.zk_nodes.specs.declared.side.Side.{Side}
 use Rattle.zk_session.specs.declared.states.State.TheVariants.{Expired}
@@ -82,11 +82,12 @@ came old new comes = (comes.turns, takes_of comes.turns old new comes.goes)
 -- and of a call
 pub asked : (old new : Trail) (input : Input) → Asks old input new → (turns : List Turn) × FoldsTo Takes old turns new
 asked old new input asks =
-    let turn : Turn = record { input = input; outputs = asks.outputs } in
-    (asks.first.turns ++ (turn ∷ asks.rest.turns),
-    folds_behind asks.first.turns (turn ∷ asks.rest.turns) old asks.before new
-    (takes_of asks.first.turns old asks.before asks.first.goes)
-    (asks.between, asks.takes, takes_of asks.rest.turns asks.between new asks.rest.goes))
+    let turn : Turn = record { input = input; outputs = asks.outputs } in (
+      asks.first.turns ++ (turn ∷ asks.rest.turns),
+      folds_behind asks.first.turns (turn ∷ asks.rest.turns) old asks.before new
+          (takes_of asks.first.turns old asks.before asks.first.goes)
+          (asks.between, asks.takes, takes_of asks.rest.turns asks.between new asks.rest.goes),
+    )
 
 -- what stands at a place is watched
 pub among : {A : Type 0} (subjects : List (Subject A)) (index : ℕ) (subject : Subject A) → index < length subjects → subject ≡ slice_index_or subjects index subject
@@ -185,6 +186,44 @@ module _ (task : Task) where
       let here = all_stood moves runs.0 runs.2 last runs.4 before.1 in
       ((here.0, before.0), here.1)
 
+  -- ---- what is current
+
+  -- at a place stands one subject
+  one_aim : (place : ℕ) (side other : Side) (path text : Text) → IsAt task.aims place side path → IsAt task.aims place other text → (other, text) ≡ (side, path)
+  one_aim place side other path text one two = sym two.1 ∙ get_or_default task.aims place (other, text) (side, path) two.0 ∙ one.1
+
+  pub here_shown : (view : View) (shown : List (List ℕ)) (index : ℕ) (side : Side) (path : Text) (line : List ℕ) → IsAt task.aims index side path → IsLook task.style view side path line
+      → (index < length shown → slice_index_or shown index [] ≡ line) → IsCurrentAt task view shown index
+  here_shown view shown index side path line here look is other text stands below =
+      subst (λ (aim : Side × Text). IsLook task.style view aim.0 aim.1 (slice_index_or shown index [])) (sym (one_aim index side other path text here stands))
+      (subst (λ (l : List ℕ). IsLook task.style view side path l) (sym (is below)) look)
+
+  pub here_set : (view : View) (shown : List (List ℕ)) (index : ℕ) (side : Side) (path : Text) (line : List ℕ) → IsAt task.aims index side path → IsLook task.style view side path line
+      → IsCurrentAt task view (slice_set shown index line) index
+  here_set view shown index side path line here look =
+      here_shown view (slice_set shown index line) index side path line here look
+      (λ below. get_or-set_same shown index line [] (subst (λ (n : ℕ). index < n) (length-set shown index line) below))
+
+  pub others_set : (view : View) (shown : List (List ℕ)) (index : ℕ) (line : List ℕ) (place : ℕ) → place ≢ index → IsCurrentAt task view shown place
+      → IsCurrentAt task view (slice_set shown index line) place
+  others_set view shown index line place differs current side path stands below =
+      subst (λ (l : List ℕ). IsLook task.style view side path l) (sym (get_or-set_other shown index place line [] differs))
+      (current side path stands (subst (λ (n : ℕ). place < n) (length-set shown index line) below))
+
+  still : (view : View) (old new : List (List ℕ)) (index place : ℕ) → ((place : ℕ) → place < index → IsCurrentAt task view old place) → IsCurrentAt task view new index
+      → ((place : ℕ) → place ≢ index → IsCurrentAt task view old place → IsCurrentAt task view new place) → (place ≡ index) ⊎ (place < index) → IsCurrentAt task view new place
+  still view old new index place so_far here others (inl is) = subst (λ (p : ℕ). IsCurrentAt task view new p) (sym is) here
+  still view old new index place so_far here others (inr below) = others place (λ same. omega (arith, below, same)) (so_far place below)
+
+  -- one more subject
+  pub next_current : (view : View) (old new : List (List ℕ)) (index : ℕ) → ((place : ℕ) → place < index → IsCurrentAt task view old place) → IsCurrentAt task view new index
+      → ((place : ℕ) → place ≢ index → IsCurrentAt task view old place → IsCurrentAt task view new place) → (place : ℕ) → place < index + 1 → IsCurrentAt task view new place
+  next_current view old new index so_far here others place below = still view old new index place so_far here others (eq-or-lt_of_le (omega (arith, below)))
+
+  -- all of them
+  pub all_current : (stage : Stage) (count : ℕ) → length task.aims ≡ count → ((place : ℕ) → place < count → IsCurrentAt task stage.trail.view stage.shown place) → IsCurrent task stage
+  all_current stage count same so_far place side path stands below = so_far place (subst (λ (n : ℕ). place < n) same stands.0) side path stands below
+
   -- ---- rounds
 
   pub no_rounds : (first : Stage) (a : Option (List ℕ)) → (text : List ℕ) × RunsShort task first text × Appends a a text
@@ -225,6 +264,6 @@ module _ (task : Task) where
     closes = runs.3;
     last = runs.4;
     closing = runs.8;
-    text = runs.9;
+    whole = runs.9;
     stood = (each_stood runs.0 first runs.2 runs.1 runs.5 (record { start = new_start timeout; items = []; stands = s })).0;
   }

@@ -309,5 +309,5 @@ pub record IsWatched (task : Task) (for_ms : Option ℕ) (end : End) (text : Lis
   pub closes : List ℕ
   pub last : Stage
   pub closing : Prints task between closes last
-  pub text : text ≡ told ++ closes
+  pub whole : text ≡ told ++ closes
   pub stood : EachStood rounds

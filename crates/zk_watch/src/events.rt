@@ -71,7 +71,7 @@ fn push_object<A: Allocator + Copy>(
     event: &Event<'_>,
     says: &str,
 ) -> Result<(), AllocError>
-    ensures { OnOk result (string_bytes text.new ≡ string_bytes text.old ++ json_event now.now event.now.key.now event.now.name.now event.now.event.now says.now) }
+    ensures { OnOk result (string_bytes text.new ≡ string_bytes text.old ++ json_event now.now event.entry.now.key.now event.entry.now.name.now event.entry.now.event.now says.now) }
 {
     push_front(text, alloc, now, event.key, event.name)?;
     text.push_str(",\"event\":")?;
@@ -90,7 +90,7 @@ pub(crate) fn push_event<A: Allocator + Copy>(
     event: &Event<'_>,
     says: &str,
 ) -> Result<(), AllocError>
-    ensures { OnOk result (string_bytes text.new ≡ string_bytes text.old ++ event_line style now.now event.now.key.now event.now.name.now event.now.event.now says.now) }
+    ensures { OnOk result (string_bytes text.new ≡ string_bytes text.old ++ event_line style now.now event.entry.now.key.now event.entry.now.name.now event.entry.now.event.now says.now) }
 {
     if style.is_json() {
         push_object(text, alloc, now, event, says)

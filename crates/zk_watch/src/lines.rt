@@ -1,6 +1,6 @@
 //! Lines of what is kept of a subject.
 
-ghost use Rattle.std.specs.Prelude.{◌≡◌, ◌++◌, ◌∷◌, false, true, ℕ, List, IfOk, IfSome, OnOk, string_bytes};
+ghost use Rattle.std.specs.Prelude.{◌≡◌, ◌++◌, ◌∷◌, [], false, true, ℕ, List, IfOk, IfSome, OnOk, string_bytes};
 ghost use Rattle.zk_client.specs.Clients.{view_of};
 ghost use Rattle.zk_replay.specs.ClientLines.{PeekLine};
 ghost use Rattle.zk_replay.specs.Played.{DoesClient};

@@ -4,7 +4,7 @@ ghost use Rattle.std.specs.Prelude.{◌≡◌};
 ghost use Rattle.zk_watch.specs.Spoken.{is_json, is_lines, is_text_style};
 
 /// How lines are printed.
-#[derive(Clone, Copy, Debug, PartialEq, Eq)]
+#[derive(Clone, Copy, PartialEq, Eq)]
 pub enum Style {
     /// Words that are easily read by a program, with no time: states, faults and answers as `zk_replay` prints them.
     Lines,

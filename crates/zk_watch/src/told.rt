@@ -88,7 +88,7 @@ pub(crate) fn push_missed<A: Allocator + Copy>(
     alloc: A,
     facts: &Facts<'_>,
 ) -> Result<(), AllocError>
-    ensures { OnOk result ((told : List ℕ) × TellsMissed facts.now.style told × (string_bytes text.new ≡ string_bytes text.old ++ told)) }
+    ensures { OnOk result ((told : List ℕ) × TellsMissed facts.entry.now.style told × (string_bytes text.new ≡ string_bytes text.old ++ told)) }
 {
     let Some(why) = facts.missed else {
         return Ok(());
@@ -111,7 +111,7 @@ pub(crate) fn push_begins<A: Allocator + Copy>(
     alloc: A,
     facts: &Facts<'_>,
 ) -> Result<(), AllocError>
-    ensures { OnOk result ((told : List ℕ) × TellsBegins facts.now.style told × (string_bytes text.new ≡ string_bytes text.old ++ told)) }
+    ensures { OnOk result ((told : List ℕ) × TellsBegins facts.entry.now.style told × (string_bytes text.new ≡ string_bytes text.old ++ told)) }
 {
     if facts.style.is_lines() {
         return text.push_str("session new\n");
@@ -138,7 +138,7 @@ fn push_state<A: Allocator + Copy>(
     facts: &Facts<'_>,
     state: State,
 ) -> Result<(), AllocError>
-    ensures { OnOk result ((told : List ℕ) × Speaks facts.now.style [] facts.now.timeout_ms (Enters state) told × (string_bytes text.new ≡ string_bytes text.old ++ told)) }
+    ensures { OnOk result ((told : List ℕ) × Speaks facts.entry.now.style [] facts.entry.now.timeout_ms (Enters state) told × (string_bytes text.new ≡ string_bytes text.old ++ told)) }
 {
     let event = Event {
         key: "server",
@@ -163,7 +163,7 @@ fn push_drop<A: Allocator + Copy>(
     facts: &Facts<'_>,
     fault: &Fault,
 ) -> Result<(), AllocError>
-    ensures { OnOk result ((told : List ℕ) × Speaks facts.now.style [] facts.now.timeout_ms (Drop (fault_view fault.now)) told × (string_bytes text.new ≡ string_bytes text.old ++ told)) }
+    ensures { OnOk result ((told : List ℕ) × Speaks facts.entry.now.style [] facts.entry.now.timeout_ms (Drop (fault_view fault.now)) told × (string_bytes text.new ≡ string_bytes text.old ++ told)) }
 {
     let event = Event {
         key: "server",
@@ -192,7 +192,7 @@ fn push_refusal<A: Allocator + Copy>(
     outcome: &Outcome<A>,
 ) -> Result<(), AllocError>
     requires { is_denied (outcome_view outcome.now) ≡ true }
-    ensures { OnOk result ((told : List ℕ) × ((told ≡ []) ⊎ Speaks facts.now.style (aims_of subjects.now) facts.now.timeout_ms (Answer ticket (outcome_view outcome.now)) told) × (string_bytes text.new ≡ string_bytes text.old ++ told)) }
+    ensures { OnOk result ((told : List ℕ) × ((told ≡ []) ⊎ Speaks facts.entry.now.style (aims_of subjects.now) facts.entry.now.timeout_ms (Answer ticket (outcome_view outcome.now)) told) × (string_bytes text.new ≡ string_bytes text.old ++ told)) }
 {
     let Some(subject) = subject_of(subjects, ticket) else {
         return Ok(());
@@ -215,7 +215,7 @@ fn push_heard<A: Allocator + Copy>(
     facts: &Facts<'_>,
     output: &Output<A>,
 ) -> Result<(), AllocError>
-    ensures { OnOk result ((told : List ℕ) × TellsHeard facts.now.style (aims_of subjects.now) facts.now.timeout_ms (output_view output.now) told × (string_bytes text.new ≡ string_bytes text.old ++ told)) }
+    ensures { OnOk result ((told : List ℕ) × TellsHeard facts.entry.now.style (aims_of subjects.now) facts.entry.now.timeout_ms (output_view output.now) told × (string_bytes text.new ≡ string_bytes text.old ++ told)) }
 {
     if !is_told(notes, output, facts.now) {
         return Ok(());
@@ -241,7 +241,7 @@ pub(crate) fn heard_text<A: Allocator + Copy>(
     facts: &Facts<'_>,
     outputs: &[Output<A>],
 ) -> Result<String<A>, AllocError>
-    ensures { IfOk result (λ text. TellsEach facts.now.style (aims_of subjects.now) facts.now.timeout_ms (said outputs.now) (string_bytes text)) }
+    ensures { IfOk result (λ text. TellsEach facts.entry.now.style (aims_of subjects.now) facts.entry.now.timeout_ms (said outputs.now) (string_bytes text)) }
 {
     let mut text = String::new(alloc);
     for output in outputs {

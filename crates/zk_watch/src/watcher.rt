@@ -1,7 +1,8 @@
 //! A link, and what was printed of subjects.
 
-ghost use Rattle.std.specs.Prelude.{◌≡◌, ◌≢◌, ◌≤◌, ◌++◌, true, IfErr, List, map, ℕ, ℤ, OnOk, string_bytes};
+ghost use Rattle.std.specs.Prelude.{◌≡◌, ◌≢◌, ◌≤◌, ◌++◌, true, IfErr, IfOk, List, map, ℕ, ℤ, OnOk, string_bytes};
 ghost use Rattle.std.specs.Io.KnownBytes.{Appends};
+ghost use Rattle.zk_turns.specs.Past.{is_final};
 ghost use Rattle.zk_client.specs.Clients.{view_of};
 ghost use Rattle.zk_client.specs.Views.{said};
 ghost use Rattle.zk_watch.specs.Watching.{aims_of, begun, end_of, is_over, is_short, least_end, met_after, none_of, short_end, stage_at, task_of, Adds, IsCurrent, IsCurrentAt, Prints, RunsOut, RunsShort, Stage, TellsEach, TellsMissed};
@@ -13,7 +14,7 @@ use crate::notes::{Note, begin_read, first_moment, new_notes};
 use crate::plan::{Plan, Subject};
 use crate::shown::{first_shown, is_shown, set_shown};
 use crate::told::{Facts, has_met, heard_text, push_begins, push_missed, why_of};
-use crate::wire::{Overheard, take};
+use crate::wire::{Overheard, allow, take};
 use std::alloc::{AllocError, Allocator};
 use std::cell::RefCell;
 use std::io::Write;
@@ -22,6 +23,12 @@ use zk_link::{Clock, Dial, Link};
 
 /// The ticket of the call that ends the session. Those of reads begin at 1.
 const CLOSE: u64 = 0;
+
+/// How long to go on at once where there is no connection, in milliseconds.
+const TICK_MS: u64 = 50;
+
+/// The shortest time that an attempt to connect has, in milliseconds, whatever the timeout.
+const SHORTEST_DIAL_MS: u64 = 1_000;
 
 /// A link, and what is known of the reads of the subjects and was printed of them.
 #[derive(Drop)]
@@ -103,7 +110,7 @@ impl<'a, A: Allocator + Copy, D: Dial + Drop, C: Clock + Drop> Watcher<'a, A, D,
         ensures joint { self.new.link.joint ≡ self.old.link.joint }
         ensures shown { self.new.shown ≡ self.old.shown }
         ensures met { self.new.is_met ≡ self.old.is_met }
-        ensures style { result.style ≡ plan.now.style }
+        ensures style { result.style ≡ plan.entry.now.style }
         ensures timeout { result.timeout_ms ≡ (view_of self.old.link.joint.client).saved.session.timeout }
     {
         let overheard = take(self.wire);
@@ -131,8 +138,8 @@ impl<'a, A: Allocator + Copy, D: Dial + Drop, C: Clock + Drop> Watcher<'a, A, D,
         ensures joint { self.new.link.joint ≡ self.old.link.joint }
         ensures shown { self.new.shown ≡ self.old.shown }
         ensures met { OnOk result (self.new.is_met ≡ met_after (said outputs.now) self.old.is_met) }
-        ensures told { OnOk result ((missed told : List ℕ) × TellsMissed plan.now.style missed
-            × TellsEach plan.now.style (aims_of plan.now.subjects.items) (view_of self.old.link.joint.client).saved.session.timeout (said outputs.now) told
+        ensures told { OnOk result ((missed told : List ℕ) × TellsMissed plan.entry.now.style missed
+            × TellsEach plan.entry.now.style (aims_of plan.entry.now.subjects.items) (view_of self.old.link.joint.client).saved.session.timeout (said outputs.now) told
             × (string_bytes text.new ≡ string_bytes text.old ++ (missed ++ told))) }
     {
         let facts = self.facts(plan, outputs);
@@ -148,14 +155,22 @@ impl<'a, A: Allocator + Copy, D: Dial + Drop, C: Clock + Drop> Watcher<'a, A, D,
         text.push_str(told.as_str())
     }
 
-    /// Goes on by a step, until this moment at most, and adds what is printed of what the client says.
-    fn come(&mut self, plan: &Plan<'_, A>, until: u64, text: &mut String<A>) -> Result<(), Short>
-        ensures { OnOk result (Adds (task_of plan.now.style plan.now.subjects.items) (stage_at self.old.link.joint (map string_bytes self.old.shown.items) self.old.is_met) (string_bytes text.old) (stage_at self.new.link.joint (map string_bytes self.new.shown.items) self.new.is_met) (string_bytes text.new)) }
+    /// Whether the session is over.
+    fn is_final(&self) -> bool
+        ensures { result ≡ is_final (view_of self.now.link.joint.client).standing.state }
+    {
+        self.link.client().state().is_final()
+    }
+
+    /// Goes on until this moment, or until the client says something, and adds what is printed of that. Whether the moment was told.
+    fn come(&mut self, plan: &Plan<'_, A>, until: u64, text: &mut String<A>) -> Result<bool, Short>
+        ensures adds { OnOk result (Adds (task_of plan.entry.now.style plan.entry.now.subjects.items) (stage_at self.old.link.joint (map string_bytes self.old.shown.items) self.old.is_met) (string_bytes text.old) (stage_at self.new.link.joint (map string_bytes self.new.shown.items) self.new.is_met) (string_bytes text.new)) }
+        ensures told { IfOk result (λ is_told. is_told ≡ true → until ≤ self.new.link.joint.latest) }
     {
         let mut outputs = Vec::new(self.alloc);
-        self.link.step(until, &mut outputs)?;
+        self.link.go_on(until, &mut outputs)?;
         self.hear(plan, outputs.as_slice(), text)?;
-        Ok(())
+        Ok(outputs.is_empty() && !self.is_final())
     }
 
     /// Hands in a call, and adds what is printed of what the client says.
@@ -166,7 +181,7 @@ impl<'a, A: Allocator + Copy, D: Dial + Drop, C: Clock + Drop> Watcher<'a, A, D,
         call: Call<A>,
         text: &mut String<A>,
     ) -> Result<(), Short>
-        ensures { OnOk result (Adds (task_of plan.now.style plan.now.subjects.items) (stage_at self.old.link.joint (map string_bytes self.old.shown.items) self.old.is_met) (string_bytes text.old) (stage_at self.new.link.joint (map string_bytes self.new.shown.items) self.new.is_met) (string_bytes text.new)) }
+        ensures { OnOk result (Adds (task_of plan.entry.now.style plan.entry.now.subjects.items) (stage_at self.old.link.joint (map string_bytes self.old.shown.items) self.old.is_met) (string_bytes text.old) (stage_at self.new.link.joint (map string_bytes self.new.shown.items) self.new.is_met) (string_bytes text.new)) }
     {
         let mut outputs = Vec::new(self.alloc);
         self.link.ask(ticket, call, &mut outputs)?;
@@ -190,11 +205,12 @@ impl<'a, A: Allocator + Copy, D: Dial + Drop, C: Clock + Drop> Watcher<'a, A, D,
 
     /// Begins another session where this one has expired, and says so.
     fn begin_anew(&mut self, plan: &Plan<'_, A>, text: &mut String<A>) -> Result<(), Short>
-        ensures { OnOk result (Adds (task_of plan.now.style plan.now.subjects.items) (stage_at self.old.link.joint (map string_bytes self.old.shown.items) self.old.is_met) (string_bytes text.old) (stage_at self.new.link.joint (map string_bytes self.new.shown.items) self.new.is_met) (string_bytes text.new)) }
+        ensures { OnOk result (Adds (task_of plan.entry.now.style plan.entry.now.subjects.items) (stage_at self.old.link.joint (map string_bytes self.old.shown.items) self.old.is_met) (string_bytes text.old) (stage_at self.new.link.joint (map string_bytes self.new.shown.items) self.new.is_met) (string_bytes text.new)) }
     {
         if self.is_expired() {
             self.renew()?;
-            let facts = self.facts(plan, &[]);
+            let nothing = Vec::new(self.alloc);
+            let facts = self.facts(plan, nothing.as_slice());
             push_begins(text, self.alloc, &facts)?;
         }
         Ok(())
@@ -206,7 +222,7 @@ impl<'a, A: Allocator + Copy, D: Dial + Drop, C: Clock + Drop> Watcher<'a, A, D,
         ensures shown { self.new.shown ≡ self.old.shown }
         ensures met { self.new.is_met ≡ self.old.is_met }
     {
-        let Some(subject) = plan.subjects.get(index) else {
+        let Some(subject) = plan.subjects.as_slice().get(index) else {
             return Ok(None);
         };
         let now = self.link.now();
@@ -224,7 +240,7 @@ impl<'a, A: Allocator + Copy, D: Dial + Drop, C: Clock + Drop> Watcher<'a, A, D,
         index: usize,
         text: &mut String<A>,
     ) -> Result<(), Short>
-        ensures { OnOk result (Adds (task_of plan.now.style plan.now.subjects.items) (stage_at self.old.link.joint (map string_bytes self.old.shown.items) self.old.is_met) (string_bytes text.old) (stage_at self.new.link.joint (map string_bytes self.new.shown.items) self.new.is_met) (string_bytes text.new)) }
+        ensures { OnOk result (Adds (task_of plan.entry.now.style plan.entry.now.subjects.items) (stage_at self.old.link.joint (map string_bytes self.old.shown.items) self.old.is_met) (string_bytes text.old) (stage_at self.new.link.joint (map string_bytes self.new.shown.items) self.new.is_met) (string_bytes text.new)) }
     {
         if !self.is_connected() {
             return Ok(());
@@ -237,9 +253,9 @@ impl<'a, A: Allocator + Copy, D: Dial + Drop, C: Clock + Drop> Watcher<'a, A, D,
 
     /// Reads each subject that is to be read.
     fn read_all(&mut self, plan: &Plan<'_, A>, text: &mut String<A>) -> Result<(), Short>
-        ensures { OnOk result (Adds (task_of plan.now.style plan.now.subjects.items) (stage_at self.old.link.joint (map string_bytes self.old.shown.items) self.old.is_met) (string_bytes text.old) (stage_at self.new.link.joint (map string_bytes self.new.shown.items) self.new.is_met) (string_bytes text.new)) }
+        ensures { OnOk result (Adds (task_of plan.entry.now.style plan.entry.now.subjects.items) (stage_at self.old.link.joint (map string_bytes self.old.shown.items) self.old.is_met) (string_bytes text.old) (stage_at self.new.link.joint (map string_bytes self.new.shown.items) self.new.is_met) (string_bytes text.new)) }
     {
-        for index in 0..plan.subjects.len() {
+        for index in 0..plan.subjects.as_slice().len() {
             self.read_at(plan, index, text)?;
         }
         Ok(())
@@ -253,13 +269,13 @@ impl<'a, A: Allocator + Copy, D: Dial + Drop, C: Clock + Drop> Watcher<'a, A, D,
         text: &mut String<A>,
     ) -> Result<(), AllocError>
         ensures joint { self.new.link.joint ≡ self.old.link.joint }
-        ensures adds { OnOk result (Adds (task_of plan.now.style plan.now.subjects.items) (stage_at self.old.link.joint (map string_bytes self.old.shown.items) self.old.is_met) (string_bytes text.old) (stage_at self.new.link.joint (map string_bytes self.new.shown.items) self.new.is_met) (string_bytes text.new)) }
-        ensures here { OnOk result (IsCurrentAt (task_of plan.now.style plan.now.subjects.items) (view_of self.old.link.joint.client) (map string_bytes self.new.shown.items) index) }
+        ensures adds { OnOk result (Adds (task_of plan.entry.now.style plan.entry.now.subjects.items) (stage_at self.old.link.joint (map string_bytes self.old.shown.items) self.old.is_met) (string_bytes text.old) (stage_at self.new.link.joint (map string_bytes self.new.shown.items) self.new.is_met) (string_bytes text.new)) }
+        ensures here { OnOk result (IsCurrentAt (task_of plan.entry.now.style plan.entry.now.subjects.items) (view_of self.old.link.joint.client) (map string_bytes self.new.shown.items) index) }
         ensures others { OnOk result ((place : ℕ) → place ≢ index
-            → IsCurrentAt (task_of plan.now.style plan.now.subjects.items) (view_of self.old.link.joint.client) (map string_bytes self.old.shown.items) place
-            → IsCurrentAt (task_of plan.now.style plan.now.subjects.items) (view_of self.old.link.joint.client) (map string_bytes self.new.shown.items) place) }
+            → IsCurrentAt (task_of plan.entry.now.style plan.entry.now.subjects.items) (view_of self.old.link.joint.client) (map string_bytes self.old.shown.items) place
+            → IsCurrentAt (task_of plan.entry.now.style plan.entry.now.subjects.items) (view_of self.old.link.joint.client) (map string_bytes self.new.shown.items) place) }
     {
-        let Some(subject) = plan.subjects.get(index) else {
+        let Some(subject) = plan.subjects.as_slice().get(index) else {
             return Ok(());
         };
         let now = self.moment();
@@ -284,46 +300,71 @@ impl<'a, A: Allocator + Copy, D: Dial + Drop, C: Clock + Drop> Watcher<'a, A, D,
     /// Adds the line of each subject of which it is not the one that was printed last.
     fn show_all(&mut self, plan: &Plan<'_, A>, text: &mut String<A>) -> Result<(), Short>
         ensures joint { self.new.link.joint ≡ self.old.link.joint }
-        ensures adds { OnOk result (Adds (task_of plan.now.style plan.now.subjects.items) (stage_at self.old.link.joint (map string_bytes self.old.shown.items) self.old.is_met) (string_bytes text.old) (stage_at self.new.link.joint (map string_bytes self.new.shown.items) self.new.is_met) (string_bytes text.new)) }
-        ensures current { OnOk result (IsCurrent (task_of plan.now.style plan.now.subjects.items) (stage_at self.new.link.joint (map string_bytes self.new.shown.items) self.new.is_met)) }
+        ensures adds { OnOk result (Adds (task_of plan.entry.now.style plan.entry.now.subjects.items) (stage_at self.old.link.joint (map string_bytes self.old.shown.items) self.old.is_met) (string_bytes text.old) (stage_at self.new.link.joint (map string_bytes self.new.shown.items) self.new.is_met) (string_bytes text.new)) }
+        ensures current { OnOk result (IsCurrent (task_of plan.entry.now.style plan.entry.now.subjects.items) (stage_at self.new.link.joint (map string_bytes self.new.shown.items) self.new.is_met)) }
     {
-        for index in 0..plan.subjects.len() {
+        for index in 0..plan.subjects.as_slice().len() {
             self.show_at(plan, index, text)?;
         }
         Ok(())
     }
 
-    /// The moment until which to go on: the end, or before it one at which a subject that was refused is read again.
+    /// The moment until which to go on: the end, or before it one at which a subject that was refused is read again, and where there is no
+    /// connection one that is near, so that an attempt that fails is told soon. An attempt has its time all the same: a third of the
+    /// timeout, and a second where that is less, but not past the end.
     fn next_moment(&mut self, end: u64) -> u64
         ensures joint { self.new.link.joint ≡ self.old.link.joint }
         ensures shown { self.new.shown ≡ self.old.shown }
         ensures met { self.new.is_met ≡ self.old.is_met }
     {
         let now = self.link.now();
-        first_moment(self.notes.as_slice(), now, end)
+        let first = first_moment(self.notes.as_slice(), now, end);
+        if self.link.client().state().is_open() {
+            return first;
+        }
+        let third = u64::from(self.link.client().timeout_ms() / 3).max(SHORTEST_DIAL_MS);
+        allow(self.wire, third.min(end.saturating_sub(now)));
+        first.min(now.saturating_add(TICK_MS))
     }
 
-    /// Goes on by a step, reads what is to be read, and adds what is printed.
-    fn round(&mut self, plan: &Plan<'_, A>, end: u64, text: &mut String<A>) -> Result<(), Short>
-        ensures adds { OnOk result (Adds (task_of plan.now.style plan.now.subjects.items) (stage_at self.old.link.joint (map string_bytes self.old.shown.items) self.old.is_met) (string_bytes text.old) (stage_at self.new.link.joint (map string_bytes self.new.shown.items) self.new.is_met) (string_bytes text.new)) }
-        ensures current { OnOk result (IsCurrent (task_of plan.now.style plan.now.subjects.items) (stage_at self.new.link.joint (map string_bytes self.new.shown.items) self.new.is_met)) }
+    /// Goes on once, and reads what is to be read, and adds what is printed of what the client says. Whether the moment of the end was told;
+    /// nothing is read then.
+    fn advance(&mut self, plan: &Plan<'_, A>, end: u64, text: &mut String<A>) -> Result<bool, Short>
+        ensures adds { OnOk result (Adds (task_of plan.entry.now.style plan.entry.now.subjects.items) (stage_at self.old.link.joint (map string_bytes self.old.shown.items) self.old.is_met) (string_bytes text.old) (stage_at self.new.link.joint (map string_bytes self.new.shown.items) self.new.is_met) (string_bytes text.new)) }
+        ensures told { IfOk result (λ is_end. is_end ≡ true → end ≤ self.new.link.joint.latest) }
     {
         let until = self.next_moment(end);
-        self.come(plan, until, text)?;
+        if self.come(plan, until, text)? && end <= until {
+            return Ok(true);
+        }
         self.begin_anew(plan, text)?;
         self.read_all(plan, text)?;
-        self.show_all(plan, text)
+        Ok(false)
     }
 
-    /// Goes on once, and writes what is printed.
-    fn turn<O: Write>(&mut self, plan: &Plan<'_, A>, end: u64, out: &mut O) -> Result<(), Short>
-        ensures ok { OnOk result ((told : List ℕ) × Prints (task_of plan.now.style plan.now.subjects.items) (stage_at self.old.link.joint (map string_bytes self.old.shown.items) self.old.is_met) told (stage_at self.new.link.joint (map string_bytes self.new.shown.items) self.new.is_met) × Appends (O.contents out.old) (O.contents out.new) told) }
-        ensures current { OnOk result (IsCurrent (task_of plan.now.style plan.now.subjects.items) (stage_at self.new.link.joint (map string_bytes self.new.shown.items) self.new.is_met)) }
+    /// Goes on once, and adds what is printed, at last of each subject that is kept otherwise than was printed. Whether the moment of the
+    /// end was told.
+    fn round(&mut self, plan: &Plan<'_, A>, end: u64, text: &mut String<A>) -> Result<bool, Short>
+        ensures adds { OnOk result (Adds (task_of plan.entry.now.style plan.entry.now.subjects.items) (stage_at self.old.link.joint (map string_bytes self.old.shown.items) self.old.is_met) (string_bytes text.old) (stage_at self.new.link.joint (map string_bytes self.new.shown.items) self.new.is_met) (string_bytes text.new)) }
+        ensures told { IfOk result (λ is_end. is_end ≡ true → end ≤ self.new.link.joint.latest) }
+        ensures current { OnOk result (IsCurrent (task_of plan.entry.now.style plan.entry.now.subjects.items) (stage_at self.new.link.joint (map string_bytes self.new.shown.items) self.new.is_met)) }
+    {
+        let is_end = self.advance(plan, end, text)?;
+        self.show_all(plan, text)?;
+        Ok(is_end)
+    }
+
+    /// Goes on once, and writes what is printed. Whether the moment of the end was told.
+    fn turn<O: Write>(&mut self, plan: &Plan<'_, A>, end: u64, out: &mut O) -> Result<bool, Short>
+        ensures ok { OnOk result ((told : List ℕ) × Prints (task_of plan.entry.now.style plan.entry.now.subjects.items) (stage_at self.old.link.joint (map string_bytes self.old.shown.items) self.old.is_met) told (stage_at self.new.link.joint (map string_bytes self.new.shown.items) self.new.is_met) × Appends (O.contents out.old) (O.contents out.new) told) }
+        ensures told { IfOk result (λ is_end. is_end ≡ true → end ≤ self.new.link.joint.latest) }
+        ensures current { OnOk result (IsCurrent (task_of plan.entry.now.style plan.entry.now.subjects.items) (stage_at self.new.link.joint (map string_bytes self.new.shown.items) self.new.is_met)) }
         ensures err { IfErr result (λ why. why ≢ shorts.Stream → out.new ≡ out.old) }
     {
         let mut text = String::new(self.alloc);
-        self.round(plan, end, &mut text)?;
-        write(out, text.as_str())
+        let is_end = self.round(plan, end, &mut text)?;
+        write(out, text.as_str())?;
+        Ok(is_end)
     }
 
     /// Goes on until the session is over, or the client is not connected any more, but not past this moment.
@@ -333,7 +374,7 @@ impl<'a, A: Allocator + Copy, D: Dial + Drop, C: Clock + Drop> Watcher<'a, A, D,
         until: u64,
         text: &mut String<A>,
     ) -> Result<(), Short>
-        ensures { OnOk result (Adds (task_of plan.now.style plan.now.subjects.items) (stage_at self.old.link.joint (map string_bytes self.old.shown.items) self.old.is_met) (string_bytes text.old) (stage_at self.new.link.joint (map string_bytes self.new.shown.items) self.new.is_met) (string_bytes text.new)) }
+        ensures { OnOk result (Adds (task_of plan.entry.now.style plan.entry.now.subjects.items) (stage_at self.old.link.joint (map string_bytes self.old.shown.items) self.old.is_met) (string_bytes text.old) (stage_at self.new.link.joint (map string_bytes self.new.shown.items) self.new.is_met) (string_bytes text.new)) }
     {
         for _ in 0..u64::MAX {
             if !self.is_connected() || until <= self.link.now() {
@@ -346,7 +387,7 @@ impl<'a, A: Allocator + Copy, D: Dial + Drop, C: Clock + Drop> Watcher<'a, A, D,
 
     /// Ends the session where the client is connected, and waits for that a third of the timeout at most.
     fn close(&mut self, plan: &Plan<'_, A>, text: &mut String<A>) -> Result<(), Short>
-        ensures { OnOk result (Adds (task_of plan.now.style plan.now.subjects.items) (stage_at self.old.link.joint (map string_bytes self.old.shown.items) self.old.is_met) (string_bytes text.old) (stage_at self.new.link.joint (map string_bytes self.new.shown.items) self.new.is_met) (string_bytes text.new)) }
+        ensures { OnOk result (Adds (task_of plan.entry.now.style plan.entry.now.subjects.items) (stage_at self.old.link.joint (map string_bytes self.old.shown.items) self.old.is_met) (string_bytes text.old) (stage_at self.new.link.joint (map string_bytes self.new.shown.items) self.new.is_met) (string_bytes text.new)) }
     {
         if !self.is_connected() {
             return Ok(());
@@ -360,7 +401,7 @@ impl<'a, A: Allocator + Copy, D: Dial + Drop, C: Clock + Drop> Watcher<'a, A, D,
     /// Ends the session, and writes what is printed.
     fn finish<O: Write>(&mut self, plan: &Plan<'_, A>, out: &mut O) -> End
         ensures over { is_over result ≡ true → (result ≡ end_of self.old.is_met) × (told : List ℕ) × (last : Stage)
-            × Prints (task_of plan.now.style plan.now.subjects.items) (stage_at self.old.link.joint (map string_bytes self.old.shown.items) self.old.is_met) told last × Appends (O.contents out.old) (O.contents out.new) told }
+            × Prints (task_of plan.entry.now.style plan.entry.now.subjects.items) (stage_at self.old.link.joint (map string_bytes self.old.shown.items) self.old.is_met) told last × Appends (O.contents out.old) (O.contents out.new) told }
         ensures short { is_short result ≡ true → out.new ≡ out.old }
     {
         let end = if self.is_met { End::Over } else { End::Never };
@@ -387,15 +428,14 @@ impl<'a, A: Allocator + Copy, D: Dial + Drop, C: Clock + Drop> Watcher<'a, A, D,
 
     /// Goes on until this moment, and then ends the session.
     fn run<O: Write>(&mut self, plan: &Plan<'_, A>, end: u64, out: &mut O) -> End
-        ensures over { is_over result ≡ true → (text : List ℕ) × RunsOut (task_of plan.now.style plan.now.subjects.items) (stage_at self.old.link.joint (map string_bytes self.old.shown.items) self.old.is_met) end result text × Appends (O.contents out.old) (O.contents out.new) text }
-        ensures short { is_short result ≡ true → (text : List ℕ) × RunsShort (task_of plan.now.style plan.now.subjects.items) (stage_at self.old.link.joint (map string_bytes self.old.shown.items) self.old.is_met) text × Appends (O.contents out.old) (O.contents out.new) text }
+        ensures over { is_over result ≡ true → (text : List ℕ) × RunsOut (task_of plan.entry.now.style plan.entry.now.subjects.items) (stage_at self.old.link.joint (map string_bytes self.old.shown.items) self.old.is_met) end result text × Appends (O.contents out.old) (O.contents out.new) text }
+        ensures short { is_short result ≡ true → (text : List ℕ) × RunsShort (task_of plan.entry.now.style plan.entry.now.subjects.items) (stage_at self.old.link.joint (map string_bytes self.old.shown.items) self.old.is_met) text × Appends (O.contents out.old) (O.contents out.new) text }
     {
         for _ in 0..u64::MAX {
-            if end <= self.link.latest() {
-                return self.finish(plan, out);
-            }
-            if let Err(why) = self.turn(plan, end, out) {
-                return self.give_up(plan, why);
+            match self.turn(plan, end, out) {
+                Ok(true) => return self.finish(plan, out),
+                Ok(false) => {}
+                Err(why) => return self.give_up(plan, why),
             }
         }
         // No clock comes so far.
@@ -406,7 +446,7 @@ impl<'a, A: Allocator + Copy, D: Dial + Drop, C: Clock + Drop> Watcher<'a, A, D,
     fn begin(&mut self, plan: &Plan<'_, A>) -> Result<(), AllocError>
         ensures link { self.new.link ≡ self.old.link }
         ensures met { self.new.is_met ≡ self.old.is_met }
-        ensures shown { OnOk result (map string_bytes self.new.shown.items ≡ map none_of (aims_of plan.now.subjects.items)) }
+        ensures shown { OnOk result (map string_bytes self.new.shown.items ≡ map none_of (aims_of plan.entry.now.subjects.items)) }
     {
         self.notes = new_notes(self.alloc, plan.subjects.len())?;
         self.shown = first_shown(self.alloc, plan.subjects.as_slice())?;
@@ -415,11 +455,11 @@ impl<'a, A: Allocator + Copy, D: Dial + Drop, C: Clock + Drop> Watcher<'a, A, D,
 
     /// Watches for as long as the plan says, and then ends the session.
     pub(crate) fn watch_for<O: Write>(&mut self, plan: &Plan<'_, A>, out: &mut O) -> End
-        ensures over { is_over result ≡ true → (text : List ℕ) × (end : ℕ) × (least_end plan.now.for_ms ≤ end)
-            × RunsOut (task_of plan.now.style plan.now.subjects.items) (stage_at self.old.link.joint (map none_of (aims_of plan.now.subjects.items)) self.old.is_met) end result text
+        ensures over { is_over result ≡ true → (text : List ℕ) × (end : ℕ) × (least_end plan.entry.now.for_ms ≤ end)
+            × RunsOut (task_of plan.entry.now.style plan.entry.now.subjects.items) (stage_at self.old.link.joint (map none_of (aims_of plan.entry.now.subjects.items)) self.old.is_met) end result text
             × Appends (O.contents out.old) (O.contents out.new) text }
         ensures short { is_short result ≡ true → (text : List ℕ)
-            × RunsShort (task_of plan.now.style plan.now.subjects.items) (stage_at self.old.link.joint (map none_of (aims_of plan.now.subjects.items)) self.old.is_met) text
+            × RunsShort (task_of plan.entry.now.style plan.entry.now.subjects.items) (stage_at self.old.link.joint (map none_of (aims_of plan.entry.now.subjects.items)) self.old.is_met) text
             × Appends (O.contents out.old) (O.contents out.new) text }
     {
         if self.begin(plan).is_err() {

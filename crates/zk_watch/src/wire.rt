@@ -16,6 +16,8 @@ enum Ended {
 /// What was overheard.
 #[derive(Clone, Copy)]
 pub(crate) struct Overheard {
+    /// How many milliseconds an attempt may take at least.
+    within_ms: u64,
     /// How many attempts there were.
     attempts: usize,
     /// Why the last attempt failed, where that was not taken yet.
@@ -28,6 +30,7 @@ impl Overheard {
     /// Nothing yet.
     pub(crate) fn new() -> Overheard {
         Overheard {
+            within_ms: 1,
             attempts: 0,
             missed: None,
             ended: None,
@@ -102,6 +105,21 @@ pub(crate) fn take(wire: &RefCell<Overheard>) -> Overheard {
     }
 }
 
+/// An attempt may take this many milliseconds, also where a link allows less.
+pub(crate) fn allow(wire: &RefCell<Overheard>, within_ms: u64) {
+    if let Ok(mut overheard) = wire.try_borrow_mut() {
+        overheard.within_ms = within_ms;
+    }
+}
+
+/// How many milliseconds an attempt may take of which a link says this.
+fn allowed(wire: &RefCell<Overheard>, within_ms: u64) -> u64 {
+    match wire.try_borrow() {
+        Ok(overheard) => overheard.within_ms.max(within_ms),
+        Err(_) => within_ms,
+    }
+}
+
 /// An attempt has failed for this reason, or has not.
 fn note_attempt(wire: &RefCell<Overheard>, missed: Option<ErrorKind>) {
     if let Ok(mut overheard) = wire.try_borrow_mut() {
@@ -151,6 +169,7 @@ impl<'w, D: Dial + Drop> Dial for Tapped<'w, D> {
     type Stream = TappedStream<'w, D::Stream>;
 
     fn dial(&mut self, address: &str, within_ms: u64) -> io::Result<TappedStream<'w, D::Stream>> {
+        let within_ms = allowed(self.wire, within_ms);
         match self.dial.dial(address, within_ms) {
             Ok(stream) => {
                 note_attempt(self.wire, None);

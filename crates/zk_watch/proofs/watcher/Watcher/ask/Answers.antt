@@ -15,6 +15,6 @@ returns g c =
     let after : Trail = trail_of c.ask.new.self.joint c.ask.new.outputs.items in
     let old : Stage = stage_at c.args.self.now.link.joint (map string_bytes c.args.self.now.shown.items) c.args.self.now.is_met in
     let new : Stage = stage_at c.hear.new.self.link.joint (map string_bytes c.hear.new.self.shown.items) c.hear.new.self.is_met in
-    let takes = rw c.new-outputs.ensures.items at asked (trail_of c.args.self.now.link.joint c.new-outputs.result.items) after (Call c.args.ticket (call_view c.args.call)) c.in_ok-ask.ensures.ok in
+    let takes = rw c.new-outputs.ensures.items at (asked (trail_of c.args.self.now.link.joint c.new-outputs.result.items) after (Call c.args.ticket (call_view c.args.call)) c.in_ok-ask.ensures.ok) in
     let is : new ≡ heard old after = rw (c.hear.ensures.joint, c.hear.ensures.shown, met) refl in
     goes_add (task_of c.args.plan.now.style c.args.plan.now.subjects.items) old after new (string_bytes c.args.text.now) (string_bytes c.hear.new.text) told.0 told.1 takes told.2 told.3 is told.4
