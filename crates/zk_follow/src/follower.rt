@@ -224,7 +224,7 @@ impl<A: Allocator + Copy> Follower<A> {
         match tell_all(subjects, &self.client, outputs, all) {
             Ok(()) => Ok(()),
             Err(fault) => {
-                self.subjects.clear();
+                self.subjects.truncate(0);
                 Err(fault)
             }
         }
