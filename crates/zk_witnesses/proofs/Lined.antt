@@ -1,12 +1,12 @@
 -- Two wait in line, one after the other, and their names rise.
-use Rattle.std.proofs.Common.{◌≡◌, ◌≤◌, ℕ, pos, Bool, true, false, ◌&&◌, cond, List, [], ◌∷◌, refl, sym, ap, subst, arith, inl, inr, ◌⊎◌, Option, Some, None, is_some}
+use Rattle.std.proofs.Common.{◌≡◌, ◌≤◌, ℕ, pos, Bool, true, false, ◌&&◌, cond, [], ◌∷◌, refl, sym, ap, subst, arith, inl, inr, ◌⊎◌, Option, Some, None, is_some}
 use Rattle.std.specs.Prelude.{bytes_eq, nat_le}
 use Rattle.std.proofs.lemmas.Slice.Eq.{bytes_eq-Decides}
 use Rattle.zk_nodes.specs.Path.{Name}
-use Rattle.zk_nodes.specs.History.{Node, Tree, Change, made, apply_all, after, tree_at, IsHistory}
+use Rattle.zk_nodes.specs.History.{Node, Tree, made, apply_all, after, tree_at, IsHistory}
 use Rattle.zk_laws.specs.Example.{root_alone}
 use Rattle.zk_laws.proofs.Shown.{is_history}
-use Rattle.zk_conclusions.specs.Holders.{HasPrefix, is_before, IsHolder, NamesRise}
+use Rattle.zk_conclusions.specs.Holders.{is_before, IsHolder, NamesRise}
 use Rattle.zk_witnesses.specs.Rising.{line, in_line, first_name, second_name, first_comes, second_comes, first_goes, two_in_line}
 
 -- what is there in the line, and since when
@@ -44,18 +44,24 @@ first_gone tree all name node e = go (bytes_eq name first_name) e
     go true e = absurd cc
     go false e = all name node e
 
+abbrev with_first : Tree → Tree
+with_first tree = apply_all 5 (pos 1000) first_comes.changes tree
+
+abbrev with_second : Tree → Tree
+with_second tree = apply_all 6 (pos 2000) second_comes.changes tree
+
 -- at whichever zxid
 made_at : (zxid : ℕ) → AllMade (tree_at two_in_line zxid)
 made_at zxid = go (nat_le 5 zxid) (nat_le 6 zxid) (nat_le 9 zxid)
   where
     go : (a b c : Bool) → AllMade (after (cond a (first_comes ∷ cond b (second_comes ∷ cond c (first_goes ∷ []) []) (cond c (first_goes ∷ []) [])) (cond b (second_comes ∷ cond c (first_goes ∷ []) []) (cond c (first_goes ∷ []) []))) root_alone)
-    go true true true = first_gone _ (second_made _ (first_made _ none_made))
-    go true true false = second_made _ (first_made _ none_made)
-    go true false true = first_gone _ (first_made _ none_made)
-    go true false false = first_made _ none_made
-    go false true true = first_gone _ (second_made _ none_made)
-    go false true false = second_made _ none_made
-    go false false true = first_gone _ none_made
+    go true true true = first_gone (with_second (with_first root_alone)) (second_made (with_first root_alone) (first_made root_alone none_made))
+    go true true false = second_made (with_first root_alone) (first_made root_alone none_made)
+    go true false true = first_gone (with_first root_alone) (first_made root_alone none_made)
+    go true false false = first_made root_alone none_made
+    go false true true = first_gone (with_second root_alone) (second_made root_alone none_made)
+    go false true false = second_made root_alone none_made
+    go false false true = first_gone root_alone none_made
     go false false false = none_made
 
 pub names_rise : NamesRise two_in_line line in_line

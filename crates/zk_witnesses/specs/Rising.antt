@@ -1,5 +1,5 @@
 -- A history in which two sessions wait in line: session 7 makes /n-1 at 5 and session 8 makes /n-2 at 6; at 9 session 7 is over.
-use Rattle.std.specs.Prelude.{pos, List, [], ◌∷◌, None}
+use Rattle.std.specs.Prelude.{pos, [], ◌∷◌, None}
 use Rattle.zk_nodes.specs.Path.{Name, NodePath}
 use Rattle.zk_nodes.specs.History.{Creates, Deletes, Transaction, History}
 use Rattle.zk_laws.specs.Example.{root_alone}

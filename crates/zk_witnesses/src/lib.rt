@@ -15,7 +15,6 @@ ghost use Rattle.zk_witnesses.specs.Rising.{first_name, in_line, line, second_na
 
 /// The client of `whole_schedule` is served from the history (`IsServedFrom`): where its connection is lost and its answer is good
 /// (`lost`, `kept`), after a second connection and a write that was answered (`written`, `last`), and where its session has expired.
-#[tactic(auto, using(crate::proofs::Meets::lost_served, crate::proofs::Meets::written_served, crate::proofs::Meets::expired_served, crate::proofs::Meets::good_kept, crate::proofs::Meets::last_seven))]
 pub fn clients_are_served()
     ensures lost { IsServedFrom three_changes (shown_after until_lost) }
     ensures kept { (shown_after until_lost).cache.nodes at_a ≡ good (Full (Some (104 ∷ 105 ∷ [])) fields_at_five) }
@@ -25,7 +24,6 @@ pub fn clients_are_served()
 {}
 
 /// Names rise with creation (`NamesRise`) where two sessions wait in line: one holds by the token 5, and after it the other by 6.
-#[tactic(auto, using(crate::proofs::Lined::line_history, crate::proofs::Lined::names_rise, crate::proofs::Lined::first_holds, crate::proofs::Lined::second_holds))]
 pub fn names_rise_in_line()
     ensures history { IsHistory two_in_line }
     ensures rise { NamesRise two_in_line line in_line }
