@@ -238,8 +238,10 @@ impl<A: Allocator + Copy> Agent<A> {
     {
         self.follower.renew(self.timeout_ms)?;
         self.dialler.answered();
-        push(actions, Action::Renewed)?;
-        Ok(())
+        match push(actions, Action::Renewed) {
+            Ok(()) => Ok(()),
+            Err(_) => Err(Stop::Memory),
+        }
     }
 
     /// Whether the session has expired.

@@ -1,5 +1,5 @@
 -- What comes of a read that is asked of a client that is connected.
-use Rattle.std.proofs.Common.{◌≡◌, ◌≢◌, ◌≤◌, ◌<◌, ◌^◌, ◌+◌, ◌⊎◌, inl, inr, ℕ, pos, Bool, true, false, cond, List, [], ◌∷◌, ◌++◌, Option, Some, None, refl, sym, ap, subst, ◌∙◌, arith, eq-eqb}
+use Rattle.std.proofs.Common.{◌≡◌, ◌≢◌, ◌<◌, ◌^◌, ◌+◌, ◌⊎◌, inl, inr, ℕ, pos, Bool, true, false, cond, List, [], ◌∷◌, ◌++◌, Option, Some, None, refl, sym, ap, subst, ◌∙◌, arith, eq-eqb}
 use Rattle.std.proofs.lemmas.List.{append-nil, length-append}
 use Rattle.std.proofs.lemmas.List.Elements.{filter-append}
 use Rattle.std.proofs.lemmas.List.Folds.{list_any-append}
@@ -22,7 +22,7 @@ use Rattle.zk_limits.specs.declared.limits.TheConstants.{LONGEST_OUTGOING, MOST_
 use Rattle.zk_follow.specs.declared.subject.Subject.{Subject}
 use Rattle.zk_follow.specs.declared.progress.Progress.{Progress}
 use Rattle.zk_follow.specs.declared.progress.Progress.TheVariants.{Due, Reading, Refused}
-use Rattle.zk_follow.specs.Following.{progress_after, answered, heard, heard_all, is_shown, read_of, rested, rested_progress, woken, woken_progress, IsAfter, IsAhead, IsBeingRead, IsCounted, IsRefused, IsFollowed, IsFull, Asks, VisitsAnd, is_read_by}
+use Rattle.zk_follow.specs.Following.{progress_after, answered, heard, heard_all, is_shown, read_of, rested, rested_progress, woken, woken_progress, IsAhead, IsBeingRead, IsCounted, IsRefused, IsFollowed, IsFull, Asks, VisitsAnd, is_read_by}
 use Rattle.zk_follow.proofs.Hearing.{no_answer}
 use Rattle.zk_follow.proofs.Reading.{is_found}
 

@@ -16,7 +16,7 @@ use Rattle.zk_turns.specs.Rule.{Rule, RuleAt}
 use Rattle.zk_follow.specs.declared.subject.Subject.{Subject}
 use Rattle.zk_follow.specs.declared.progress.Progress.{Progress}
 use Rattle.zk_follow.specs.declared.progress.Progress.TheVariants.{Due, Reading, Refused}
-use Rattle.zk_follow.specs.Following.{heard_all, outputs_in, due_again, progress_after, read_of, rested_progress, taken, woken_progress, AreReads, AreVisited, Asks, IsAhead, IsCounted, IsFollowed, IsReadOf, IsVisited, Reads, Steps, Visits, VisitsAnd, answered, heard}
+use Rattle.zk_follow.specs.Following.{heard_all, outputs_in, due_again, progress_after, read_of, rested_progress, taken, AreReads, AreVisited, Asks, IsAhead, IsCounted, IsFollowed, IsReadOf, IsVisited, Reads, Steps, Visits, VisitsAnd, answered, heard}
 use Rattle.zk_follow.proofs.Waiting.{still_going}
 use Rattle.zk_follow.proofs.Hearing.{all_same_path, all_same_side, all_same_ticket, counted_at}
 use Rattle.zk_follow.proofs.Asking.{others_counted, others_followed, woken_ahead}
