@@ -127,7 +127,7 @@ sees() {
 begin_data() {
     local name=$1
     shift
-    begin "$name" "$program" watch "$@" --lines --data "/$name"
+    begin "$name" "$program" watch "$@" --data "/$name"
     sees "$name" <<EOF
 state Connecting
 state Connected
@@ -319,7 +319,6 @@ run_alone() {
     run_idle "$port"
     run_expired "$port"
     run_closed "$port"
-    run_words "$port"
     run_snapshot "$port"
     run_lock "$port"
     run_follower "$port"
@@ -364,7 +363,7 @@ EOF
 run_changes() {
     local at=127.0.0.1:$1
     known=()
-    begin changes "$program" watch "$at" --lines --data /changes --children /changes --timeout 10000
+    begin changes "$program" watch "$at" --data /changes --children /changes --timeout 10000
     sees changes <<'EOF'
 state Connecting
 state Connected
@@ -405,7 +404,7 @@ EOF
 run_idle() {
     local name=idle-$1 at=127.0.0.1:$1
     outside "$1" create "/$name" one
-    begin "$name" "$program" watch "$at" --lines --data "/$name" --timeout 4000 --for 25
+    begin "$name" "$program" watch "$at" --data "/$name" --timeout 4000 --for 25
     sees "$name" <<EOF
 state Connecting
 state Connected
@@ -460,61 +459,6 @@ run_closed() {
     within 20 test -s "$folder/closes.status" || fail "a watch goes on after the end of its output"
     [[ $(cat "$folder/closes.status") == 4 ]] || fail "a watch whose output is closed ends with $(cat "$folder/closes.status")"
     echo "closes: status 4 as wanted"
-}
-
-# A watch whose lines are for people, without commas, with ~ for each moment and ID for that of the session.
-plain_watch() {
-    "$program" watch "$@" | sed -u 's/,//g; s/^[0-9]*\.[0-9]\{3\} /~ /; s/0x[0-9a-f]\{16\}/ID/'
-}
-
-# Watches in words: of a node that changes, where nothing listens at the first address; of one that may not be read; of names below one that
-# is not there. Then one in objects, and one that no server answers.
-run_words() {
-    local at=127.0.0.1:$1 dead=127.0.0.1:1 status=0
-    outside "$1" create /words one
-    outside "$1" create /secret one world:anyone:cda
-    begin words plain_watch "$dead" "$at" --text --timeout 10000 --for 20 --data /words
-    begin secret plain_watch "$at" --timeout 10000 --for 4 --data /secret
-    begin nowhere plain_watch "$at" --timeout 10000 --for 4 --children /nowhere
-    sees words <<EOF
-~ $dead: not reached: connection refused; next is $at
-~ $at: reached asks for a session
-~ $at: connected session ID timeout 10000 ms
-~ /words: "one" version 0 mzxid @words good at zxid @
-EOF
-    outside "$1" set /words two
-    sees words <<EOF
-~ /words: "one" version 0 mzxid @words stale at zxid @
-~ /words: "two" version 1 mzxid @reworded good at zxid @
-EOF
-    sees secret <<EOF
-~ $at: reached asks for a session
-~ $at: connected session ID timeout 10000 ms
-~ /secret: not allowed (-102)
-~ $at: session closed
-EOF
-    sees nowhere <<EOF
-~ $at: reached asks for a session
-~ $at: connected session ID timeout 10000 ms
-~ /nowhere: does not exist good at zxid @
-~ $at: session closed
-EOF
-    ends secret
-    ends nowhere
-    sees words <<<"~ $at: session closed"
-    ends words
-    rises @words @reworded
-    timeout 60 "$program" watch "$at" --json --for 2 --data /words >"$folder/json.out" || fail "a watch in objects ends with $?"
-    python3 - "$folder/json.out" <<'EOF' || fail "a watch prints no objects: $(cat "$folder/json.out")"
-import json, sys
-
-lines = [json.loads(line) for line in open(sys.argv[1])]
-assert [line["event"] for line in lines] == ["Connecting", "Connected", "data", "Closed"], lines
-assert lines[2]["text"] == "two" and lines[2]["data"] == "74776f" and lines[2]["mark"] == "good", lines
-EOF
-    timeout 60 "$program" watch "$dead" --for 2 --data /words >"$folder/dead.out" || status=$?
-    [[ $status == 5 ]] || fail "a watch that no server answers ends with $status"
-    echo "words: objects, and status 5, as wanted"
 }
 
 # The example over a link: it follows a node through a server that is gone for a while, and through a minute in which nothing happens.
@@ -768,7 +712,7 @@ run_outages() {
     start_doors "$port"
     read -ra doors <"$folder/doors.port"
     for number in 1 2 3 4 5 6; do
-        begin "outage$number" "$program" watch "127.0.0.1:${doors[number - 1]}" --lines --timeout 10000 --data /outage
+        begin "outage$number" "$program" watch "127.0.0.1:${doors[number - 1]}" --timeout 10000 --data /outage
     done
     within 40 has_six_sessions "$port" || fail "six watches have no six sessions of ten seconds"
     before=$(sessions_at "$port")

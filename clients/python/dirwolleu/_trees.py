@@ -116,7 +116,7 @@ class Tree(_Grown):
         self.close()
 
     def wait(self, timeout: Optional[float] = None) -> TreeSnapshot:
-        """The newest snapshot. Where there is none yet it waits, for so many seconds at most: None is no bound.
+        """The newest snapshot. Where there is none yet it waits, for at most this many seconds: None is no bound.
 
         Raises `CallTimeoutError` where none came in time, and the `trouble` that keeps it from coming.
         """

@@ -10,7 +10,6 @@ use std::alloc::Global;
 use std::io::Write;
 use world::Event;
 use zk_client::Side;
-use zk_watch::Style;
 
 /// The next transaction changes what is watched.
 static CHANGE: [Event; 1] = [Event::Takes];
@@ -32,39 +31,6 @@ static END: [Event; 2] = [Event::Expires, Event::Cuts];
 
 /// Nothing happens.
 static NOTHING: [Event; 0] = [];
-
-/// The server stops.
-static STOP: [Event; 1] = [Event::Stops];
-
-/// A frame comes that is none.
-static SPOILED: [Event; 1] = [Event::Spoils];
-
-/// Rows in the styles that tell the moment, of which each is played once.
-fn spoken_rows() -> [Row; 9] {
-    let data = |name, events| Row::new(name, Side::Data, "/config", events);
-    let names = |name, path| Row::new(name, Side::Child, path, &NOTHING);
-    [
-        data("a refused address, told", &CHANGE)
-            .missing(1)
-            .spoken(Style::Words),
-        data("no server, told", &NOTHING)
-            .missing(u32::MAX)
-            .spoken(Style::Words),
-        data("a node without READ, told", &NOTHING)
-            .refused(-102)
-            .spoken(Style::Text),
-        data("a session that has moved, told", &NOTHING)
-            .refused(-118)
-            .spoken(Style::Text),
-        names("names below no node, told", "/late").spoken(Style::Text),
-        data("a server that stops, told", &STOP).spoken(Style::Text),
-        data("a bad frame, told", &SPOILED).spoken(Style::Text),
-        data("an expiry, as objects", &EXPIRY).spoken(Style::Json),
-        names("names, as objects", "/a")
-            .missing(1)
-            .spoken(Style::Json),
-    ]
-}
 
 /// Rows of which each is played once.
 fn single_rows() -> [Row; 4] {
@@ -101,9 +67,6 @@ const MOST: usize = 120;
 /// Plays each row: whole, and those that are not single also cut, and with an output and memory that fail.
 pub fn play_watches<W: Write>(alloc: Global, out: &mut W) -> Result<()> {
     for row in &single_rows() {
-        play(alloc, row, out)?;
-    }
-    for row in &spoken_rows() {
         play(alloc, row, out)?;
     }
     let rows = rows();

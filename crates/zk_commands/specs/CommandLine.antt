@@ -1,5 +1,5 @@
 -- What a command line asks for, by the definition that `clap` gives of a simple command's matches.
-use Rattle.std.specs.Prelude.{◌≡◌, ◌≢◌, ◌⊎◌, ◌*◌, ◌==◌, ℕ, ℤ, pos, Bool, true, false, not, bytes_eq, is_some, if◌then◌else◌, List, [], ◌∷◌, ◌++◌, map, codes, Option, Some, None}
+use Rattle.std.specs.Prelude.{◌≡◌, ◌≢◌, ◌⊎◌, ◌*◌, ◌==◌, ℕ, ℤ, pos, Bool, true, not, is_some, if◌then◌else◌, List, [], ◌∷◌, ◌++◌, map, codes, Option, Some, None}
 use Rattle.std.specs.Prelude.{option_and_then, option_map, unwrap_or}
 use Rattle.std.specs.Borrow.{Bor}
 use Rattle.std.specs.List.{list_all}
@@ -15,8 +15,6 @@ use Rattle.zk_nodes.specs.declared.side.Side.TheVariants.{Data, Child}
 use Rattle.zk_live.specs.Addresses.{is_address}
 use Rattle.zk_script.specs.Numbers.{natural_of}
 use Rattle.zk_watch.specs.Watching.{aims_of}
-use Rattle.zk_watch.specs.declared.style.Style.{Style}
-use Rattle.zk_watch.specs.declared.style.Style.TheVariants as style
 use Rattle.zk_commands.specs.declared.command.Command.{Command}
 use Rattle.zk_commands.specs.declared.command.Command.TheVariants.{Show, History, Replay, Rehearse, Live, Watch}
 use Rattle.zk_commands.specs.declared.line_fault.LineFault.{LineFault}
@@ -75,17 +73,9 @@ timeout_rule = record (option_rule (codes "timeout")) { defaults = codes "30000"
 abbrev pub duration_rule : Rule
 duration_rule = option_rule (codes "for")
 
--- an option without a value
-abbrev pub flag_rule : Text → Rule
-flag_rule name = record (new_rule name) { long = Some name; action = Some action.SetTrue }
-
--- how lines are printed
-abbrev pub with_styles : App → App
-with_styles app = with_rule (with_rule (with_rule app (flag_rule (codes "text"))) (flag_rule (codes "json"))) (flag_rule (codes "lines"))
-
 abbrev pub watch_app : App
 watch_app =
-    with_styles (with_rule (with_rule (with_rule (with_rule (with_rule (new_app (codes "watch")) address_rule) (path_rule (codes "data"))) (path_rule (codes "children"))) timeout_rule) duration_rule)
+    with_rule (with_rule (with_rule (with_rule (with_rule (new_app (codes "watch")) address_rule) (path_rule (codes "data"))) (path_rule (codes "children"))) timeout_rule) duration_rule
 
 -- the program: one of its subcommands must be given
 abbrev pub shell_app : Bor (List (Bor Text)) → App
@@ -144,23 +134,10 @@ IsTimeout ms rows = option_and_then timeout_at (first_of (codes "timeout") rows)
 abbrev pub IsDuration : Option ℕ → List Row → Type 0
 IsDuration ms rows = duration_read (first_of (codes "for") rows) ≡ Some ms
 
--- whether an option without a value was given
-abbrev pub is_true : Option Text → Bool
-is_true None = false
-is_true (Some word) = bytes_eq word (codes "true")
-
-abbrev pub is_set : Text → List Row → Bool
-is_set id rows = is_true (first_of id rows)
-
--- how lines are printed: the first of these options that was given says so
-abbrev pub style_in : List Row → Style
-style_in rows =
-    if is_set (codes "json") rows then style.Json else if is_set (codes "lines") rows then style.Lines else if is_set (codes "text") rows then style.Text else style.Words
-
--- what `watch` was given: addresses, what to watch, a timeout, how long, and how lines are printed
-abbrev pub IsWatch : List Text → List (Side × Text) → ℤ → Option ℕ → Style → List Row → Type 0
-IsWatch addresses aims timeout_ms for_ms style rows =
-    AreAddresses addresses rows × AreAims aims rows × IsTimeout timeout_ms rows × IsDuration for_ms rows × (style ≡ style_in rows)
+-- what `watch` was given: addresses, what to watch, a timeout, and how long
+abbrev pub IsWatch : List Text → List (Side × Text) → ℤ → Option ℕ → List Row → Type 0
+IsWatch addresses aims timeout_ms for_ms rows =
+    AreAddresses addresses rows × AreAims aims rows × IsTimeout timeout_ms rows × IsDuration for_ms rows
 
 -- the subcommand that was found, with its values, is this command
 abbrev pub IsFound : Command → Option (Text × List Row) → Type 0
@@ -170,8 +147,8 @@ IsFound History found = (rows : List Row) × (found ≡ Some (codes "history", r
 IsFound Replay found = (rows : List Row) × (found ≡ Some (codes "replay", rows))
 IsFound Rehearse found = (rows : List Row) × (found ≡ Some (codes "rehearse", rows))
 IsFound (Live addresses) found = (rows : List Row) × (found ≡ Some (codes "live", rows)) × AreAddresses (map (λ a. a.now) addresses.items) rows
-IsFound (Watch addresses subjects timeout_ms for_ms style) found = (rows : List Row) × (found ≡ Some (codes "watch", rows))
-    × IsWatch (map (λ a. a.now) addresses.items) (aims_of subjects.items) timeout_ms for_ms style rows
+IsFound (Watch addresses subjects timeout_ms for_ms) found = (rows : List Row) × (found ≡ Some (codes "watch", rows))
+    × IsWatch (map (λ a. a.now) addresses.items) (aims_of subjects.items) timeout_ms for_ms rows
 
 -- the words ask for this command
 abbrev pub AsksFor : List Text → Command → Type 0

@@ -14,9 +14,7 @@ use Rattle.zk_commands.specs.declared.line_fault.LineFault.TheVariants.{Help, Re
 use Rattle.zk_commands.specs.declared.fault.ShowFault.{ShowFault}
 use Rattle.zk_commands.specs.declared.kind.Kind.{Kind}
 use Rattle.zk_commands.specs.CommandLine.{AsksFor, IsDue}
-use Rattle.zk_watch.specs.Watching.{task_of, IsPrinted, IsWatched}
-use Rattle.zk_watch.specs.declared.end.End.TheVariants.{Over, Never}
-use Rattle.zk_watch.specs.declared.style.Style.{Style}
+use Rattle.zk_watch.specs.Watching.{aims_of, IsPrinted}
 use Rattle.zk_watch.specs.declared.plan.Subject.{Subject}
 use Rattle.zk_commands.specs.Scripts.{IsInput, IsTranscriptOf}
 use Rattle.zk_commands.specs.Written.{IsHalt, RunsOut}
@@ -38,8 +36,8 @@ pub data IsDone (words : List Text) (input : Option (List ℕ)) (text : List ℕ
   shows : (kind : Kind) (hex : Bor Text) → AsksFor words (Show kind hex) → ShowsFrame kind hex.now text → IsDone words input text
   plays : (command : Command) (script : List ℕ) → AsksFor words command → IsInput input script → IsTranscriptOf command (lines_of script) text ends.Taken
       → IsDone words input text
-  watches : (addresses : Vec (Bor Text)) (subjects : Vec (Subject Global)) (timeout_ms : ℤ) (for_ms : Option ℕ) (style : Style)
-      → AsksFor words (Watch addresses subjects timeout_ms for_ms style) → IsWatched (task_of style subjects.items) for_ms Over text → IsDone words input text
+  watches : (addresses : Vec (Bor Text)) (subjects : Vec (Subject Global)) (timeout_ms : ℤ) (for_ms : Option ℕ)
+      → AsksFor words (Watch addresses subjects timeout_ms for_ms) → IsPrinted (aims_of subjects.items) text → IsDone words input text
   helps : (fault : LineFault) → IsDue words fault → IsHelpText fault text → IsDone words input text
 
 -- The words ask for a frame that is refused, and nothing is written; or for a command that takes a script, with a line that is refused, and
@@ -59,11 +57,6 @@ pub data IsWhole (words : List Text) (input : Option (List ℕ)) (text : List �
   nothing : text ≡ [] → IsWhole words input text
   begins : (command : Command) (script printed told : List ℕ) (end : End) → AsksFor words command → IsInput input script
       → IsTranscriptOf command (lines_of script) printed end → RunsOut end told → text ≡ printed ++ told → IsWhole words input text
-  ceases : (addresses : Vec (Bor Text)) (subjects : Vec (Subject Global)) (timeout_ms : ℤ) (for_ms : Option ℕ) (style : Style) (printed told : List ℕ)
-      → AsksFor words (Watch addresses subjects timeout_ms for_ms style) → IsPrinted (task_of style subjects.items) printed → IsHalt told
+  ceases : (addresses : Vec (Bor Text)) (subjects : Vec (Subject Global)) (timeout_ms : ℤ) (for_ms : Option ℕ) (printed told : List ℕ)
+      → AsksFor words (Watch addresses subjects timeout_ms for_ms) → IsPrinted (aims_of subjects.items) printed → IsHalt told
       → text ≡ printed ++ told → IsWhole words input text
-
--- The words ask for a watch whose time is over and that had no session, and the text is what that prints.
-abbrev pub IsUnmet : List Text → List ℕ → Type 0
-IsUnmet words text = (addresses : Vec (Bor Text)) × (subjects : Vec (Subject Global)) × (timeout_ms : ℤ) × (for_ms : Option ℕ) × (style : Style)
-    × AsksFor words (Watch addresses subjects timeout_ms for_ms style) × IsWatched (task_of style subjects.items) for_ms Never text

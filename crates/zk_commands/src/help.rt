@@ -6,8 +6,7 @@ Scripts come on standard input, a line for each thing to do. The help of each co
 `zk_shell live --help` names those that drive a client. `zk_shell watch` and `zk_shell show` take none.
 
 Exit status: 0 done, and for help; 1 a fault in the input, told on standard error; 2 a fault of the
-command line, told there too; 3 out of memory; 4 standard input or output failed; 5 no session was ever
-established.";
+command line, told there too; 3 out of memory; 4 standard input or output failed.";
 
 /// At the end of the help of `live`.
 pub const LIVE: &str =
@@ -74,57 +73,43 @@ Example:
 
 /// At the end of the help of `watch`.
 pub const WATCH: &str =
-    r#"Connects to the first address that answers, reads each node with a watch, and goes on to print a line
-whenever something else is kept of it than was printed last, and whenever something happens to the
-session. Where the connection is lost, the next address is dialled, and where the session expires, a new
-one begins. --data and --children may be used several times, each with a PATH as it is, without escapes.
-With neither, the session alone is told. Of --json, --lines and --text the first counts.
+    r"Connects to the first address that answers, reads each node with a watch, and goes on to print a line
+whenever something else is kept of it than was printed last. Where the connection is lost, the next
+address is dialled, and where the session expires, a new one begins. --data and --children may be used
+several times, each with a PATH as it is, without escapes. With neither, states alone are printed.
 
-Printed, each line at once, and after the seconds since the start (no clock here knows the date):
-  ADDRESS: not reached: WHY; next is ADDRESS
-  ADDRESS: reached, asks for a session
-  ADDRESS: connected, session 0xID, timeout MS ms   The timeout is the one that the server granted
-  ADDRESS: given up: WHY        What came is wrong, or nothing came
-  ADDRESS: connection lost: WHY; next is ADDRESS
-  ADDRESS: session expired, ADDRESS: a new session begins, ADDRESS: session closed
-  PATH: DATA, version N, mzxid ZXID, MARK at zxid ZXID
-  PATH: does not exist, MARK at zxid ZXID    Also of --children
-  PATH: exists, version N, mzxid ZXID, MARK at zxid ZXID     Its data were not read yet
-  PATH: names N NAME.., pzxid ZXID, MARK at zxid ZXID
-  PATH: not read yet, zxid ZXID
-  PATH: not allowed (-102)      Or another code: the read was refused, and is tried again a second later
+Printed, each line at once:
+  state NAME                    Connecting, Connected, Idle, Expired or Closed
+  session new                   Behind state Expired: nothing is kept any more
+  PATH data full DATA SEVEN MARK last ZXID
+  PATH data known SEVEN MARK last ZXID
+  PATH data absent MARK last ZXID
+  PATH data none last ZXID      What is kept of the node, and the last seen zxid
+  PATH names N NAME.. PZXID MARK last ZXID
+  PATH names none last ZXID     What is kept of the names below it
+  drop FAULT                    The connection is given up: what came is wrong, or nothing came
+  answer TICKET ZXID code N     A read was refused, and is tried again a second later. TICKET counts what is
+                                watched, from 1 on: first that of --data, and then that of --children
   halt                          Memory ran out in the client
 
-DATA is hex, \e for no bytes and \0 for null. With --text it is in quotes where it is UTF-8 with no
-control characters but tabs and ends of lines, and null is null. In a PATH and a NAME a space is printed
+DATA, SEVEN, NAME, PZXID, MARK and FAULT are as in `zk_shell live --help`; in a PATH a space is printed
 as \x20. Where MARK is good, this is what the servers' history says at ZXID, and no change is known;
 where it is stale, a change was told, and the node is being read again.
 
-With --json each line is an object with time, event and server, or path. Of a server it says, in words;
-of a node it has exists, data, text (where data are text), version, mzxid, names, pzxid, mark and zxid.
-
-With --lines there is no time, and each line is as in `zk_shell live --help`:
-  state NAME, drop FAULT, and session new after state Expired
-  PATH data full DATA SEVEN MARK last ZXID, and data known, data absent, data none, names, names none
-  answer TICKET ZXID code N     A read was refused. TICKET counts what is watched, from 1 on: first that
-                                of --data, and then that of --children
-
-The session is closed when the time of --for is over, and when a line can't be written. A program here
-sees neither signals nor that its output was closed, until it writes: after an interrupt the server keeps
-the session for its timeout, and a closed output ends the watch at its next line.
+The session is closed when the time of --for is over, and when standard output is closed.
 
 Exit status: 0 the time is over; 2 a fault of the command line; 3 out of memory; 4 standard output
-failed, or was closed; 5 the time is over, and no session was ever established.
+failed, or was closed.
 
 Example, where /config is hi, and is set to bye while it is watched:
-  zk_shell watch 127.0.0.1:2181 --data /config --text --for 60
+  zk_shell watch 127.0.0.1:2181 --data /config --for 60
 prints
-  0.000 127.0.0.1:2181: reached, asks for a session
-  0.009 127.0.0.1:2181: connected, session 0x0100000000000000, timeout 30000 ms
-  0.010 /config: "hi", version 0, mzxid 3, good at zxid 3
-  9.313 /config: "hi", version 0, mzxid 3, stale at zxid 3
-  9.314 /config: "bye", version 1, mzxid 5, good at zxid 5
-  60.001 127.0.0.1:2181: session closed"#;
+  state Connecting
+  state Connected
+  /config data full 6869 3 3 1700000000000 1700000000000 0 0 2 good last 3
+  /config data full 6869 3 3 1700000000000 1700000000000 0 0 2 stale last 3
+  /config data full 627965 3 5 1700000000000 1700000009000 1 0 3 good last 5
+  state Closed";
 
 /// At the end of the help of `history`.
 pub const HISTORY: &str =

@@ -4,7 +4,7 @@ ghost use Rattle.std.specs.Prelude.{◌≡◌, ◌≢◌, List, ℕ, map};
 ghost use Rattle.std.specs.Io.KnownBytes.{Appends};
 ghost use Rattle.clap.specs.Words.{Text};
 ghost use Rattle.zk_commands.specs.CommandLine.{AsksFor};
-ghost use Rattle.zk_commands.specs.Run.{IsDone, IsFaulty, IsHelpText, IsRefusal, IsRefusalText, IsUnmet, IsWhole};
+ghost use Rattle.zk_commands.specs.Run.{IsDone, IsFaulty, IsHelpText, IsRefusal, IsRefusalText, IsWhole};
 
 use crate::command::{Command, command_of};
 use crate::line_fault::LineFault;
@@ -43,8 +43,6 @@ fn perform<D: Dial + Drop, C: Clock + Drop, I: Read, O: Write, E: Write>(
     ensures fault { result ≡ Status.Fault → (words : List Text) → AsksFor words command.entry → (text told : List ℕ) × IsFaulty words (I.remaining input.old) text told
         × Appends (O.contents out.old) (O.contents out.new) text × Appends (E.contents errors.old) (E.contents errors.new) told }
     ensures usage { result ≢ Status.Usage }
-    ensures never { result ≡ Status.Never → (words : List Text) → AsksFor words command.entry → (text : List ℕ) × IsUnmet words text
-        × Appends (O.contents out.old) (O.contents out.new) text × (errors.new ≡ errors.old) }
     ensures memory { result ≡ Status.Memory → (words : List Text) → AsksFor words command.entry → (text : List ℕ) × IsWhole words (I.remaining input.old) text
         × Appends (O.contents out.old) (O.contents out.new) text × (errors.new ≡ errors.old) }
 {
@@ -65,14 +63,12 @@ fn perform<D: Dial + Drop, C: Clock + Drop, I: Read, O: Write, E: Write>(
             subjects,
             timeout_ms,
             for_ms,
-            style,
         } => {
             let plan = Plan {
                 addresses: addresses.as_slice(),
                 subjects,
                 timeout_ms,
                 for_ms,
-                style,
             };
             watch_over(alloc, dial, clock, plan, out)
         }
@@ -84,7 +80,6 @@ fn tell_line<O: Write, E: Write>(out: &mut O, errors: &mut E, fault: LineFault) 
     ensures done { result ≡ Status.Done → (text : List ℕ) × IsHelpText fault text × Appends (O.contents out.old) (O.contents out.new) text × (errors.new ≡ errors.old) }
     ensures fault { result ≢ Status.Fault }
     ensures usage { result ≡ Status.Usage → (told : List ℕ) × IsRefusalText fault told × Appends (E.contents errors.old) (E.contents errors.new) told × (out.new ≡ out.old) }
-    ensures never { result ≢ Status.Never }
     ensures memory { result ≡ Status.Memory → (out.new ≡ out.old) × (errors.new ≡ errors.old) }
 {
     match fault {
@@ -111,9 +106,6 @@ pub fn run<D: Dial + Drop, C: Clock + Drop, I: Read, O: Write, E: Write>(
     // The frame or a line of the script is refused, and this is told.
     ensures fault { result ≡ Status.Fault → (text told : List ℕ) × IsFaulty (map (λ w. w.now) words.entry.now) (I.remaining input.old) text told
         × Appends (O.contents out.old) (O.contents out.new) text × Appends (E.contents errors.old) (E.contents errors.new) told }
-    // The time of a watch is over, and it had no session.
-    ensures never { result ≡ Status.Never → (text : List ℕ) × IsUnmet (map (λ w. w.now) words.entry.now) text
-        × Appends (O.contents out.old) (O.contents out.new) text × (errors.new ≡ errors.old) }
     // The words are refused, and this is told.
     ensures usage { result ≡ Status.Usage → (told : List ℕ) × IsRefusal (map (λ w. w.now) words.entry.now) told
         × Appends (E.contents errors.old) (E.contents errors.new) told × (out.new ≡ out.old) }

@@ -53,7 +53,6 @@ pub fn script_over<P: Plays<A>, A: Allocator + Copy, I: Read, O: Write, E: Write
         × P.prints (lines_of script) text end × RunsOut end told × Appends (O.contents out.old) (O.contents out.new) (text ++ told) }
     ensures silent { (result ≡ Status.Done) ⊎ (result ≡ Status.Memory) → errors.new ≡ errors.old }
     ensures usage { result ≢ Status.Usage }
-    ensures never { result ≢ Status.Never }
 {
     let script = match read_whole(alloc, input) {
         Ok(script) => script,

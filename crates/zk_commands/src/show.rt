@@ -86,7 +86,6 @@ pub fn show<A: Allocator + Copy, O: Write, E: Write>(
     ensures quiet { result ≡ Status.Fault → out.new ≡ out.old }
     ensures memory { result ≡ Status.Memory → (out.new ≡ out.old) × (errors.new ≡ errors.old) }
     ensures usage { result ≢ Status.Usage }
-    ensures never { result ≢ Status.Never }
 {
     match print_frame(alloc, kind, hex) {
         Ok(text) => match out.write_all(text.as_bytes()) {

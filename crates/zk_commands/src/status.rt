@@ -13,6 +13,4 @@ pub enum Status {
     Memory = 3,
     /// Standard input or output failed.
     Stream = 4,
-    /// The time was over, and no session was ever established.
-    Never = 5,
 }

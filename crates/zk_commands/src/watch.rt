@@ -2,8 +2,7 @@
 
 ghost use Rattle.std.specs.Prelude.{◌≡◌, ◌≢◌, ◌++◌, List, ℕ};
 ghost use Rattle.std.specs.Io.KnownBytes.{Appends};
-ghost use Rattle.zk_watch.specs.Watching.{task_of, IsPrinted, IsWatched};
-ghost use Rattle.zk_watch.specs.declared.end.End.TheVariants.{Over, Never};
+ghost use Rattle.zk_watch.specs.Watching.{aims_of, IsPrinted};
 ghost use Rattle.zk_commands.specs.Written.{IsHalt};
 
 use crate::status::Status;
@@ -14,7 +13,6 @@ use zk_link::{Clock, Dial};
 use zk_watch::{End, Plan, watch};
 
 /// Watches what a plan names over connections, and prints a line at each change that the client learns, until the plan's time is over.
-/// `Never` where no session was ever established.
 /// `Memory` where memory ran out, with the line `halt` after the others where that was in a step of the client; `Stream` where a
 /// write of what is printed failed. A connection that fails is no fault.
 pub fn watch_over<A: Allocator + Copy, D: Dial + Drop, C: Clock + Drop, O: Write>(
@@ -24,20 +22,15 @@ pub fn watch_over<A: Allocator + Copy, D: Dial + Drop, C: Clock + Drop, O: Write
     plan: Plan<'_, A>,
     out: &mut O,
 ) -> Status
-    // A watch that is over ends with 0 where a session was ever established, and with a status of its own where none was.
-    ensures done { result ≡ Status.Done → (text : List ℕ) × IsWatched (task_of plan.entry.style plan.entry.subjects.items) plan.entry.for_ms Over text
-        × Appends (O.contents out.old) (O.contents out.new) text }
-    ensures never { result ≡ Status.Never → (text : List ℕ) × IsWatched (task_of plan.entry.style plan.entry.subjects.items) plan.entry.for_ms Never text
-        × Appends (O.contents out.old) (O.contents out.new) text }
-    // The line of a halt stands after what whole rounds print where a step halted.
-    ensures memory { result ≡ Status.Memory → (text told : List ℕ) × IsPrinted (task_of plan.entry.style plan.entry.subjects.items) text × IsHalt told
+    ensures done { result ≡ Status.Done → (text : List ℕ) × IsPrinted (aims_of plan.entry.subjects.items) text × Appends (O.contents out.old) (O.contents out.new) text }
+    // The line of a halt stands after what is printed where a step halted.
+    ensures memory { result ≡ Status.Memory → (text told : List ℕ) × IsPrinted (aims_of plan.entry.subjects.items) text × IsHalt told
         × Appends (O.contents out.old) (O.contents out.new) (text ++ told) }
     ensures fault { result ≢ Status.Fault }
     ensures usage { result ≢ Status.Usage }
 {
     match watch(alloc, dial, clock, plan, out) {
         End::Over => Status::Done,
-        End::Never => Status::Never,
         End::Halted => halt(out),
         End::Memory => Status::Memory,
         End::Stream => Status::Stream,

@@ -6,7 +6,7 @@ ghost use Rattle.std.specs.List.{list_all};
 ghost use Rattle.clap.specs.Words.{Text, app_of, first_of, found_of, rows_of, rule_of};
 ghost use Rattle.zk_nodes.specs.declared.side.Side.{Side as Sides};
 ghost use Rattle.zk_watch.specs.Watching.{aims_of};
-ghost use Rattle.zk_commands.specs.CommandLine.{AreAims, IsDuration, IsTimeout, TellsIf, address_rule, aims_at, count_at, duration_rule, duration_read, flag_rule, given, is_path, is_set, option_rule, path_rule, style_in, timeout_at, timeout_rule, watch_app, with_styles};
+ghost use Rattle.zk_commands.specs.CommandLine.{AreAims, IsDuration, IsTimeout, TellsIf, address_rule, aims_at, count_at, duration_rule, duration_read, given, is_path, option_rule, path_rule, timeout_at, timeout_rule, watch_app};
 
 use crate::help;
 use crate::line_fault::{LineFault, no_command, no_duration, no_path, no_timeout};
@@ -14,7 +14,7 @@ use clap::{Arg, ArgAction, ArgMatches};
 use std::alloc::{AllocError, Global};
 use zk_nodes::{Path, PathFault, Side};
 use zk_script::numbers::natural_of;
-use zk_watch::{Style, Subject};
+use zk_watch::Subject;
 
 /// The most milliseconds of a timeout.
 const MOST_MS: u64 = 2_147_483_647;
@@ -70,33 +70,6 @@ fn duration_arg<'a>(alloc: Global) -> Arg<'a>
     option_arg(alloc, "for", "SECONDS", about)
 }
 
-/// An option without a value.
-fn flag_arg<'a>(alloc: Global, name: &'a str, about: &'a str) -> Arg<'a>
-    ensures rule { rule_of result ≡ flag_rule name.now }
-    ensures local { result.global ≡ false }
-{
-    Arg::new(alloc, name)
-        .long(name)
-        .action(ArgAction::SetTrue)
-        .help(about)
-}
-
-/// Adds the options of how lines are printed.
-fn with_styles<'a>(
-    alloc: Global,
-    watch: clap::Command<'a>,
-) -> Result<clap::Command<'a>, AllocError>
-    ensures { IfOk result (λ r. app_of r ≡ with_styles (app_of watch)) }
-{
-    let watch = watch.arg(flag_arg(alloc, "text", "Data as text where they are text"))?;
-    let watch = watch.arg(flag_arg(alloc, "json", "An object of JSON a line"))?;
-    watch.arg(flag_arg(
-        alloc,
-        "lines",
-        "Lines without a moment, for scripts: see below",
-    ))
-}
-
 /// The form of `watch`.
 pub(crate) fn watch_form<'a>(alloc: Global) -> Result<clap::Command<'a>, AllocError>
     ensures { IfOk result (λ r. app_of r ≡ watch_app) }
@@ -108,33 +81,7 @@ pub(crate) fn watch_form<'a>(alloc: Global) -> Result<clap::Command<'a>, AllocEr
     let watch = watch.arg(paths_arg(alloc, "data", "A node whose data to watch"))?;
     let watch = watch.arg(paths_arg(alloc, "children", "A node below which to watch the names"))?;
     let watch = watch.arg(timeout_arg(alloc))?;
-    let watch = watch.arg(duration_arg(alloc))?;
-    with_styles(alloc, watch)
-}
-
-/// Whether an option without a value was given.
-fn is_set(matches: &ArgMatches<'_>, id: &str) -> bool
-    ensures { result ≡ is_set id.now (rows_of (found_of matches.now)) }
-{
-    match matches.get_str(id) {
-        Some(word) => word == "true",
-        None => false,
-    }
-}
-
-/// How lines are printed.
-pub(crate) fn style_of(matches: &ArgMatches<'_>) -> Style
-    ensures { result ≡ style_in (rows_of (found_of matches.now)) }
-{
-    if is_set(matches, "json") {
-        Style::Json
-    } else if is_set(matches, "lines") {
-        Style::Lines
-    } else if is_set(matches, "text") {
-        Style::Text
-    } else {
-        Style::Words
-    }
+    watch.arg(duration_arg(alloc))
 }
 
 /// The number that a word means, from 1 to the most.

@@ -61,7 +61,6 @@ pub(crate) fn write_transcript<A: Allocator, O: Write, E: Write>(
         × Appends (O.contents out.old) (O.contents out.new) (string_bytes transcript.now.text ++ told) }
     ensures silent { (result ≡ Status.Done) ⊎ (result ≡ Status.Memory) → errors.new ≡ errors.old }
     ensures usage { result ≢ Status.Usage }
-    ensures never { result ≢ Status.Never }
 {
     if out.write_all(transcript.text.as_bytes()).is_err() {
         return Status::Stream;

@@ -1,2 +1,1 @@
-pub mod Spoken
 pub mod Watching

@@ -8,8 +8,6 @@ use zk_link::Stop;
 pub enum End {
     /// Its time was over, and it is closed.
     Over,
-    /// The same, and no session was ever established.
-    Never,
     /// A step of the client ran out of memory.
     Halted,
     /// Memory ran out elsewhere.
@@ -18,46 +16,22 @@ pub enum End {
     Stream,
 }
 
-/// Why a watch ends before its time.
-#[derive(Clone, Copy)]
-pub(crate) enum Short {
-    Halted,
-    Memory,
-    Stream,
-}
-
-impl Short {
+impl From<AllocError> for End {
     ghost use Rattle.std.specs.Prelude.{◌≡◌};
-    ghost use Rattle.zk_watch.specs.Watching.{short_end};
+    ghost use Rattle.zk_watch.specs.declared.end.End.TheVariants.{Memory};
 
-    /// How it ends then.
-    pub(crate) fn end(self) -> End
-        ensures { result ≡ short_end self }
-    {
-        match self {
-            Short::Halted => End::Halted,
-            Short::Memory => End::Memory,
-            Short::Stream => End::Stream,
-        }
+    ghost from_gives = { λ _ end. end ≡ Memory };
+
+    fn from(_fault: AllocError) -> End {
+        End::Memory
     }
 }
 
-impl From<AllocError> for Short {
-    ghost use Rattle.std.specs.Prelude.{◌≡◌};
-    ghost use Rattle.zk_watch.specs.declared.end.Short.TheVariants.{Memory};
-
-    ghost from_gives = { λ _ why. why ≡ Memory };
-
-    fn from(_fault: AllocError) -> Short {
-        Short::Memory
-    }
-}
-
-impl From<Stop> for Short {
-    fn from(stop: Stop) -> Short {
+impl From<Stop> for End {
+    fn from(stop: Stop) -> End {
         match stop {
-            Stop::Halted => Short::Halted,
-            Stop::Memory => Short::Memory,
+            Stop::Halted => End::Halted,
+            Stop::Memory => End::Memory,
         }
     }
 }

@@ -1,19 +1,16 @@
 //! What is known of the reads of subjects.
 
-ghost use Rattle.std.specs.Prelude.{◌≡◌, true};
-ghost use Rattle.zk_client.specs.Views.{outcome_view};
-ghost use Rattle.zk_watch.specs.Spoken.{is_denied};
-ghost use Rattle.zk_watch.specs.declared.notes.Reading.TheVariants as readings;
-
 use std::alloc::{AllocError, Allocator};
-use zk_client::{CallResult, Outcome};
+use zk_client::{CallResult, Code, Outcome};
 
 /// How long a subject that was refused waits, in milliseconds, whatever happens to the connection.
 const PAUSE: u64 = 1_000;
 
 /// What is known of the reads of one subject.
 #[derive(Drop)]
-pub(crate) struct Note {
+pub(crate) struct Note<A: Allocator> {
+    /// The line of what is kept that was printed last, and the empty one before the first.
+    told: String<A>,
     /// Whether a read has no answer yet.
     is_pending: bool,
     /// Whether the last reply said that the node is not there, and that is not known to hold.
@@ -25,52 +22,31 @@ pub(crate) struct Note {
 }
 
 /// What an answer says of the read of a subject.
-#[derive(Clone, Copy)]
-pub(crate) enum Reading {
+enum Reading {
     Lost,
     Found,
     Missing,
     Refused,
 }
 
-/// The code of a node that is not there.
-const NO_NODE: i32 = -101;
-
-/// Whether a read is refused, other than for a node that is not there.
-fn is_denied<A: Allocator>(outcome: &Outcome<A>) -> bool
-    ensures { result ≡ is_denied (outcome_view outcome.now) }
-{
-    match outcome {
-        Outcome::Replied {
-            result: CallResult::Code(code),
-            ..
-        } => code.number() != NO_NODE,
-        Outcome::TooManyWatches | Outcome::TooLarge | Outcome::TooManyPending => true,
-        _ => false,
-    }
-}
-
 /// What an answer says of the read of a subject.
-fn reading_of<A: Allocator>(outcome: &Outcome<A>) -> Reading
-    ensures { result ≡ readings.Refused → is_denied (outcome_view outcome.now) ≡ true }
-{
-    if is_denied(outcome) {
-        return Reading::Refused;
-    }
+fn reading_of<A: Allocator>(outcome: &Outcome<A>) -> Reading {
     match outcome {
-        Outcome::Replied {
-            result: CallResult::Code(_),
-            ..
-        } => Reading::Missing,
-        Outcome::Replied { .. } => Reading::Found,
+        Outcome::Replied { result, .. } => match result {
+            CallResult::Code(Code::NoNode) => Reading::Missing,
+            CallResult::Code(_) => Reading::Refused,
+            _ => Reading::Found,
+        },
+        Outcome::TooManyWatches | Outcome::TooLarge | Outcome::TooManyPending => Reading::Refused,
         _ => Reading::Lost,
     }
 }
 
-impl Note {
+impl<A: Allocator> Note<A> {
     /// Of a subject that was not read yet.
-    fn new() -> Note {
+    fn new(alloc: A) -> Note<A> {
         Note {
+            told: String::new(alloc),
             is_pending: false,
             is_missing: false,
             is_refused: false,
@@ -79,9 +55,7 @@ impl Note {
     }
 
     /// Takes what an answer says at this moment. Whether it is a refusal that was not told yet.
-    fn take(&mut self, reading: Reading, now: u64) -> bool
-        ensures { result ≡ true → reading ≡ readings.Refused }
-    {
+    fn take(&mut self, reading: Reading, now: u64) -> bool {
         self.is_pending = false;
         match reading {
             Reading::Lost => false,
@@ -127,16 +101,16 @@ impl Note {
 pub(crate) fn new_notes<A: Allocator + Copy>(
     alloc: A,
     count: usize,
-) -> Result<Vec<Note, A>, AllocError> {
+) -> Result<Vec<Note<A>, A>, AllocError> {
     let mut notes = Vec::new(alloc);
     for _ in 0..count {
-        notes.push(Note::new()).map_err(AllocError::from)?;
+        notes.push(Note::new(alloc)).map_err(AllocError::from)?;
     }
     Ok(notes)
 }
 
 /// A connection begins or is over: nothing is pending.
-pub(crate) fn end_reads<A: Allocator>(notes: &mut Vec<Note, A>) {
+pub(crate) fn end_reads<A: Allocator>(notes: &mut Vec<Note<A>, A>) {
     for note in notes.iter_mut() {
         note.is_pending = false;
     }
@@ -144,13 +118,11 @@ pub(crate) fn end_reads<A: Allocator>(notes: &mut Vec<Note, A>) {
 
 /// Takes the answer to the read of a subject, whose place, counted from 1, is the ticket. Whether it is a refusal that was not told yet.
 pub(crate) fn take_answer<A: Allocator>(
-    notes: &mut Vec<Note, A>,
+    notes: &mut Vec<Note<A>, A>,
     ticket: u64,
     outcome: &Outcome<A>,
     now: u64,
-) -> bool
-    ensures { result ≡ true → is_denied (outcome_view outcome.now) ≡ true }
-{
+) -> bool {
     let Some(place) = ticket.checked_sub(1) else {
         return false;
     };
@@ -162,7 +134,7 @@ pub(crate) fn take_answer<A: Allocator>(
 
 /// How the subject at this place is to be read at this moment, if it is: whether the node was not there. The read is pending from then on.
 pub(crate) fn begin_read<A: Allocator>(
-    notes: &mut Vec<Note, A>,
+    notes: &mut Vec<Note<A>, A>,
     index: usize,
     is_known: bool,
     now: u64,
@@ -174,7 +146,7 @@ pub(crate) fn begin_read<A: Allocator>(
 }
 
 /// The first moment after this one at which a subject that was refused is read again, and the end where there is none before it.
-pub(crate) fn first_moment(notes: &[Note], now: u64, end: u64) -> u64 {
+pub(crate) fn first_moment<A: Allocator>(notes: &[Note<A>], now: u64, end: u64) -> u64 {
     let mut first = end;
     for note in notes {
         if now < note.ask_at && note.ask_at < first {
@@ -182,4 +154,25 @@ pub(crate) fn first_moment(notes: &[Note], now: u64, end: u64) -> u64 {
         }
     }
     first
+}
+
+/// Whether this is the line that was printed last of the subject at this place. Before the first it is the one of nothing that is kept.
+pub(crate) fn is_told<A: Allocator>(
+    notes: &[Note<A>],
+    index: usize,
+    none: &str,
+    line: &str,
+) -> bool {
+    match notes.get(index) {
+        Some(note) if note.told.is_empty() => line == none,
+        Some(note) => line == note.told.as_str(),
+        None => true,
+    }
+}
+
+/// This line was printed of the subject at this place.
+pub(crate) fn set_told<A: Allocator>(notes: &mut Vec<Note<A>, A>, index: usize, line: String<A>) {
+    if let Some(note) = notes.get_mut(index) {
+        note.told = line;
+    }
 }

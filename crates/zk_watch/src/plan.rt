@@ -1,6 +1,5 @@
 //! What is watched, and for how long.
 
-use crate::style::Style;
 use std::alloc::Allocator;
 use zk_client::{Path, Side};
 
@@ -21,6 +20,4 @@ pub struct Plan<'a, A: Allocator + Copy> {
     pub timeout_ms: i32,
     /// How long, in milliseconds; none: until output fails.
     pub for_ms: Option<u64>,
-    /// How lines are printed.
-    pub style: Style,
 }

@@ -9,13 +9,10 @@ use std::alloc::{AllocError, Allocator, Global};
 use std::cell::RefCell;
 use std::io::Write;
 use zk_client::{Path, Side};
-use zk_watch::{End, Plan, Style, Subject, watch};
+use zk_watch::{End, Plan, Subject, watch};
 
 /// What is dialled.
 static ADDRESSES: [&str; 1] = ["a"];
-
-/// What is dialled where lines name it.
-static SERVERS: [&str; 2] = ["10.0.0.1:2181", "10.0.0.2:2181"];
 
 /// The timeout that is asked for, in milliseconds.
 const TIMEOUT: i32 = 9_000;
@@ -23,8 +20,8 @@ const TIMEOUT: i32 = 9_000;
 /// How long is watched, in milliseconds.
 const FOR_MS: u64 = 2_000;
 
-/// A row of the test: what is watched, what happens, how many transactions have happened before, with which code the data of /config are
-/// refused, unless it is 0, how many attempts to connect are refused, and how lines are printed.
+/// A row of the test: what is watched, what happens, how many transactions have happened before, and with which code the data of /config
+/// are refused, unless it is 0.
 #[derive(Drop)]
 pub struct Row {
     name: &'static str,
@@ -33,8 +30,6 @@ pub struct Row {
     events: &'static [Event],
     taken: u32,
     code: i32,
-    missed: u32,
-    style: Style,
 }
 
 impl Row {
@@ -52,27 +47,6 @@ impl Row {
             events,
             taken: 0,
             code: 0,
-            missed: 0,
-            style: Style::Lines,
-        }
-    }
-
-    /// The same where this many attempts to connect are refused.
-    pub fn missing(self, missed: u32) -> Row {
-        Row { missed, ..self }
-    }
-
-    /// The same in this style.
-    pub fn spoken(self, style: Style) -> Row {
-        Row { style, ..self }
-    }
-
-    /// What is dialled.
-    fn addresses(&self) -> &'static [&'static str] {
-        if self.style == Style::Lines {
-            &ADDRESSES
-        } else {
-            &SERVERS
         }
     }
 
@@ -110,17 +84,18 @@ fn watched<A: Allocator + Copy, W: Write>(
     piece: usize,
     out: &mut W,
 ) -> Result<End> {
-    let world = World::new(global, row.events, row.taken, row.code, piece)?.missing(row.missed);
-    let (world, moments) = (RefCell::new(world), Moments::new());
+    let (world, moments) = (
+        RefCell::new(World::new(global, row.events, row.taken, row.code, piece)?),
+        Moments::new(),
+    );
     let Ok(subjects) = subjects(alloc, row) else {
         return Ok(End::Memory);
     };
     let plan = Plan {
-        addresses: row.addresses(),
+        addresses: &ADDRESSES,
         subjects,
         timeout_ms: TIMEOUT,
         for_ms: Some(FOR_MS),
-        style: row.style,
     };
     let (dial, clock) = (Shared::new(&world, &moments), Shared::new(&world, &moments));
     Ok(watch(alloc, dial, clock, plan, out))

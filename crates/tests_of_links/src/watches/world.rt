@@ -19,10 +19,6 @@ pub enum Event {
     Cuts,
     /// The session expires, which the server says at the next connection.
     Expires,
-    /// The connection is cut, and no other is made.
-    Stops,
-    /// A frame comes whose length is below 0.
-    Spoils,
 }
 
 /// The moment at which all that happens does, in milliseconds.
@@ -42,8 +38,6 @@ pub struct World {
     piece: usize,
     code: i32,
     connections: u32,
-    missed: u32,
-    is_spoiled: bool,
 }
 
 /// How many bytes the frame has that answers a read of the data of /config.
@@ -132,16 +126,9 @@ impl World {
             piece,
             code,
             connections: 0,
-            missed: 0,
-            is_spoiled: false,
         };
         world.begin_anew()?;
         Ok(world)
-    }
-
-    /// The same, where this many attempts to connect are refused.
-    pub fn missing(self, missed: u32) -> World {
-        World { missed, ..self }
     }
 
     /// With which code the data of /config are refused on this connection, and 0 where they are not.
@@ -177,12 +164,6 @@ impl World {
                 self.bench.disconnect();
             }
             Event::Expires => self.is_expired = true,
-            Event::Stops => {
-                self.missed = u32::MAX;
-                self.is_cut = true;
-                self.bench.disconnect();
-            }
-            Event::Spoils => self.is_spoiled = true,
         }
         Ok(())
     }
@@ -222,10 +203,6 @@ impl Server for World {
     type Held = ();
 
     fn dial(&mut self, _within_ms: u64, _moments: &Moments) -> io::Result<()> {
-        if self.missed > 0 {
-            self.missed -= 1;
-            return Err(ErrorKind::ConnectionRefused.into());
-        }
         or_memory(self.connect())
     }
 
@@ -236,10 +213,6 @@ impl Server for World {
     fn read(&mut self, most: usize, _moments: &Moments) -> io::Result<Option<Vec<u8>>> {
         if self.is_cut {
             return Ok(None);
-        }
-        if self.is_spoiled {
-            self.is_spoiled = false;
-            return Ok(Some(Vec::from_slice(self.alloc, &[255; 4])?));
         }
         let bytes = self.bench.output(most.min(self.piece))?;
         Ok(Some(with_code(self.alloc, bytes, self.code())?))

@@ -106,7 +106,7 @@ pub returns-in-Watch-clause-done : goal.returns-in-Watch-clause-done
 returns-in-Watch-clause-done g c = λ is words asks.
     let told = c.watch_over.ensures.done is in (
       told.0,
-      watches c.in-Watch.addresses c.in-Watch.subjects c.in-Watch.timeout_ms c.in-Watch.for_ms c.in-Watch.style (rw c.in-Watch.is at asks) told.1,
+      watches c.in-Watch.addresses c.in-Watch.subjects c.in-Watch.timeout_ms c.in-Watch.for_ms (rw c.in-Watch.is at asks) told.1,
       told.2,
       refl,
     )
@@ -115,16 +115,7 @@ pub returns-in-Watch-clause-memory : goal.returns-in-Watch-clause-memory
 returns-in-Watch-clause-memory g c = λ is words asks.
     let told = c.watch_over.ensures.memory is in (
       told.0 ++ told.1,
-      ceases c.in-Watch.addresses c.in-Watch.subjects c.in-Watch.timeout_ms c.in-Watch.for_ms c.in-Watch.style told.0 told.1 (rw c.in-Watch.is at asks) told.2 told.3 refl,
+      ceases c.in-Watch.addresses c.in-Watch.subjects c.in-Watch.timeout_ms c.in-Watch.for_ms told.0 told.1 (rw c.in-Watch.is at asks) told.2 told.3 refl,
       told.4,
-      refl,
-    )
-
-pub returns-in-Watch-clause-never : goal.returns-in-Watch-clause-never
-returns-in-Watch-clause-never g c = λ is words asks.
-    let told = c.watch_over.ensures.never is in (
-      told.0,
-      (c.in-Watch.addresses, c.in-Watch.subjects, c.in-Watch.timeout_ms, c.in-Watch.for_ms, c.in-Watch.style, rw c.in-Watch.is at asks, told.1),
-      told.2,
       refl,
     )

@@ -10,9 +10,6 @@ returns-in-Ok-clause-fault g c = λ is. c.perform.ensures.fault is _ c.in-Ok.ens
 pub returns-in-Ok-clause-memory : goal.returns-in-Ok-clause-memory
 returns-in-Ok-clause-memory g c = λ is. c.perform.ensures.memory is _ c.in-Ok.ensures.ok
 
-pub returns-in-Ok-clause-never : goal.returns-in-Ok-clause-never
-returns-in-Ok-clause-never g c = λ is. c.perform.ensures.never is _ c.in-Ok.ensures.ok
-
 pub returns-in-Err-clause-done : goal.returns-in-Err-clause-done
 returns-in-Err-clause-done g c = λ is.
     let told = c.tell_line.ensures.done is in

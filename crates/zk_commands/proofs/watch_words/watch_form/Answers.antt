@@ -1,7 +1,6 @@
-use Rattle.std.proofs.Common.{rules, ◌≡◌, ◌∙◌, ap, ap₂, codes}
+use Rattle.std.proofs.Common.{rules, ◌≡◌, ◌∙◌, ap₂, codes}
 use Rattle.std.proofs.lemmas.Result.{IfOk-weaker}
 use Rattle.clap.specs.Words.{app_of, new_app, with_rule}
-use Rattle.zk_commands.specs.CommandLine.{with_styles}
 use Rattle.zk_commands.proofs.watch_words.watch_form.Goals as goal
 
 pub returns : goal.returns
@@ -11,5 +10,5 @@ returns c =
     let two = c.in_ok-watch-2.ensures.shape c.paths_arg.ensures.local ∙ ap₂ with_rule one c.paths_arg.ensures.rule in
     let three = c.in_ok-watch-3.ensures.shape c.paths_arg-2.ensures.local ∙ ap₂ with_rule two c.paths_arg-2.ensures.rule in
     let four = c.in_ok-watch-4.ensures.shape c.timeout_arg.ensures.local ∙ ap₂ with_rule three c.timeout_arg.ensures.rule in
-    let five = c.in_ok-watch-5.ensures.shape c.duration_arg.ensures.local ∙ ap₂ with_rule four c.duration_arg.ensures.rule in
-    IfOk-weaker c.with_styles.result _ _ (λ watch is. is ∙ ap with_styles five) c.with_styles.ensures
+    IfOk-weaker c.arg-5.result _ _
+    (λ watch adds. adds.shape c.duration_arg.ensures.local ∙ ap₂ with_rule four c.duration_arg.ensures.rule) c.arg-5.ensures

@@ -1,10 +1,10 @@
 use Rattle.std.specs.Prelude.{string_bytes}
 use Rattle.zk_client.specs.Views.{output_view}
 use Rattle.zk_script.proofs.LineLemmas.{next_told}
-use Rattle.zk_watch.specs.Watching.{aims_of, TellsHeard}
+use Rattle.zk_watch.specs.Watching.{TellsHeard}
 use Rattle.zk_watch.proofs.told.heard_text.Goals as goal
 
 pub loop-output-preserved : goal.loop-output-preserved
 loop-output-preserved g c =
-    next_told (TellsHeard c.args.facts.now.style (aims_of c.args.subjects.now) c.args.facts.now.timeout_ms) output_view c.args.outputs.now c.loop-output.output-index c.output-item.result
-    (string_bytes c.loop-output.text) (string_bytes c.push_heard.new.text) c.loop-output-test.true c.output-item.is c.loop-output.invariant c.in_ok-push_heard.ensures
+    next_told TellsHeard output_view c.args.outputs.now c.loop-output.output-index c.output-item.result (string_bytes c.loop-output.text) (string_bytes c.push_heard.new.text)
+    c.loop-output-test.true c.output-item.is c.loop-output.invariant c.in_ok-push_heard.ensures

@@ -1,9 +1,9 @@
 use Rattle.std.proofs.Common.{take}
 use Rattle.std.specs.Prelude.{string_bytes}
 use Rattle.zk_client.specs.Views.{said}
-use Rattle.zk_watch.specs.Watching.{aims_of, TellsEach}
+use Rattle.zk_watch.specs.Watching.{TellsEach}
 use Rattle.zk_watch.proofs.told.heard_text.Given as goal
 
 -- the text tells the outputs so far
 abbrev pub invariant-loop-output : goal.invariant-loop-output
-invariant-loop-output g l = TellsEach l.facts.style (aims_of l.subjects) l.facts.timeout_ms (said (take l.output-index l.outputs)) (string_bytes l.text)
+invariant-loop-output g l = TellsEach (said (take l.output-index l.outputs)) (string_bytes l.text)

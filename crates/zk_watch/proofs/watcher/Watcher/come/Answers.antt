@@ -1,19 +1,15 @@
-use Rattle.std.proofs.Common.{◌≡◌, List, map, refl, subst}
-use Rattle.std.specs.List.{FoldsTo}
+use Rattle.std.proofs.Common.{ap, refl}
 use Rattle.std.specs.Prelude.{string_bytes}
-use Rattle.zk_turns.specs.Turns.{Turn}
-use Rattle.zk_link.specs.Trails.{trail_of, Takes, Trail}
-use Rattle.zk_watch.specs.Watching.{heard, stage_at, task_of, Stage}
-use Rattle.zk_watch.proofs.WatchLemmas.{came, goes_add}
+use Rattle.zk_client.specs.Clients.{view_of}
+use Rattle.zk_client.specs.Views.{said}
+use Rattle.zk_link.specs.Trails.{trail_of}
+use Rattle.zk_watch.specs.Watching.{aims_of}
+use Rattle.zk_watch.proofs.WatchLemmas.{come_add}
 use Rattle.zk_watch.proofs.watcher.Watcher.come.Goals as goal
 
-pub returns-clause-adds : goal.returns-clause-adds
-returns-clause-adds g c =
+pub returns : goal.returns
+returns g c =
     let told = rw c.as_slice.ensures.value at c.in_ok-hear.ensures.told in
-    let met = rw c.as_slice.ensures.value at c.in_ok-hear.ensures.met in
-    let after : Trail = trail_of c.go_on.new.self.joint c.go_on.new.outputs.items in
-    let old : Stage = stage_at c.args.self.now.link.joint (map string_bytes c.args.self.now.shown.items) c.args.self.now.is_met in
-    let new : Stage = stage_at c.hear.new.self.link.joint (map string_bytes c.hear.new.self.shown.items) c.hear.new.self.is_met in
-    let takes = rw c.new-outputs.ensures.items at (came (trail_of c.args.self.now.link.joint c.new-outputs.result.items) after c.in_ok-go_on.ensures.ok) in
-    let is : new ≡ heard old after = rw (c.hear.ensures.joint, c.hear.ensures.shown, met) refl in
-    goes_add (task_of c.args.plan.now.style c.args.plan.now.subjects.items) old after new (string_bytes c.args.text.now) (string_bytes c.hear.new.text) told.0 told.1 takes told.2 told.3 is told.4
+    come_add (aims_of c.args.subjects.now) (trail_of c.args.self.now.link.joint c.new-outputs.result.items) (trail_of c.go_on.new.self.joint c.go_on.new.outputs.items)
+    (view_of c.hear.new.self.link.joint.client) (string_bytes c.args.text.now) (string_bytes c.hear.new.text) told.0 c.in_ok-go_on.ensures.ok (ap said c.new-outputs.ensures.items)
+    told.1 (rw c.hear.ensures.joint refl) told.2

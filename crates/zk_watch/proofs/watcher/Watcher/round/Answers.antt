@@ -1,9 +1,14 @@
-use Rattle.std.specs.Prelude.{map, string_bytes}
-use Rattle.zk_watch.specs.Watching.{stage_at, task_of, Stage}
-use Rattle.zk_watch.proofs.WatchLemmas.{adds_behind}
+use Rattle.std.proofs.Common.{refl}
+use Rattle.std.specs.Prelude.{string_bytes}
+use Rattle.zk_client.specs.Clients.{view_of}
+use Rattle.zk_watch.proofs.WatchLemmas.{adds_behind, from_same, ok_behind}
 use Rattle.zk_watch.proofs.watcher.Watcher.round.Goals as goal
 
-pub returns-clause-adds : goal.returns-clause-adds
-returns-clause-adds g c =
-    let old : Stage = stage_at c.args.self.now.link.joint (map string_bytes c.args.self.now.shown.items) c.args.self.now.is_met in
-    adds_behind (task_of c.args.plan.now.style c.args.plan.now.subjects.items) old (string_bytes c.args.text.now) _ _ _ _ c.in_ok-is_end.ensures.adds c.in_ok-show_all.ensures.adds
+pub returns : goal.returns
+returns g c =
+    let old = view_of c.args.self.now.link.joint.client in
+    let text = string_bytes c.args.text.now in
+    let first = from_same _ old (view_of c.next_moment-until.new.self.link.joint.client) text _ _ (rw c.next_moment-until.ensures refl) c.in_ok-come.ensures in
+    let both = adds_behind _ old text _ _ _ _ first c.in_ok-begin_anew.ensures in
+    let three = adds_behind _ old text _ _ _ _ both c.in_ok-read_all.ensures in
+    ok_behind _ c.show_all.result old text _ _ _ _ three c.show_all.ensures

@@ -1,11 +1,10 @@
-use Rattle.std.proofs.Common.{List, ℕ, map}
-use Rattle.std.specs.Prelude.{string_bytes}
+use Rattle.std.proofs.Common.{List, ℕ}
 use Rattle.std.specs.Io.KnownBytes.{Appends}
-use Rattle.zk_watch.specs.Watching.{stage_at, task_of, Move, RoundsTo}
+use Rattle.zk_client.specs.Clients.{view_of}
+use Rattle.zk_watch.specs.Watching.{aims_of, Prints}
 use Rattle.zk_watch.proofs.watcher.Watcher.run.Given as goal
 
--- the rounds so far, and what they printed
+-- what was printed so far
 abbrev pub invariant-loop : goal.invariant-loop
-invariant-loop g l = (rounds : List (List Move)) × (text : List ℕ)
-    × RoundsTo (task_of l.plan.style l.plan.subjects.items) (stage_at l.fn.self.link.joint (map string_bytes l.fn.self.shown.items) l.fn.self.is_met) rounds text (stage_at l.self.link.joint (map string_bytes l.self.shown.items) l.self.is_met)
-    × Appends (g.O.Write.contents l.fn.out) (g.O.Write.contents l.out) text
+invariant-loop g l = (told : List ℕ) × Prints (aims_of l.subjects) (view_of l.fn.self.link.joint.client) told (view_of l.self.link.joint.client)
+    × Appends (g.O.Write.contents l.fn.out) (g.O.Write.contents l.out) told

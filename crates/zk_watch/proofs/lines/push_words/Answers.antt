@@ -5,7 +5,7 @@ use Rattle.zk_script.specs.Values.{spaced}
 use Rattle.zk_script.specs.Words.{text_word}
 use Rattle.zk_replay.specs.Shown.{last_line}
 use Rattle.zk_watch.proofs.WatchLemmas.{three_pieces}
-use Rattle.zk_watch.proofs.lines.push_old.Goals as goal
+use Rattle.zk_watch.proofs.lines.push_words.Goals as goal
 
 pub returns : goal.returns
 returns g c =
