@@ -125,7 +125,7 @@ fn tell_copied(
     told: &mut String,
 ) -> Result<()> {
     match copied {
-        Ok(count) => writeln!(told, "{name} {count} {:?}", &room[..count.min(ROOM)])?,
+        Ok(count) => writeln!(told, "{name} {count} {:?}", &room[..count.min(room.len())])?,
         Err(refusal) => writeln!(told, "{name} {}", refusal.code())?,
     }
     Ok(())
