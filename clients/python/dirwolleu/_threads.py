@@ -5,13 +5,10 @@ from __future__ import annotations
 import asyncio
 import contextlib
 import os
-import ssl
 import threading
-from typing import Callable, Optional
+from typing import Callable
 
 from dirwolleu._driver import Driver
-from dirwolleu._engine import Engine
-from dirwolleu._hosts import Servers
 from dirwolleu._waiting import Callbacks
 
 LONGEST_END = 5.0
@@ -57,8 +54,8 @@ class Loop(threading.Thread):
 class Threads:
     """The threads of a client that is started, in one process."""
 
-    def __init__(self, servers: Servers, engine: Engine, tls: Optional[ssl.SSLContext]) -> None:
-        self.loop = Loop(Driver(servers, engine, tls))
+    def __init__(self, driver: Driver) -> None:
+        self.loop = Loop(driver)
         self.callbacks = Callbacks()
         self._process = os.getpid()
 

@@ -24,7 +24,7 @@ from dirwolleu._lane import Created
 from dirwolleu._plans import Acls, AnyRequest, Plan
 from dirwolleu._requests import Result
 from dirwolleu._retry import Retry
-from dirwolleu._shown import AuthData, Shown, credential_of
+from dirwolleu._shown import AuthData, Shown, credential_of, parts_of
 from dirwolleu._steps import Ask, Call, Step, Steps, Wait
 from dirwolleu._waiting import Future, News, Task, Waiter
 from dirwolleu.exceptions import ConnectionClosedError, ZookeeperError
@@ -35,6 +35,7 @@ from dirwolleu.types import Kept, KeptChildren, Stat, State, Watch
 if TYPE_CHECKING:
     import ssl as _ssl
 
+    from dirwolleu._driver import Driver
     from dirwolleu._threads import Threads
 
 Returned = TypeVar("Returned")
@@ -93,10 +94,9 @@ class Client(Shown):
         retry: Optional[Retry] = None,
         randomize_hosts: bool = True,
     ) -> None:
-        super().__init__(hosts, timeout, saved, auth_data, retry, randomize_hosts)
+        super().__init__(*parts_of(hosts, timeout, saved, auth_data, randomize_hosts, self._tell), retry)
         self._tls = ssl
         self._running: dict[str, Threads] = {}  # a dict's functions are single steps of the interpreter: no lock
-        self._tasks: dict[Task, None] = {}
 
     def __enter__(self) -> Client:
         self.start()
@@ -544,7 +544,7 @@ class Client(Shown):
         if self._threads() is None:
             from dirwolleu._threads import Threads  # here, so that no import of the package loads asyncio
 
-            threads = Threads(self._servers, self._engine, self._tls)
+            threads = Threads(self._driver())
             if self._running.setdefault("threads", threads) is threads:
                 _started.add(self)
                 threads.start()
@@ -552,6 +552,12 @@ class Client(Shown):
                     task.start()
             else:
                 threads.loop.stop(lambda: None)
+
+    def _driver(self) -> Driver:
+        """What keeps the client connected, once it is started."""
+        from dirwolleu._driver import Driver
+
+        return Driver(self._servers, self._engine, self._tls)
 
     def _end_threads(self, end: Callable[[], None]) -> None:
         """Ends the engine and the threads. It may be called again, and by another thread, while it runs."""
