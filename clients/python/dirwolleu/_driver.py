@@ -10,7 +10,7 @@ import os
 import ssl
 from typing import Any, Callable, Optional, cast
 
-from dirwolleu._clock import moment
+from dirwolleu._clock import moment as moment
 from dirwolleu._engine import Engine
 from dirwolleu._hosts import Place, Servers
 from dirwolleu._pauses import BETWEEN_DIALS, Pauses

@@ -6,7 +6,8 @@ import logging
 import time
 from collections.abc import Iterator
 from contextlib import contextmanager
-from typing import Any, Callable, Generic, NamedTuple, Optional, TypeVar, Union
+from dataclasses import dataclass
+from typing import Any, Callable, Generic, Optional, TypeVar, Union
 
 from dirwolleu import _requests as requests
 from dirwolleu._engine import Engine, News
@@ -24,7 +25,8 @@ BETWEEN_REFUSED_READS = 1.0
 Told = TypeVar("Told", bound=Union[Kept, KeptChildren])
 
 
-class Subject(NamedTuple, Generic[Told]):
+@dataclass(frozen=True)
+class Subject(Generic[Told]):
     """What is followed of a path."""
 
     path: str

@@ -9,7 +9,7 @@ from typing import Any, Callable, Optional, TypeVar, Union
 from dirwolleu import _lane as lane
 from dirwolleu import _watches as watches
 from dirwolleu._clock import moment
-from dirwolleu._engine import Credential, Engine, Listener, News
+from dirwolleu._engine import Credential, Engine, Listener, News, Tell
 from dirwolleu._freshening import freshening
 from dirwolleu._hosts import Servers
 from dirwolleu._plans import Plan
@@ -25,22 +25,22 @@ def credential_of(scheme: str, credential: Union[str, bytes]) -> Credential:
     return Credential(scheme, credential.encode() if isinstance(credential, str) else credential)
 
 
+def parts_of(
+    hosts: str, timeout: float, saved: Optional[bytes], auth_data: AuthData, randomize_hosts: bool, tell: Tell
+) -> tuple[Servers, Engine]:
+    """What both clients are made of, by their parameters."""
+    servers = Servers(hosts, randomize_hosts)
+    credentials = [credential_of(scheme, credential) for scheme, credential in auth_data]
+    return servers, Engine(timeout, saved, tell, servers.hosts.root, credentials)
+
+
 class Shown:
     """What a client shows of its session, and of what it keeps."""
 
-    def __init__(
-        self,
-        hosts: str,
-        timeout: float,
-        saved: Optional[bytes],
-        auth_data: AuthData,
-        retry: Optional[Retry],
-        randomize_hosts: bool,
-    ) -> None:
-        self._servers = Servers(hosts, randomize_hosts)
-        credentials = [credential_of(scheme, credential) for scheme, credential in auth_data]
-        self._engine = Engine(timeout, saved, self._tell, self._servers.hosts.root, credentials)
-        self._retry = retry
+    def __init__(self, servers: Servers, engine: Engine, retry: Optional[Retry]) -> None:
+        self._servers, self._engine, self._retry = servers, engine, retry
+        self._tasks: dict[Any, None] = {}
+        """What is done that nobody waits for, until it is done."""
 
     def _tell(self, function: Callable[[Any], object], argument: Any) -> object:
         """Has a function of the program called, not within this call."""

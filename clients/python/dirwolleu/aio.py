@@ -22,7 +22,7 @@ from dirwolleu._lane import Created
 from dirwolleu._plans import Acls, AnyRequest, Plan
 from dirwolleu._requests import Result
 from dirwolleu._retry import Retry
-from dirwolleu._shown import AuthData, Shown, credential_of
+from dirwolleu._shown import AuthData, Shown, credential_of, parts_of
 from dirwolleu._steps import Ask, Call, Step, Steps, Wait
 from dirwolleu._trees import MOST_NODES, AsyncTree
 from dirwolleu._watches import ChildrenWatch, DataWatch
@@ -95,11 +95,10 @@ class Client(Shown):
         retry: Optional[Retry] = None,
         randomize_hosts: bool = True,
     ) -> None:
-        super().__init__(hosts, timeout, saved, auth_data, retry, randomize_hosts)
+        super().__init__(*parts_of(hosts, timeout, saved, auth_data, randomize_hosts, self._tell), retry)
         self._tls = ssl
         self._driver: Optional[Driver] = None
         self._callbacks: set[asyncio.Future[Any]] = set()
-        self._tasks: set[asyncio.Future[Any]] = set()
 
     async def __aenter__(self) -> Client:
         await self.start()
@@ -153,7 +152,7 @@ class Client(Shown):
 
         The session of a client that was not stopped lives on for its timeout, and `saved_session` can be taken up.
         """
-        for task in self._tasks:
+        for task in list(self._tasks):
             task.cancel()
         self._end_driver(self._engine.close)
 
@@ -471,8 +470,8 @@ class Client(Shown):
 
     def _keep(self, task: asyncio.Future[Any]) -> None:
         """Holds a task until it is done, since the event loop does not."""
-        self._tasks.add(task)
-        task.add_done_callback(self._tasks.discard)
+        self._tasks[task] = None
+        task.add_done_callback(lambda done: self._tasks.pop(done, None))
 
     async def _wait_until_connected(self) -> None:
         news = asyncio.Event()

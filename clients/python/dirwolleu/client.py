@@ -24,7 +24,7 @@ from dirwolleu._lane import Created
 from dirwolleu._plans import Acls, AnyRequest, Plan
 from dirwolleu._requests import Result
 from dirwolleu._retry import Retry
-from dirwolleu._shown import AuthData, Shown, credential_of
+from dirwolleu._shown import AuthData, Shown, credential_of, parts_of
 from dirwolleu._steps import Ask, Call, Step, Steps, Wait
 from dirwolleu._trees import MOST_NODES, Tree
 from dirwolleu._waiting import Future, News, Task, Waiter
@@ -95,10 +95,9 @@ class Client(Shown):
         retry: Optional[Retry] = None,
         randomize_hosts: bool = True,
     ) -> None:
-        super().__init__(hosts, timeout, saved, auth_data, retry, randomize_hosts)
+        super().__init__(*parts_of(hosts, timeout, saved, auth_data, randomize_hosts, self._tell), retry)
         self._tls = ssl
         self._running: dict[str, Threads] = {}  # a dict's functions are single steps of the interpreter: no lock
-        self._tasks: dict[Task, None] = {}
 
     def __enter__(self) -> Client:
         self.start()
