@@ -1,4 +1,4 @@
-"""patroni_fails_over.py [--rounds N] [--keep FOLDER]: patroni over dirwolleu.kazoo loses its leader again and again.
+"""patroni_fails_over.py [--rounds N] [--over kazoo]: patroni over dirwolleu.kazoo loses its leader again and again.
 
 Two nodes of patroni with PostgreSQL 15, three servers of ZooKeeper, and a program that writes without end. Each round ends
 the leader in one of four ways, in turn:
@@ -10,8 +10,9 @@ the leader in one of four ways, in turn:
 
 It passes where each round has a new holder of the leader's key in time, no moment had two nodes that take writes, and
 each write that was answered is there at the end (patroni runs with synchronous_mode). It wants the packages zookeeper,
-default-jre-headless, patroni, postgresql-15, python3-kazoo and python3-psycopg2. kazoo itself is the one that looks on.
-Nodes run as the user postgres where this is run by root. All that it starts is on 127.0.0.1, and ends with it.
+default-jre-headless, patroni, postgresql-15, python3-kazoo and python3-psycopg2. kazoo itself is the one that looks on;
+with `--over kazoo` patroni runs over it too, to tell what is whose. Nodes run as the user postgres where this is run by
+root. All that it starts is on 127.0.0.1, and ends with it.
 """
 
 from __future__ import annotations
@@ -23,6 +24,7 @@ import json
 import logging
 import os
 import pathlib
+import random
 import shutil
 import signal
 import socket
@@ -37,19 +39,23 @@ from typing import Any, Callable, NamedTuple, Optional
 
 import psycopg2  # type: ignore[import]
 from kazoo.client import KazooClient  # type: ignore[import]
-from kazoo.exceptions import NoNodeError  # type: ignore[import]
+from kazoo.exceptions import KazooException, NoNodeError  # type: ignore[import]
+from kazoo.handlers.threading import KazooTimeoutError  # type: ignore[import]
 
 TTL, LOOP_WAIT, RETRY_TIMEOUT = 10, 2, 3
 """What patroni is told, in seconds."""
-TICK, SYNC_LIMIT = 0.5, 8
+TICK, SYNC_LIMIT = 0.5, 20
 """The tick of the servers, by which the end of a session is rounded up, in seconds, and their `syncLimit` in ticks."""
-LATEST = TTL + 2 * TICK + 1
-"""When the leader's key has to have its next holder at the latest, in seconds after the old one was ended."""
-ELECTION = 2 * SYNC_LIMIT * TICK
-"""How much later that is where the ZooKeeper server that is hit leads the others: the one that they elect counts the
-timeouts of all sessions from then on.
+LATEST = TTL + 2 * TICK + LOOP_WAIT
+"""When the leader's key has to have its next holder at the latest, in seconds after the old one was ended: ZooKeeper ends
+the session of the old one at its ttl, which it rounds up, and patroni looks again in `loop_wait` at the latest.
+
+Servers of ZooKeeper that have lost their leader serve nobody until they have elected another one, and that one counts the
+timeouts of all sessions from then on. So it is in seconds after they serve again, where that is later.
 """
 PATIENCE = 180.0
+PORTS = (20000, 32000)
+_given: set[int] = set()
 BIN = pathlib.Path("/usr/lib/postgresql/15/bin")
 JARS = "/usr/share/java/zookeeper.jar:/usr/share/java/slf4j-simple.jar"
 TOP = pathlib.Path(__file__).resolve().parents[3]
@@ -75,10 +81,13 @@ def within(what: str, condition: Callable[[], Any], seconds: float = PATIENCE) -
 
 
 def free_ports(count: int) -> list[int]:
-    taken = [socket.create_server(("127.0.0.1", 0)) for _ in range(count)]
-    ports = [one.getsockname()[1] for one in taken]
-    for one in taken:
-        one.close()
+    """Ports that nothing listens at, and that the system gives to no connection while a node is down."""
+    ports: list[int] = []
+    while len(ports) < count:
+        port = random.randrange(*PORTS)
+        with contextlib.suppress(OSError), socket.create_server(("127.0.0.1", port)):
+            ports += [port] if port not in _given else []
+            _given.add(port)
     return ports
 
 
@@ -328,6 +337,26 @@ class Lookout(threading.Thread):
             return False
 
 
+class Service(threading.Thread):
+    """Looks whether servers have a leader."""
+
+    def __init__(self, servers: list[Server]) -> None:
+        super().__init__(daemon=True)
+        self._servers, self._is_over, self._last_lack = servers, threading.Event(), 0.0
+        self.start()
+
+    def run(self) -> None:
+        while not self._is_over.wait(0.1):
+            if not any(server.serves(b"leader") for server in self._servers):
+                self._last_lack = time.monotonic()
+
+    def end(self) -> float:
+        """The last moment at which there was none."""
+        self._is_over.set()
+        self.join(PATIENCE)
+        return self._last_lack
+
+
 class Writer(threading.Thread):
     """Writes numbers, one after the other, at whichever node takes them, and remembers which were answered."""
 
@@ -361,46 +390,57 @@ class Found(NamedTuple):
     """What a round has brought, in seconds from the end of the leader."""
 
     kind: str
+    gone: float
+    """When its key is gone: ZooKeeper has ended its session."""
     keyed: float
     """When its key has another holder."""
     answered: float
     """When a write is answered."""
-    elects: bool
-    """Whether the ZooKeeper server that was hit led the others."""
+    served: float
+    """Since when there is a leader of the servers: 0 where there was one all the time."""
 
     def is_late(self) -> bool:
-        return self.keyed > LATEST + (ELECTION if self.elects else 0)
+        return self.keyed > LATEST + self.served
 
     def __str__(self) -> str:
-        led = ", which led the others" if self.elects else ""
+        led = f" (ZooKeeper serves after {self.served:.1f} s)" if self.served else ""
         late = ", LATE" if self.is_late() else ""
-        return f"{self.kind}{led}: a new leader after {self.keyed:.1f} s, a write after {self.answered:.1f} s{late}"
+        ended = f"the old one is gone after {self.gone:.1f} s"
+        return f"{self.kind}{led}: {ended}, a new leader after {self.keyed:.1f} s, a write after {self.answered:.1f} s{late}"
 
 
 class Trial:
     """The servers, the nodes, and those that look on."""
 
-    def __init__(self, folder: pathlib.Path, stack: contextlib.ExitStack) -> None:
+    def __init__(self, folder: pathlib.Path, program: list[str], stack: contextlib.ExitStack) -> None:
         ports = [free_ports(3) for _ in range(3)]
         self.servers: list[Server] = []
         for number in range(3):
             self.servers.append(Server(folder, number, ports))
             stack.callback(self.servers[-1].kill)
         self.doors = Doors([server.port for server in self.servers])
-        program = [sys.executable, "-m", "dirwolleu.kazoo", "/usr/bin/patroni"]
         self.nodes = [Node(folder, number, self.doors.ports[number], program) for number in (0, 1)]
         for node in self.nodes:
             stack.callback(node.kill)
         within("three servers serve", lambda: all(server.serves() for server in self.servers))
-        self.zk = KazooClient(",".join(f"127.0.0.1:{server.port}" for server in self.servers), timeout=20)
-        self.zk.start(30)
-        stack.callback(self.zk.stop)
+        self.eyes = [KazooClient(f"127.0.0.1:{server.port}", timeout=20) for server in self.servers]
+        for eye in self.eyes:
+            stack.callback(eye.stop)
+            eye.start(30)
+        self.eye = 0
         self.lookout, self.writer = Lookout(self.nodes), Writer(self.nodes)
 
-    def text_of(self, name: str) -> str:
-        with contextlib.suppress(NoNodeError):
-            return str(self.zk.retry(self.zk.get, f"/service/trial/{name}")[0].decode())
-        return ""
+    def text_of(self, name: str) -> Optional[str]:
+        """What a node of the cluster holds, as a server that is not hit has it: nothing where there is none.
+
+        None where the server does not answer.
+        """
+        try:
+            return str(self.eyes[self.eye].get_async(f"/service/trial/{name}").get(timeout=1.0)[0].decode())
+        except NoNodeError:
+            return ""
+        except (KazooException, KazooTimeoutError):
+            return None
 
     def leader(self) -> Optional[int]:
         name = self.text_of("leader")
@@ -449,7 +489,7 @@ class Trial:
         leader = self.the_leader()
         other = 1 - leader
         hit = self.the_server_of(other)
-        elects = kind.startswith("server") and self.servers[hit].serves(b"leader")
+        self.eye = (hit + 1) % len(self.servers)
         if kind == "server killed":
             self.servers[hit].kill()
         elif kind == "server paused":
@@ -459,14 +499,18 @@ class Trial:
             self.doors.cut(leader)
         else:
             self.nodes[leader].kill()
+        service = Service([server for number, server in enumerate(self.servers) if number != hit or "server" not in kind])
+        within("the old leader is gone", lambda: self.text_of("leader") not in (None, self.nodes[leader].name))
+        gone = time.monotonic() - begin
         within("the other node has the leader's key", lambda: self.leader() == other)
         keyed = time.monotonic() - begin
+        served = max(service.end() - begin, 0)
         within("the other node takes writes", lambda: self.nodes[other].takes_writes())
         now = time.monotonic()
         within("a write is answered", lambda: self.writer.has_written_since(now))
         answered = time.monotonic() - begin
         self.mend(kind, leader, hit)
-        return Found(kind, keyed, answered, elects)
+        return Found(kind, gone, keyed, answered, served)
 
     def mend(self, kind: str, leader: int, hit: int) -> None:
         if kind == "server killed":
@@ -501,12 +545,12 @@ def give_package(folder: pathlib.Path) -> None:
     os.environ["PYTHONPATH"] = str(package)
 
 
-def run(folder: pathlib.Path, rounds: int) -> bool:
+def run(folder: pathlib.Path, rounds: int, program: list[str]) -> bool:
     """Whether all went well."""
     give_package(folder)
     stack = contextlib.ExitStack()
     try:
-        trial = Trial(folder, stack)
+        trial = Trial(folder, program, stack)
         trial.begin()
         say("two nodes, three servers, and a program that writes")
         found = []
@@ -523,11 +567,9 @@ def run(folder: pathlib.Path, rounds: int) -> bool:
 
 def tell(found: list[Found], trial: Trial, lost: list[int]) -> bool:
     """Prints what was found, and answers whether all went well."""
-    plain = [one.keyed for one in found if not one.elects]
-    say(f"a new leader after {statistics.median(plain):.1f} s in the middle, {max(plain):.1f} s at most, with a ttl of {TTL} s")
-    led = [one.keyed for one in found if one.elects]
-    if led:
-        say(f"where the ZooKeeper server that was hit led the others: after {max(led):.1f} s at most, in {len(led)} rounds")
+    since = [one.keyed - one.served for one in found]
+    say(f"a new leader after {statistics.median(since):.1f} s in the middle, {max(since):.1f} s at most, with a ttl of {TTL} s,")
+    say(f"counted from when the servers serve again in {sum(one.served > 0 for one in found)} rounds")
     say(f"{len(trial.writer.answered)} writes were answered, {len(lost)} of them are lost")
     say(f"of {trial.lookout.looks} looks, {len(trial.lookout.doubles)} found two nodes that take writes")
     late = [one for one in found if one.is_late()]
@@ -539,6 +581,7 @@ def tell(found: list[Found], trial: Trial, lost: list[int]) -> bool:
 def main() -> None:
     parser = argparse.ArgumentParser(description=__doc__, formatter_class=argparse.RawDescriptionHelpFormatter)
     parser.add_argument("--rounds", type=int, default=20)
+    parser.add_argument("--over", choices=["dirwolleu", "kazoo"], default="dirwolleu")
     parser.add_argument("--keep", metavar="FOLDER", help="where logs are put, which else are gone at the end")
     words = parser.parse_args()
     logging.getLogger("kazoo").setLevel(logging.CRITICAL)
@@ -547,7 +590,8 @@ def main() -> None:
     folder.chmod(0o755)
     passed = False
     try:
-        passed = run(folder, words.rounds)
+        beneath = ["-m", "dirwolleu.kazoo"] if words.over == "dirwolleu" else []
+        passed = run(folder, words.rounds, [sys.executable, *beneath, "/usr/bin/patroni"])
     except TrialFailed as failure:
         say(f"failed: {failure}")
     finally:

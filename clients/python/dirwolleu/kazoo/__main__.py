@@ -26,7 +26,8 @@ def main(words: list[str]) -> None:
     if program is None:
         sys.exit(f"dirwolleu.kazoo: there is no program {words[0]}")
     sys.argv = [program, *words[1:]]
-    sys.path[0] = os.path.dirname(os.path.abspath(program))
+    if sys.path[0] in ("", os.getcwd()):
+        sys.path[0] = os.path.dirname(os.path.abspath(program))  # as for any program
     runpy.run_path(program, run_name="__main__")
 
 

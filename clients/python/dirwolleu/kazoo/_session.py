@@ -393,7 +393,10 @@ class Session(Client):
         return driver
 
     def _tell(self, function: Callable[[Any], object], argument: Any) -> bool:
-        function(argument)
+        try:
+            function(argument)
+        except Exception:  # of a program's logger or handler: the step goes on
+            logger.exception("what was told could not be handed on")
         return True
 
 

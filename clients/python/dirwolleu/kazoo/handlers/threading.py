@@ -113,7 +113,14 @@ class AsyncResult:
         if self._handler.running:
             self._handler.completion_queue.put(lambda: callback(self))
         else:
-            callback(self)
+            _run(lambda: callback(self))
+
+
+def _run(function: Function) -> None:
+    try:
+        function()
+    except Exception:
+        log.exception("a callback failed")
 
 
 class _Worker(threading.Thread):
@@ -125,10 +132,7 @@ class _Worker(threading.Thread):
 
     def run(self) -> None:
         while (function := self._functions.get()) is not None:
-            try:
-                function()
-            except Exception:
-                log.exception("a callback failed")
+            _run(function)
 
     def end(self) -> None:
         """Ends after what was put in before, which is waited for, though not without bound."""
