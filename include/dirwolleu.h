@@ -32,7 +32,7 @@
  * ahead of them; all of them on what the caller promises above, on the Rattle toolchain and on the C compiler.
  *
  * This is a header of C11 and of C++11. Paths and names are UTF-8 with a length, and no 0 is needed or written after them. An enum is named
- * by its tag, since dw_state is a function too; its numbers begin with its name, but for those of enum dw_result. */
+ * by its tag, since dw_state is a function too; its numbers begin with its name, except those of enum dw_result. */
 #ifndef DIRWOLLEU_H
 #define DIRWOLLEU_H
 
@@ -208,7 +208,7 @@ enum dw_result dw_cut(dw_client *handle, uint64_t now_ms);
 /* A moment, and nothing else: at the latest at dw_deadline. */
 enum dw_result dw_tick(dw_client *handle, uint64_t now_ms);
 
-/* Bytes came from the server, cut anyhow. Also DW_NO_MEMORY: no step was made, and the same bytes can be handed in again. */
+/* Bytes came from the server, in any pieces. Also DW_NO_MEMORY: no step was made, and the same bytes can be handed in again. */
 enum dw_result dw_bytes(dw_client *handle, uint64_t now_ms, const uint8_t *bytes, size_t length);
 
 /* Calls. The ticket is the caller's own number, and comes back with the answer, which is an output of this step or of a later one.
@@ -246,7 +246,7 @@ size_t dw_copy(dw_client *handle, size_t from, void *out, size_t room);
 size_t dw_name(dw_client *handle, size_t index, char *out, size_t room);
 
 /* Writes why the connection is given up, in words, of the DW_KIND_DROP that was told last, as many bytes as there is room for, and how
- * many there are: 0 where another output was told last. DW_OK, DW_NO_MEMORY, DW_CLOSED; but for DW_OK the count is 0. */
+ * many there are: 0 where another output was told last. DW_OK, DW_NO_MEMORY, DW_CLOSED; unless it answers DW_OK, the count is 0. */
 enum dw_result dw_words(dw_client *handle, char *out, size_t room, size_t *count);
 
 /* Look-ups. They take no step and leave the outputs. All serve after DW_HALTED, when nothing is kept. */
@@ -265,7 +265,7 @@ enum dw_result dw_deadline(dw_client *handle, uint64_t *first_ms);
 
 /* Writes the bytes from which dw_resume takes the session up, as many as there is room for, and how many there are: 20 and those
  * of the password, mostly 36. They are a secret: a long, the number of the session; a buffer, its password; a long, the greatest zxid
- * seen; in the spelling of zookeeper.jute. DW_OK, DW_NO_MEMORY, DW_CLOSED; but for DW_OK the count is 0. */
+ * seen; in the spelling of zookeeper.jute. DW_OK, DW_NO_MEMORY, DW_CLOSED; unless it answers DW_OK, the count is 0. */
 enum dw_result dw_saved(dw_client *handle, uint8_t *out, size_t room, size_t *count);
 
 /* What is kept of a path that was read with a watch. It is good until a change is told, and then stale until it is read again. A
@@ -304,7 +304,7 @@ typedef struct dw_kept_names {
  * history: that of dw_last_zxid. */
 
 /* Writes what is kept about the data of a path, and copies the data, as much as there is room for. DW_OK, DW_NO_MEMORY, DW_CLOSED,
- * DW_NOT_TEXT, DW_NOT_PATH; but for DW_OK nothing is written. */
+ * DW_NOT_TEXT, DW_NOT_PATH; unless it answers DW_OK, nothing is written. */
 enum dw_result dw_peek_data(dw_client *handle, const char *path, size_t path_length, dw_kept_data *kept, uint8_t *out,
                             size_t room);
 
@@ -313,13 +313,13 @@ enum dw_result dw_peek_children(dw_client *handle, const char *path, size_t path
 
 /* Copies the name of this index, from 0 on in byte order, of those that are kept of a path, as much as there is room for, and
  * writes how many bytes it has: 0 where there is no such name. It goes over the names before it, so its time grows with the index.
- * It answers what dw_peek_data does; but for DW_OK the count is 0. */
+ * It answers what dw_peek_data does; unless that is DW_OK, the count is 0. */
 enum dw_result dw_peek_name(dw_client *handle, const char *path, size_t path_length, size_t index, char *out, size_t room,
                             size_t *count);
 
 /* Copies all names that are kept of a path, in byte order, as many bytes as there is room for, and writes how many bytes there are. Each
  * name stands after its length, which is four bytes, the highest first: so zookeeper.jute spells a ustring. It takes memory for them
- * too, within the call. It answers what dw_peek_data does; but for DW_OK the count is 0. */
+ * too, within the call. It answers what dw_peek_data does; unless that is DW_OK, the count is 0. */
 enum dw_result dw_peek_names(dw_client *handle, const char *path, size_t path_length, uint8_t *out, size_t room, size_t *count);
 
 /* Forgets all stale answers. It takes no memory, and leaves the outputs. DW_OK, DW_CLOSED. */

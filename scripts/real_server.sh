@@ -456,7 +456,7 @@ run_closed() {
     gates+=($!)
     within 20 test -s "$folder/closes.out" || fail "a watch does not print three lines"
     outside "$1" set /closes two
-    within 20 test -s "$folder/closes.status" || fail "a watch goes on behind the end of its output"
+    within 20 test -s "$folder/closes.status" || fail "a watch goes on after the end of its output"
     [[ $(cat "$folder/closes.status") == 4 ]] || fail "a watch whose output is closed ends with $(cat "$folder/closes.status")"
     echo "closes: status 4 as wanted"
 }

@@ -18,7 +18,7 @@ The last line is `N seen, M unseen`, and the exit status is 1 where an edit is u
   scripts/wrong_definitions.py            all edits
   scripts/wrong_definitions.py WORD..     those whose names, or whose definitions, have one of the words
   scripts/wrong_definitions.py --check    tries none: says where an edit stands no longer, and which definition has none
-  --jobs N                                so many edits side by side (2)
+  --jobs N                                this many edits side by side (2)
 """
 import argparse
 import os

@@ -639,7 +639,7 @@ async def serve(port: int, partner: Partner) -> None:
 def main() -> None:
     parser = argparse.ArgumentParser(description="A small ZooKeeper server in memory, for tests of clients.")
     parser.add_argument("--port", type=int, default=0, help="the port on 127.0.0.1; by default a free one")
-    parser.add_argument("--piece", type=int, metavar="BYTES", help="send at most so many bytes at a time")
+    parser.add_argument("--piece", type=int, metavar="BYTES", help="send at most this many bytes at a time")
     parser.add_argument("--hostile", type=int, metavar="SEED", help="answer each request with random bytes")
     chosen = parser.parse_args()
     if chosen.piece is not None and chosen.piece < 1:

@@ -236,7 +236,7 @@ def _find() -> str:
     built = next((place for place in places if (place / "libdirwolleu.so").exists()), None)
     found = str(built / "libdirwolleu.so") if built else ctypes.util.find_library("dirwolleu")
     if found is None:
-        raise ImportError("libdirwolleu.so is not found: install the package anew, or name the file by DIRWOLLEU_LIBRARY")
+        raise ImportError("libdirwolleu.so is not found: install the package again, or name the file by DIRWOLLEU_LIBRARY")
     return found
 
 

@@ -1,4 +1,4 @@
-//! A lock between sessions: each makes a node that goes with it, and the one with the first of them holds. Who holds acts with a token,
+//! A lock between sessions: each makes a node that goes with it, and the one with the first of them holds. The holder acts with a token,
 //! the zxid at which its node was made, and what the lock protects refuses a token below one that it has seen. So a session that has lost
 //! the lock and does not know it yet does no harm.
 
@@ -119,7 +119,7 @@ impl<'a, D: Dial + Drop, C: Clock + Drop> Contender<'a, D, C> {
         Ok(())
     }
 
-    /// Wants the lock for so many seconds, and leaves it then.
+    /// Wants the lock for this many seconds, and leaves it then.
     pub fn hold<W: Write>(&mut self, seconds: u64, out: &mut W) -> Result<()> {
         let mut store = Store::new();
         let until = self.now().saturating_add(seconds.saturating_mul(1_000));
@@ -142,7 +142,7 @@ impl<'a, D: Dial + Drop, C: Clock + Drop> Contender<'a, D, C> {
         self.note(outputs.as_slice(), out)
     }
 
-    /// What is due: to make the own node or to delete it, and else to read, with a watch, what is not known.
+    /// What is due: to make its own node or to delete it, and else to read, with a watch, what is not known.
     fn next_call(&self) -> Result<Option<(u64, Call)>> {
         match &self.own {
             None if self.is_leaving => Ok(None),
@@ -169,7 +169,7 @@ impl<'a, D: Dial + Drop, C: Clock + Drop> Contender<'a, D, C> {
         Ok(Some((LEAVE, Call::Delete { path, version: -1 })))
     }
 
-    /// Reads the names of the directory, and then who owns the own node.
+    /// Reads the names of the directory, and then the owner of this session's node.
     fn call_to_read(&self, own: &Path) -> Result<Option<(u64, Call)>> {
         let client = self.link.client();
         if !are_names_known(client, &self.directory) {

@@ -17,7 +17,7 @@ use zk_link::{Clock, Link, SystemClock, Tcp};
 const USAGE: &str =
     "usage: conclusions_example [snapshot SECONDS PATH PATH PATH IP:PORT.. | lock NAME DIRECTORY SECONDS IP:PORT..]";
 
-/// Follows three nodes of real servers for so many seconds. Whether the words say which.
+/// Follows three nodes of real servers for this many seconds. Whether the words say which.
 fn run_snapshot<W: Write>(rt: &HostRuntime, words: &[&str], out: &mut W) -> Result<bool> {
     let [seconds, first, second, third, addresses @ ..] = words else {
         return Ok(false);
@@ -38,7 +38,7 @@ fn run_snapshot<W: Write>(rt: &HostRuntime, words: &[&str], out: &mut W) -> Resu
     Ok(true)
 }
 
-/// Wants the lock of a directory of real servers for so many seconds. Whether the words say which.
+/// Wants the lock of a directory of real servers for this many seconds. Whether the words say which.
 fn run_lock<W: Write>(rt: &HostRuntime, words: &[&str], out: &mut W) -> Result<bool> {
     let [name, directory, seconds, addresses @ ..] = words else {
         return Ok(false);

@@ -53,7 +53,7 @@ fn is_absent(outcome: &Outcome) -> bool {
     )
 }
 
-/// Adds the data of a node, or what stands for none.
+/// Adds the data of a node, or `-` where there are none.
 fn put(alloc: Global, answer: &DataAnswer, line: &mut Vec<u8>) -> Result<()> {
     if !line.is_empty() {
         line.push(b' ')?;
@@ -65,7 +65,7 @@ fn put(alloc: Global, answer: &DataAnswer, line: &mut Vec<u8>) -> Result<()> {
     Ok(())
 }
 
-/// What a snapshot has of its nodes, of which there are so many.
+/// What a snapshot has of its nodes, of which there are this many.
 fn line_of(alloc: Global, snapshot: &Snapshot<'_>, count: usize) -> Result<Vec<u8>>
     requires { count ≤ length snapshot.now.nodes.now }
 {
@@ -128,7 +128,7 @@ impl<'a, D: Dial + Drop, C: Clock + Drop> Follower<'a, D, C> {
         Ok(())
     }
 
-    /// A session that has expired is begun anew. What is told next is never older: the new one keeps the last seen zxid.
+    /// A session that has expired is begun again. What is told next is never older: the new one keeps the last seen zxid.
     fn renew(&mut self) -> Result<()> {
         if self.link.client().state() == State::Expired {
             self.link.renew(TIMEOUT_MS)?;

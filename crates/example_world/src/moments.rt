@@ -24,7 +24,7 @@ impl Moments {
         }
     }
 
-    /// So many milliseconds go by.
+    /// This many milliseconds go by.
     pub fn pass(&self, ms: u64) {
         if let Ok(mut now) = self.now.try_borrow_mut() {
             *now = now.saturating_add(ms);

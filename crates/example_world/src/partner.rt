@@ -10,23 +10,23 @@ pub trait Server: Drop {
     /// What a connection holds as long as it is there.
     type Held: Drop;
 
-    /// A connection is asked for, which may take so many milliseconds.
+    /// A connection is asked for, which may take this many milliseconds.
     fn dial(&mut self, within_ms: u64, moments: &Moments) -> io::Result<Self::Held>;
 
     /// Whether the connection can be told how long a read may wait.
     fn is_patient(&self) -> bool;
 
-    /// The bytes that come, at most so many: none of them where nothing comes for now, and `None` where nothing comes any more.
+    /// The bytes that come, at most this many: none where nothing comes for now, and `None` where nothing comes any more.
     fn read(&mut self, most: usize, moments: &Moments) -> io::Result<Option<Vec<u8>>>;
 
     /// The first of these bytes go. How many of them.
     fn write(&mut self, bytes: &[u8], moments: &Moments) -> io::Result<usize>;
 
-    /// Somebody waits for so many milliseconds, or until something happens.
+    /// Somebody waits for this many milliseconds, or until something happens.
     fn wait(&mut self, ms: u64, moments: &Moments) -> io::Result<()>;
 }
 
-/// A connection. A read that nothing comes for waits for so many milliseconds.
+/// A connection. A read that nothing comes for waits for this many milliseconds.
 #[derive(Drop)]
 pub struct Partner<'a, S: Server> {
     server: &'a RefCell<S>,

@@ -23,7 +23,7 @@ pub struct World {
 }
 
 impl World {
-    /// A server over a history, before its first transaction. A read brings so many bytes at most, of which there is at least 1.
+    /// A server over a history, before its first transaction. A read brings at most this many bytes, where 0 counts as 1.
     pub fn new(alloc: Global, history: History<Global>, piece: usize) -> World {
         World {
             bench: Bench::new(alloc, history),

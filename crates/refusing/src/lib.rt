@@ -3,7 +3,7 @@
 //! A test runs its steps over `Refusing::after(0, ..)`, `after(1, ..)` and so on, until a run has no refusal. So each
 //! request for memory is refused once. The handle is lent: `&Refusing<Global>` is an allocator that can be copied.
 //!
-//! What stands in a `Cell` is no subject of a contract, so the contracts here are those of the count itself
+//! What a `Cell` holds is not part of a contract, so the contracts here are those of the count itself
 //! (`is_refused`, `after_one`), and that the allocator goes by it is shown by tests.
 #![tactic(auto)]
 
@@ -12,7 +12,7 @@ ghost use Rattle.std.specs.Prelude.{◌≡◌, ◌-◌, ◌==◌};
 use std::alloc::{AllocError, Allocator};
 use std::cell::Cell;
 
-/// Passes each request on, but for one.
+/// Passes each request on, except one.
 pub struct Refusing<B: Allocator> {
     inner: B,
     // One more than the requests that still pass before one is refused; 0 from then on.

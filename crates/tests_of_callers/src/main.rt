@@ -1,5 +1,5 @@
 //! Calls what a program over the client calls, and prints what it gets: a device by numbers, each value by its name, and much of
-//! everything. What is to be printed stands in the file `stdout`.
+//! everything. What is to be printed is in the file `stdout`.
 #![tactic(auto)]
 
 mod devices;

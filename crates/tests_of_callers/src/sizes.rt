@@ -200,7 +200,7 @@ fn try_size<A: Allocator + Copy, W: Write>(
     }
 }
 
-/// All of it, each over a client of its own, in pieces of so many bytes at most.
+/// All of it, each over a client of its own, in pieces of at most this many bytes.
 fn try_all<A: Allocator + Copy, W: Write>(alloc: A, piece: usize, out: &mut W) -> Result<()> {
     for size in &SIZES {
         let mut peer = Peer::new(alloc, piece);

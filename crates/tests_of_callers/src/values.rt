@@ -1,4 +1,4 @@
-//! Each variant of the values that a caller hands in or is given, and the number or the word that stands for it in a message or in a
+//! Each variant of the values that a caller hands in or is given, and the number or the word that means it in a message or in a
 //! print, so that none of them can be taken for another. The numbers are those of `CreateMode`, `EventType` and `KeeperException` of the
 //! protocol, the codes those of `docs/CODES.md`.
 

@@ -1,4 +1,4 @@
-//! Runs links, and watches over links, against servers in memory, and prints what happens. What is to be printed stands in the file
+//! Runs links, and watches over links, against servers in memory, and prints what happens. What is to be printed is in the file
 //! `stdout`.
 #![tactic(auto)]
 

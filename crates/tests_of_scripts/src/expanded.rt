@@ -1,16 +1,16 @@
-//! What stands for a longer text in a script: `{TEXT*COUNT}`, `{frame HEX}` and `{number}`.
+//! What is written for a longer text in a script: `{TEXT*COUNT}`, `{frame HEX}` and `{number}`.
 
 use crate::texts::{add, add_length, add_number};
 use std::alloc::Global;
 
-/// Adds a text so many times.
+/// Adds a text `count` times.
 fn repeat(text: &mut Vec<u8>, word: &str, count: usize) {
     for _ in 0..count {
         add(text, word.as_bytes());
     }
 }
 
-/// Adds the frame of the first so many bytes of a payload in hex.
+/// Adds the frame of the first `number` bytes of a payload in hex.
 fn frame(text: &mut Vec<u8>, payload: &str, number: usize) {
     add_length(text, number);
     for digits in payload.as_bytes().chunks(2).take(number) {
@@ -18,7 +18,7 @@ fn frame(text: &mut Vec<u8>, payload: &str, number: usize) {
     }
 }
 
-/// Adds what a name in braces stands for.
+/// Adds what a name in braces means.
 fn expand(text: &mut Vec<u8>, name: &str, number: usize) {
     if let Some((word, count)) = name.split_once('*') {
         repeat(text, word, count.parse().unwrap_or(0));
@@ -29,7 +29,7 @@ fn expand(text: &mut Vec<u8>, name: &str, number: usize) {
     }
 }
 
-/// The script with what stands in braces written out, for this number.
+/// The script with what is in braces written out, for this number.
 pub fn expanded(alloc: Global, script: &str, number: usize) -> Vec<u8> {
     let mut text = Vec::new(alloc);
     for piece in script.split('{') {

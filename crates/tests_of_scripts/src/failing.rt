@@ -9,7 +9,7 @@ use crate::texts::{add, compare, with_unlike};
 use std::alloc::Global;
 use zk_commands::command::{Command, command_of};
 
-/// What a command prints where the writer fails after so many bytes.
+/// What a command prints where the writer fails after `before` bytes.
 fn written(alloc: Global, case: &Case, command: &Command, before: usize) -> Vec<u8> {
     let script = expanded(alloc, case.script, 0);
     let mut input = script.as_slice();
@@ -17,7 +17,7 @@ fn written(alloc: Global, case: &Case, command: &Command, before: usize) -> Vec<
     got
 }
 
-/// What is due where the writer fails after so many bytes of these.
+/// What is due where the writer fails after `before` bytes of these.
 fn cut_short(alloc: Global, printed: &[u8], before: usize) -> Vec<u8> {
     let mut due = Vec::new(alloc);
     add(&mut due, printed.get(..before).unwrap_or(printed));
@@ -56,7 +56,7 @@ pub fn broken(alloc: Global, case: &Case) -> Vec<u8> {
     with_unlike(whole, unlike)
 }
 
-/// What a command prints where the reader fails after so many bytes.
+/// What a command prints where the reader fails after `before` bytes.
 fn read(alloc: Global, case: &Case, command: &Command, before: usize) -> Vec<u8> {
     let mut input = ByBytes::new(case.script.as_bytes(), before);
     let (got, _) = disturbed(alloc, case, command, u32::MAX, usize::MAX, &mut input);

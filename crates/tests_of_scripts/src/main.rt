@@ -1,4 +1,4 @@
-//! Runs the cases of scripts on standard input, and prints each after its header. What they are to print stands in the file `stdout`, so
+//! Runs the cases of scripts on standard input, and prints each after its header. What they are to print is in the file `stdout`, so
 //! a new row of a test is a case in each of the two files.
 //!
 //! [`case`] cuts a case into its parts, [`expanded`] writes out its script, and [`play`] runs its command. Each kind of case has a function

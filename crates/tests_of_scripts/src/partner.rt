@@ -21,7 +21,7 @@ pub struct Dialled<'a> {
     turns: Vec<Turn>,
 }
 
-/// Bytes in hex; `-` stands for none.
+/// Bytes in hex; `-` means none.
 fn bytes_of(alloc: Global, word: &str) -> io::Result<Vec<u8>> {
     if word == "-" {
         return Ok(Vec::new(alloc));
@@ -171,7 +171,7 @@ impl<'a> Stream for Partner<'a> {
     }
 }
 
-/// What dials these addresses, in order, of which so many were. The first connection passes so many bytes, read and written
+/// What dials these addresses, in order; `done` of them were dialled. The first connection passes `left` bytes, read and written
 /// together, and fails then. None is made while the one before is held.
 #[derive(Drop)]
 pub struct Partners<'a> {

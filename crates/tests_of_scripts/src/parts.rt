@@ -16,7 +16,7 @@ pub fn whole_of(alloc: Global, case: &Case) -> Vec<u8> {
     outcome(alloc, case, usize::MAX, &mut input)
 }
 
-/// Of what a case prints, the lines after the first so many, each up to its 45th byte.
+/// Of what a case prints, the lines after the first `case.first`, each up to its 45th byte.
 pub fn heads(alloc: Global, case: &Case) -> Vec<u8> {
     let whole = whole_of(alloc, case);
     let mut text = Vec::new(alloc);
@@ -27,7 +27,7 @@ pub fn heads(alloc: Global, case: &Case) -> Vec<u8> {
     text
 }
 
-/// Of what a case prints the first so many bytes, and in a line after them the last so many.
+/// Of what a case prints the first `case.first` bytes, and in a line after them the last `case.last`.
 pub fn ends(alloc: Global, case: &Case) -> Vec<u8> {
     let whole = whole_of(alloc, case);
     let whole = whole.as_slice();

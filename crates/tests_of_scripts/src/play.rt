@@ -37,7 +37,7 @@ fn joined(printed: Vec<u8>, told: Vec<u8>, status: Status) -> Vec<u8> {
     text
 }
 
-/// What the case's command line prints, tells and answers over this input. The first connection passes so many bytes.
+/// What the case's command line prints, tells and answers over this input. The first connection passes `left` bytes.
 pub fn outcome<I: Read>(alloc: Global, case: &Case, left: usize, input: &mut I) -> Vec<u8> {
     let mut out = Vec::new(alloc);
     let mut errors = Vec::new(alloc);

@@ -9,7 +9,7 @@ use crate::streams::ByBytes;
 use crate::texts::{compare, with_unlike};
 use std::alloc::Global;
 
-/// What a script prints, where the first connection passes so many bytes. It is to print the same where it is read one byte at a
+/// What a script prints, where the first connection passes `left` bytes. It is to print the same where it is read one byte at a
 /// time, and where each byte that comes to a client comes in a line of its own.
 fn thrice(alloc: Global, case: &Case, script: &[u8], left: usize, unlike: &mut Vec<u8>) -> Vec<u8> {
     let mut input = script;
@@ -24,7 +24,7 @@ fn thrice(alloc: Global, case: &Case, script: &[u8], left: usize, unlike: &mut V
     whole
 }
 
-/// What the script of this number prints. Where the case says so, the first connection passes so many bytes, or reports alone are
+/// What the script of this number prints. Where the case says so, the first connection passes that many bytes, or reports alone are
 /// printed.
 fn at(alloc: Global, case: &Case, number: usize, unlike: &mut Vec<u8>) -> Vec<u8> {
     let script = expanded(alloc, case.script, number);

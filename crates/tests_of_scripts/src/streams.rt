@@ -2,7 +2,7 @@
 
 use std::io::{self, ErrorKind, Read, Write};
 
-/// A reader that gives one byte a call, and fails after so many.
+/// A reader that gives one byte a call, and fails after a number of them.
 #[derive(Drop)]
 pub struct ByBytes<'a> {
     bytes: &'a [u8],
@@ -10,7 +10,7 @@ pub struct ByBytes<'a> {
 }
 
 impl<'a> ByBytes<'a> {
-    /// Gives these bytes, and fails after so many.
+    /// Gives these bytes, and fails after `before` of them.
     pub fn new(bytes: &'a [u8], before: usize) -> ByBytes<'a> {
         ByBytes { bytes, before }
     }
@@ -34,7 +34,7 @@ impl<'a> Read for ByBytes<'a> {
     }
 }
 
-/// A writer that fails once, after so many bytes. It takes what comes then.
+/// A writer that fails once, after a number of bytes. It takes what comes then.
 #[derive(Drop)]
 pub struct FailsOnce {
     bytes: Vec<u8>,

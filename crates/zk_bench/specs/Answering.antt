@@ -84,7 +84,7 @@ IsReadOf (requests.GetData r) (call.GetData text watch) = IsPath text × (r.path
 IsReadOf (requests.GetChildren2 r) (call.GetChildren text watch) = IsPath text × (r.path ≡ Some text) × (r.watch ≡ watch)
 IsReadOf _ _ = ⊥
 
--- The request sets these watches anew, with this relative zxid.
+-- The request sets these watches again, with this relative zxid.
 abbrev pub IsRestoring : {A : Type 0} → Request A → ℕ → Lists → Type 0
 IsRestoring (requests.SetWatches r) since part = IsPart r since part × ArePaths part
 IsRestoring _ since part = ⊥

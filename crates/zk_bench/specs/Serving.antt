@@ -43,7 +43,7 @@ leaves_at event at watches side path = if concerns event side && path_eq path at
 abbrev pub is_watched : Event → NodePath → Watches → Bool
 is_watched event at watches = (concerns event Data && watches Data at) || (concerns event Child && watches Child at)
 
--- a result of so many bytes fits a frame, after a header of 16
+-- a result of this many bytes fits a frame, after a header of 16
 abbrev pub FitsReply : ℕ → Type 0
 FitsReply count = 16 + count < 2 ^ 31
 

@@ -39,7 +39,7 @@ stage_of Opening = Waiting
 stage_of Accepted = Serving
 stage_of Ended = Silent
 
--- the end of a connection whose server has taken so many transactions
+-- the end of a connection whose server has taken this many transactions
 abbrev pub end_at : {A : Type 0} → ℕ → Connection A → ServerEnd
 end_at place connection = record { place = place; watches = watched connection.watches; stage = stage_of connection.phase }
 

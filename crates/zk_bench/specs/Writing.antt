@@ -93,7 +93,7 @@ abbrev pub set_refusal : Option Node → ℤ → Option Code
 set_refusal None asked = Some codes.NoNode
 set_refusal (Some node) asked = data_refusal asked (pos node.version)
 
--- the code that refuses that a node of this version with so many children is deleted: -103 where another version is asked for,
+-- the code that refuses that a node of this version with this many children is deleted: -103 where another version is asked for,
 -- -111 where there are children
 abbrev pub removal_refusal : ℤ → ℤ → ℤ → Option Code
 removal_refusal asked version children = if not (is_version asked version) then Some codes.BadVersion else (if int_eq children (pos 0) then None else Some codes.NotEmpty)
@@ -103,7 +103,7 @@ abbrev pub absence_refusal : Option Node → ℕ → ℤ → Option Code
 absence_refusal None children asked = Some codes.NoNode
 absence_refusal (Some node) children asked = removal_refusal asked (pos node.version) (pos children)
 
--- The code that refuses a delete at a text with so many children: -8 for the root, and else as for the node there.
+-- The code that refuses a delete at a text with this many children: -8 for the root, and else as for the node there.
 abbrev pub deletion_refusal : Tree → Text → ℕ → ℤ → Option Code
 deletion_refusal tree text children asked = if bytes_eq text (47 ∷ []) then Some codes.BadArguments else absence_refusal (node_at tree text) children asked
 
@@ -148,7 +148,7 @@ abbrev pub refusal_above : Tree → NodePath → Option Code
 refusal_above tree [] = Some codes.NodeExists
 refusal_above tree (name ∷ parent) = parent_refusal (tree parent)
 
--- the code that refuses a node in the place of this one, or of none, below a parent of so many children: -110 where one is there, -8
+-- the code that refuses a new node at the place of this one, or of none, below a parent of this many children: -110 where one is there, -8
 -- where they are as many as a Stat can tell
 abbrev pub place_refusal : Option Node → ℤ → Option Code
 place_refusal (Some node) children = Some codes.NodeExists
@@ -169,7 +169,7 @@ abbrev pub path_refusal : Tree → Bool → Option Text → ℕ → ℕ → Opti
 path_refusal tree sequential None number children = Some codes.BadArguments
 path_refusal tree sequential (Some asked) number children = first_of (refusal_above tree (path_of asked)) (text_refusal tree (made_text sequential asked number) (pos children))
 
--- The code that refuses a create at a text, below a parent of so many children, where a sequential node would have this number.
+-- The code that refuses a create at a text, below a parent of this many children, where a sequential node would have this number.
 abbrev pub creation_refusal : Tree → Bool → Text → ℕ → ℕ → Option Code
 creation_refusal tree sequential text number children = path_refusal tree sequential (path_told text) number children
 
@@ -184,14 +184,14 @@ AreBeside tree (name ∷ parent) names = HasChildren tree parent names
 abbrev pub is_over : HistoryView → ℕ → Bool
 is_over kept time = nat_le 9223372036854775807 (newest 0 kept.transactions) || nat_lt 9223372036854775807 time
 
--- When a change is not appended: behind the last zxid or time, where the tree does not admit it, and where memory ran out.
+-- When a change is not appended: past the last zxid or time, where the tree does not admit it, and where memory ran out.
 abbrev pub AppendRefused : HistoryView → ℕ → Change → HistoryFault → Type 0
 AppendRefused kept time change Place = ⊥
 AppendRefused kept time change Order = is_over kept time ≡ true
 AppendRefused kept time change Illegal = (is_over kept time ≡ false) × ¬ IsAccepted change (newest_tree kept)
 AppendRefused kept time change Memory = is_over kept time ≡ false
 
--- When the write of a client is not appended: -8 behind the last zxid or time, and else a stop, of memory alone where the tree admits it.
+-- When the write of a client is not appended: -8 past the last zxid or time, and else a stop, of memory alone where the tree admits it.
 abbrev pub WriteRefused : HistoryView → ℕ → Change → Refusal → Type 0
 WriteRefused kept time change (refusals.Code code) = (code ≡ codes.BadArguments) × (is_over kept time ≡ true)
 WriteRefused kept time change (refusals.Stop stop) = (is_over kept time ≡ false) × (IsAccepted change (newest_tree kept) → stop ≡ stops.Memory)

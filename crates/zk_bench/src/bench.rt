@@ -146,7 +146,7 @@ impl<A: Allocator + Copy> Bench<A> {
 
     /// One more transaction, of another session, with this change alone: it stands at the end of the history, one zxid above the last, at
     /// the time of [`now`](Bench::now), and no server has taken it yet. So others may change what the client watches whenever the test
-    /// says. Where the history does not allow the change (`Illegal`), a transaction with no change stands there; so it may where memory
+    /// says. Where the history does not allow the change (`Illegal`), a transaction with no change is there; it may also be there where memory
     /// is refused (`Memory`). `Order` says that the zxid or the time would be past 2^63 - 1: then nothing has changed.
     pub fn append(&mut self, change: Change<A>) -> Result<(), HistoryFault>
         ensures ok { OnOk result (self.new ≡ record self.old { history = appended self.old.history self.old.time (change_of change) }) }
@@ -177,7 +177,7 @@ impl<A: Allocator + Copy> Bench<A> {
         Ok(())
     }
 
-    /// Takes out the first bytes that the server sent, at most so many. A refusal changes nothing.
+    /// Takes out the first bytes that the server sent, at most this many. A refusal changes nothing.
     pub fn output(&mut self, most: usize) -> Result<Vec<u8, A>, AllocError>
         ensures bytes { IfOk result (λ bytes. bytes.items ≡ first most self.old.connection.output) }
         ensures rest { OnOk result (self.new ≡ without_output self.old most) }
@@ -264,7 +264,7 @@ impl<A: Allocator + Copy> Bench<A> {
         }
     }
 
-    // The connection goes on, has ended, or is given up for want of memory.
+    // The connection goes on, has ended, or is given up where memory ran out.
     fn settle(&mut self, outcome: Result<(), Stop>) -> Result<(), AllocError>
         ensures ok { OnOk outcome (self.new ≡ self.old) }
         ensures ended { IsErrOf outcome stops.End → self.new ≡ ended self.old }
@@ -316,7 +316,7 @@ impl<A: Allocator + Copy> Bench<A> {
         zxid_after(&self.history, self.taken[self.server])
     }
 
-    // Processes the frame that stands first, with so many bytes of payload.
+    // Processes the first frame, whose payload has this many bytes.
     #[tactic(auto, using(crate::proofs::Continuing::same_goes_on))]
     fn process_frame(&mut self, length: usize) -> Result<(), Stop>
         requires { 4 + length ≤ bytes_of self.old.connection.requests }

@@ -16,7 +16,7 @@ pub(crate) enum Front {
     Unfinished,
     /// A length below 0.
     Negative,
-    /// A frame whose payload has so many bytes.
+    /// A frame whose payload has this many bytes.
     Whole(usize),
 }
 

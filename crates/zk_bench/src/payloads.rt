@@ -16,7 +16,7 @@ use std::alloc::Allocator;
 use zk_jute::{Cursor, take};
 use zk_records::{ConnectRequest, Request};
 
-/// The first request of a connection, in the payload of so many bytes after a length.
+/// The first request of a connection, in the payload of this many bytes after a length.
 pub(crate) fn first_request<A: Allocator + Copy>(
     alloc: A,
     bytes: &[u8],
@@ -30,7 +30,7 @@ pub(crate) fn first_request<A: Allocator + Copy>(
     Ok(request)
 }
 
-/// A later request with its xid, in the payload of so many bytes after a length.
+/// A later request with its xid, in the payload of this many bytes after a length.
 pub(crate) fn next_request<A: Allocator + Copy>(
     alloc: A,
     bytes: &[u8],

@@ -1,4 +1,4 @@
-//! Watches that a client sets anew after a reconnect.
+//! Watches that a client sets again after a reconnect.
 
 ghost use Rattle.std.specs.Prelude.{◌≡◌, ℕ, pos, [], ◌∷◌, OnOk, OnErr, IsErrOf, take as first, length as bytes_of};
 ghost use Rattle.std.specs.List.{AllByRecursion};

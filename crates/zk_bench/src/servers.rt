@@ -16,7 +16,7 @@ use crate::stop::Stop;
 use std::alloc::Allocator;
 use zk_history::{Change, History};
 
-/// The zxid of a server that has taken so many transactions: that of the last of them, and 0 before the first.
+/// The zxid of a server that has taken this many transactions: that of the last of them, and 0 before the first.
 pub(crate) fn zxid_after<A: Allocator + Copy>(history: &History<A>, taken: usize) -> i64
     ensures zxid { taken ≤ length history.now.transactions → result ≡ pos (zxid_held (history_of history.now) taken) }
     ensures held { tree_at (history_of history.now) (zxid_held (history_of history.now) taken) ≡ tree_held (history_of history.now) taken }
@@ -32,7 +32,7 @@ pub(crate) fn zxid_after<A: Allocator + Copy>(history: &History<A>, taken: usize
     }
 }
 
-/// The changes of the next transaction of a server that has taken so many, if there is one.
+/// The changes of the next transaction of a server that has taken this many, if there is one.
 pub(crate) fn next_changes<A: Allocator + Copy>(
     history: &History<A>,
     taken: usize,

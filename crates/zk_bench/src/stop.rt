@@ -94,7 +94,7 @@ impl From<Code> for Refusal {
     }
 }
 
-/// A history refuses what its own look-ups have admitted for want of memory alone.
+/// A history that refuses what its own look-ups have admitted has run out of memory.
 impl From<HistoryFault> for Refusal {
     ghost from_gives = { λ fault refusal. refusal ≡ refusals.Stop (stop_of fault) };
 

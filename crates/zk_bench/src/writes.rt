@@ -103,7 +103,7 @@ fn path_in_mode<A: Allocator + Copy>(
     Ok(path)
 }
 
-// The code that refuses a node at this path, below a parent that has so many children: -110 where a node is there, -8
+// The code that refuses a node at this path, below a parent that has this many children: -110 where a node is there, -8
 // where the parent has 2,147,483,647 children.
 fn refusal_at<A: Allocator + Copy>(
     tree: &Tree<'_, A>,

@@ -26,7 +26,7 @@ abbrev pub Makes : (Refuses : ℤ → Type 0) → Start → ℤ → Option Devic
 Makes Refuses start (pos zero) held = Holds held (BeginsAt start)
 Makes Refuses start code held = Refuses code × (held ≡ None)
 
--- A text is written: 0 where as much of it as there is room for stands at the front, and -2 for want of memory.
+-- A text is written: 0 where as much of it as there is room for stands at the front, and -2 where memory ran out.
 abbrev pub Writes : (text : List ℕ) (code : ℤ) (room written : List ℕ) (count : ℕ) → Type 0
 Writes text (pos zero) room written count = (written ≡ take (length room) text ++ drop (length text) room) × (count ≡ length text)
 Writes text (negsuc (suc zero)) room written count = (written ≡ room) × (count ≡ 0)

@@ -1,4 +1,4 @@
-//! A client of ZooKeeper behind a C interface, `include/dirwolleu.h`: a handle that C holds, functions that are total and answer a
+//! A client of ZooKeeper with a C interface, `include/dirwolleu.h`: a handle that C holds, functions that are total and answer a
 //! number, and for each step the rule of the client. No function waits, and one at a time uses a handle.
 #![tactic(auto)]
 

@@ -38,7 +38,7 @@ pub extern "C" fn dw_tick(alloc: Global, handle: &mut DwClient, now_ms: u64) -> 
     drive(alloc, handle, |device| device.tick(now_ms))
 }
 
-/// Bytes came from the server at this moment, cut anyhow.
+/// Bytes came from the server at this moment, cut in any way.
 #[unsafe(no_mangle)]
 pub extern "C" fn dw_bytes(alloc: Global, handle: &mut DwClient, now_ms: u64, bytes: &[u8]) -> i32
     ensures closed { handle.old.slot.held ≡ None → IsClosed result handle.new.slot.held }

@@ -44,8 +44,8 @@ impl<A: Allocator + Copy> Cache<A> {
         }
     }
 
-    /// Keeps the answer, marked good. Where a good `Full` is kept, a `Known` with equal fields leaves it. An error is want of
-    /// memory for a path that is new to the side; then nothing has changed.
+    /// Keeps the answer, marked good. Where a good `Full` is kept, a `Known` with equal fields leaves it. An error says that
+    /// there is no memory for a path that is new to the side; then nothing has changed.
     pub fn keep_data(&mut self, path: &Path<A>, answer: DataAnswer<A>) -> Result<(), AllocError>
         ensures ok { OnOk result (self.new ≡ with_data self.old path.now (answer_of answer)) }
         ensures there { is_some (data_kept self.old path.now) ≡ true → IsOk result }
@@ -55,8 +55,8 @@ impl<A: Allocator + Copy> Cache<A> {
         keep(self.alloc, &mut self.data_answers, text, answer)
     }
 
-    /// Keeps the names as a set, with the zxid of the set's last change, marked good. A null name is the empty one. An error is
-    /// want of memory; then nothing has changed.
+    /// Keeps the names as a set, with the zxid of the set's last change, marked good. A null name is the empty one. An error
+    /// says that memory ran out; then nothing has changed.
     pub fn keep_children(
         &mut self,
         path: &Path<A>,

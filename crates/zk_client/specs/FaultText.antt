@@ -1,4 +1,4 @@
--- What is said of why a connection is given up, of want of memory and of what a call is answered, in words and by codes.
+-- What is said of why a connection is given up, of memory that ran out and of what a call is answered, in words and by codes.
 use Rattle.std.specs.Prelude.{ℕ, List, ◌++◌, codes, Option, Some, None}
 use Rattle.std.specs.Fmt.{signed_decimal}
 use Rattle.zk_frames.specs.FaultText.{frame_fault_words, frame_fault_code}

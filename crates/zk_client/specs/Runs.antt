@@ -17,8 +17,8 @@ use Rattle.zk_laws.specs.Headline.{Headline, IsQuietAt, IsTrueOf, tree_of}
 use Rattle.zk_client.specs.Outsides.{Told, TellsAll, NoneIsLeft}
 
 -- Whatever transactions a history holds, and however turns and moves of servers that hold its beginnings fall: the good answers are
--- the history's at the last seen zxid, what was answered is true, and no connection was given up but for silence or a message that is
--- too long. And where all that the server sent was taken, each good answer is what it would answer.
+-- the history's at the last seen zxid, what was answered is true, and no connection was given up except for silence or a message that
+-- is too long. And where all that the server sent was taken, each good answer is what it would answer.
 pub record IsTrueToServers (start : Start) (items : List Item) (view : View) : Type 0 where
   pub coherent : (h : History) → IsHistory h → (served : Served h start items) → Headline h start items view served.entries
   pub quiet : (h : History) → IsHistory h → (entries : List Entry) → IsServing h start entries → items_in entries ≡ items → IsQuietAt h start entries → IsTrueOf (tree_of h entries) view.cache

@@ -69,7 +69,7 @@ record_read (Err fault) = Err (Unread fault)
 abbrev pub bytes_read : List ℕ → Result PutAway SavedFault
 bytes_read bytes = record_read (reading saved_layout (length bytes) bytes)
 
--- why a text of so many bytes is no digits
+-- why a text of this many bytes is no digits
 abbrev pub no_digits : ℕ → FromHexError → SavedFault
 no_digits count (InvalidHexCharacter c place) = NotHex place
 no_digits count OutOfMemory = Memory
@@ -100,7 +100,7 @@ abbrev pub saved_fault_text : SavedFault → List ℕ
 saved_fault_text (NotHex place) = codes "the byte at place " ++ decimal place ++ codes " is no hexadecimal digit"
 saved_fault_text (OddDigits count) = codes "an odd number of hexadecimal digits: " ++ decimal count
 saved_fault_text (Unread fault) = codes "no saved session: " ++ take_error_words fault
-saved_fault_text (BytesBehind count) = codes "bytes behind the saved session: " ++ decimal count
+saved_fault_text (BytesBehind count) = codes "bytes after the saved session: " ++ decimal count
 saved_fault_text NoPassword = codes "the password is null"
 saved_fault_text (LongPassword length) = codes "a password of " ++ decimal length ++ codes " bytes, where 4194284 are the most"
 saved_fault_text (NegativeZxid last) = codes "the last seen zxid is below 0: " ++ signed_decimal last

@@ -31,8 +31,8 @@ view_with held core = shown held core.halted core.session core.conversation core
 abbrev pub while_pending : List Pending → View → View
 while_pending pending view = record view { pending = pending }
 
--- the session as it stood when the step began, but for its state and last seen zxid: it is put by where a step has another one
--- accepted
+-- the session as it was when the step began, except for its state and last seen zxid: it is put by where a step has another
+-- one accepted
 abbrev pub saved_by : Option SessionView → SessionView → Saved
 saved_by (Some earlier) kept = earlier.saved
 saved_by None kept = kept.saved

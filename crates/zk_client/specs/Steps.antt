@@ -32,7 +32,7 @@ is_no_node code = int_eq (code_number code) (negsuc 100)
 abbrev pub welcome_of : Response → Welcome
 welcome_of response = record { timeout = unsigned_abs response.time_out; session = response.session_id; password = response.password.now }
 
--- The inputs of which nothing comes: where there is no connection, and none may begin, and a moment at which nothing is due.
+-- The inputs without effect: where there is no connection, and none may begin, and a moment at which nothing is due.
 abbrev pub ComesToNothing : View → Input → Type 0
 ComesToNothing view Opened = is_final view.standing.state ≡ true
 ComesToNothing view (Bytes bytes) = ¬ (IsOpen view.standing.state)

@@ -153,7 +153,7 @@ impl<A: Allocator + Copy> Core<A> {
         say(outputs, Output::State(State::Expired))
     }
 
-    // The session is accepted. What is watched is set anew before any call.
+    // The session is accepted. What is watched is set again before any call.
     fn welcome(
         &mut self,
         response: &Response<'_>,

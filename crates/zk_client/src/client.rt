@@ -68,7 +68,7 @@ impl<A: Allocator + Copy> Client<A> {
     }
 
     /// A client that takes up a saved session, with this timeout in milliseconds. It keeps no answers and watches nothing. An
-    /// error is want of memory for the password.
+    /// error says that there is no memory for the password.
     pub fn resume(alloc: A, timeout_ms: i32, saved: &Saved<'_>) -> Result<Client<A>, AllocError>
         requires timeout { pos 0 <ℤ timeout_ms }
         requires last { pos 0 ≤ℤ saved.now.last_zxid }
@@ -95,9 +95,9 @@ impl<A: Allocator + Copy> Client<A> {
     /// Takes an input, and gives the outputs that it makes due, in order. A turn is by the rule, so that the client stands where
     /// all its turns have led. It happens at the moment that was told last: [`step_at`](Client::step_at) tells it in the same call.
     ///
-    /// An error is want of memory. The input is no turn then: nothing is kept and nothing is watched any more, the state, the
-    /// saved session and the last seen zxid are those before the step, and each later step answers the same. An input of which
-    /// nothing comes takes no memory.
+    /// An error says that memory ran out. The input is no turn then: nothing is kept and nothing is watched any more, the state, the
+    /// saved session and the last seen zxid are those before the step, and each later step answers the same. An input without
+    /// effect takes no memory.
     pub fn step(&mut self, input: Input<A>) -> Result<Vec<Output<A>, A>, Halt>
         ensures rule { IfOk result (λ outputs. Rule (view_of self.old) (turn_of input outputs.items) (view_of self.new)) }
         ensures stands { IfOk result (λ outputs. (start : Start) (items : List Item) → Stands start items (view_of self.old) → Stands start (Turned (turn_of input outputs.items) ∷ items) (view_of self.new)) }
@@ -118,7 +118,7 @@ impl<A: Allocator + Copy> Client<A> {
     ///
     /// Moments are milliseconds of a clock that does not go back; one below an earlier one counts as the earlier one. Hand in
     /// [`Input::Cut`] before [`Input::Opened`] where a connection is open still: what the moment makes due would be for the old one.
-    /// An error is want of memory, as of [`step`](Client::step); where it came at the input, the moment was a turn, whose outputs are gone.
+    /// An error is that of [`step`](Client::step): memory ran out; if it came at the input, the moment was a turn, whose outputs are gone.
     pub fn step_at(&mut self, now: u64, input: Input<A>) -> Result<Vec<Output<A>, A>, Halt>
         ensures rule { IfOk result (λ outputs. RuleAt now (view_of self.old) (turn_of input outputs.items) (view_of self.new)) }
         ensures stands { IfOk result (λ outputs. (start : Start) (items : List Item) → Stands start items (view_of self.old) → StandsAt start items now (turn_of input outputs.items) (view_of self.new)) }

@@ -1,4 +1,4 @@
-//! Why a connection is given up, and want of memory.
+//! Why a connection is given up, and that memory ran out.
 
 ghost use Rattle.std.specs.Prelude.{◌≡◌};
 ghost use Rattle.zk_client.specs.FaultText.{fault_code};

@@ -14,7 +14,7 @@ use zk_conversation::Call;
 pub enum Input<A: Allocator = Global> {
     /// A connection begins. It ends the one before.
     Opened,
-    /// Bytes came from the server, cut anyhow.
+    /// Bytes came from the server, cut in any way.
     Bytes(Vec<u8, A>),
     /// The connection is over.
     Cut,

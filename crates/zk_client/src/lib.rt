@@ -1,5 +1,5 @@
 //! A client of ZooKeeper as a machine: bytes, moments and calls go in, and bytes, answers and reports come out. It is the one crate
-//! that a program imports: it gives on each type that its functions name.
+//! that a program imports: it re-exports each type that its functions name.
 //!
 //! [`Client::step_at`] takes one input with the moment at which it was noticed, and [`Client::deadline`] tells when to wake at the
 //! latest. It reads no socket and no clock. What it says and keeps is said once, over whole lists of turns, in the definitions of

@@ -1,4 +1,4 @@
-//! What a client is made of, but for the bytes that it holds.
+//! What a client is made of, except for the bytes that it holds.
 
 ghost use Rattle.std.specs.Prelude.{◌≡◌, ◌≤ℤ◌, ℕ, List, ◌∷◌, ◌++◌, [], OnOk, pos, true};
 ghost use Rattle.zk_watches.specs.Lists.{no_lists};

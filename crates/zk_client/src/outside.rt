@@ -19,7 +19,7 @@ pub trait Outside<A: Allocator> {
     /// The inputs still to come and the turns so far, where they are told. A socket tells nothing.
     ghost told: { Self → Option Told };
 
-    /// The next input, or none where there are no more.
+    /// The next input, or none if none is left.
     fn next(&mut self) -> Option<Input<A>>
         ensures fewer { IfSome result (λ input. bound self.new < bound self.old) }
         ensures hands { HandsOut (told self.old) (option_map input_view result) (told self.new) };

@@ -14,7 +14,7 @@ use std::alloc::{AllocError, Allocator};
 use std::mem;
 
 impl<A: Allocator + Copy> Recorded<A> {
-    /// These inputs, with room for their turns. An error is want of memory; later calls take none.
+    /// These inputs, with room for their turns. An error says that memory ran out; later calls take none.
     pub fn new(alloc: A, inputs: &[Input<A>]) -> Result<Recorded<A>, AllocError>
         ensures { IfOk result (λ recorded. told_of recorded ≡ record { coming = map input_view inputs.now; asked = None; turns = [] }) }
     {

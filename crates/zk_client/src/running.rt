@@ -12,8 +12,8 @@ use zk_turns::one_halt;
 
 /// Takes each input from the outside to the client, and what the client says back, until no input comes.
 ///
-/// Each input that was handed out is one turn, and the outside is given its outputs. An error is want of memory: the input that was
-/// handed out last is no turn, and its outputs are not given.
+/// Each input that was handed out is one turn, and the outside is given its outputs. An error says that memory ran out: the input
+/// that was handed out last is no turn, and its outputs are not given.
 pub fn run<A: Allocator + Copy, O: Outside<A>>(
     client: &mut Client<A>,
     outside: &mut O,

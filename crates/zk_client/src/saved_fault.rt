@@ -16,7 +16,7 @@ pub enum SavedFault {
     OddDigits { count: usize },
     /// The text has a byte that is no hexadecimal digit. The place of the first one.
     NotHex { place: usize },
-    /// The bytes begin with no record of a saved session. It is never for want of memory.
+    /// The bytes begin with no record of a saved session. It never says that memory ran out.
     Unread(TakeError),
     /// There are bytes after the record: how many.
     BytesBehind { count: usize },
@@ -26,7 +26,7 @@ pub enum SavedFault {
     LongPassword { length: usize },
     /// The last seen zxid is below 0: which it is.
     NegativeZxid { last_zxid: i64 },
-    /// The allocator refused a request. It stands last but for a text, whose bytes take memory before its digits are looked at.
+    /// The allocator refused a request. It comes last, except for a text: its bytes take memory before its digits are read.
     Memory,
 }
 
@@ -46,7 +46,7 @@ impl fmt::Display for SavedFault {
             }
             SavedFault::Unread(fault) => write!(f, "no saved session: {fault}"),
             SavedFault::BytesBehind { count } => {
-                write!(f, "bytes behind the saved session: {count}")
+                write!(f, "bytes after the saved session: {count}")
             }
             SavedFault::NoPassword => write!(f, "the password is null"),
             SavedFault::LongPassword { length } => {

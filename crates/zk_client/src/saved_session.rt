@@ -42,7 +42,7 @@ impl<A: Allocator + Copy> SavedSession<A> {
 
     /// A session of these three. What a client says of itself becomes one so:
     /// `let saved = client.saved(); SavedSession::new(alloc, saved.session, saved.password, saved.last_zxid)`, and is never
-    /// refused but for memory.
+    /// refused unless memory runs out.
     ///
     /// # Errors
     ///
@@ -113,7 +113,7 @@ impl<A: Allocator + Copy> SavedSession<A> {
     /// # Errors
     ///
     /// `OddDigits`, else `NotHex`, else those of [`SavedSession::from_bytes`]. Memory for the bytes is requested before the
-    /// digits are looked at, so `Memory` may stand for another fault, but never for `OddDigits`.
+    /// digits are looked at, so `Memory` may be told instead of another fault, but never instead of `OddDigits`.
     pub fn from_text(alloc: A, text: &str) -> Result<SavedSession<A>, SavedFault>
         // Which session or fault it is.
         ensures exact { GivesLater (text_read text.now) result }
@@ -129,8 +129,8 @@ impl<A: Allocator + Copy> SavedSession<A> {
         }
     }
 
-    /// The bytes of its record, which [`SavedSession::from_bytes`] reads: 20 and those of the password. An error is want of
-    /// memory.
+    /// The bytes of its record, which [`SavedSession::from_bytes`] reads: 20 and those of the password. An error says
+    /// that memory ran out.
     pub fn to_bytes(&self, alloc: A) -> Result<Vec<u8, A>, AllocError>
         ensures { IfOk result (λ bytes. bytes.items ≡ saved_bytes self.now) }
     {
@@ -150,7 +150,7 @@ impl<A: Allocator + Copy> SavedSession<A> {
     }
 
     /// The bytes of its record as hexadecimal digits in lower case, one word with no line's end, which
-    /// [`SavedSession::from_text`] reads. An error is want of memory.
+    /// [`SavedSession::from_text`] reads. An error says that memory ran out.
     pub fn to_text(&self, alloc: A) -> Result<String<A>, AllocError>
         ensures { IfOk result (λ text. string_bytes text ≡ saved_text self.now) }
     {
@@ -192,7 +192,7 @@ impl<A: Allocator> fmt::Debug for SavedSession<A> {
     }
 }
 
-// Why a text of so many bytes is no digits.
+// Why a text of this many bytes is no digits.
 fn no_digits(fault: FromHexError, count: usize) -> SavedFault
     ensures { result ≡ no_digits count fault }
 {

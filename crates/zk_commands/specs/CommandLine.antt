@@ -113,7 +113,7 @@ abbrev pub above_zero : Option ℕ → Option ℕ
 above_zero (Some n) = if n == 0 then None else Some n
 above_zero None = None
 
--- the number from 1 to the most that a word stands for
+-- the number that a word means, from 1 to the most
 abbrev pub count_at : ℕ → Text → Option ℕ
 count_at most word = above_zero (natural_of most word)
 

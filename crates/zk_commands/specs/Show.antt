@@ -144,7 +144,7 @@ pub record ShowsFrame (kind : Kind) (hex text : List ℕ) : Type 0 where
   pub prints : Prints (IsOf kind payload) payload text
   pub again : PrintsAgain frame prints.spelled prints.ignored
 
--- The first fault that applies: of the text, of the frame that it stands for, or of the frame's payload.
+-- The first fault that applies: of the text, of the frame that it means, or of the frame's payload.
 pub data IsFault (kind : Kind) (hex : List ℕ) (fault : ShowFault) : Type 0 where
   no_hex : fault ≡ Hex → IsNotHex hex → IsFault kind hex fault
   no_frame : (frame : List ℕ) → IsHexOf frame hex → payload_of frame ≡ Err fault → IsFault kind hex fault

@@ -54,7 +54,7 @@ pub enum Command<'a> {
     Live {
         addresses: Vec<&'a str>,
     },
-    /// Watches nodes over connections to these addresses, by a timeout that is above 0, for so many milliseconds; for ever where
+    /// Watches nodes over connections to these addresses, by a timeout that is above 0, for this many milliseconds; for ever where
     /// there is no such number.
     Watch {
         addresses: Vec<&'a str>,
@@ -147,7 +147,7 @@ fn with_sessions<'a>(
     form.subcommand(watch)
 }
 
-/// The command line's form with one command, and all that its help says but for the others.
+/// The command line's form with one command, and all that its help says except about the others.
 fn form_with<'a>(alloc: Global, command: clap::Command<'a>) -> Result<clap::Command<'a>, AllocError>
     ensures { IfOk result (λ r. (app_of command.entry).top.is_plain ≡ true → app_of r ≡ with_subcommand (on_top (λ s. record s { subcommand_required = true }) (new_app (codes "zk_shell"))) (app_of command.entry).top) }
 {

@@ -20,7 +20,7 @@ use zk_records::{
     ReplyHeader, RequestFault, Stat,
 };
 
-/// The bytes that a text in hex stands for.
+/// The bytes that a text in hex means.
 fn decoded<A: Allocator + Copy>(alloc: A, hex: &str) -> Result<Vec<u8, A>, ShowFault>
     ensures ok { IfOk result (λ bytes. IsHexOf bytes.items hex.now) }
     ensures err { IfErr result (λ f. (f ≡ ShowFault.Memory) ⊎ ((f ≡ ShowFault.Hex) × IsNotHex hex.now)) }

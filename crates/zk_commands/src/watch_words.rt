@@ -84,7 +84,7 @@ pub(crate) fn watch_form<'a>(alloc: Global) -> Result<clap::Command<'a>, AllocEr
     watch.arg(duration_arg(alloc))
 }
 
-/// The number from 1 to the most that a word stands for.
+/// The number that a word means, from 1 to the most.
 fn count_of(word: &str, most: u64) -> Option<u64>
     requires { 9 ≤ most }
     ensures value { result ≡ count_at most word.now }

@@ -73,7 +73,7 @@ pub record ShowsHolder (view : View) (dir : Text) (prefix : Name) (path : Text) 
   pub nodes : view.cache.nodes path ≡ good answer
   pub made : token_in view.saved.session.session answer ≡ Some token
 
--- Who is shown to hold does so in the history at the last seen zxid.
+-- A session that is shown to hold does so in the history at the last seen zxid.
 abbrev pub HeldIsTrue : Type 0
 HeldIsTrue = (h : History) (view : View) (dir : Text) (prefix : Name) (path : Text) (token : ℤ)
     → IsServedFrom h view → ShowsHolder view dir prefix path token → IsHolder (tree_seen h view) (path_of dir) prefix (path_of path) view.saved.session.session token

@@ -51,7 +51,7 @@ pub record HasNoPath (cache : Cache) (root : Text) : Type 0 where
   pub shown : IsShown cache root below
   pub fault : HasFaultAt cache (text_below root below)
 
--- All that is reached is kept whole, and these are no more nodes than that: there is a subtree.
+-- All that is reached is kept whole, and these are at most that many nodes: there is a subtree.
 pub record HasWalk (cache : Cache) (root : Text) (most : ℕ) : Type 0 where
   pub paths : List Text
   pub walk : IsWalk cache root paths

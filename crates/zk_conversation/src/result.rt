@@ -24,7 +24,7 @@ pub enum ReplyResult<'a, A: Allocator> {
         bytes: Option<&'a [u8]>,
         stat: Stat,
     },
-    /// The names below a node, in the order of the reply. A null name stands for the empty one.
+    /// The names below a node, in the order of the reply. A null name means the empty one.
     Names {
         names: Vec<TextRef<'a>, A>,
         stat: Stat,

@@ -1,4 +1,4 @@
--- Outputs as numbers, and the text that stands apart.
+-- Outputs as numbers, and the text that is read separately.
 use Rattle.std.specs.Prelude.{ℕ, ℤ, pos, true, false, List, [], length, Some, None, string_bytes}
 use Rattle.zk_nodes.specs.declared.side.Side.{Side}
 use Rattle.zk_nodes.specs.declared.side.Side.TheVariants.{Data, Child}

@@ -7,7 +7,7 @@ use Rattle.zk_nodes.specs.PathFault.{IsPath, fault_of}
 abbrev pub RefusesNothing : ℤ → Type 0
 RefusesNothing code = ⊥
 
--- want of memory alone, -2
+-- only that memory ran out, -2
 abbrev pub RefusesMemory : ℤ → Type 0
 RefusesMemory (negsuc (suc zero)) = ⊤
 RefusesMemory code = ⊥

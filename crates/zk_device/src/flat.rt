@@ -24,7 +24,7 @@ pub struct FlatStat {
     pub num_children: i32,
 }
 
-/// An output, as numbers. Its text, which is a frame, data, a path or a code, stands apart.
+/// An output, as numbers. Its text, which is a frame, data, a path or a code, is read separately.
 #[repr(C)]
 #[derive(Clone, Copy, Debug, PartialEq, Eq)]
 pub struct Flat {

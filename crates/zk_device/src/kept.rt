@@ -33,7 +33,7 @@ pub struct FlatDataStat {
     pub data_length: i32,
 }
 
-/// What is kept about the data of a path, as numbers. The data stand apart.
+/// What is kept about the data of a path, as numbers. The data are read separately.
 #[repr(C)]
 #[derive(Clone, Copy, Debug)]
 pub struct KeptData {
@@ -48,7 +48,7 @@ pub struct KeptData {
     pub stat: FlatDataStat,
 }
 
-/// What is kept about the children of a path, as numbers. The names stand apart.
+/// What is kept about the children of a path, as numbers. The names are read separately.
 #[repr(C)]
 #[derive(Clone, Copy, Debug)]
 pub struct KeptNames {
@@ -180,7 +180,7 @@ fn name_at(kept: Option<(&Names<Global>, Mark)>, index: usize) -> &[u8]
     }
 }
 
-// The names in byte order, each after its length. An error is want of memory: a name that came in a frame is never too long.
+// The names in byte order, each after its length. An error says that memory ran out: a name from a frame is never too long.
 fn spelled_names(alloc: Global, names: &Names<Global>) -> Result<Vec<u8>, AllocError>
     ensures { IfOk result (λ text. AreSpelled (names_of names.now.names) text.items) }
 {

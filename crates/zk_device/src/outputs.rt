@@ -60,7 +60,7 @@ impl Device {
         copy_into(&text[from.min(text.len())..], room)
     }
 
-    /// The words of a drop that was told last: why the connection is given up. An error is want of memory.
+    /// The words of a drop that was told last: why the connection is given up. An error says that memory ran out.
     pub fn words(&self, alloc: Global) -> Result<String<Global>, AllocError>
         ensures { IfOk result (λ words. string_bytes words ≡ told_words self.now.said.items self.now.read) }
     {

@@ -63,7 +63,7 @@ impl Device {
         Ok(())
     }
 
-    /// The bytes from which the session can be taken up. An error is want of memory.
+    /// The bytes from which the session can be taken up. An error says that memory ran out.
     pub fn saved(&self, alloc: Global) -> Result<Vec<u8, Global>, AllocError>
         ensures { IfOk result (λ bytes. bytes.items ≡ saved_bytes (put_of (view_of self.now.client).saved)) }
     {

@@ -20,7 +20,7 @@ pub record Attempts (timeout began done : ℕ) (old new : Backoff) : Type 0 wher
   pub moment : new.moment
       ≡ max (min (done + pause_ms (longest_ms new.failures (most_ms (nat_lt timeout (done - connected_by old.connected began)) timeout)) new.chance.state) (2 ^ 64 - 1)) new.least
 
--- no failures any more: there is no pause but for the third of a second
+-- no failures any more: there is no pause except the third of a second
 abbrev pub row_ended : Backoff → Backoff
 row_ended backoff = record backoff { failures = 0; moment = backoff.least }
 

@@ -118,7 +118,7 @@ abbrev pub IsRefused : (now : ℕ) → Progress → Type 0
 IsRefused now (Refused why until) = now ≤ until
 IsRefused now _ = ⊥
 
--- THE promise about a subject: what is kept of it is good; or else a read of it is on its way, or waits its turn, or no server has accepted
+-- THE promise about a subject: what is kept of it is good; or else a read of it is under way, or waits its turn, or no server has accepted
 -- the connection, or the last read was refused, and the moment to read it again has not passed.
 abbrev pub IsFollowed : {A : Type 0} → (now : ℕ) → View → Subject A → Type 0
 IsFollowed now view subject =

@@ -11,7 +11,7 @@ use crate::subject::Subject;
 use std::alloc::{AllocError, Allocator, Global};
 use zk_client::{Client, Input, Output, Path, Side};
 
-/// A client with the subjects that its program follows: after each step what is kept of each is good, or a read of it is on its way or waits
+/// A client with the subjects that its program follows: after each step what is kept of each is good, or a read of it is under way or waits
 /// its turn, or no server has accepted the connection, or the last read was refused and is made again at a moment that has not passed.
 #[derive(Drop)]
 pub struct Follower<A: Allocator + Copy = Global> {

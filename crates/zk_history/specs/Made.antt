@@ -1,4 +1,4 @@
--- What the program's values stand for.
+-- What the program's values mean.
 use Rattle.std.specs.Prelude.{ℤ, List, map}
 use Rattle.zk_nodes.specs.Path.{path_of}
 use Rattle.std.specs.Option.{option_map, option_copied}

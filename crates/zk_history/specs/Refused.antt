@@ -1,4 +1,4 @@
--- When a history refuses what it is given: the first fault that applies, and want of memory where none does.
+-- When a history refuses what it is given: the first fault that applies, and where none does, that memory ran out.
 use Rattle.std.specs.Prelude.{ℕ, ℤ, pos, ◌≡◌, ◌≢◌, ◌≤ℤ◌, ◌<ℤ◌, List, [], Option}
 use Rattle.zk_nodes.specs.Path.{NodePath}
 use Rattle.zk_nodes.specs.History.{Change, Creates, newest}

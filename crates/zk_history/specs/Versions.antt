@@ -164,11 +164,11 @@ node_with e content = record {
 abbrev pub content_at : HistoryView → Origin → Option (Option (List ℕ))
 content_at kept origin = content_in (change_at kept origin)
 
--- the node that an entry stands for
+-- the node that an entry means
 abbrev pub node_told : HistoryView → Entry → Option Node
 node_told kept e = option_map (node_with e) (content_at kept e.origin)
 
--- an entry, or none, stands for a node, or none
+-- an entry, or none, means a node, or none
 abbrev pub Tells : HistoryView → Option Entry → Option Node → Type 0
 Tells kept entry node = option_map (node_told kept) entry ≡ option_map Some node
 

@@ -1,6 +1,6 @@
 //! The versions of a node, each with where its data stand.
 
-// Where a change stands in a history.
+// Where a change is in a history.
 #[derive(Clone, Copy)]
 pub(crate) enum Origin {
     // In none: the root was there before.

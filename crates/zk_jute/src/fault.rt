@@ -28,7 +28,7 @@ pub enum TakeError {
 }
 
 impl TakeError {
-    /// The code of the fault, `J1` to `J5`: its place is no part of it.
+    /// The code of the fault, `J1` to `J5`: its place is not part of it.
     pub fn code(self) -> &'static str
         ensures { result.now ≡ take_error_code self }
     {

@@ -2,7 +2,7 @@
 //!
 //! An int has four bytes and a long eight, big-endian, in two's complement. A boolean is one byte, 0 or 1. A
 //! ustring is an int length and that many bytes of UTF-8, a buffer an int length and that many bytes, a vector an
-//! int count and that many elements; the length or count -1 stands for null. A record is its fields one after
+//! int count and that many elements; the length or count -1 means null. A record is its fields one after
 //! another, with nothing between them.
 //!
 //! Refusing a length or a count below -1, a boolean byte above 1, and text that is not UTF-8 is a rule of this

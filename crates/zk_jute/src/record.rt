@@ -16,7 +16,7 @@ use std::alloc::Allocator;
 /// An impl gives `write`, a line for each field. Callers use `put`, which leaves everything as it was where it fails;
 /// inside a record's own `write` the fields' `write` is enough.
 ///
-/// The layout's rules are those of the encoding, but for three that are this project's own: a length or a count below
+/// The layout's rules are those of the encoding, except for three that are this project's own: a length or a count below
 /// -1, a boolean byte above 1, and text that is not UTF-8 spell nothing, and are refused.
 pub trait Record<A: Allocator + Copy>: Sized {
     /// The fields, in their order.

@@ -44,7 +44,7 @@ list_in Child answer part = part.child_watches
 abbrev pub is_in : Side → Answer → Text → Lists → Bool
 is_in side answer path part = is_listed path (list_in side answer part)
 
--- the path stands in a part that is still to be processed, and no reply before that one's moves the last seen zxid
+-- the path is in a part that is still to be processed, and no reply before that one's moves the last seen zxid
 abbrev pub IsAwaited : Side → Text → Answer → ℕ → List Request → Type 0
 IsAwaited side path answer seen [] = ⊥
 IsAwaited side path answer seen (Restore is_last relative part ∷ requests) =

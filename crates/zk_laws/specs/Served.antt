@@ -21,7 +21,7 @@ use Rattle.zk_laws.specs.Server.{no_watches}
 use Rattle.zk_laws.specs.Messages.{Message, Accepted, Expired, Replies, Watches_set, Notifies, Pong, Request, Connect, Restore, Ask, Ping, from_zero}
 use Rattle.zk_laws.specs.ServerSteps.{ServerEnd, Waiting, Ended, ServerStep, Advances, MayDo, messages_by, end_after}
 
--- What a client asked, as it stands in the bytes that it sent
+-- What a client asked, as it is in the bytes that it sent
 
 -- a request with its payload and its xid
 pub record Sent : Type 0 where

@@ -75,7 +75,7 @@ abbrev pub leaves_set_all : List Change → Watches → Watches
 leaves_set_all [] watches = watches
 leaves_set_all (change ∷ changes) watches = leaves_set_all changes (leaves_set change watches)
 
--- how often the notice stands in the list
+-- how often the notice is in the list
 abbrev pub times : Notice → List Notice → ℕ
 times notice [] = 0
 times notice (one ∷ more) = (if int_eq (event_number notice.event) (event_number one.event) && bytes_eq notice.path one.path then 1 else 0) + times notice more

@@ -70,7 +70,7 @@ pub fn one_table()
 {}
 
 /// The headline: a client that stands at its items and was served keeps good answers that are the history's at its last
-/// seen zxid, was answered what is true, and gave no connection up but for silence or a message that is too long.
+/// seen zxid, was answered what is true, and gave no connection up except for silence or a message that is too long.
 pub fn headline()
     ensures { (h : History) → IsHistory h → (start : Start) (items : List Client_item) (view : View) → Stands start items view → (served : Served h start items) → Headline h start items view served.entries }
 {}
@@ -102,7 +102,7 @@ pub fn answers_are_true()
         → (xid : ℕ) × (call : Call) × (more : List Asking) × (awaited before ≡ For_call xid ticket call ∷ more) × (question_of call ≡ question) × IsTrueWrite h call (from_zero zxid) result }
 {}
 
-/// Under such servers no connection is given up but for silence, or for a message that was sent and is longer than is admitted:
+/// Under such servers no connection is given up except for silence, or for a message that was sent and is longer than is admitted:
 /// its length is the one that stands next.
 pub fn drops_are_due()
     ensures { (h : History) → IsHistory h → (start : Start) (items : List Client_item) (view : View) → Stands start items view → (served : Served h start items)
@@ -195,7 +195,7 @@ pub fn small_schedule()
 
 /// What is taken is what was sent, message for message: a payload that is whole is that of the first frame sent and not taken, and
 /// is taken for the message that it spells. A reply is so taken where what it answers waits first, and a client that asks in order
-/// and is served in order is never behind (`nothing_behind`).
+/// and is served in order gets no reply that leaves a watch and is behind (`nothing_behind`).
 pub fn taken_as_sent()
     ensures frame { (held coming payload more taken : List ℕ) → length payload < 2 ^ 31 → held ++ coming ≡ frame payload ++ more → cut held ≡ Payload taken → (taken ≡ payload) × (coming ≡ more) }
     ensures accepted { (pending : List Pending) (last xid : ℤ) (payload : List ℕ) → IsPayload xid Accepted payload → (welcome : Welcome) × (reading Connecting pending last payload ≡ Takes_in (Takes_acceptance welcome)) }

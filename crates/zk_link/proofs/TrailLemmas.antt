@@ -76,7 +76,7 @@ lost : (old settled new : Trail) → settled.view ≡ old.view → (new.view ≡
 lost old settled new view (inl same) = inl (same ∙ view)
 lost old settled new view (inr h) = inr (h.0, subst (λ (v : View). Rule v h.0 new.view) view h.1)
 
--- Want of memory speaks of the client and of what was given alone.
+-- What is said where memory ran out is about the client and what was given alone.
 pub same_fails : (stop : Stop) (old settled new : Trail) → settled.view ≡ old.view → settled.given ≡ old.given → Fails stop settled new → Fails stop old new
 same_fails Halted old settled new view given fails = (subst (λ (v : View). HaltsAs v new.view) view fails.0, fails.1 ∙ given)
 same_fails Memory old settled new view given fails = (lost old settled new view fails.0, fails.1 ∙ given)

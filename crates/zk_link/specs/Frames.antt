@@ -12,6 +12,6 @@ frame_in _ = []
 abbrev pub frames : List Output → List ℕ
 frames outputs = flat_map frame_in outputs
 
--- What is left of bytes of which the first so many were written.
+-- What is left of bytes after a number of them, from the first on, were written.
 abbrev pub IsLeftOf : (bytes left : List ℕ) → Type 0
 IsLeftOf bytes left = (written : ℕ) × (left ≡ drop written bytes)

@@ -1,4 +1,4 @@
--- What is said of want of memory.
+-- What is said where memory ran out.
 use Rattle.std.specs.Prelude.{ℕ, List, codes}
 use Rattle.zk_client.specs.FaultText.{halt_words}
 use Rattle.zk_link.specs.declared.stop.Stop.{Stop}

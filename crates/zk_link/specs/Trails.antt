@@ -53,7 +53,7 @@ MayCome (Bytes bytes) trail = trail.is_open ≡ true
 MayCome (Now moment) trail = trail.latest ≤ moment
 MayCome _ trail = ⊤
 
--- One turn by the rule. What it says is given, in order, but for what goes to the server. A connection is let go where it is over.
+-- One turn by the rule. What it says is given, in order, except what goes to the server. A connection is let go where it is over.
 pub record Takes (old : Trail) (turn : Turn) (new : Trail) : Type 0 where
   pub may : MayCome turn.input old
   pub rule : Rule old.view turn new.view
@@ -91,17 +91,17 @@ pub record Asks (old : Trail) (input : Input) (new : Trail) : Type 0 where
   pub stands : (start : Start) (items : List Item) → Stands start items old.view
       → Stands start (onto rest.turns (Turned (record { input = input; outputs = outputs }) ∷ onto first.turns items)) new.view
 
--- Want of memory. The client has halted, at no turn; or what came is lost: it is no turn, or nothing of what its turn said is given.
+-- Memory ran out. The client has halted, at no turn; or what came is lost: it is no turn, or nothing of what its turn said is given.
 abbrev pub Fails : Stop → Trail → Trail → Type 0
 Fails Halted old new = HaltsAs old.view new.view × (new.given ≡ old.given)
 Fails Memory old new = ((new.view ≡ old.view) ⊎ ((turn : Turn) × Rule old.view turn new.view)) × (new.given ≡ old.given)
 
--- A client halts at no input of which nothing comes.
+-- A client halts at no input that has no effect.
 abbrev pub IsLoud : Stop → View → Input → Type 0
 IsLoud Halted view input = ¬ (IsQuiet view input)
 IsLoud Memory view input = ⊤
 
--- Turns, and then want of memory.
+-- Turns, and then memory runs out.
 pub record Stops (stop : Stop) (old new : Trail) : Type 0 where
   pub turns : List Turn
   pub between : Trail
@@ -125,6 +125,6 @@ pub record HearsThen (old : Trail) (input : Input) (new : Trail) : Type 0 where
   pub hears : Hears old input between
   pub rest : Comes between new
 
--- Want of memory at an input, or at what comes of it.
+-- Memory runs out at an input, or at what comes of it.
 abbrev pub FailsThen : Stop → Trail → Input → Trail → Type 0
 FailsThen stop old input new = Fails stop old new ⊎ ((between : Trail) × Hears old input between × Fails stop between new)

@@ -34,7 +34,7 @@ pub(crate) fn is_late(kind: ErrorKind) -> bool {
     )
 }
 
-/// What a connection brings within so many milliseconds. It ends where it has no more bytes, and where it fails.
+/// What a connection brings within `ms` milliseconds. It ends where it has no more bytes, and where it fails.
 pub(crate) fn bring<A: Allocator, S: Stream>(
     alloc: A,
     stream: &mut S,

@@ -7,7 +7,7 @@ pub trait Clock {
     /// The moment.
     fn now(&mut self) -> u64;
 
-    /// Waits for so many milliseconds.
+    /// Waits for this many milliseconds.
     fn pause(&mut self, ms: u64);
 }
 

@@ -7,7 +7,7 @@ use std::io::{self, Read, Write};
 /// A write takes what it can at once, or within a millisecond: one that can take nothing is an error of the kind `WouldBlock` or
 /// `TimedOut`, and is made again later. What was taken goes by itself: nothing is flushed.
 pub trait Stream: Read + Write + Drop {
-    /// No read from now on waits longer than so many milliseconds, at least 1: one that would is an error of the kind `WouldBlock` or
+    /// No read from now on waits longer than `ms` milliseconds, at least 1: one that would is an error of the kind `WouldBlock` or
     /// `TimedOut`.
     fn wait_at_most(&mut self, ms: u64) -> io::Result<()>;
 }
@@ -17,7 +17,7 @@ pub trait Dial {
     /// Its connections.
     type Stream: Stream;
 
-    /// Connects to an address, within so many milliseconds, at least 1. An error where nothing answers there in time.
+    /// Connects to an address, within this many milliseconds, at least 1. An error where nothing answers there in time.
     fn dial(&mut self, address: &str, within_ms: u64) -> io::Result<Self::Stream>;
 }
 
@@ -44,7 +44,7 @@ impl<'a> Ring<'a> {
         Some(*address)
     }
 
-    /// The first connection that is made, each within so many milliseconds, at least 1. Each address is dialled once at most.
+    /// The first connection that is made, each within this many milliseconds, at least 1. Each address is dialled once at most.
     pub fn connect<D: Dial>(&mut self, dial: &mut D, within_ms: u64) -> Option<D::Stream> {
         for _ in self.addresses {
             let address = self.turn()?;

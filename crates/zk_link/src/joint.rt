@@ -71,7 +71,7 @@ impl<A: Allocator + Copy, S: Stream> Joint<A, S> {
     }
 
     /// A client of a new session, with no connection yet, which keeps the last seen zxid. No moment that it is told is below those that
-    /// were told before. An error is want of memory, and nothing has happened then.
+    /// were told before. An error says that memory ran out, and nothing has happened then.
     pub(crate) fn renew(&mut self, timeout_ms: i32) -> Result<(), AllocError>
         requires { pos 0 <ℤ timeout_ms }
         ensures client { OnOk result (view_of self.new.client ≡ view_at (renewed_start timeout_ms (view_of self.old.client)) []) }
@@ -110,8 +110,8 @@ impl<A: Allocator + Copy, S: Stream> Joint<A, S> {
         !self.unsent.is_empty()
     }
 
-    /// Writes what is left to be written, as much as the connection takes for now, and reads once: for so many milliseconds, but for 10
-    /// at most while bytes are left.
+    /// Writes what is left to be written, as much as the connection takes for now, and reads once: for `ms` milliseconds, or for 10 at
+    /// most while bytes are left.
     pub(crate) fn exchange(&mut self, ms: u64) -> Result<Brought<A>, AllocError>
         ensures trail { bare_of self.new ≡ bare_of self.old }
         ensures unsent { IsLeftOf self.old.unsent.items self.new.unsent.items }
@@ -131,7 +131,7 @@ impl<A: Allocator + Copy, S: Stream> Joint<A, S> {
         bring(self.alloc, stream, &mut self.room, wait)
     }
 
-    /// What the connection brings within so many milliseconds, at least 1, and a tenth longer and 2 where it takes nothing of what is left
+    /// What the connection brings within `ms` milliseconds, at least 1, and a tenth longer and 2 where it takes nothing of what is left
     /// to be written. Where there is none, it is over. Of what is left to be written the first bytes alone may be gone after it.
     pub fn read(&mut self, ms: u64) -> Result<Brought<A>, AllocError>
         ensures trail { bare_of self.new ≡ bare_of self.old }
@@ -207,7 +207,7 @@ impl<A: Allocator + Copy, S: Stream> Joint<A, S> {
     /// [`cut`](Joint::cut) is due. What it does not take for now is written before the next reads. What a moment makes due is heard by
     /// [`Input::Now`].
     ///
-    /// An error is want of memory, of the client, or for what is written or given. An input of which nothing comes halts no client.
+    /// An error says that memory ran out, in the client, or for what is written or given. An input without effect halts no client.
     pub fn hear(&mut self, input: Input<A>, outputs: &mut Vec<Output<A>, A>) -> Result<bool, Stop>
         ensures ok { OnOk result (Hears (trail_of self.old outputs.old.items) (input_view input) (trail_of self.new outputs.new.items)) }
         ensures latest { self.new.latest ≡ self.old.latest }

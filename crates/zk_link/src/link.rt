@@ -75,8 +75,8 @@ impl<'a, A: Allocator + Copy, D: Dial + Drop, C: Clock + Drop> Link<'a, A, D, C>
 
     /// Goes on with a client of a new session, which asks for this timeout in milliseconds, as where the session has expired. It keeps the
     /// last seen zxid, so that no server which is behind it admits the session, and nothing else. The connection that is there is let go;
-    /// the next one is dialled at the moment, and at the address, that were next. An error is want of memory, and nothing has happened
-    /// then.
+    /// the next one is dialled at the moment, and at the address, that were next. An error says that memory ran out, and nothing has
+    /// happened then.
     pub fn renew(&mut self, timeout_ms: i32) -> Result<(), AllocError>
         requires { pos 0 <ℤ timeout_ms }
         ensures client { OnOk result (view_of self.new.joint.client ≡ view_at (renewed_start timeout_ms (view_of self.old.joint.client)) []) }
@@ -152,7 +152,7 @@ impl<'a, A: Allocator + Copy, D: Dial + Drop, C: Clock + Drop> Link<'a, A, D, C>
 
     /// Goes on until this moment of the clock, or until there is something for the caller, or the session is over.
     ///
-    /// No read and no attempt to connect waits past this moment, but for 1 millisecond: an attempt that is to succeed needs a moment that is
+    /// No read and no attempt to connect waits past this moment, except for 1 millisecond: an attempt that is to succeed needs a moment that is
     /// far enough. A write waits for room for 16 milliseconds at most, and what the connection does not take is written later; a server that
     /// takes nothing answers nothing, and is left as a silent one. After a session that is over it returns at once.
     #[tactic(auto, using(crate::proofs::TrailLemmas::more_given))]
@@ -398,7 +398,7 @@ impl<'a, A: Allocator + Copy, D: Dial + Drop, C: Clock + Drop> Link<'a, A, D, C>
         self.waiting.begin(admission);
     }
 
-    /// Dials the next address, for so many milliseconds at most: for a third of the timeout, and for a second where that is less.
+    /// Dials the next address, for this many milliseconds at most: for a third of the timeout, and for a second where that is less.
     fn attempt(
         &mut self,
         began: u64,

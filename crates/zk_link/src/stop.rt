@@ -1,4 +1,4 @@
-//! Want of memory.
+//! Memory that ran out.
 
 use std::error::Error;
 use std::fmt;

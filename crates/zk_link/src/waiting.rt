@@ -43,7 +43,7 @@ fn add<A: Allocator>(line: &mut VecDeque<u64, A>, now: u64) -> Result<(), AllocE
     line.push_back(now).map_err(AllocError::from)
 }
 
-/// Forgets so many of those that wait, the oldest first.
+/// Forgets this many of those that wait, the oldest first.
 fn forget<A: Allocator>(line: &mut VecDeque<u64, A>, count: usize) {
     for _ in 0..count {
         line.pop_front();
@@ -96,7 +96,7 @@ impl<A: Allocator + Copy> Waiting<A> {
         add(&mut self.pings, now)
     }
 
-    /// So many calls have their replies: those that have waited for longest.
+    /// This many calls have their replies: those that have waited for longest.
     pub(crate) fn reply(&mut self, count: usize)
         ensures admission { self.new.admission ≡ self.old.admission }
         ensures pings { self.new.pings.items ≡ self.old.pings.items }

@@ -89,7 +89,7 @@ pub record Connects (old new : Tape) : Type 0 where
 
 -- Halts
 
--- A client halts at an input of which something comes, and nothing is printed of it.
+-- A client halts at an input that has an effect, and nothing is printed of it.
 pub record Halts (old : Tape) (input : Input) (new : Tape) : Type 0 where
   pub halts : HaltsAt input old.view new.view
   pub printed : new.printed ≡ old.printed

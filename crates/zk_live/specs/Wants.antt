@@ -1,4 +1,4 @@
--- Want of memory at a connection.
+-- Memory runs out at a connection.
 use Rattle.zk_link.specs.declared.stop.Stop.{Stop as LinkStop}
 use Rattle.zk_link.specs.declared.stop.Stop.TheVariants as link
 use Rattle.zk_script.specs.declared.stop.Stop.{Stop}

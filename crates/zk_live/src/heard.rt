@@ -61,7 +61,7 @@ fn want_of(stop: zk_link::Stop) -> Stop
     }
 }
 
-/// What a client says to an input but for what goes to the server, and whether the connection has not failed.
+/// What a client says to an input, except what goes to the server, and whether the connection has not failed.
 #[derive(Drop)]
 pub struct Heard<A: Allocator> {
     pub outputs: Vec<Output<A>, A>,

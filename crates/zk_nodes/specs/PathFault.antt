@@ -40,7 +40,7 @@ child_fault text name =
     else (if is_empty name then Some EmptyName
     else fault_of (child_text text name))
 
--- what a refusal says of the text: want of memory says that there is no fault
+-- what a refusal says of the text: where memory ran out, that there is no fault
 abbrev pub fault_told : PathFault → Option PathFault
 fault_told Empty = Some Empty
 fault_told TooLong = Some TooLong

@@ -5,7 +5,7 @@ ghost use Rattle.std.specs.Option.{option_map};
 
 use std::alloc::{AllocError, Allocator};
 
-/// The data of a node, which may be null, in memory of their own. An error is want of that memory.
+/// The data of a node, which may be null, in memory of their own. An error says that this memory ran out.
 pub fn copied_data<A: Allocator>(
     alloc: A,
     bytes: Option<&[u8]>,

@@ -2,7 +2,7 @@
 //!
 //! A [`Path`] is the text of a node's path, a [`Stat`] what is known of a node beside its data, and a [`Side`] what is watched of
 //! it. What a tree is, and what a history of transactions makes of it, is said once, in `specs/History.antt`: definitions alone.
-//! The values that keep a history, and answer from it, stand in `zk_history`.
+//! The values that keep a history, and answer from it, are in `zk_history`.
 #![tactic(auto)]
 
 mod data;

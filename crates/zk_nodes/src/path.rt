@@ -136,7 +136,7 @@ fn child_text<A: Allocator>(alloc: A, above: &str, name: &str) -> Result<String<
 }
 
 impl<A: Allocator> Path<A> {
-    /// The path of a text, or the first fault of the text; want of memory is told of a text with no fault alone.
+    /// The path of a text, or the first fault of the text; that memory ran out is told of a text with no fault alone.
     pub fn new(alloc: A, text: &str) -> Result<Path<A>, PathFault>
         ensures path { IfOk result (λ path. path ≡ text.now) }
         ensures accepted { OnOk result (IsPath text.now) }
@@ -191,7 +191,7 @@ impl<A: Allocator> Path<A> {
 
     /// The path of the child with this name: this path's text, a `/` unless it is the root, and the name. There is none where
     /// the name has a slash (`SlashInName`), else where it is empty (`EmptyName`), else where that text has a fault: the one that
-    /// [`Path::new`] tells of it. Want of memory is told where there is such a child alone.
+    /// [`Path::new`] tells of it. That memory ran out is told only where there is such a child.
     pub fn join(&self, alloc: A, name: &str) -> Result<Path<A>, PathFault>
         ensures path { IfOk result (λ path. path ≡ child_text self.now name.now) }
         ensures parent { IfOk result (λ path. parent_of (path_of path) ≡ Some (path_of self.now)) }

@@ -34,7 +34,7 @@ ghost use Rattle.zk_turns.specs.Turns.{Start, Output, Forgets, Halts, Bytes, Cut
 ghost use Rattle.zk_watches.specs.Lists.{Lists};
 ghost use Rattle.std.specs.FinSet as set;
 
-/// A connection may begin to a server at each place of the history, and the server stands there, with no watches; nothing is processed,
+/// A connection may begin to a server at each place of the history, and the server is at that place, with no watches; nothing is processed,
 /// and nothing on its way.
 #[tactic(auto, using(crate::proofs::Client::opens, crate::proofs::Client::opened_end, crate::proofs::Client::opened_wire))]
 pub fn connections_begin()
@@ -243,7 +243,7 @@ pub fn wires_stay()
 {}
 
 /// All is quiet where the client talks, nothing is on its way or half taken, and no part of watches waits; a connection is open as the
-/// client's state says; and a schedule serves the items that stand in it.
+/// client's state says; and a schedule serves the items that are in it.
 #[tactic(auto, using(crate::proofs::Leading::quiet_so, crate::proofs::Leading::going_so, crate::proofs::Leading::served_so))]
 pub fn quiet_places()
     ensures quiet_so { (h : History) (start : Start) (entries : List Entry) → is_talking (state_of (past_of start (items_in entries))) ≡ true → is_going (past_of start (items_in entries)) ≡ true
@@ -289,7 +289,7 @@ pub fn frames_are_cut()
     ensures cut_so { (payloads : List (List ℕ)) (rest : List ℕ) → AllByRecursion (λ payload. length payload < 2 ^ 31) payloads → (4 ≤ length rest → length rest < 4 + length_field rest) → IsCutInto payloads rest (joined payloads ++ rest) }
 {}
 
-/// A server holds so many transactions as its place says, the first ones: the tree is what the last of them left, its zxid that of the
+/// A server holds as many transactions as its place says, the first ones: the tree is what the last of them left, its zxid that of the
 /// last; and before any, the first tree and 0.
 #[tactic(auto, using(crate::proofs::Holding::none_tree, crate::proofs::Holding::none_zxid, crate::proofs::Holding::first_held, crate::proofs::Holding::last_zxid, crate::proofs::Holding::last_tree))]
 pub fn servers_hold()

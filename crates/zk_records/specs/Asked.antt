@@ -1,4 +1,4 @@
--- A request as it arrives: its header, and the record of the operation that the header's type stands for. Another
+-- A request as it arrives: its header, and the record of the operation that the header's type means. Another
 -- type is a fault of its own, which is told once the header is whole.
 use Rattle.std.specs.Prelude.{ℕ, ℤ, List, Option, Some, None, Result, Ok, Err}
 use Rattle.zk_jute.specs.declared.fault.TakeError.{TakeError}

@@ -1,7 +1,7 @@
 //! The records of the ZooKeeper client protocol (`zookeeper.jute`), and the codes, events and operations that their
-//! numbers stand for.
+//! numbers mean.
 //!
-//! Each record is a struct with the wire's fields in their order, and its layout stands in `specs/Layouts.antt`. What is
+//! Each record is a struct with the wire's fields in their order, and its layout is in `specs/Layouts.antt`. What is
 //! stated of `put` and `take` is stated in `zk_jute`, once for every layout. Two messages are no layouts, and have `put`
 //! and `take` of their own: a [`Reply`], whose result is there where its err is 0, and a [`ConnectResponse`], whose last
 //! field may be cut off by the payload's end. A [`Request`] is read by the type in its header.
@@ -10,7 +10,7 @@
 //! slices of the payload that was read, or of what the writer keeps. Fields that the wire names `type` and `data` are
 //! `kind` and `bytes`.
 //!
-//! Null texts, lists and passwords are read as such here. Who uses a reply reads them as empty by `or_empty`.
+//! Null texts, lists and passwords are read as such here. Whoever uses a reply reads them as empty by `or_empty`.
 #![tactic(auto)]
 
 mod acl;

@@ -1,4 +1,4 @@
-//! The request that sets watches anew.
+//! The request that sets watches again.
 
 ghost use Rattle.std.specs.Prelude.{◌≡◌, true, map, Some};
 ghost use Rattle.zk_records.specs.Layouts.{set_watches};
@@ -6,7 +6,7 @@ ghost use Rattle.zk_records.specs.Layouts.{set_watches};
 use std::alloc::Allocator;
 use zk_jute::{Cursor, List, ListRef, PutError, Readable, Record, TakeError, Text, Then};
 
-/// The request that sets watches anew. The server compares each path with the relative zxid, and tells of what has
+/// The request that sets watches again. The server compares each path with the relative zxid, and tells of what has
 /// happened since instead of setting the watch.
 #[derive(Drop)]
 #[derive_where(Debug)]
@@ -47,7 +47,7 @@ impl<'a, A: Allocator + Copy> Readable<'a, A> for SetWatches<A> {
     }
 }
 
-/// The request that sets watches anew, over lists of paths. An empty list is written as count 0, never as null.
+/// The request that sets watches again, over lists of paths. An empty list is written as count 0, never as null.
 #[derive(Clone, Copy, Debug)]
 pub struct SetWatchesRef<'a> {
     /// The last zxid that the client has seen.

@@ -21,7 +21,7 @@ bench_keyword_of word =
     ∷ (codes "expire", keyword.Expire) ∷ (codes "good", keyword.Good) ∷ (codes "rejoin", keyword.Rejoin) ∷ [])
     keyword.Client word
 
--- A connection to a server begins; a server takes a transaction; the connected one processes a request; so many bytes of it are
+-- A connection to a server begins; a server takes a transaction; the connected one processes a request; this many bytes of it are
 -- delivered; sessions expire; the good answers are looked up; another client takes up the session; or what is not about servers.
 pub data BenchValue : Type 0 where
   OpenLine : ℕ → BenchValue
@@ -57,7 +57,7 @@ open_at words = only words >>= server_at >>= λ number. Ok (OpenLine number)
 abbrev pub take_at : List Text → Result BenchValue ScriptFault
 take_at words = only words >>= server_at >>= λ number. Ok (TakeLine number)
 
--- so many bytes, or all
+-- this many bytes, or all
 abbrev pub deliver_at : List Text → Result BenchValue ScriptFault
 deliver_at [] = Ok (DeliverLine 18446744073709551615)
 deliver_at (most ∷ []) = do

@@ -41,7 +41,7 @@ said_value said.History = HistoryLine
 said_value (said.Begin timeout) = BeginLine timeout
 said_value (said.Bench line) = BenchValueLine (bench_value_of line)
 
--- The line may stand here, and the client can be made so.
+-- The line is allowed here, and the client can be made so.
 abbrev pub CanPlay : (begun : Bool) → RehearseValue → Type 0
 CanPlay begun HistoryLine = begun ≡ false
 CanPlay begun (BeginLine timeout) = (begun ≡ false) × (pos 0 <ℤ timeout)
@@ -66,7 +66,7 @@ known_at None begun words = Err Unknown
 known_at (Some word) begun words = placed_at word begun words
 
 -- What the words of a line say, and nothing where there are none and for a remark; or the first fault of the words: no such
--- line, a line that may not stand here, a fault of the words after the first. The words of a line of the history are not looked
+-- line, a line that is not allowed here, a fault of the words after the first. The words of a line of the history are not looked
 -- at here.
 abbrev pub says_at : List Text → (begun : Bool) → Result (Option RehearseValue) ScriptFault
 says_at words begun = says_by (λ first behind. known_at (keyword_of first) begun behind) words

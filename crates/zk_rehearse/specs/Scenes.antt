@@ -156,7 +156,7 @@ DoesBench GoodLine old new text = (new ≡ old) × TellsGood old text
 DoesBench RejoinLine old new text = Rejoins old new text
 DoesBench (ClientValueLine value) old new text = DoesClientLine value old new text
 
--- The client halts at what a line says: at an input of which something comes, and at nothing else.
+-- The client halts at what a line says: at an input that has an effect, and at nothing else.
 abbrev pub HaltsBench : BenchValue → Scene → Scene → Type 0
 HaltsBench (OpenLine server) old new = HaltsAt Opened old.view new.view
 HaltsBench (DeliverLine most) old new = HaltsAt (Bytes (take most old.bench.connection.output)) old.view new.view

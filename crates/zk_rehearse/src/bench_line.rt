@@ -61,7 +61,7 @@ pub enum BenchLine<A: Allocator> {
     Take(Server),
     /// The connected server processes the next request.
     Process,
-    /// At most so many bytes come from the server.
+    /// At most this many bytes come from the server.
     Deliver(usize),
     /// Sessions have expired from now on.
     Expire,

@@ -80,7 +80,7 @@ impl<A: Allocator + Copy> Rehearsal<A> {
         self.story.read(alloc, line)
     }
 
-    /// Does what a line says that may stand here.
+    /// Does what a line says that is allowed here.
     fn take(&mut self, alloc: A, line: &[u8], said: Said<A>) -> Result<String<A>, Stop>
         requires { CanPlay (is_begun (position_of self.old)) (said_value said) }
         ensures ok { IfOk result (λ text. Does line.now (said_value said) (position_of self.old) (position_of self.new) (string_bytes text)) }

@@ -18,7 +18,7 @@ impl Server {
     ghost use Rattle.zk_script.specs.Reads.{Reads};
     ghost use Rattle.zk_rehearse.specs.BenchLines.{server_at};
 
-    /// The server whose number a word stands for.
+    /// The server whose number a word means.
     #[tactic(auto, unfolding(crate::specs::BenchLines::server_at))]
     pub fn parse(word: &[u8]) -> Result<Server, ScriptFault>
         ensures { Reads (λ server. server.number) result (server_at word.now) }

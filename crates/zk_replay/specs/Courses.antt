@@ -1,5 +1,5 @@
 -- What the lines of a replay print by all that they make happen: each input is a turn with the outputs that are due, and a look-up
--- prints what the definitions give for the whole past. No client is named here but where it is said that one stands there.
+-- prints what the definitions give for the whole past. No client is named here, except where it is said that one is there.
 use Rattle.std.specs.Prelude.{◌≡◌, ⊤, is_some, ℕ, List, [], ◌∷◌, Option, Some, None}
 use Rattle.zk_nodes.specs.Path.{Text}
 use Rattle.zk_turns.specs.Turns.{Input, Output, Start, Item, Turned, Forgets, signals_of}

@@ -85,7 +85,7 @@ TakesLine line old new text = TakesWords (words_of line) old new text
 abbrev pub RefusesLine : Text → Option View → ScriptFault → Type 0
 RefusesLine line old fault = says_at (words_of line) (is_some old) ≡ Err fault
 
--- A client halts at an input of which something comes.
+-- A client halts at an input that has an effect.
 pub record HaltsAt (input : Input) (old new : View) : Type 0 where
   pub loud : ¬ (IsQuiet old input)
   pub halts : HaltsAs old new

@@ -1,4 +1,4 @@
--- What the words of lines that drive a client stand for.
+-- What the words of lines that drive a client mean.
 use Rattle.std.specs.Prelude.{ℕ, ℤ, pos, negsuc, ◌-◌, ◌==◌, Bool, true, false, nat_le, if◌then◌else◌, List, [], ◌∷◌, codes, length, Option, Some, None, Result, Ok, Err, bytes_eq, option_and_then}
 use Rattle.std.specs.Option.{ok_or, option_map}
 use Rattle.zk_script.specs.declared.script_fault.ScriptFault.{ScriptFault}

@@ -102,6 +102,6 @@ known_at None begun words = Err Unknown
 known_at (Some word) begun words = placed_at word begun words
 
 -- What the words of a line say, and nothing where there are none and for a remark; or the first fault of the words: no such
--- line, a line that may not stand here, a fault of the words after the first.
+-- line, a line that is not allowed here, a fault of the words after the first.
 abbrev pub says_at : List Text → (begun : Bool) → Result (Option ReplayValue) ScriptFault
 says_at words begun = says_by (λ first behind. known_at (keyword_of first) begun behind) words

@@ -23,7 +23,7 @@ pub record Moves (line : Text) (old new : Position) (text : List ℕ) : Type 0 w
   pub adds : AddsLine line old.course new.course text
   pub stands : StandsBy new.course new.view
 
--- A client halts at an input of which something comes.
+-- A client halts at an input that has an effect.
 abbrev pub rules : Rules Position
 rules = record {
   Takes = Moves;

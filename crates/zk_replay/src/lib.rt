@@ -2,7 +2,7 @@
 //!
 //! [`client_line`] and [`call_line`] read the lines that every script of a client may have, [`begin_line`] and [`drive_line`]
 //! those of a replay. [`outputs`] and [`peeks`] print, and [`driven`] does one line with a client. [`player`] and [`replay`]
-//! are the replay of a script, by `script` of `zk_script`: its rules stand in `specs/Replays.antt`.
+//! are the replay of a script, by `script` of `zk_script`: its rules are in `specs/Replays.antt`.
 #![tactic(auto)]
 
 pub mod begin_line;

@@ -50,7 +50,7 @@ pub fn push_set<A: Allocator + Copy>(
     push_keys(text, alloc, names)
 }
 
-/// Adds names that stand in any order, and may stand more than once.
+/// Adds names that come in any order, and may come more than once.
 pub fn push_listing<A: Allocator + Copy>(
     text: &mut String<A>,
     alloc: A,

@@ -1,4 +1,4 @@
-//! What the words of lines that drive a client stand for.
+//! What the words of lines that drive a client mean.
 
 ghost use Rattle.std.specs.Prelude.{◌≡◌, ◌≤◌, ◌<ℤ◌, ◌≤ℤ◌, ◌-◌, pos, negsuc, length, IfOk, IfSome};
 ghost use Rattle.std.specs.Option.{option_map};
@@ -13,7 +13,7 @@ use zk_script::numbers::natural_of;
 use zk_script::reads::parse_data;
 use zk_script::script_fault::ScriptFault;
 
-/// The number from 0 to 2^64 - 1 that a word stands for.
+/// The number from 0 to 2^64 - 1 that a word means.
 #[tactic(auto, unfolding(crate::specs::Reads::natural_at))]
 pub fn parse_natural(word: &[u8]) -> Result<u64, ScriptFault>
     ensures { Reads (λ n. n) result (natural_at word.now) }
@@ -21,7 +21,7 @@ pub fn parse_natural(word: &[u8]) -> Result<u64, ScriptFault>
     natural_of(word, u64::MAX).ok_or(ScriptFault::Number)
 }
 
-/// The number of milliseconds from 1 to 2^31 - 1 that a word stands for.
+/// The number of milliseconds from 1 to 2^31 - 1 that a word means.
 #[tactic(auto, unfolding(crate::specs::Reads::timeout_at))]
 pub fn parse_timeout(word: &[u8]) -> Result<i32, ScriptFault>
     ensures value { Reads (λ n. n) result (timeout_at word.now) }
@@ -47,7 +47,7 @@ fn below_zero(size: u64) -> Option<i64>
     Some(-1 - (size - 1) as i64)
 }
 
-/// The number with a sign that a word stands for, if it is neither above the greatest nor below the least, which is given by
+/// The number with a sign that a word means, if it is neither above the greatest nor below the least, which is given by
 /// its size.
 #[tactic(auto, unfolding(crate::specs::Reads::integer_of))]
 fn integer_of(word: &[u8], greatest: u64, least: u64) -> Option<i64>
@@ -68,7 +68,7 @@ fn integer_of(word: &[u8], greatest: u64, least: u64) -> Option<i64>
     }
 }
 
-/// The number from -2^31 to 2^31 - 1 that a word stands for.
+/// The number from -2^31 to 2^31 - 1 that a word means.
 #[tactic(auto, unfolding(crate::specs::Reads::version_at))]
 pub(crate) fn parse_version(word: &[u8]) -> Result<i32, ScriptFault>
     ensures { Reads (λ n. n) result (version_at word.now) }
@@ -79,7 +79,7 @@ pub(crate) fn parse_version(word: &[u8]) -> Result<i32, ScriptFault>
     }
 }
 
-/// The number from -2^63 to 2^63 - 1 that a word stands for.
+/// The number from -2^63 to 2^63 - 1 that a word means.
 #[tactic(auto, unfolding(crate::specs::Reads::session_at))]
 pub(crate) fn parse_session(word: &[u8]) -> Result<i64, ScriptFault>
     ensures { Reads (λ n. n) result (session_at word.now) }
@@ -89,7 +89,7 @@ pub(crate) fn parse_session(word: &[u8]) -> Result<i64, ScriptFault>
     )
 }
 
-/// The last seen zxid that a word stands for, from 0 to 2^63 - 1.
+/// The last seen zxid that a word means, from 0 to 2^63 - 1.
 pub(crate) fn parse_last(word: &[u8]) -> Result<i64, ScriptFault>
     ensures value { Reads (λ n. n) result (time_at word.now) }
     ensures counts { IfOk result (λ n. pos 0 ≤ℤ n) }
@@ -111,7 +111,7 @@ pub(crate) fn parse_boolean(word: &[u8]) -> Result<bool, ScriptFault>
     }
 }
 
-/// The mode of a create that a word stands for, by the flags of its request: 0 to 3.
+/// The mode of a create that a word means, by the flags of its request: 0 to 3.
 #[tactic(auto, unfolding(crate::specs::Reads::mode_at))]
 pub(crate) fn parse_mode(word: &[u8]) -> Result<CreateMode, ScriptFault>
     ensures { Reads mode_number result (mode_at word.now) }
@@ -125,7 +125,7 @@ pub(crate) fn parse_mode(word: &[u8]) -> Result<CreateMode, ScriptFault>
     }
 }
 
-/// The bytes that a word stands for. Null is none.
+/// The bytes that a word means. Null is none.
 #[tactic(auto, unfolding(crate::specs::Reads::bytes_at))]
 pub(crate) fn parse_bytes<A: Allocator + Copy>(
     alloc: A,
@@ -140,7 +140,7 @@ pub(crate) fn parse_bytes<A: Allocator + Copy>(
     }
 }
 
-/// The password that a word stands for, and none where the word is no hex: that is told after a number that is none. A
+/// The password that a word means, and none where the word is no hex: that is told after a number that is none. A
 /// password of more bytes than a server can bring is none of the words allowed.
 #[tactic(auto, unfolding(crate::specs::Reads::password_at))]
 pub(crate) fn parse_password<A: Allocator + Copy>(

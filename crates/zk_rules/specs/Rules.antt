@@ -14,7 +14,7 @@ use Rattle.zk_turns.specs.Past.{Happening, Began, Lost, Forgot, Took, Dropped, A
 abbrev pub as_stale : {A : Type 0} → A → Option (Kept A)
 as_stale answer = Some (record { answer = answer; mark = Stale })
 
--- A further notice, or what says nothing of that side of the path, but for forgetting.
+-- A further notice, or what says nothing of that side of the path, except for forgetting.
 abbrev pub LeavesStale : {A : Type 0} → (Happening → Word A) → Happening → Type 0
 LeavesStale word happening = (word happening ≡ Ends) ⊎ ((word happening ≡ Nothing) × (happening ≢ Forgot))
 

@@ -13,7 +13,7 @@ abbrev pub digits_onto : ℕ → ℕ → List ℕ → Option ℕ
 digits_onto limit number [] = Some number
 digits_onto limit number (b ∷ bytes) = option_and_then (λ n. digits_onto limit n bytes) (with_digit limit number b)
 
--- the number that a word stands for
+-- the number that a word means
 abbrev pub natural_of : ℕ → List ℕ → Option ℕ
 natural_of limit [] = None
 natural_of limit (b ∷ []) = digits_onto limit 0 (b ∷ [])

@@ -1,4 +1,4 @@
--- What the words of a script stand for.
+-- What the words of a script mean.
 use Rattle.std.specs.Prelude.{◌≡◌, ◌≢◌, ℕ, ℤ, pos, ◌&&◌, ◌==◌, Bool, nat_le, if◌then◌else◌, List, [], ◌∷◌, codes, Option, Some, None, Result, Ok, Err, bytes_eq}
 use Rattle.std.specs.List.{list_all}
 use Rattle.std.specs.Str.{is_utf8}
@@ -30,7 +30,7 @@ abbrev pub only : List Text → Result Text ScriptFault
 only (word ∷ []) = Ok word
 only words = Err Words
 
--- what a keyword stands for after which there are no words
+-- what a keyword means with no words after it
 abbrev pub alone : {X : Type 0} → X → List Text → Result X ScriptFault
 alone value [] = Ok value
 alone value words = Err Words
@@ -63,7 +63,7 @@ abbrev pub text_read : Option (List ℕ) → Result (List ℕ) ScriptFault
 text_read (Some text) = if is_utf8 text then Ok text else Err Words
 text_read None = Err Words
 
--- the empty text, or what the bytes and the escapes stand for
+-- the empty text, or what the bytes and the escapes mean
 abbrev pub text_at : List ℕ → Result (List ℕ) ScriptFault
 text_at word = if bytes_eq word (codes "\\e") then Ok [] else text_read (unescape Plain word)
 
@@ -86,7 +86,7 @@ is_printable b = nat_le 33 b && nat_le b 126
 abbrev pub is_printed : List ℕ → Bool
 is_printed word = list_all is_printable word
 
--- What a call returned, seen by view, is what the words stand for, unless memory ran out.
+-- What a call returned, seen by view, is what the words mean, unless memory ran out.
 abbrev pub Reads : {X Y : Type 0} → (X → Y) → Result X ScriptFault → Result Y ScriptFault → Type 0
 Reads view (Ok x) read = read ≡ Ok (view x)
 Reads view (Err e) read = e ≢ Memory → read ≡ Err e

@@ -52,7 +52,7 @@ pub record StopsAt {S : Type 0} (rules : Rules S) (here : Progress S) (lines : L
   pub prints : Prints rules here before text
   pub refused : rules.Refuses line prints.end fault
 
--- At one of them the client that stands there halts, and those before it are taken.
+-- Those before one of them are taken, and at that one the client halts.
 pub record HaltsIn {S : Type 0} (rules : Rules S) (here : Progress S) (lines : List Text) (text : List ℕ) : Type 0 where
   pub before : List Text
   pub line : Text

@@ -1,4 +1,4 @@
--- The bytes that the word of a text stands for.
+-- The bytes that the word of a text means.
 use Rattle.std.specs.Prelude.{ℕ, ◌+◌, ◌-◌, ◌*◌, ◌%◌, ◌==◌, ◌&&◌, nat_le, if◌then◌else◌, List, [], ◌∷◌, ◌++◌, Option, Some, None, option_and_then, option_map}
 use Rattle.std.specs.Option.{option_to_list}
 use Rattle.zk_script.specs.declared.texts.Place.{Place}

@@ -7,7 +7,7 @@ use Rattle.hex.specs.Hex.{encode_lower}
 abbrev pub hex_digit : ℕ → ℕ
 hex_digit n = if nat_lt n 10 then 48 + n else 87 + n
 
--- a byte that stands for itself: printable, no space and no backslash
+-- a byte that is written as itself: printable, no space and no backslash
 abbrev pub is_plain : ℕ → Bool
 is_plain b = nat_le 33 b && (nat_le b 126 && not (b == 92))
 
@@ -15,14 +15,14 @@ is_plain b = nat_le 33 b && (nat_le b 126 && not (b == 92))
 abbrev pub escape : ℕ → List ℕ
 escape b = 92 ∷ (120 ∷ (hex_digit (b / 16) ∷ (hex_digit (b % 16) ∷ [])))
 
--- what stands for a byte in the word of a text
+-- what is written for a byte in the word of a text
 unfoldable pub byte_text : ℕ → List ℕ
 byte_text b = if is_plain b then b ∷ [] else escape b
 
 abbrev pub bytes_text : List ℕ → List ℕ
 bytes_text bytes = flat_map byte_text bytes
 
--- null, the empty text, or what stands for each byte
+-- null, the empty text, or what is written for each byte
 abbrev pub text_word : Option (List ℕ) → List ℕ
 text_word None = codes "\\0"
 text_word (Some []) = codes "\\e"

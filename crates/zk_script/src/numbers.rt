@@ -20,7 +20,7 @@ fn with_digit(number: u64, digit: u8, limit: u64) -> Option<u64>
     Some(10 * number + value)
 }
 
-/// The number that a word in decimal stands for, if it is not above the limit. A number has no sign, and no zero before
+/// The number that a word in decimal means, if it is not above the limit. A number has no sign, and no zero before
 /// other digits.
 pub fn natural_of(word: &[u8], limit: u64) -> Option<u64>
     requires { 9 ≤ limit }

@@ -1,4 +1,4 @@
-//! What the words of a script stand for.
+//! What the words of a script mean.
 
 ghost use Rattle.std.specs.Prelude.{◌≡◌, bytes_eq, string_bytes, map, true, false, Some, MatchOption};
 ghost use Rattle.std.specs.Str.{is_utf8};
@@ -35,7 +35,7 @@ pub fn only<'a>(words: &[&'a [u8]]) -> Result<&'a [u8], ScriptFault>
     }
 }
 
-/// What a keyword stands for after which there are no words.
+/// What a keyword means with no words after it.
 pub fn alone<X: Drop>(value: X, words: &[&[u8]]) -> Result<X, ScriptFault>
     ensures { result ≡ alone value (map (λ w. w.now) words.now) }
 {
@@ -45,7 +45,7 @@ pub fn alone<X: Drop>(value: X, words: &[&[u8]]) -> Result<X, ScriptFault>
     }
 }
 
-/// The number from 0 to 2^63 - 1 that a word stands for.
+/// The number from 0 to 2^63 - 1 that a word means.
 pub fn parse_time(word: &[u8]) -> Result<i64, ScriptFault>
     ensures { Reads (λ n. n) result (time_at word.now) }
 {
@@ -55,7 +55,7 @@ pub fn parse_time(word: &[u8]) -> Result<i64, ScriptFault>
     }
 }
 
-/// The number from 1 to 2^63 - 1 that a word stands for.
+/// The number from 1 to 2^63 - 1 that a word means.
 pub fn parse_zxid(word: &[u8]) -> Result<i64, ScriptFault>
     ensures { Reads (λ n. n) result (zxid_at word.now) }
 {
@@ -66,7 +66,7 @@ pub fn parse_zxid(word: &[u8]) -> Result<i64, ScriptFault>
     }
 }
 
-/// The bytes that a word stands for, or null.
+/// The bytes that a word means, or null.
 pub fn parse_data<A: Allocator + Copy>(
     alloc: A,
     word: &[u8],
@@ -109,7 +109,7 @@ fn text_of<A: Allocator + Copy>(alloc: A, bytes: &[u8]) -> Result<String<A>, Scr
     }
 }
 
-/// The text that a word stands for. Null is none.
+/// The text that a word means. Null is none.
 pub fn parse_text<A: Allocator + Copy>(alloc: A, word: &[u8]) -> Result<String<A>, ScriptFault>
     ensures { Reads string_bytes result (text_at word.now) }
 {

@@ -36,7 +36,7 @@ pub trait LineReader<A: Allocator + Copy> {
     /// What its lines do, and why they are not done.
     ghost rules: { Rules Position };
 
-    /// It stands there.
+    /// It is at this position.
     ghost stands: { Self → Position → Type 0 };
 
     /// Does what a line says, and gives what is to be printed. The first reason that applies refuses a line. A halt is the answer

@@ -13,7 +13,7 @@ use zk_nodes::PathFault;
 pub enum ScriptFault {
     /// The first word is no line of the command.
     Unknown,
-    /// The line may not stand here.
+    /// The line is not allowed here.
     Place,
     /// The number of words is wrong, or a word is none of those allowed.
     Words,

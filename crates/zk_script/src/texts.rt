@@ -7,7 +7,7 @@ ghost use Rattle.zk_script.specs.declared.texts.Place.TheVariants.{Plain};
 
 use std::alloc::{AllocError, Allocator};
 
-/// Where a reader stands in the word of a text.
+/// Where a reader is in the word of a text.
 #[derive(Clone, Copy)]
 enum Place {
     /// Before a byte or an escape.
@@ -50,7 +50,7 @@ fn step(place: Place, byte: u8) -> Option<(Place, Option<u8>)>
     }
 }
 
-/// The bytes that the word of a text stands for, unless it has another escape than `\x` and two digits.
+/// The bytes that the word of a text means, unless it has another escape than `\x` and two digits.
 pub fn unescaped<A: Allocator>(alloc: A, word: &[u8]) -> Result<Option<Vec<u8, A>>, AllocError>
     ensures { IfOk result (λ r. option_map (λ v. v.items) r ≡ unescape Plain word.now) }
 {

@@ -27,7 +27,7 @@ fn digit(number: u8) -> char
     }
 }
 
-/// Whether a byte stands for itself in the word of a text.
+/// Whether a byte is written as itself in the word of a text.
 fn is_plain(byte: u8) -> bool
     ensures { result ≡ is_plain byte }
 {
@@ -52,7 +52,7 @@ fn push_escape<A: Allocator>(word: &mut String<A>, byte: u8) -> Result<(), Alloc
     push_ascii(word, digit(byte % 16))
 }
 
-/// Adds what stands for a byte in the word of a text.
+/// Adds what is written for a byte in the word of a text.
 #[tactic(auto, unfolding(crate::specs::Words::byte_text))]
 fn push_byte<A: Allocator>(word: &mut String<A>, byte: u8) -> Result<(), AllocError>
     ensures { OnOk result (string_bytes word.new ≡ string_bytes word.old ++ byte_text byte) }
@@ -64,7 +64,7 @@ fn push_byte<A: Allocator>(word: &mut String<A>, byte: u8) -> Result<(), AllocEr
     }
 }
 
-/// Adds what stands for the bytes in the word of a text.
+/// Adds what is written for the bytes in the word of a text.
 fn push_bytes<A: Allocator>(word: &mut String<A>, bytes: &[u8]) -> Result<(), AllocError>
     ensures { OnOk result (string_bytes word.new ≡ string_bytes word.old ++ bytes_text bytes.now) }
 {
@@ -74,8 +74,8 @@ fn push_bytes<A: Allocator>(word: &mut String<A>, bytes: &[u8]) -> Result<(), Al
     Ok(())
 }
 
-/// The word for a text, whatever its bytes: each byte from 21 to 7e hex other than a backslash stands for itself, and any
-/// other byte is `\x` and two digits.
+/// The word for a text, whatever its bytes: each byte from 21 to 7e hex other than a backslash is written as itself, and any
+/// other byte as `\x` and two digits.
 pub fn text_to_word<A: Allocator>(alloc: A, text: &[u8]) -> Result<String<A>, AllocError>
     ensures { IfOk result (λ word. string_bytes word ≡ text_word (Some text.now)) }
 {

@@ -23,11 +23,11 @@ pub record Shown : Type 0 where
   pub requests : List ℕ
   pub output : List ℕ
 
--- each server holds a beginning of the history: so many transactions
+-- each server holds a beginning of the history: this many transactions
 abbrev pub AllTaken : History → List ℕ → Type 0
 AllTaken h taken = All (λ place. place ≤ length h.transactions) taken
 
--- a new connection to a server that holds so many transactions
+-- a new connection to a server that holds this many transactions
 abbrev pub connected : ℕ → Shown → Shown
 connected place shown = record { history = shown.history; server = (new_wire place).server; phase = Open; requests = []; output = [] }
 

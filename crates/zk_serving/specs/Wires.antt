@@ -66,7 +66,7 @@ IsFit (Restore is_last relative part) payload = HasPaths part
 IsFit (Ask asked) payload = IsTyped asked × IsPathCall asked
 IsFit Ping payload = ⊤
 
--- In front of some bytes stands the frame of a payload that is read as this request, with this xid.
+-- Some bytes begin with the frame of a payload that is read as this request, with this xid.
 pub record StandsFirst (request : Request) (xid : ℤ) (payload rest bytes : List ℕ) : Type 0 where
   pub whole : bytes ≡ frame payload ++ rest
   pub small : length payload < 2 ^ 31
@@ -78,7 +78,7 @@ abbrev pub IsFor : Request → Stage → Type 0
 IsFor (Connect seen) stage = stage ≢ Serving
 IsFor request stage = stage ≢ Waiting
 
--- The bytes that a connection was sent are the frames of what was processed, so many, and then those that wait.
+-- The bytes that a connection was sent are the frames of what was processed, this many, and then those that wait.
 pub record IsCutAt (items : List Item) (processed : ℕ) (waiting : List ℕ) : Type 0 where
   pub found : List (List ℕ)
   pub told : AreTold found

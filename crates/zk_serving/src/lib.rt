@@ -136,7 +136,7 @@ pub fn servers_go_on()
         → (is_going (past_of start items) ≡ true → (new.phase ≡ Over) × (new.output ≡ old.output)) → IsServedBy start items new }
 {}
 
-/// A frame that stands in front of some bytes: its length, its payload, and what stands after it.
+/// A frame that some bytes begin with: its length, its payload, and what is after it.
 #[tactic(auto, using(crate::proofs::Fronts::front_there, crate::proofs::Fronts::front_field, crate::proofs::Fronts::front_behind, crate::proofs::Fronts::front_payload))]
 pub fn first_frame()
     ensures there { (payload rest bytes : List ℕ) → bytes ≡ frame payload ++ rest → 4 + length_of payload ≤ length_of bytes }

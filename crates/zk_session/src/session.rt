@@ -77,7 +77,7 @@ impl<A: Allocator> Session<A> {
     }
 
     /// A session that was saved, Idle, taken up with this timeout in milliseconds. It asks with the saved id, password and
-    /// zxid; its moment is 0. An error is want of memory for the password.
+    /// zxid; its moment is 0. An error says that there is no memory for the password.
     pub fn resume(alloc: A, timeout_ms: i32, saved: &Saved<'_>) -> Result<Self, AllocError>
         requires timeout { pos 0 <ℤ timeout_ms }
         requires last { pos 0 ≤ℤ saved.now.last_zxid }
@@ -125,8 +125,8 @@ impl<A: Allocator> Session<A> {
     }
 
     /// The server has answered (`ConnectResponse` of zookeeper.jute). A `time_out` above 0 makes the session Connected, with
-    /// the response's id, password and timeout; else it has expired, and nothing else changes. An error is want of memory for
-    /// a longer password. It leaves the session as it was.
+    /// the response's id, password and timeout; else it has expired, and nothing else changes. An error says that there is
+    /// no memory for a longer password. It leaves the session as it was.
     pub fn accepted(&mut self, response: &Response<'_>) -> Result<Accepted, AllocError>
         requires { self.old.state ≡ State.Connecting }
         ensures ok { OnOk result (self.new ≡ next (event_of response.now) self.old) }
@@ -242,7 +242,7 @@ impl<A: Allocator> Session<A> {
         }
     }
 
-    /// A session that stands in the same place, with memory of its own for the password. An error is want of that memory.
+    /// A session in the same place, with memory of its own for the password. An error says that there is no such memory.
     pub fn copied(&self, alloc: A) -> Result<Self, AllocError>
         ensures { IfOk result (λ copy. copy ≡ self.now) }
     {

@@ -46,7 +46,7 @@ said_by None words begun asked = Err Unknown
 said_by (Some keyword) words begun asked = if may_stand keyword begun asked then line_at keyword words else Err Place
 
 -- What the words of a line say, and nothing where there are none and for a remark; or the first fault of the words: no such
--- line, a line that may not stand here, a fault of the words after the first.
+-- line, a line that is not allowed here, a fault of the words after the first.
 abbrev pub said : List Text → Bool → Bool → Result (Option LineValue) ScriptFault
 said words begun asked = says_by (λ first behind. said_by (keyword_of first) behind begun asked) words
 

@@ -52,7 +52,7 @@ impl<A: Allocator + Copy> Story<A> {
         }
     }
 
-    /// Whether a line of this keyword may stand here.
+    /// Whether a line of this keyword is allowed here.
     fn takes(&self, keyword: Keyword) -> bool
         ensures { result ≡ may_stand keyword self.now.begun self.now.asked }
     {

@@ -61,7 +61,7 @@ accepted_or_expired response = welcome_by (response_timeout response) (response_
 abbrev pub leaves_watch : Question → Result → Bool
 leaves_watch question result = is_some (leaves_data question result) || is_some (leaves_child question result)
 
--- A payload that reads is taken, but for two: a reply that leaves a watch must not be behind the last seen zxid, and that to a
+-- A payload that reads is taken, except for two: a reply that leaves a watch must not be behind the last seen zxid, and that to a
 -- part of setWatches has no error.
 abbrev pub taken_of : (last : ℤ) → Arrived → Happening
 taken_of last (Welcomed response) = Took (accepted_or_expired response)

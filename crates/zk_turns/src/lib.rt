@@ -47,7 +47,7 @@ ghost use Rattle.zk_frames.specs.declared.fault.FrameFault.{FrameFault};
 ghost use Rattle.zk_turns.specs.Sent.{told_state, sends, outputs_of, sent};
 ghost use Rattle.zk_turns.specs.Tickets.{answers_in, calls_in, waiting_with};
 
-/// One turn by the rule keeps what the client stands for: each field of the view is what the definitions give for all
+/// One turn by the rule keeps what holds of the client: each field of the view is what the definitions give for all
 /// items, the new turn with them, and each turn gave what was due.
 pub fn one_turn()
     ensures view { (start : Start) (items : List Item) (view after : View) (turn : Turn) →

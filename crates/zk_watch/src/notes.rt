@@ -97,7 +97,7 @@ impl<A: Allocator> Note<A> {
     }
 }
 
-/// Notes of so many subjects that were not read yet.
+/// Notes of this many subjects that were not read yet.
 pub(crate) fn new_notes<A: Allocator + Copy>(
     alloc: A,
     count: usize,

@@ -16,8 +16,8 @@ use zk_link::{Clock, Dial, Link};
 /// which is waited for, a third of the timeout at most.
 ///
 /// A line tells each state of the session, each connection that is given up, and each session that begins after one that expired; and of
-/// a subject its path, what is kept of it now with its mark, and the last seen zxid, where that is not what was printed last but for the
-/// zxid. At first it is as if nothing that is kept had been printed. A read that a server refuses, other than for a node that is not
+/// a subject its path, what is kept of it now with its mark, and the last seen zxid, where more than this differs from what was printed
+/// last. At first it is as if nothing that is kept had been printed. A read that a server refuses, other than for a node that is not
 /// there, is told once, as the answer to the ticket that is the place of its subject, counted from 1; it is read again a second later at
 /// the earliest, also where the connection is lost meanwhile, and so is a node of which one read finds nothing and the other that it is
 /// there. Addresses are dialled in turn, again and again, with the pauses of the link.

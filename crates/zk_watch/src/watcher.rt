@@ -325,7 +325,7 @@ impl<'a, A: Allocator + Copy, D: Dial + Drop, C: Clock + Drop> Watcher<'a, A, D,
         Ok(())
     }
 
-    /// Goes on for so many milliseconds, and then ends the session.
+    /// Goes on for this many milliseconds, and then ends the session.
     pub(crate) fn watch_for<O: Write>(
         &mut self,
         subjects: &[Subject<A>],

@@ -39,8 +39,8 @@ impl<'a, A: Allocator + Copy> InOrder<'a, A> {
     }
 
     /// The lists in as few parts as `MOST_WEIGHT` allows, in order: the data list, the exist list, the child list, each in the
-    /// order of registration. All parts carry the same relative zxid. No paths, no part. An error is want of memory for the
-    /// vector of parts; the paths are lent.
+    /// order of registration. All parts carry the same relative zxid. No paths, no part. An error says that there is no memory for
+    /// the vector of parts; the paths are lent.
     pub fn parts(&self, relative: i64) -> Result<Vec<SetWatchesRef<'_>, A>, AllocError>
         ensures parts { IfOk result (λ ps. map lists_of ps.items ≡ parts self.now) }
         ensures relative { IfOk result (λ ps. All (λ part. part.relative_zxid ≡ relative) ps.items) }

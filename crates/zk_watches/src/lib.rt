@@ -1,4 +1,4 @@
-//! The paths that a client watches, in the order of registration, and their parts for the request that sets them anew.
+//! The paths that a client watches, in the order of registration, and their parts for the request to set them again.
 //!
 //! It knows no server and no answers: it is told where a read left a watch, and which event came.
 #![tactic(auto)]

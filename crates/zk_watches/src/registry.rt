@@ -97,7 +97,7 @@ impl<A: Allocator + Copy> Registry<A> {
     }
 
     /// Puts the path on the side as [`register`](Registry::register) does, for a caller that has seen that there is room. An
-    /// error is want of memory, and nothing has changed then.
+    /// error says that memory ran out, and nothing has changed then.
     pub fn watch(&mut self, side: Side, path: &Path<A>, present: bool) -> Result<(), AllocError>
         requires { side_has self.old side path.now ≡ false → count_of self.old side < MOST_PATHS }
         ensures ok { OnOk result (self.new ≡ registered self.old side present path.now) }

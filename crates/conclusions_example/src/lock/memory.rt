@@ -18,7 +18,7 @@ const OTHER: i64 = 2;
 /// What is dialled.
 static ADDRESSES: [&str; 1] = ["memory"];
 
-/// The sessions act in turns of so many milliseconds.
+/// The sessions act in turns of this many milliseconds.
 const TURN_MS: u64 = 100;
 
 /// What happens to the sessions.

@@ -110,7 +110,7 @@ fn play<W: Write>(
     follower.follow(END_MS, out)
 }
 
-/// The same over a server in memory whose reads bring so many bytes at most.
+/// The same over a server in memory whose reads bring at most this many bytes.
 fn run<W: Write>(alloc: Global, piece: usize, out: &mut W) -> Result<()> {
     let mut history = History::new(alloc);
     fill(alloc, &mut history)?;

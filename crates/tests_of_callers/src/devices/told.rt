@@ -8,7 +8,7 @@ use zk_device::{Device, Flat};
 /// More outputs than one step has.
 const OUTPUTS: usize = 100;
 
-/// More bytes than a text of the session has, but for frames.
+/// More bytes than a text of the session has, except for frames.
 const ROOM: usize = 64;
 
 /// A number, unless it is 0.
@@ -66,7 +66,7 @@ fn tell_flat(alloc: Global, flat: Flat, device: &Device, told: &mut String) -> R
     tell_texts(alloc, flat, device, told)
 }
 
-/// Tells the outputs of the last step but for frames, and gives these, joined.
+/// Tells the outputs of the last step except frames, and gives these, joined.
 pub fn tell(alloc: Global, device: &mut Device, told: &mut String) -> Result<Vec<u8>> {
     let mut frames = Vec::new(alloc);
     for _ in 0..OUTPUTS {

@@ -46,7 +46,7 @@ impl<A: Allocator> Spelled<A> {
         Ok(spelled)
     }
 
-    /// A buffer of so many bytes 0.
+    /// A buffer of this many bytes 0.
     pub fn zeros(self, count: usize) -> Result<Spelled<A>, AllocError> {
         let mut spelled = self.int(i32::try_from(count).unwrap_or(i32::MAX))?;
         let length = spelled.bytes.len().saturating_add(count);
@@ -71,7 +71,7 @@ impl<A: Allocator> Spelled<A> {
     }
 }
 
-/// A session that is accepted, with a password of so many bytes.
+/// A session that is accepted, with a password of this many bytes.
 pub fn accepted<A: Allocator>(alloc: A, password: usize) -> Result<Vec<u8, A>, AllocError> {
     let fields = Spelled::new(alloc)?.int(0)?.int(30_000)?.long(1)?;
     Ok(fields.zeros(password)?.frame())
@@ -92,12 +92,12 @@ pub fn done<A: Allocator>(alloc: A, xid: i32) -> Result<Vec<u8, A>, AllocError> 
     Ok(header(alloc, xid, 0)?.frame())
 }
 
-/// A reply of data, of so many bytes.
+/// A reply of data, of this many bytes.
 pub fn data<A: Allocator>(alloc: A, xid: i32, count: usize) -> Result<Vec<u8, A>, AllocError> {
     Ok(header(alloc, xid, 0)?.zeros(count)?.stat()?.frame())
 }
 
-/// A reply of so many names.
+/// A reply of this many names.
 pub fn names<A: Allocator + Copy>(
     alloc: A,
     xid: i32,

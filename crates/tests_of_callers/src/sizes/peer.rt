@@ -89,7 +89,7 @@ impl<A: Allocator + Copy> Peer<A> {
         Ok((length, heard?))
     }
 
-    /// A connection begins, and its session is accepted with a password of so many bytes. How many frames are sent after that.
+    /// A connection begins, and its session is accepted with a password of this many bytes. How many frames are sent after it.
     pub fn connect(&mut self, password: usize) -> Result<usize> {
         self.step(Input::Opened, &mut NOTHING)?;
         let (_, count) = self.hear(accepted(self.alloc, password))?;

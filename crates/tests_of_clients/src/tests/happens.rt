@@ -29,13 +29,13 @@ pub(crate) const CHANGED: &[u8] = &[
     0, 0, 0, 0, 3, 0, 0, 0, 3, 0, 0, 0, 2, 0x2f, 0x62,
 ];
 
-// The same but for its first five bytes.
+// The same without its first five bytes.
 pub(crate) const REST: &[u8] = &[
     0xff, 0xff, 0xff, 0xff, 0xff, 0xff, 0xff, 0xff, 0xff, 0xff, 0xff, 0, 0, 0, 0, 0, 0, 0, 3, 0, 0,
     0, 3, 0, 0, 0, 2, 0x2f, 0x62,
 ];
 
-/// A reply behind its length and xid: how long it is, and its first bytes. Those after them are 0.
+/// A reply after its length and xid: how long it is, and its first bytes. Those after them are 0.
 type Reply = (u8, &'static [u8]);
 
 // Zxid 5: there is no such node.
@@ -78,7 +78,7 @@ pub(crate) enum Happens {
     Calls(&'static str, Asks),
     /// A caller asks whether the path is there that is the number of the round, with a watch.
     Seeks,
-    /// A caller asks that the data of `/a` are so many zeros.
+    /// A caller asks that the data of `/a` are this many zeros.
     Sets(usize),
     /// A caller asks that the session ends.
     Closes,

@@ -57,7 +57,7 @@ const LEAVES_NONE: Happens = Happens::Calls("/b", Asks::Exists(false));
 const IS_TOO_LARGE: Happens = Happens::Sets(1_048_554);
 
 // Calls that have two reasons to be refused, of all pairs that there are: each is refused for the first one, in the order K2, K3, K4, K7,
-// K5, K6. Who is not connected has no pending calls, who has expired watches nothing, and no read is too large.
+// K5, K6. A client that is not connected has no pending calls, one that has expired watches nothing, and no read is too large.
 const PAIRS: &[Rounds] = &[
     CONNECTS,
     FILLS_A_SIDE,

@@ -114,7 +114,7 @@ static TEXTS: [(SavedFault, &str); 7] = [
     ),
     (
         SavedFault::BytesBehind { count: 2 },
-        "bytes behind the saved session: 2",
+        "bytes after the saved session: 2",
     ),
     (SavedFault::NoPassword, "the password is null"),
     (
@@ -187,7 +187,7 @@ fn tells_why_a_text_is_refused(rt: HostRuntime) {
     }
 }
 
-// Why a session with a password of so many zeros is refused.
+// Why a session with a password of this many zeros is refused.
 fn refused_at(alloc: Global, length: usize, last_zxid: i64) -> Option<SavedFault> {
     let mut zeros = Vec::new(alloc);
     if zeros.resize(length, 0).is_err() {
@@ -225,7 +225,7 @@ fn shows_no_password(rt: HostRuntime) {
     holds(&rt, is, "the session without its password");
 }
 
-// Goes through a row over memory that refuses one request. Whether it came to that: then want of memory is told.
+// Goes through a row over memory that refuses one request. Whether it came to that: then it is told that memory ran out.
 fn is_refused(rt: &impl Abort, alloc: Global, passed: u32) -> bool {
     let heap = Refusing::after(passed, alloc);
     let came = comes_right(&heap, &ROWS[0]);

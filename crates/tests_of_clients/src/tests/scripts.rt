@@ -202,7 +202,7 @@ const CODES: &[Row] = &[
     (Send("fffffffe0000000b"), ""),
 ];
 
-// What a client sees of its own writes, and the watches that it sets anew.
+// What a client sees of its own writes, and the watches that it sets again.
 const WRITES: &[Row] = &[
     (Connect(3), ""),
     (Send(CONNECT), ACCEPTED),

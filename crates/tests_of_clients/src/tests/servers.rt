@@ -141,7 +141,7 @@ pub(crate) fn play<A: Allocator + Copy>(
     Ok(all)
 }
 
-/// What stands beside each move, a line each.
+/// The text beside each move, a line each.
 pub(crate) fn wanted(alloc: Global, rows: &[Row]) -> Result<String, HistoryFault> {
     let mut all = String::new(alloc);
     for (_, want) in rows {

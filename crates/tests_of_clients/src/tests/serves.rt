@@ -7,7 +7,7 @@ use std::alloc::Global;
 use std::process::Abort;
 use zk_history::HistoryFault;
 
-// Whether what is sent is what stands beside the moves.
+// Whether what is sent is the text beside the moves.
 fn is_served(alloc: Global, script: Script) -> Result<bool, HistoryFault> {
     let want = wanted(alloc, script.rows)?;
     let sent = play(alloc, alloc, script)?;

@@ -11,7 +11,7 @@ pub(crate) fn holds<D: Display + Drop>(rt: &impl Abort, is: bool, row: D) {
     }
 }
 
-/// The bytes that a text in hex stands for. They are there until the test ends.
+/// The bytes that a text in hex spells. They are there until the test ends.
 pub(crate) fn bytes(rt: &(impl Abort + AllocGlobal), text: &str) -> &'static [u8] {
     hex::decode(rt.alloc(), text).expect(rt, text).leak()
 }

@@ -157,7 +157,7 @@ static LENGTHS: [([u8; 4], Result<(), FrameFault>); 5] = [
     ([0xff, 0xff, 0xff, 0xff], Err(FrameFault::Negative)),
 ];
 
-// What a reader that begins anew answers to a length, twice more after it, and when it is asked for frames.
+// What a reader that begins again answers to a length, twice more after it, and when it is asked for frames.
 fn answers(
     alloc: Global,
     reader: &mut FrameReader<Global>,
@@ -202,7 +202,7 @@ fn seals_a_frame(rt: HostRuntime) {
     holds(&rt, sealed.as_slice() == &STREAM[..6], "the frame of `hi`");
 }
 
-// Puts a payload of so many zeros. A proof that saw the length would write the list out.
+// Puts a payload of `count` zeros. A proof that saw the length would write the list out.
 fn put_zeros(
     rt: &(impl Abort + AllocGlobal),
     count: usize,

@@ -194,7 +194,7 @@ fn take<A: Allocator + Copy>(
     }
 }
 
-// Takes the lines; one that is refused for want of memory is given again.
+// Takes the lines; one that is refused since memory ran out is given again.
 fn take_all<A: Allocator + Copy>(
     alloc: A,
     history: &mut History<A>,
@@ -328,7 +328,7 @@ fn tells<A: Allocator + Copy>(
     Ok(told?)
 }
 
-// Whether a history tells what the rows say; a question that is refused for want of memory is asked again.
+// Whether a history tells what the rows say; a question that is refused since memory ran out is asked again.
 fn tells_all<A: Allocator + Copy>(
     alloc: A,
     history: &History<A>,

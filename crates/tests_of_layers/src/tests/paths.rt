@@ -99,7 +99,7 @@ fn joins_names(rt: HostRuntime) {
     }
 }
 
-// A slash and a name of so many bytes.
+// A slash and a name of `count` bytes.
 fn long_path(rt: &(impl Abort + AllocGlobal), count: usize) -> String {
     let mut text = String::from_str(rt.alloc(), "/").expect(rt, "memory");
     for _ in 0..count {

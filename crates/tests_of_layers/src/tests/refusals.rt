@@ -22,7 +22,7 @@ fn refuses<C: Course, R: Abort>(rt: &R, alloc: Global, passed: u32) -> bool {
     heap.has_refused()
 }
 
-/// Refuses each request of a course in turn, but for the first ones. A run without a refusal makes at least `least` requests,
+/// Refuses each request of a course in turn, except the first ones. A run without a refusal makes at least `least` requests,
 /// and at most `most`.
 pub(crate) fn refuse_each<C: Course, R: Abort>(
     rt: &R,

@@ -11,7 +11,7 @@ pub(crate) trait Steps {
     fn come_right(alloc: Global, heap: &Refusing<Global>) -> bool;
 }
 
-// Does the steps with the request after so many others refused, and tells whether there was such a request.
+// Does the steps with the request after `passed` others refused, and tells whether there was such a request.
 fn refuse<S: Steps>(rt: &(impl Abort + AllocGlobal), passed: u32) -> bool {
     let heap = Refusing::after(passed, rt.alloc());
     holds(rt, S::come_right(rt.alloc(), &heap), passed);
@@ -36,7 +36,7 @@ fn is_as_told(heap: &Refusing<Global>, passed: u32, request: u32) -> bool {
     is_told && is_refused == (passed == request)
 }
 
-// Six requests, of which the one after so many others is refused.
+// Six requests, of which the one after `passed` others is refused.
 fn refuses_one(rt: &(impl Abort + AllocGlobal), passed: u32) {
     let heap = Refusing::after(passed, rt.alloc());
     for request in 0..6u32 {

@@ -82,7 +82,7 @@ impl<'a, 'b, W: Write> Player<'a, 'b, W> {
         }
     }
 
-    /// Prints what was given, with the moment, the connections so far, and whether one is held, and tells want of memory.
+    /// Prints what was given, with the moment, the connections so far, and whether one is held, and says so where memory ran out.
     fn print_all(&mut self, outputs: &[Output], is_well: bool) -> Result<()> {
         if let Ok(world) = self.world.try_borrow() {
             let (now, dials) = (self.moments.now(), world.dials());
@@ -120,7 +120,7 @@ impl<'a, 'b, W: Write> Player<'a, 'b, W> {
         Ok(given)
     }
 
-    /// Goes on until nothing more is given. Once the client is connected it asks for a node, each time anew.
+    /// Goes on until nothing more is given. Each time that the client is connected, it asks for a node again.
     fn go_on_to(&mut self, until: u64) -> Result<()> {
         let mut ticket = 0u64;
         for _ in 0..MOST {

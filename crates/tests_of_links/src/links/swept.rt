@@ -101,7 +101,7 @@ fn play<A: Allocator + Copy>(
     Ok(served)
 }
 
-/// A plan of which the first connection passes so many bytes, and reads bring one at a time.
+/// A plan whose first connection passes this many bytes, and whose reads bring one at a time.
 fn plan(passes: usize) -> Plan {
     Plan {
         passes,
@@ -114,7 +114,7 @@ fn plan(passes: usize) -> Plan {
 pub fn close_at_each_byte<W: Write>(alloc: Global, out: &mut W) -> Result<()> {
     for passes in 0..BYTES {
         if !matches!(play(alloc, alloc, plan(passes), &ADDRESSES)?, Ok(true)) {
-            writeln!(out, "closed behind {passes} bytes: not served")?;
+            writeln!(out, "closed after {passes} bytes: not served")?;
         }
     }
     Ok(writeln!(out, "closed at each byte")?)

@@ -76,7 +76,7 @@ fn subjects<A: Allocator + Copy>(alloc: A, row: &Row) -> Result<Vec<Subject<A>, 
     Ok(subjects)
 }
 
-/// Watches what a row says, over a world of its own whose reads bring so many bytes at most, and memory of this allocator.
+/// Watches what a row says, over a world of its own whose reads bring at most this many bytes, and memory of this allocator.
 fn watched<A: Allocator + Copy, W: Write>(
     global: Global,
     alloc: A,
@@ -120,7 +120,7 @@ fn without_zxids(global: Global, text: &[u8]) -> Result<Vec<u8>> {
     Ok(lines)
 }
 
-/// What is printed where reads bring so many bytes at most.
+/// What is printed where reads bring at most this many bytes.
 fn printed(global: Global, row: &Row, piece: usize) -> Result<Vec<u8>> {
     let mut out = Fails::after(Vec::new(global), u32::MAX);
     let _ = watched(global, global, row, piece, &mut out)?;
@@ -145,7 +145,7 @@ fn count_same(global: Global, row: &Row, most: usize, whole: &[u8]) -> Result<u3
     Ok(same)
 }
 
-/// Plays a row with each size of pieces, and counts those with which the same is printed, but for the zxids.
+/// Plays a row with each size of pieces, and counts those with which the same is printed, except for the zxids.
 pub fn play_cut<W: Write>(global: Global, row: &Row, most: usize, out: &mut W) -> Result<()> {
     let whole = lines_in_pieces(global, row, usize::MAX)?;
     let counted = count_same(global, row, most, whole.as_slice());
@@ -187,8 +187,8 @@ fn fails_well(global: Global, row: &Row, whole: &[u8], passed: u32) -> Result<Op
     })
 }
 
-/// Whether what is printed is a beginning of this where the request for memory after so many is refused, and the reason said. None where
-/// none was refused.
+/// Whether what is printed is a beginning of this where the request for memory after this many is refused, and the reason said. None
+/// where none was refused.
 fn refuses_well(global: Global, row: &Row, whole: &[u8], passed: u32) -> Result<Option<bool>> {
     let alloc = Refusing::after(passed, global);
     let mut out = Fails::after(Vec::new(global), u32::MAX);

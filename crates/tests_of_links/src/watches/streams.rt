@@ -2,7 +2,7 @@
 
 use std::io::{self, ErrorKind, Write};
 
-/// A writer that takes so many writes and flushes, and fails from then on.
+/// A writer that takes this many writes and flushes, and fails after that.
 #[derive(Drop)]
 pub struct Fails {
     bytes: Vec<u8>,

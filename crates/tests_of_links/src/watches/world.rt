@@ -194,7 +194,7 @@ impl World {
     }
 }
 
-/// Want of memory, as an operating system says it.
+/// Memory that ran out, as an operating system says it.
 fn or_memory(done: Result<()>) -> io::Result<()> {
     done.map_err(|_| ErrorKind::OutOfMemory.into())
 }

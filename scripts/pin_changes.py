@@ -1,0 +1,105 @@
+"""What went away, was added or reads otherwise between two lists of pins, in plain words."""
+
+from __future__ import annotations
+
+import difflib
+import io
+import subprocess
+import tarfile
+from collections import Counter
+from collections.abc import Iterable, Iterator, Mapping
+from dataclasses import dataclass
+
+from pins import TOP, Part, Parts, Pin, is_pinned, numbered
+
+GONE, NEW, OTHERWISE, MOVED = "went away", "was added", "reads otherwise", "moved as it was"
+At = tuple[str, str]
+"""The key of a line, and the label of a part of it."""
+Words = Mapping[At, Part]
+
+
+@dataclass(frozen=True)
+class Change:
+    """A line, or a part of one, that is not as it was."""
+
+    kind: str
+    key: str
+    label: str = ""
+    note: str = ""
+
+    @property
+    def title(self) -> str:
+        return f"{self.kind}: {self.key}{', ' if self.label else ''}{self.label}{self.note}"
+
+
+def changes(old: Mapping[str, Parts], new: Mapping[str, Parts]) -> list[Change]:
+    """The changes from old lines to new ones, in the order of their keys."""
+    moves = moved(old, new)
+    gone = {(key, label): checksum for key in old for label, checksum in old[key].items() if key not in moves and label not in new.get(key, {})}
+    come = {(key, label): checksum for key in new for label, checksum in new[key].items() if key not in moves.values() and label not in old.get(key, {})}
+    found = [Change(MOVED, key, note=f", to {moves[key]}") for key in moves]
+    found += whole_or_parts(GONE, new, gone, come)
+    found += whole_or_parts(NEW, old, come, {})
+    both = [(key, label) for key in old for label in old[key] if label in new.get(key, {})]
+    found += [Change(OTHERWISE, key, label) for key, label in both if old[key][label] != new[key][label]]
+    return sorted(found, key=lambda it: (it.key, it.label))
+
+
+def moved(old: Mapping[str, Parts], new: Mapping[str, Parts]) -> dict[str, str]:
+    """The lines that are in another file, each with its new key: no part of them has changed."""
+    places = {(key.partition(" ")[2], *new[key].items()): key for key in new if key not in old}
+    names = {key: (key.partition(" ")[2], *old[key].items()) for key in old if key not in new}
+    return {key: places[name] for key, name in names.items() if name in places}
+
+
+def whole_or_parts(kind: str, lacks: Mapping[str, Parts], parts: Mapping[At, str], elsewhere: Mapping[At, str]) -> Iterator[Change]:
+    """A change for each line that one list has and the other has not, and one for each part of a line that both have."""
+    for key in dict.fromkeys(key for key, _ in parts):
+        labels = [label for at, label in parts if at == key]
+        if key in lacks:
+            yield from (Change(kind, key, label, note_on(kind, parts[key, label], label, elsewhere)) for label in labels)
+        else:
+            yield Change(kind, key, note=f" ({', '.join(labels)})")
+
+
+def note_on(kind: str, checksum: str, label: str, elsewhere: Mapping[At, str]) -> str:
+    """Where the words of a part that went away are now, or that callers are asked more."""
+    now = next((key for (key, _), other in elsewhere.items() if checksum and other == checksum), "")
+    if now:
+        return f", and is now of {now}"
+    return ", which asks more of callers" if kind == NEW and label.startswith("requires") else ""
+
+
+def counts(found: Iterable[Change]) -> str:
+    number = Counter(one.kind for one in found)
+    return f"{number[GONE]} went away, {number[NEW]} added, {number[OTHERWISE]} read otherwise, {number[MOVED]} moved"
+
+
+def words_of(pins: Mapping[str, Pin]) -> dict[At, Part]:
+    labelled = ((key, zip(numbered(part.label for part in pin.parts), pin.parts, strict=True)) for key, pin in pins.items())
+    return {(key, label): part for key, parts in labelled for label, part in parts}
+
+
+def told(change: Change, before: Words, after: Words) -> Iterator[str]:
+    """A change, with the lines that were and those that are."""
+    yield change.title
+    was, now = (words.get((change.key, change.label)) for words in (before, after))
+    if change.kind == OTHERWISE and (not was or not now):
+        yield "    (what it said before is in no commit at hand)"
+    elif was and now and was.words == now.words:
+        yield from (f"    the words are the same, but a name is taken from elsewhere: {one}" for one in sorted({*was.means} ^ {*now.means}))
+    else:
+        lines = [part.words.splitlines() if part else [] for part in (was, now)]
+        compared = difflib.unified_diff(lines[0], lines[1], n=0, lineterm="")
+        yield from (f"    {line[0]} {line[1:]}" for line in [*compared][2:] if not line.startswith("@@"))
+
+
+def texts_at(commit: str) -> dict[str, str]:
+    """The texts that are pinned, as a commit has them; none where there is no such commit."""
+    run = subprocess.run(["git", "archive", commit, "crates"], cwd=TOP, capture_output=True, check=False)
+    if run.returncode:
+        return {}
+    with tarfile.open(fileobj=io.BytesIO(run.stdout)) as archive:
+        names = {it.name.removeprefix("crates/"): it for it in archive if it.isfile()}
+        read = {name: archive.extractfile(it) for name, it in names.items() if is_pinned(name)}
+        return {name: part.read().decode("utf-8", "replace") for name, part in read.items() if part}

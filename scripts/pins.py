@@ -1,0 +1,399 @@
+"""What the crates state, read from their texts: each public function with its clauses, each trait, type, ghost view and invariant, what each
+crate gives its callers, and each definition of specs/. `scripts/statements` writes a line of each into STATEMENTS.lock.
+
+A pin has a part for each clause, field and text of equations. The checksum of a part is of its words, without comments and line breaks, and of
+what the imports of its file take the names in it for: a name that is imported from elsewhere says something else.
+"""
+
+from __future__ import annotations
+
+import hashlib
+import re
+from collections import Counter
+from collections.abc import Iterable, Iterator, Mapping
+from dataclasses import dataclass, field
+from functools import cache, cached_property
+from pathlib import Path
+
+TOP = Path(__file__).resolve().parent.parent
+CRATES = TOP / "crates"
+# The crates of tests state nothing that a caller has.
+NOT_PINNED = "tests_of_"
+
+QUOTED = r"""'(?:[^'\\\n]|\\[^'\n]+)'|"(?:[^"\\]|\\.)*\""""
+QUOTES = re.compile(QUOTED, re.S)
+COMMENT = re.compile(rf"({QUOTED})|//[^\n]*", re.S)
+SPACES = re.compile(rf"({QUOTED})|\s+", re.S)
+WORD = re.compile(r"[^\W\d][\w'-]*|[^\s\w(){}\[\],;.\"]+|[^\s(){}\[\],;.\"]+")
+VISIBLE = r"(?:pub(?:\([\w ]+\))? )?"
+FUNCTION = re.compile(rf"{VISIBLE}(?:final |const |unsafe |extern \"C\" )*fn (\w+)")
+HEAD_END = re.compile(r"\n\s*(?:requires|ensures)\b|\s*\{|;\s*$")
+CLAUSE = re.compile(r"\s*(requires|ensures)\b(\*?) *(\w*)\s*(?=\{)")
+DECLARED = re.compile(rf"({VISIBLE})(struct|enum|const|static|type) (\w+)")
+BLOCK = re.compile(rf"(?:unsafe )?impl\b|{VISIBLE}(?:unsafe )?trait |{VISIBLE}mod \w+ \{{")
+IMPORT = re.compile(rf"\s*{VISIBLE}(?:ghost )?use\s")
+
+
+@dataclass(frozen=True)
+class Part:
+    """A clause, a field, a type or the equations of a definition: its words, and what each imported name in them means."""
+
+    label: str
+    words: str = ""
+    means: tuple[str, ...] = ()
+
+    @cached_property
+    def checksum(self) -> str:
+        return hashlib.sha256("\n".join([self.words, *self.means]).encode()).hexdigest()[:8]
+
+
+@dataclass(frozen=True)
+class Pin:
+    """What a line of STATEMENTS.lock is of."""
+
+    file: str
+    name: str
+    parts: tuple[Part, ...]
+
+    @property
+    def key(self) -> str:
+        return f"{self.file} {self.name}"
+
+
+@dataclass(frozen=True)
+class Scope:
+    """The names that imports bring, with the path of each."""
+
+    names: Mapping[str, str] = field(default_factory=dict)
+
+    def plus(self, imports: Iterable[str]) -> Scope:
+        return Scope({**self.names, **{name: path for text in imports for name, path in imported(text)}})
+
+    def part(self, label: str, words: str) -> Part:
+        found = set(WORD.findall(words))
+        used = [name for name in self.names if name in found or is_used(name, found, words)]
+        return Part(label, words, tuple(sorted(f"{name}={self.names[name]}" for name in used)))
+
+
+def is_used(name: str, found: set[str], words: str) -> bool:
+    """Whether an operator, or a name of brackets, is in a text."""
+    pieces = {it for it in name.split("◌") if it}
+    return "◌" in name and pieces <= found or name in ("[]", "()") and name in words
+
+
+def imported(text: str) -> Iterator[tuple[str, str]]:
+    """Each name that an import brings, and its path: of `use a.b.{C, d as e}`, and of `use a::{self, c::D}`."""
+    text = re.sub(r"^\s*(?:pub(?:\([\w ]+\))? )?(?:ghost )?use\s+|;\s*$", "", text).replace("::", ".")
+    if braced := re.fullmatch(r"(.*?)\.?\{(.*)\}", text, re.S):
+        for inner in split_outside(braced[2]):
+            yield from ((name, f"{braced[1]}.{path}") for name, path in imported(inner))
+    elif text.strip():
+        path, _, alias = (it.strip() for it in text.partition(" as "))
+        yield alias or path.split(".")[-1], path
+
+
+def split_outside(text: str) -> list[str]:
+    """The parts of a text between commas that are in no brackets."""
+    parts, depth = [""], 0
+    for letter in text:
+        depth += (letter in "({[") - (letter in ")}]")
+        parts = [*parts, ""] if letter == "," and not depth else [*parts[:-1], parts[-1] + letter]
+    return [part.strip() for part in parts if part.strip()]
+
+
+def flat(text: str) -> str:
+    """The words of a text, with one space for what is between them, except in quotes."""
+    return SPACES.sub(lambda found: found[1] or " ", text).strip()
+
+
+def blank(text: str) -> str:
+    """A text of the same length with nothing in its quotes."""
+    return QUOTES.sub(lambda found: '"' * len(found[0]), text)
+
+
+def indent_of(line: str) -> int:
+    return len(line) - len(line.lstrip())
+
+
+# The code, as `rt fmt` lays it out
+
+
+def items(lines: list[str]) -> Iterator[list[str]]:
+    """The items of a block: each ends with a semicolon, or at a line at its own indent that closes it."""
+    taken: list[str] = []
+    depth = 0
+    for line in lines:
+        if taken or line.strip():
+            taken.append(line)
+            bare = blank(line).rstrip()
+            depth += len(re.findall(r"[({\[]", bare)) - len(re.findall(r"[)}\]]", bare))
+            last = ("}", "]") if taken[0].lstrip().startswith("#") else ("}",)
+            if depth == 0 and (bare.endswith(";") or indent_of(line) == indent_of(taken[0]) and bare.endswith(last)):
+                yield taken
+                taken = []
+    if taken:
+        yield taken
+
+
+def closing(bare: str, start: int) -> int:
+    """The place after the bracket that closes the one that opens here."""
+    depth = 0
+    for found in re.compile(r"[{}]").finditer(bare, start):
+        depth += 1 if found[0] == "{" else -1
+        if not depth:
+            return found.end()
+    return len(bare)
+
+
+def function_parts(text: str, scope: Scope) -> Iterator[Part]:
+    """The signature of a function, and each of its clauses."""
+    bare = blank(text)
+    end = HEAD_END.search(bare)
+    at = end.start() if end else len(text)
+    yield scope.part("fn", flat(text[:at]))
+    while clause := CLAUSE.match(bare, at):
+        at = closing(bare, clause.end())
+        yield scope.part(f"{clause[1]}{clause[2]} {clause[3]}".strip(), flat(text[clause.end() : at]))
+
+
+def type_parts(found: re.Match[str], text: str, scope: Scope) -> Iterator[Part]:
+    """What a type or constant is, and each ghost field of it, which holds of each of its values."""
+    bare = blank(text)
+    start = bare.find("{")
+    if found[2] not in ("struct", "enum") or start < 0:
+        yield scope.part(found[2], flat(text))
+        return
+    fields = split_outside(re.sub(r"#\[[^\]]*\]", "", text[start + 1 : closing(bare, start) - 1]))
+    ghosts = [it for it in fields if re.match(rf"{VISIBLE}ghost ", it)]
+    yield scope.part(found[2], flat(f"{text[:start]}{{ {', '.join(flat(it) for it in fields if it not in ghosts)} }}"))
+    for ghost in ghosts:
+        yield scope.part(flat(ghost.partition(":")[0]), flat(re.sub(r"\}\s*by\s*\{.*", "}", ghost.partition(":")[2], flags=re.S)))
+
+
+def ghost_part(head: str, text: str, scope: Scope) -> Part:
+    """A ghost item of a trait or an impl; of a law with its proof, the law."""
+    law = re.match(r"ghost \w+:\s*(?=\{)", text)
+    return scope.part(" ".join(head.split()[:2]).rstrip(":"), flat(text[: closing(blank(text), law.end())] if law else text))
+
+
+def owner_of(head: str) -> str:
+    """What is in front of the names of a block's functions: its type, with its trait where it has one, or its trait, or its module."""
+    head = re.sub(r"\swhere\s.*", "", head)
+    if named := re.match(rf"{VISIBLE}(?:unsafe )?(?:trait|mod) (\w+)", head):
+        return named[1]
+    rest = re.sub(r"^(?:unsafe )?impl\b\s*", "", head)
+    rest = rest[end_of_angles(rest) :].strip() if rest.startswith("<") else rest
+    trait, _, kind = rest.rpartition(" for ")
+    return f"{kind} as {trait}" if trait else re.sub(r"<.*", "", kind)
+
+
+def end_of_angles(text: str) -> int:
+    depth = 0
+    for at, letter in enumerate(text):
+        depth += (letter == "<") - (letter == ">" and text[at - 1] != "-")
+        if not depth:
+            return at + 1
+    return len(text)
+
+
+@dataclass(frozen=True)
+class Block:
+    """A file of code, or an impl, a trait or a module in it: what is in front of its names, and what its imports bring."""
+
+    file: str
+    scope: Scope
+    owner: str = ""
+    head: str = ""
+
+    def pin(self, name: str, parts: Iterable[Part]) -> Pin:
+        return Pin(self.file, "::".join(filter(None, [self.owner, name])), tuple(parts))
+
+    @property
+    def is_trait(self) -> bool:
+        return bool(re.match(rf"{VISIBLE}(?:unsafe )?trait ", self.head))
+
+    def pins(self, lines: list[str]) -> Iterator[Pin]:
+        """The pins of what is in the block."""
+        found = [*items(lines)]
+        inside = Block(self.file, self.scope.plus("\n".join(it) for it in found if IMPORT.match(it[0])), self.owner, self.head)
+        yield from (pin for item in found for pin in inside.pins_of(item))
+        trait = [inside.scope.part("trait", self.head)] if self.is_trait else []
+        ghosts = [ghost_part(it[0].strip(), "\n".join(it).strip(), inside.scope) for it in found if re.match(r"\s*ghost (?!use\b)", it[0])]
+        given = [Part(name) for it in found for name in given_by(flat("\n".join(it)))]
+        yield from (self.pin(name, parts) for name, parts in (("", trait + ghosts), ("exports", given)) if parts)
+
+    def pins_of(self, item: list[str]) -> Iterator[Pin]:
+        head, text = item[0].strip(), "\n".join(item).strip()
+        if BLOCK.match(head):
+            top = next(at for at, line in enumerate(item) if blank(line).rstrip().endswith(("{", "{}")))
+            head = flat("\n".join(item[: top + 1])).rstrip("{} ")
+            owner = "::".join(filter(None, [self.owner, owner_of(head)]))
+            yield from Block(self.file, self.scope, owner, head).pins(item[top + 1 : -1])
+        elif (function := FUNCTION.match(head)) and self.states(head, text):
+            yield self.pin(function[1], function_parts(text, self.scope))
+        elif (declared := DECLARED.match(head)) and (declared[1] or declared[2] in ("struct", "enum", "type")):
+            yield self.pin(declared[3], type_parts(declared, text, self.scope))
+
+    def states(self, head: str, text: str) -> bool:
+        """Whether a function is a caller's: public, or of a trait; or of an impl of a trait, with clauses of its own."""
+        is_of_impl = " as " in self.owner and bool(re.search(r"^\s*(?:requires|ensures)\b", text, re.M))
+        return head.startswith("pub ") or self.is_trait or is_of_impl
+
+
+def given_by(text: str) -> Iterator[str]:
+    """What a public import or module gives to the callers of a crate."""
+    if re.match(r"pub use\b", text):
+        for name, path in imported(text):
+            yield path.replace(".", "::") + ("" if path.split(".")[-1] == name else f" as {name}")
+    elif module := re.match(r"pub mod (\w+)", text):
+        yield f"mod {module[1]}"
+
+
+# The definitions
+
+DEFINITION = re.compile(r"(?:(?:abbrev|unfoldable|opaque) )?(?:pub )?(?:(data|record) )?(\S+)(?= |$)")
+NOTATION = re.compile(r"infix")
+NO_DEFINITION = re.compile(r"(?:pub )?(?:use|mod) |infix")
+
+
+@dataclass
+class Definition:
+    """The lines of a definition, from its head on, with the heads of the modules around it."""
+
+    kind: str
+    name: str
+    around: list[str]
+    lines: list[str]
+
+    def parts(self, scope: Scope) -> Iterator[Part]:
+        """The head, and each field or constructor; or the type, and the equations."""
+        indent = indent_of(self.lines[0])
+        end = next((at for at, line in enumerate(self.lines) if at and indent_of(line) <= indent + (2 if self.kind else 0)), len(self.lines))
+        head = [*self.around, *(line[indent:] for line in self.lines[:end])]
+        first = self.lines[0].split()[0]
+        yield scope.part(self.kind or (first if first in ("abbrev", "unfoldable", "opaque") else "type"), "\n".join(head))
+        rest = [line[indent:] for line in self.lines[end:]]
+        if self.kind:
+            yield from (scope.part(flat(it[0]).removeprefix("pub ").partition(" :")[0].strip(), "\n".join(it)) for it in fields(rest))
+        elif rest:
+            yield scope.part("equations", "\n".join(rest))
+
+
+def fields(lines: list[str]) -> list[list[str]]:
+    """The fields of a record or the constructors of data: what is deeper goes on with the one before it."""
+    found: list[list[str]] = []
+    for line in lines:
+        if found and (indent_of(line) > 2 or line.strip() in ("}", "]", ")")):
+            found[-1].append(line)
+        else:
+            found.append([line])
+    return found
+
+
+def definitions(lines: list[str]) -> Iterator[Definition]:
+    """The definitions of a file of specs/, each with the modules that are around it."""
+    around: list[str] = []
+    current: Definition | None = None
+    for line in lines:
+        indent = indent_of(line)
+        around = around if indent else []
+        found = DEFINITION.match(line.lstrip())
+        if indent > 2 * len(around) or not found or not is_head(line.strip()):
+            if current:
+                current.lines.append(line)
+            continue
+        if current:
+            yield current
+        current = None
+        if line.strip().startswith("module "):
+            around = [line]
+        elif not NO_DEFINITION.match(line):
+            current = Definition(found[1] or "", found[2], around, [line])
+    if current:
+        yield current
+
+
+def is_head(line: str) -> bool:
+    """Whether a line begins a definition, or what is none: all else goes on with the definition before it."""
+    return bool(re.match(r"(?:abbrev|unfoldable|opaque|pub|data|record|module|use|mod|infix\w*) |\S+ : ", line))
+
+
+def spec_pins(file: str, text: str) -> Iterator[Pin]:
+    """The pins of a file of specs/: each definition, and what the file passes on or spells as an operator."""
+    lines = [line.rstrip() for line in re.sub(r"(^|\s)--(?: .*|$)", "", text, flags=re.M).splitlines() if line.strip()]
+    lines = [line for line in lines if line]
+    scope = Scope().plus(line for line in lines if IMPORT.match(line))
+    for one in definitions(lines):
+        yield Pin(file, one.name, tuple(one.parts(scope)))
+    given = [name for line in lines if not line.startswith("pub mod ") for name in given_by(line)]
+    if passed := [*given, *(line for line in lines if NOTATION.match(line))]:
+        yield Pin(file, "exports", tuple(map(Part, passed)))
+
+
+# All
+
+
+@cache
+def pins_in(file: str, text: str) -> tuple[Pin, ...]:
+    """The pins of one file."""
+    if file.endswith(".antt"):
+        return tuple(spec_pins(file, text))
+    lines = COMMENT.sub(lambda found: found[1] or "", text).splitlines()
+    return tuple(Block(file, Scope()).pins([line.rstrip() for line in lines]))
+
+
+def is_pinned(file: str) -> bool:
+    """Whether a file below crates/ states anything."""
+    return not file.startswith(NOT_PINNED) and bool(re.match(r"[^/]+/(?:specs/.*\.antt|src/.*\.rt)$", file))
+
+
+def texts_here() -> dict[str, str]:
+    """The texts that are pinned, as they are in the work tree."""
+    found = [*CRATES.glob("*/specs/**/*.antt"), *CRATES.glob("*/src/**/*.rt")]
+    names = {str(path.relative_to(CRATES)): path for path in found}
+    return {name: names[name].read_text(encoding="utf-8") for name in sorted(names) if is_pinned(name)}
+
+
+def numbered(names: Iterable[str]) -> Iterator[str]:
+    """These names, each with a number where it was there before."""
+    seen: Counter[str] = Counter()
+    for name in names:
+        seen[name] += 1
+        yield f"{name} #{seen[name]}" if seen[name] > 1 else name
+
+
+def pins_of(texts: Mapping[str, str]) -> dict[str, Pin]:
+    """The pins of these texts by their keys, sorted."""
+    pins = [pin for file in sorted(texts) for pin in pins_in(file, texts[file])]
+    return dict(sorted(zip(numbered(pin.key for pin in pins), pins, strict=True)))
+
+
+Parts = Mapping[str, str]
+"""The checksum of each part by its label; nothing where a part has no words."""
+
+
+def parts_of(pin: Pin) -> dict[str, str]:
+    return dict(zip(numbered(part.label for part in pin.parts), (part.checksum if part.words else "" for part in pin.parts), strict=True))
+
+
+# STATEMENTS.lock
+
+LOCK = TOP / "STATEMENTS.lock"
+HEAD = "# What the crates state. scripts/statements writes this, and says in words what changed: scripts/statements --compare\n"
+
+
+def lock_of(pins: Mapping[str, Pin]) -> str:
+    """The text of STATEMENTS.lock: a line of each pin."""
+    lines = {key: ", ".join(f"{label} {checksum}".strip() for label, checksum in parts_of(pin).items()) for key, pin in pins.items()}
+    return HEAD + "".join(f"{key}: {line}\n" for key, line in lines.items())
+
+
+def lines_in(text: str) -> dict[str, Parts]:
+    """The parts of each line of STATEMENTS.lock by its key."""
+    return dict(read_line(line) for line in text.splitlines() if not line.startswith("#"))
+
+
+def read_line(line: str) -> tuple[str, dict[str, str]]:
+    key, _, rest = line.partition(": ")
+    found = [re.fullmatch(r"(.*?)(?: ([0-9a-f]{8}))?", part) for part in rest.split(", ")]
+    return key, {it[1]: it[2] or "" for it in found if it}
