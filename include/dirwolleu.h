@@ -20,7 +20,7 @@
  *   - pointers are not null, also beside a length of 0, buffers have the length that is told, and what one call writes does not
  *     overlap with what else it is given;
  *   - malloc, realloc and free are those of one allocator, whose blocks are aligned to 16 bytes;
- *   - a bool is 0 or 1, and this header is that of the library that is linked.
+ *   - a bool is 0 or 1, and this header is that of the library that is linked: dw_version tells that one.
  *
  * What the library promises, and is proved of each function, whatever comes in:
  *   - an answer that is marked good is what the servers' history has at the last seen zxid;
@@ -60,6 +60,7 @@ extern "C" {
 enum dw_result DW_AS_INT32 {
   DW_OK = 0,
   DW_NONE = 1, /* there is none */
+  DW_WAITS = 2, /* another session stands before this one */
   DW_HALTED = -1, /* out of memory within the step: the client has no use any more, each later step answers the same, nothing
                      is kept or watched. Its state, zxid and session can still be asked for: take dw_saved, and dw_resume. */
   DW_NO_MEMORY = -2, /* no memory for what was given */
@@ -68,7 +69,10 @@ enum dw_result DW_AS_INT32 {
   DW_NOT_PATH = -5, /* the text is no path of a node */
   DW_BAD_TIMEOUT = -6, /* the timeout is not above 0 */
   DW_NO_SUCH_MODE = -7,
-  DW_NOT_SAVED = -8 /* the bytes are no saved session */
+  DW_NOT_SAVED = -8, /* the bytes are no saved session */
+  DW_NOT_WHOLE = -9, /* some of the subtree is not kept, or not good */
+  DW_TOO_MANY = -10, /* the subtree has more nodes than were asked for */
+  DW_NOT_TEXTS = -11 /* the bytes are no texts, each after its length */
 };
 
 /* A handle: zeros before its first use, which are {0} in C and {} in C++. Its fields are the library's own. */
@@ -180,6 +184,10 @@ typedef struct dw_output {
   dw_stat stat;
 } dw_output;
 
+/* The version of the library, as DW_VERSION_NUMBER has that of this header. Where the two differ, go no further: take the header and the
+ * library of one version. */
+uint32_t dw_version(void);
+
 /* Makes a client of no session yet, which asks for this timeout in milliseconds. What the handle held is freed first.
  * DW_OK, DW_BAD_TIMEOUT, DW_NO_MEMORY; where it is not DW_OK, the handle holds nothing. */
 enum dw_result dw_open(dw_client *handle, int32_t timeout_ms);
@@ -244,6 +252,11 @@ size_t dw_copy(dw_client *handle, size_t from, void *out, size_t room);
 /* Copies the name of this index, from 0 on in the order of the reply, of the DW_REPLY_NAMES that was told last, as much as there is room
  * for. Answers how many bytes the name has: 0 where there is no such name, and for a closed handle. */
 size_t dw_name(dw_client *handle, size_t index, char *out, size_t room);
+
+/* Copies all names of the DW_REPLY_NAMES that was told last, in the order of the reply, as many bytes as there is room for, and writes how
+ * many bytes there are: 0 where another output was told last. Each name stands after its length, as dw_peek_names spells it. It takes
+ * memory for them too, within the call. DW_OK, DW_NO_MEMORY, DW_CLOSED; unless it answers DW_OK, the count is 0. */
+enum dw_result dw_names(dw_client *handle, uint8_t *out, size_t room, size_t *count);
 
 /* Writes why the connection is given up, in words, of the DW_KIND_DROP that was told last, as many bytes as there is room for, and how
  * many there are: 0 where another output was told last. DW_OK, DW_NO_MEMORY, DW_CLOSED; unless it answers DW_OK, the count is 0. */
@@ -322,6 +335,43 @@ enum dw_result dw_peek_name(dw_client *handle, const char *path, size_t path_len
  * too, within the call. It answers what dw_peek_data does; unless that is DW_OK, the count is 0. */
 enum dw_result dw_peek_names(dw_client *handle, const char *path, size_t path_length, uint8_t *out, size_t room, size_t *count);
 
+/* Copies all nodes at and below a path, as many bytes as there is room for, and writes how many bytes there are. It does so exactly where
+ * the path, and each node that is reached from it through kept names, is kept good as DW_KEPT_FULL, its names are kept good, and each name
+ * makes a path; and these are at most `most` nodes. Then they are the subtree of the servers' history at dw_last_zxid: each node is as it
+ * is told, and no other one is there. Each stands after its parent, as zookeeper.jute spells these fields:
+ *   ustring path; buffer data; long czxid, mzxid, ctime, mtime; int version; long ephemeralOwner; int dataLength; long pzxid;
+ * It takes memory for them too, within the call. Where there was too little room, give more and call again: with no step between it tells
+ * the same. DW_OK, and what dw_peek_data answers; DW_NOT_WHOLE: read what dw_lacking tells, with a watch, and ask again; DW_TOO_MANY: more
+ * nodes than that are reached. Unless it answers DW_OK, the count is 0. */
+enum dw_result dw_subtree(dw_client *handle, const char *path, size_t path_length, size_t most, uint8_t *out, size_t room,
+                          size_t *count);
+
+/* Copies the reads that are still lacking before dw_subtree tells the nodes at and below a path, as it does: of all nodes that good names
+ * lead to, those whose data are not kept good as DW_KEPT_FULL, and then those whose names are not kept good. There is none exactly where
+ * dw_subtree answers DW_OK. Each is spelled as `ustring path; int side`, with DW_SIDE_DATA for dw_get_data and DW_SIDE_CHILDREN for
+ * dw_get_children. All can be asked at once, with a watch; what lies below the names shows when these are there. Of a path without a node
+ * the data are lacking for as long as there is none. DW_OK, and what dw_peek_data answers; DW_NOT_WHOLE: a name makes no path, so no read
+ * helps; DW_TOO_MANY. Unless it answers DW_OK, the count is 0. */
+enum dw_result dw_lacking(dw_client *handle, const char *path, size_t path_length, size_t most, uint8_t *out, size_t room,
+                          size_t *count);
+
+/* Tells whether the session stands first in a directory by its node of this name: for locks and elections whose nodes are sequential ones. The
+ * names are those of a dw_get_children of the directory, asked without a watch after the node was made, as dw_names copies them; `listed` is the
+ * zxid of that answer. A name counts where it ends in ten digits, right after a marker: the markers, spelled as names are, are that of its
+ * kind, and then those of its rivals, as `lock-`, `lock-`. The smaller number is before the greater one.
+ *   DW_OK     it stands first at dw_last_zxid, where numbers rise with creation, and stays so while what is kept of its node is good. The
+ *             token is written, which is the node's czxid: whoever the lock protects refuses a smaller one than it has seen. So it is where
+ *             the node's data, or that it exists, are kept good and its owner is this session; no listed rival is before it; and the listing
+ *             is neither older than the node nor newer than dw_last_zxid.
+ *   DW_WAITS  the last rival before it is this one, whose name is copied, as many bytes as there is room for, with their count: watch that
+ *             node alone, by dw_exists, and list again when it is gone.
+ *   DW_NONE   neither is so: read its node with a watch, or list again.
+ * Also DW_NO_MEMORY, DW_CLOSED, DW_NOT_TEXT, DW_NOT_PATH, and DW_NOT_TEXTS where names or markers are not spelled so, or there is no marker.
+ * The token is 0 unless it answers DW_OK, and the count unless it answers DW_WAITS. */
+enum dw_result dw_standing(dw_client *handle, const char *directory, size_t directory_length, const char *name,
+                           size_t name_length, const uint8_t *names, size_t names_length, int64_t listed, const uint8_t *markers,
+                           size_t markers_length, int64_t *token, char *out, size_t room, size_t *count);
+
 /* Forgets all stale answers. It takes no memory, and leaves the outputs. DW_OK, DW_CLOSED. */
 enum dw_result dw_forget(dw_client *handle);
 
@@ -331,6 +381,7 @@ static inline const char *dw_result_words(enum dw_result result) {
   switch (result) {
   case DW_OK: return "done";
   case DW_NONE: return "there is none";
+  case DW_WAITS: return "another session stands before this one";
   case DW_HALTED: return "out of memory within a step";
   case DW_NO_MEMORY: return "out of memory";
   case DW_CLOSED: return "the handle holds no client";
@@ -339,6 +390,9 @@ static inline const char *dw_result_words(enum dw_result result) {
   case DW_BAD_TIMEOUT: return "the timeout is not 1 to 2147483647 milliseconds";
   case DW_NO_SUCH_MODE: return "the mode is no sum of DW_MODE_EPHEMERAL and DW_MODE_SEQUENTIAL";
   case DW_NOT_SAVED: return "the bytes are no saved session";
+  case DW_NOT_WHOLE: return "some of the subtree is not kept, or not good";
+  case DW_TOO_MANY: return "the subtree has more nodes than were asked for";
+  case DW_NOT_TEXTS: return "the bytes are no texts, each after its length";
   }
   return "the library answers a number that its header does not have";
 }

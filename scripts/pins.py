@@ -145,12 +145,12 @@ def closing(bare: str, start: int) -> int:
     return len(bare)
 
 
-def function_parts(text: str, scope: Scope) -> Iterator[Part]:
-    """The signature of a function, and each of its clauses."""
+def function_parts(around: str, text: str, scope: Scope) -> Iterator[Part]:
+    """The signature of a function, after the head of the impl or trait that has it, and each of its clauses."""
     bare = blank(text)
     end = HEAD_END.search(bare)
     at = end.start() if end else len(text)
-    yield scope.part("fn", flat(text[:at]))
+    yield scope.part("fn", f"{around} {flat(text[:at])}".strip())
     while clause := CLAUSE.match(bare, at):
         at = closing(bare, clause.end())
         yield scope.part(f"{clause[1]}{clause[2]} {clause[3]}".strip(), flat(text[clause.end() : at]))
@@ -230,7 +230,7 @@ class Block:
             owner = "::".join(filter(None, [self.owner, owner_of(head)]))
             yield from Block(self.file, self.scope, owner, head).pins(item[top + 1 : -1])
         elif (function := FUNCTION.match(head)) and self.states(head, text):
-            yield self.pin(function[1], function_parts(text, self.scope))
+            yield self.pin(function[1], function_parts(self.head, text, self.scope))
         elif (declared := DECLARED.match(head)) and (declared[1] or declared[2] in ("struct", "enum", "type")):
             yield self.pin(declared[3], type_parts(declared, text, self.scope))
 

@@ -5,18 +5,20 @@ Copies the repository, with what its checks keep in out/, into a temporary folde
 what refused it. There are three lists, in the folder wrong_definitions:
 
   wrong      wrong definitions. The crate is checked, and where each of its laws is still proved, the crates of laws above it
-  narrower   premises on servers that are harder to meet than they should be. A law that has such a premise is still true: it is refused by
-             what the laws say of servers by themselves, by the schedules that meet the premise, and by the laws of zk_receptive
-  weaker     promises that say less. Each law is still proved: they are refused by scripts/statements and scripts/definitions, which compare
-             the code with STATEMENTS.md and docs/DEFINITIONS.md
+  narrower   premises that are harder to meet than they should be. A law that has such a premise is still true: it is refused by what the
+             laws say of servers by themselves, by the schedules that meet the premise, by the laws of zk_receptive and by zk_witnesses
+  weaker     promises that say less, or something else. Each law may still be proved: they are refused by scripts/statements, which compares
+             the code with STATEMENTS.md and STATEMENTS.lock, and by scripts/definitions, which compares it with docs/DEFINITIONS.md
 
 An edit is four lines: what it turns, the file below crates/, the old text and the new one, where \\n is the end of a line. Each
-definition of sections 12 to 15 of docs/DEFINITIONS.md is to have an edit that is narrower or weaker, or a reason in EXCEPTIONS: --check says
-which has none. An edit that nothing refuses is a hole. So is one that stands no longer, or whose file cannot be read with it.
+definition of sections 1 to 6, 10 to 15 and 18 of docs/DEFINITIONS.md is to have an edit that is narrower or weaker, or a reason in
+EXCEPTIONS: --check says which has none. An edit that nothing refuses is a hole. So is one that stands no longer, or whose file cannot be
+read with it.
 The last line is `N seen, M unseen`, and the exit status is 1 where an edit is unseen or a definition has none.
 
   scripts/wrong_definitions.py            all edits
   scripts/wrong_definitions.py WORD..     those whose names, or whose definitions, have one of the words
+  scripts/wrong_definitions.py --touched    those whose files the last commit or the work tree has changed, as the gate does
   scripts/wrong_definitions.py --check    tries none: says where an edit stands no longer, and which definition has none
   --jobs N                                this many edits side by side (2)
 """
@@ -40,15 +42,23 @@ TOP = Path(__file__).resolve().parent.parent
 TURNS, LAWS = "zk_turns", "zk_laws"
 KINDS = ("weaker", "narrower", "wrong")
 # the crates of laws above one
-ABOVE = {TURNS: ["zk_rules"], LAWS: ["zk_serving", "zk_receptive"]}
-# the sections of docs/DEFINITIONS.md that speak of servers
-SECTIONS = range(12, 16)
+ABOVE = {TURNS: ["zk_rules"], LAWS: ["zk_serving", "zk_receptive"], "zk_conclusions": ["zk_witnesses"]}
+# the sections of docs/DEFINITIONS.md whose definitions have edits; and section 18, of which STATEMENTS.md has the definitions
+SECTIONS = [*range(1, 7), *range(10, 16)]
 
 DATA = "it names data: a field or a case fewer cannot be read where they are made"
+TABLE = "it is a table of the protocol, by which the code writes and reads: tests have its values"
 OUTSIDES = "it says what a run's outside tells of its turns, and nothing of servers: wrong_bodies/zk_client turns it"
 # definitions of these sections that have no such edit
 EXCEPTIONS = {
     **dict.fromkeys("Notice Watches Message Request Stage ServerEnd ServerStep Sent Wire Entry".split(), DATA),
+    **dict.fromkeys("Text Name NodePath Node Change Tree Transaction History View Names Layout Value Response Call Question Result".split(), DATA),
+    **dict.fromkeys("Waiting Pending Talk Arrived Welcome Saved Moments SessionView Lists Watch Answer".split(), DATA),
+    **dict.fromkeys("Outcome Fault Input Item Output Signal Start Turn".split(), DATA),
+    **dict.fromkeys("stat int_bytes long_bytes int_at long_at boolean_at length_at counted_at ◌>>=◌ id acl open_acl".split(), TABLE),
+    **dict.fromkeys("connect_request connect_response_front create_request create_response delete_request read_request".split(), TABLE),
+    **dict.fromkeys("get_children2_response get_data_response reply_header set_data_request set_watches watcher_event".split(), TABLE),
+    **dict.fromkeys("operation_number body_layout request_layout".split(), TABLE),
     **dict.fromkeys("Told HandsOut IsGiven tells_turn inputs_then TellsAll NoneIsLeft".split(), OUTSIDES),
 }
 
@@ -75,13 +85,22 @@ def copy_repository(copy, libraries):
 
 
 def listed_definitions():
-    """The definitions of the sections that speak of servers, each with its crate and file: of the files that the page lists, the names that
-    scripts/definitions has."""
+    """The definitions of these sections, each with its crate and file: of the files that the page lists, the names that scripts/definitions
+    has; and those of zk_conclusions that STATEMENTS.md has. Types and constants of the code are left to tests."""
     page = (TOP / "docs/DEFINITIONS.md").read_text(encoding="utf-8")
     files = [file for section, row in re.findall(r"^\| (\d+) \| (.*?) \|", page, re.M) if int(section) in SECTIONS for file in re.findall(r"`(\S+?)`", row)]
     run = subprocess.run([TOP / "scripts/definitions"], capture_output=True, text=True, check=True)
     names = dict(re.findall(r"^(\S+) \(.*?\): (.*)$", run.stdout, re.M))
-    return {(file, name.lstrip("+")) for file in files for name in names[file].split()}
+    pinned = (TOP / "STATEMENTS.md").read_text(encoding="utf-8")
+    concluded = re.findall(r"^## (zk_conclusions/specs/\S+)\n\n```\n(.*?)^```", pinned, re.M | re.S)
+    found = {(file, name) for file, text in concluded for name in re.findall(r"^(?:abbrev|unfoldable)? ?pub (?:record )?(\S+)", text, re.M)}
+    return found | {(file, name.lstrip("+")) for file in files if file.endswith(".antt") for name in names[file].split()}
+
+
+def touched_files():
+    """The files below crates/ that the last commit or the work tree has changed; none where there is no commit before it."""
+    run = subprocess.run(["git", "diff", "--name-only", "HEAD^1"], cwd=TOP, capture_output=True, text=True, check=False)
+    return {name.removeprefix("crates/") for name in run.stdout.splitlines()}
 
 
 def definition_at(whole, place):
@@ -197,7 +216,7 @@ class Copy:
 def make_copies(folder, jobs, edits):
     """A copy for each job. The first is checked as it stands, and the others are copies of it."""
     lower = {edit.crate for edit in edits if edit.kind != "weaker"}
-    chains = [crate for first in (TURNS, LAWS) if first in lower for crate in (first, *ABOVE[first])]
+    chains = [crate for first in ABOVE if first in lower for crate in (first, *ABOVE[first])]
     below = crates_below()
     first = Copy(f"{folder}/0", chains)
     first.folder.mkdir(parents=True)
@@ -233,6 +252,7 @@ def main():
     reader.add_argument("words", metavar="WORD", nargs="*", help=argparse.SUPPRESS)
     reader.add_argument("--jobs", metavar="N", type=int, default=2, help=argparse.SUPPRESS)
     reader.add_argument("--check", action="store_true", help=argparse.SUPPRESS)
+    reader.add_argument("--touched", action="store_true", help=argparse.SUPPRESS)
     asked = reader.parse_args()
     edits = all_edits()
     wrong = [*faults(edits)]
@@ -241,7 +261,8 @@ def main():
         counts = Counter(edit.kind for edit in edits)
         print(f"{len(edits)} edits: {', '.join(f'{counts[kind]} {kind}' for kind in reversed(KINDS))}")
         sys.exit(1 if wrong else 0)
-    meant = [edit for edit in edits if edit.is_meant_by(asked.words)]
+    touched = touched_files() if asked.touched else set()
+    meant = [edit for edit in edits if edit.is_meant_by(asked.words) and (not asked.touched or f"{edit.crate}/{edit.file}" in touched)]
     there = [edit for edit in meant if edit.count == 1]
     signal.signal(signal.SIGTERM, lambda *_: sys.exit(1))
     with tempfile.TemporaryDirectory(prefix="wrong-definitions-", ignore_cleanup_errors=True) as folder:

@@ -612,6 +612,17 @@ static inline void dws_unfollow(dws_session *s, dws_subject *subject)
     memset(subject, 0, sizeof *subject);
 }
 
+/* Whether the library is that of the header; else `why` says so. */
+static inline bool dws_check_version(char *why, size_t size)
+{
+    unsigned found = dw_version();
+    const char *form = "the library is of version %u.%u.%u, and dirwolleu.h of %s: take both of one version";
+    if (found != DW_VERSION_NUMBER) {
+        snprintf(why, size, form, found / 1000000, found / 1000 % 1000, found % 1000, DW_VERSION);
+    }
+    return found == DW_VERSION_NUMBER;
+}
+
 static inline enum dw_result dws_make_client(dws_session *s)
 {
     if (s->options.saved != NULL) {
@@ -641,6 +652,9 @@ static inline void dws_free(dws_session *s)
 
 static inline dws_session *dws_open(const char *hosts, const dws_options *options, char *why, size_t size)
 {
+    if (!dws_check_version(why, size)) {
+        return NULL;
+    }
     dws_session *s = (dws_session *)calloc(1, sizeof *s);
     enum dw_result result = DW_NO_MEMORY;
     if (s != NULL) {

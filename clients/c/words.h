@@ -18,6 +18,7 @@ static inline const char *advice_of_result(enum dw_result result)
     switch (result) {
     case DW_OK: return "";
     case DW_NONE: return "";
+    case DW_WAITS: return "";
     case DW_HALTED: return "take the saved session, and resume it";
     case DW_NO_MEMORY: return "hand the same in again";
     case DW_CLOSED: return "open one";
@@ -26,6 +27,9 @@ static inline const char *advice_of_result(enum dw_result result)
     case DW_BAD_TIMEOUT: return "";
     case DW_NO_SUCH_MODE: return "";
     case DW_NOT_SAVED: return "take all of those that dw_saved gave";
+    case DW_NOT_WHOLE: return "read what dw_lacking tells, with a watch";
+    case DW_TOO_MANY: return "ask for more, or for a path below";
+    case DW_NOT_TEXTS: return "";
     }
     return "take both of one version";
 }

@@ -3,7 +3,7 @@
 #include "session.h"
 
 static dws_subject worker;
-static dws_call creation;
+static dws_call registration;
 
 static void show(dws_session *session, dws_subject *changed)
 {
@@ -12,7 +12,7 @@ static void show(dws_session *session, dws_subject *changed)
         return;
     }
     if (worker.kind == DW_KEPT_ABSENT) { /* what becomes of it, the watch tells */
-        dws_create(session, &creation, "/workers/one", "10.0.0.1:8080", 13, DW_MODE_EPHEMERAL);
+        dws_create(session, &registration, "/workers/one", "10.0.0.1:8080", 13, DW_MODE_EPHEMERAL);
     } else if (worker.stat.ephemeral_owner == dws_id(session)) {
         printf("registered at zxid %" PRId64 "\n", dws_last_zxid(session));
     } else {

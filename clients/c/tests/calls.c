@@ -87,6 +87,122 @@ static void follow_an_absent_node(dw_client *client)
     EXPECT(kept.kind == DW_KEPT_ABSENT && kept.mark == DW_MARK_STALE);
 }
 
+/* The bytes that are spelled at `at` are these. */
+static void expect_spelled(const struct bytes *wanted, const uint8_t *at, size_t length)
+{
+    EXPECT_NUMBER(wanted->length, length);
+    EXPECT(memcmp(wanted->at, at, length) == 0);
+}
+
+/* A path and a side, as dw_lacking spells them. */
+static void put_read(struct bytes *bytes, const char *path, int32_t side)
+{
+    put_buffer(bytes, path, strlen(path));
+    put_int(bytes, side);
+}
+
+/* A node, as dw_subtree spells it. */
+static void put_node(struct bytes *bytes, const char *path, const char *data, const dw_stat *stat)
+{
+    put_buffer(bytes, path, strlen(path));
+    put_buffer(bytes, data, strlen(data));
+    put_long(bytes, stat->czxid);
+    put_long(bytes, stat->mzxid);
+    put_long(bytes, stat->ctime);
+    put_long(bytes, stat->mtime);
+    put_int(bytes, stat->version);
+    put_long(bytes, stat->ephemeral_owner);
+    put_int(bytes, stat->data_length);
+    put_long(bytes, stat->pzxid);
+}
+
+/* These reads are lacking at and below /t. */
+static void expect_lacking(dw_client *client, const struct bytes *wanted)
+{
+    uint8_t room[128];
+    size_t count = 1;
+    EXPECT_NUMBER(DW_OK, dw_lacking(client, "/t", 2, 4, room, sizeof room, &count));
+    expect_spelled(wanted, room, count);
+    EXPECT_NUMBER(wanted->length == 0 ? DW_OK : DW_NOT_WHOLE, dw_subtree(client, "/t", 2, 4, room, sizeof room, &count));
+}
+
+/* A node without children: what is lacking is read, and then all of it is told. */
+static void collect_a_leaf(dw_client *client)
+{
+    dw_stat stat = {3, 5, 1000, 2000, 77, 4, 1, 6, 7, 5, 0};
+    struct bytes came, wanted;
+    uint8_t room[128];
+    size_t count = 1;
+    wanted.length = came.length = 0;
+    put_read(&wanted, "/t", DW_SIDE_DATA);
+    put_read(&wanted, "/t", DW_SIDE_CHILDREN);
+    expect_lacking(client, &wanted);
+    EXPECT_NUMBER(DW_OK, dw_get_data(client, 1, 8, "/t", 2, true));
+    EXPECT_NUMBER(DW_OK, dw_get_children(client, 1, 9, "/t", 2, true));
+    add_data(&came, 3, 6, "first", &stat);
+    add_no_names(&came, 4, 6, &stat);
+    hand_in(client, &came);
+    wanted.length = 0;
+    expect_lacking(client, &wanted);
+    put_node(&wanted, "/t", "first", &stat);
+    EXPECT_NUMBER(DW_OK, dw_subtree(client, "/t", 2, 1, room, sizeof room, &count));
+    expect_spelled(&wanted, room, count);
+    EXPECT_NUMBER(DW_OK, dw_subtree(client, "/t", 2, 1, room, 0, &count));
+    EXPECT_NUMBER(wanted.length, count);
+    EXPECT_NUMBER(DW_TOO_MANY, dw_subtree(client, "/t", 2, 0, room, sizeof room, &count));
+    EXPECT_NUMBER(0, count);
+}
+
+/* The node that was made is read with a watch: whoever has the least number stands first, by its czxid, and another one waits. */
+static void stand_first(dw_client *client)
+{
+    dw_stat stat = {6, 6, 0, 0, SESSION, 6, 0, 0, 0, 1, 0};
+    struct bytes came, names, markers;
+    int64_t token = 1;
+    size_t count = 1;
+    char rival[16];
+    came.length = names.length = markers.length = 0;
+    EXPECT_NUMBER(DW_OK, dw_get_data(client, 1, 11, "/n-0000000000", 13, true));
+    add_data(&came, 6, 6, "x", &stat);
+    hand_in(client, &came);
+    put_buffer(&names, "n-0000000001", 12);
+    put_buffer(&names, "n-0000000000", 12);
+    put_buffer(&markers, "n-", 2);
+    put_buffer(&markers, "n-", 2);
+    EXPECT_NUMBER(DW_OK, dw_standing(client, "/", 1, "n-0000000000", 12, names.at, names.length, 6, markers.at, markers.length, &token,
+                                     rival, sizeof rival, &count));
+    EXPECT(token == 6 && count == 0);
+    EXPECT_NUMBER(DW_WAITS, dw_standing(client, "/", 1, "n-0000000001", 12, names.at, names.length, 6, markers.at, markers.length, &token,
+                                        rival, sizeof rival, &count));
+    EXPECT(token == 0 && count == 12 && memcmp(rival, "n-0000000000", 12) == 0);
+    EXPECT_NUMBER(DW_NONE, dw_standing(client, "/", 1, "n-0000000000", 12, names.at, names.length, 5, markers.at, markers.length, &token,
+                                       rival, sizeof rival, &count));
+    EXPECT_NUMBER(DW_NOT_TEXTS, dw_standing(client, "/", 1, "n-0000000000", 12, names.at, names.length - 1, 6, markers.at,
+                                            markers.length, &token, rival, sizeof rival, &count));
+    EXPECT_NUMBER(DW_NOT_TEXTS, dw_standing(client, "/", 1, "n-0000000000", 12, names.at, names.length, 6, markers.at, 0, &token, rival,
+                                            sizeof rival, &count));
+    EXPECT(token == 0 && count == 0);
+}
+
+/* All names of a listing, in the order of the reply. */
+static void list_names(dw_client *client)
+{
+    const dw_stat stat = {0, 0, 0, 0, 0, 0, 0, 0, 0, 0, 0};
+    struct bytes came, wanted;
+    uint8_t room[32];
+    size_t count = 1;
+    came.length = wanted.length = 0;
+    EXPECT_NUMBER(DW_OK, dw_get_children(client, 1, 10, "/", 1, false));
+    add_names(&came, 5, 6, "right", "left", &stat);
+    hand_in(client, &came);
+    EXPECT_NUMBER(2, expect_next(client, DW_KIND_ANSWER).names);
+    put_buffer(&wanted, "right", 5);
+    put_buffer(&wanted, "left", 4);
+    EXPECT_NUMBER(DW_OK, dw_names(client, room, sizeof room, &count));
+    expect_spelled(&wanted, room, count);
+    expect_no_more(client);
+}
+
 /* A sequential node is made, and its path is told. */
 static void create_a_node(dw_client *client)
 {
@@ -134,12 +250,13 @@ static void expect_unknown(void)
     EXPECT_TEXT("the server refuses it, with a number that the header does not have", dw_code_words(INT32_MIN));
 }
 
-/* The version as a text is that as a number. */
+/* The version as a text is that as a number, and that of the library. */
 static void expect_version(void)
 {
     char text[16];
     snprintf(text, sizeof text, "%d.%d.%d", DW_VERSION_NUMBER / 1000000, DW_VERSION_NUMBER / 1000 % 1000, DW_VERSION_NUMBER % 1000);
     EXPECT_TEXT(text, DW_VERSION);
+    EXPECT_NUMBER(DW_VERSION_NUMBER, dw_version());
 }
 
 int main(void)
@@ -152,6 +269,9 @@ int main(void)
     connect_client(&client);
     follow_an_absent_node(&client);
     create_a_node(&client);
+    collect_a_leaf(&client);
+    list_names(&client);
+    stand_first(&client);
     lose_the_connection(&client);
     dw_close(&client);
     printf("calls: passed\n");

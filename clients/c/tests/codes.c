@@ -47,6 +47,9 @@ static void expect_closed_outputs(dw_client *none)
     EXPECT_NUMBER(0, dw_name(none, 0, room, sizeof room));
     EXPECT_NUMBER(DW_CLOSED, dw_words(none, room, sizeof room, &count));
     EXPECT_NUMBER(0, count);
+    count = 1;
+    EXPECT_NUMBER(DW_CLOSED, dw_names(none, (uint8_t *)room, sizeof room, &count));
+    EXPECT_NUMBER(0, count);
     expect_untouched(room, sizeof room);
 }
 
@@ -74,6 +77,7 @@ static void expect_no_look_up(dw_client *client, enum dw_result result, const ch
     char name[ROOM];
     dw_kept_data data;
     dw_kept_names names;
+    int64_t token = 1;
     size_t count = 1;
     memset(room, UNTOUCHED, sizeof room);
     memset(name, UNTOUCHED, sizeof name);
@@ -86,6 +90,16 @@ static void expect_no_look_up(dw_client *client, enum dw_result result, const ch
     count = 1;
     EXPECT_NUMBER(result, dw_peek_names(client, path, length, room, sizeof room, &count));
     EXPECT_NUMBER(0, count);
+    count = 1;
+    EXPECT_NUMBER(result, dw_subtree(client, path, length, 1, room, sizeof room, &count));
+    EXPECT_NUMBER(0, count);
+    count = 1;
+    EXPECT_NUMBER(result, dw_lacking(client, path, length, 1, room, sizeof room, &count));
+    EXPECT_NUMBER(0, count);
+    count = 1;
+    EXPECT_NUMBER(result, dw_standing(client, path, length, TEXT("n-0000000000"), DATA("\0\0\0\1n"), 1, DATA("\0\0\0\1n"), &token, name,
+                                      sizeof name, &count));
+    EXPECT(token == 0 && count == 0);
     expect_untouched(room, sizeof room);
     expect_untouched(name, sizeof name);
     expect_untouched(&data, sizeof data);

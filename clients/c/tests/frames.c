@@ -134,6 +134,14 @@ void add_names(struct bytes *bytes, int32_t xid, int64_t zxid, const char *first
     end_frame(bytes, begin);
 }
 
+void add_no_names(struct bytes *bytes, int32_t xid, int64_t zxid, const dw_stat *stat)
+{
+    size_t begin = begin_reply(bytes, xid, zxid, 0);
+    put_int(bytes, 0);
+    put_stat(bytes, stat);
+    end_frame(bytes, begin);
+}
+
 void add_created(struct bytes *bytes, int32_t xid, int64_t zxid, const char *path)
 {
     size_t begin = begin_reply(bytes, xid, zxid, 0);

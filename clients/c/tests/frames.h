@@ -39,8 +39,9 @@ void add_header(struct bytes *bytes, int32_t xid, int64_t zxid, int32_t code);
 void add_data(struct bytes *bytes, int32_t xid, int64_t zxid, const char *data, const dw_stat *stat);
 void add_stat(struct bytes *bytes, int32_t xid, int64_t zxid, const dw_stat *stat);
 
-/* GetChildren2Response, of two names. */
+/* GetChildren2Response, of two names and of none. */
 void add_names(struct bytes *bytes, int32_t xid, int64_t zxid, const char *first, const char *second, const dw_stat *stat);
+void add_no_names(struct bytes *bytes, int32_t xid, int64_t zxid, const dw_stat *stat);
 
 /* CreateResponse. */
 void add_created(struct bytes *bytes, int32_t xid, int64_t zxid, const char *path);

@@ -105,6 +105,49 @@ static enum dw_result peek_names(struct play *play)
     return add_kept_names(&play->lines, &play->client, "/a");
 }
 
+/* All names of the listing that was told last: none, since no output of this step is one. */
+static enum dw_result names(struct play *play)
+{
+    uint8_t room[8];
+    size_t count = 1;
+    enum dw_result result = dw_names(&play->client, room, sizeof room, &count);
+    EXPECT_NUMBER(0, count);
+    return result;
+}
+
+/* What is lacking below /a, which a notice has made stale: its data, and the data and names of its children. */
+static enum dw_result lacking(struct play *play)
+{
+    uint8_t room[256];
+    size_t count = 1;
+    enum dw_result result = dw_lacking(&play->client, PATH, sizeof PATH, 3, room, sizeof room, &count);
+    EXPECT_NUMBER(result == DW_OK ? 10 + 2 * 15 + 2 * 16 : 0, count);
+    return result;
+}
+
+static enum dw_result subtree(struct play *play)
+{
+    uint8_t room[8];
+    size_t count = 1;
+    enum dw_result result = dw_subtree(&play->client, PATH, sizeof PATH, 3, room, sizeof room, &count);
+    EXPECT_NUMBER(0, count);
+    return result == DW_NOT_WHOLE ? DW_OK : result;
+}
+
+/* A rival is listed before this session. */
+static enum dw_result standing(struct play *play)
+{
+    static const uint8_t listed[] = "\0\0\0\xc" "n-0000000000\0\0\0\xc" "n-0000000001", markers[] = "\0\0\0\2n-\0\0\0\2n-";
+    char rival[16];
+    int64_t token = 1;
+    size_t count = 1;
+    enum dw_result result = dw_standing(&play->client, PATH, sizeof PATH, "n-0000000001", 12, listed, sizeof listed - 1, 5, markers,
+                                        sizeof markers - 1, &token, rival, sizeof rival, &count);
+    EXPECT_NUMBER(0, token);
+    EXPECT_NUMBER(result == DW_WAITS ? 12 : 0, count);
+    return result == DW_WAITS ? DW_OK : result;
+}
+
 static enum dw_result save(struct play *play)
 {
     enum dw_result result = dw_saved(&play->client, play->saved, sizeof play->saved, &play->saved_length);
@@ -188,6 +231,10 @@ static const struct move MOVES[] = {
     {replied, STEP | REFUSES},
     {peek_data, REFUSES},
     {peek_names, REFUSES},
+    {names, REFUSES},
+    {lacking, REFUSES},
+    {subtree, REFUSES},
+    {standing, REFUSES},
     {forget, 0},
     {cut, STEP},
     {opened, STEP},

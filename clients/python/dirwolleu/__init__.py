@@ -6,36 +6,60 @@ this at this zxid, and nothing that the client was told has ended it.
 """
 
 import logging
+from typing import TYPE_CHECKING, Any
 
-from dirwolleu import aio, security
+from dirwolleu import security
 from dirwolleu._lane import Created
 from dirwolleu._retry import Retry
+from dirwolleu._trees import AsyncTree, Tree
+from dirwolleu._watches import ChildrenWatch, DataWatch
 from dirwolleu.client import Client
 from dirwolleu.exceptions import *  # noqa: F403
 from dirwolleu.exceptions import __all__ as _exceptions
-from dirwolleu.recipes import Election, Held, Lock, Registration
+from dirwolleu.recipes import *  # noqa: F403
+from dirwolleu.recipes import __all__ as _recipes
 from dirwolleu.security import AuthFailedError
 from dirwolleu.tls import tls_context
 from dirwolleu.transaction import AsyncTransaction, Transaction
+from dirwolleu.tree import *  # noqa: F403
+from dirwolleu.tree import __all__ as _tree
 from dirwolleu.types import *  # noqa: F403
 from dirwolleu.types import __all__ as _types
 
+if TYPE_CHECKING:
+    from dirwolleu import aio
+
 __all__ = [
     "AsyncTransaction",
+    "AsyncTree",
     "AuthFailedError",
+    "ChildrenWatch",
     "Client",
     "Created",
-    "Election",
-    "Held",
-    "Lock",
-    "Registration",
+    "DataWatch",
     "Retry",
     "Transaction",
+    "Tree",
     "aio",
     "security",
     "tls_context",
     *_exceptions,
+    *_recipes,
+    *_tree,
     *_types,
 ]
 
 logging.getLogger("dirwolleu.connection").addHandler(logging.NullHandler())  # what callbacks raise is seen all the same
+
+
+def __getattr__(name: str) -> Any:
+    """Imports `dirwolleu.aio` at its first use, since asyncio takes longer to load than all else of the package."""
+    if name != "aio":
+        raise AttributeError(f"module {__name__!r} has no attribute {name!r}")
+    import importlib
+
+    return importlib.import_module("dirwolleu.aio")
+
+
+def __dir__() -> list[str]:
+    return __all__

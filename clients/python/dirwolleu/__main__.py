@@ -3,17 +3,27 @@
 from __future__ import annotations
 
 import argparse
+import contextlib
 import datetime
 import json
 import os
 import sys
-from collections.abc import Iterator
+from collections.abc import Generator, Iterator
 from typing import Any, Callable, NamedTuple, Optional, Union
 
 from dirwolleu.client import Client
-from dirwolleu.exceptions import NoNodeError, ZookeeperError
+from dirwolleu.exceptions import (
+    CallTimeoutError,
+    ConnectionClosedError,
+    ConnectionLoss,
+    NoNodeError,
+    SessionExpiredError,
+    SessionMovedError,
+    ZookeeperError,
+)
 from dirwolleu.tls import tls_context
-from dirwolleu.types import DataStat, Kept, Stat
+from dirwolleu.tree import TreeNode, TreeSnapshot
+from dirwolleu.types import DataStat, Kept, KeptChildren, Stat, State
 
 DESCRIPTION = "Shows and changes the nodes of ZooKeeper, and watches them."
 EPILOG = """\
@@ -32,23 +42,37 @@ a session:
   {"path": "/app/config", "czxid": 4, "mzxid": 5, ...}
   $ python3 -m dirwolleu watch /app/config
   zxid 5  good  two
+  $ python3 -m dirwolleu watch --children /app
+  zxid 5  good  config
+
+`watch` says on standard error when the connection is lost, and when it is back. Data that are no text are shown with
+backslashes; `get --raw` writes their bytes as they are, and `--file -` reads data from standard input.
 
 exit status:
   0  it was done
-  1  the server refused it, as where there is no node: a line on standard error says why
-  2  the words of the command are no such command
+  1  it was refused, as where there is no node: a line on standard error says why, and nothing has changed
+  2  the words of the command are no such command, or a file that they name can't be read
   3  no server, or no answer: a change may have happened where the line says so
   130  it was interrupted
+  141  whoever read its output has gone
 """
 
 Write = Callable[[str], None]
 
+UNANSWERED = (CallTimeoutError, ConnectionClosedError, ConnectionLoss, SessionExpiredError, SessionMovedError)
+DONE, REFUSED, NO_COMMAND, NO_ANSWER, INTERRUPTED, NO_READER = 0, 1, 2, 3, 130, 141
+
 
 class Shown(NamedTuple):
-    """What a command tells: for programs, and as lines for people."""
+    """What a command tells: for programs, and as lines for people, or as bytes."""
 
     value: Any
     lines: list[str]
+    raw: Optional[bytes] = None
+
+
+class NoFile(Exception):
+    """A file that the words name can't be read."""
 
 
 def _text(data: Optional[bytes]) -> str:
@@ -79,7 +103,9 @@ def show_ls(client: Client, chosen: argparse.Namespace) -> Shown:
 
 def show_get(client: Client, chosen: argparse.Namespace) -> Shown:
     data, stat = client.get(chosen.path)
-    return Shown({**_stat_fields(chosen.path, stat), **_data_fields(data)}, [_text(data)])
+    return Shown(
+        {**_stat_fields(chosen.path, stat), **_data_fields(data)}, [_text(data)], data or b"" if chosen.raw else None
+    )
 
 
 def show_stat(client: Client, chosen: argparse.Namespace) -> Shown:
@@ -94,14 +120,14 @@ def show_stat(client: Client, chosen: argparse.Namespace) -> Shown:
 
 
 def show_set(client: Client, chosen: argparse.Namespace) -> Shown:
-    stat = client.set(chosen.path, os.fsencode(chosen.data), chosen.version)
+    stat = client.set(chosen.path, chosen.value, chosen.version)
     return Shown(_stat_fields(chosen.path, stat), [f"version {stat.version}"])
 
 
 def show_create(client: Client, chosen: argparse.Namespace) -> Shown:
     path = client.create(
         chosen.path,
-        os.fsencode(chosen.data),
+        chosen.value,
         sequence=chosen.sequence,
         makepath=chosen.makepath,
     )
@@ -113,26 +139,21 @@ def show_delete(client: Client, chosen: argparse.Namespace) -> Shown:
     return Shown({"path": chosen.path}, [])
 
 
-def _nodes(client: Client, path: str, depth: int) -> Iterator[tuple[int, str, Optional[bytes]]]:
-    """The nodes at and below a path, with their depths. One that goes meanwhile is left out."""
-    try:
-        data, _ = client.get(path)
-        names = sorted(client.get_children(path))
-    except NoNodeError:
-        if depth == 0:
-            raise
-        return
-    yield depth, path, data
-    for name in names:
-        yield from _nodes(client, f"{path.rstrip('/')}/{name}", depth + 1)
+def _in_order(snapshot: TreeSnapshot, path: str, depth: int) -> Iterator[tuple[int, TreeNode]]:
+    """The nodes at and below a path, each before those below it, with their depths."""
+    yield depth, snapshot[path]
+    for name in snapshot.children(path):
+        yield from _in_order(snapshot, f"{path.rstrip('/')}/{name}", depth + 1)
 
 
 def show_tree(client: Client, chosen: argparse.Namespace) -> Shown:
+    with client.tree(chosen.path) as tree:
+        snapshot = tree.wait(chosen.timeout)
     values, lines = [], []
-    for depth, path, data in _nodes(client, chosen.path, 0):
-        name = path if depth == 0 else path.rpartition("/")[2]
-        values.append({"path": path, **_data_fields(data)})
-        lines.append(f"{'  ' * depth}{name}  {_text(data)}" if data else "  " * depth + name)
+    for depth, node in _in_order(snapshot, chosen.path, 0):
+        name = node.path if depth == 0 else node.path.rpartition("/")[2]
+        values.append({"path": node.path, "zxid": snapshot.zxid, **_data_fields(node.data)})
+        lines.append(f"{'  ' * depth}{name}  {_text(node.data)}" if node.data else "  " * depth + name)
     return Shown(values, lines)
 
 
@@ -145,9 +166,27 @@ def _kept_shown(kept: Kept) -> Shown:
     return Shown(value, [f"zxid {kept.last_zxid}  {mark}  {text}"])
 
 
-def watched(client: Client, chosen: argparse.Namespace) -> Iterator[Shown]:
-    for kept in client.follow(chosen.path):
-        yield _kept_shown(kept)
+def _children_shown(kept: KeptChildren) -> Shown:
+    mark = kept.mark.name.lower()
+    value = {"path": kept.path, "exists": kept.exists, "mark": mark, "last_zxid": kept.last_zxid}
+    value.update(names=list(kept.names), pzxid=kept.pzxid)
+    return Shown(value, [f"zxid {kept.last_zxid}  {mark}  {' '.join(kept.names) if kept.exists else '(no node)'}"])
+
+
+def _say(state: State) -> None:
+    words = {State.CONNECTED: "connected", State.SUSPENDED: "the connection is lost", State.LOST: "the session is over"}
+    print(f"watch: {words[state]}", file=sys.stderr, flush=True)
+
+
+def watched(client: Client, chosen: argparse.Namespace) -> Generator[Shown, None, None]:
+    client.add_listener(_say)
+    try:
+        if chosen.children:
+            yield from map(_children_shown, client.follow_children(chosen.path))
+        else:
+            yield from map(_kept_shown, client.follow(chosen.path))
+    finally:
+        client.remove_listener(_say)
 
 
 COMMANDS: dict[str, tuple[str, Optional[Callable[[Client, argparse.Namespace], Shown]]]] = {
@@ -157,7 +196,7 @@ COMMANDS: dict[str, tuple[str, Optional[Callable[[Client, argparse.Namespace], S
     "set": ("sets the data of a node", show_set),
     "create": ("makes a node, and tells its path", show_create),
     "delete": ("deletes a node", show_delete),
-    "tree": ("a node and all below it, with their data; nodes are read one after the other", show_tree),
+    "tree": ("a node and all below it, with their data, of one moment", show_tree),
     "watch": ("what a node holds, and each change of it, until it is interrupted", None),
 }
 
@@ -186,8 +225,11 @@ def parser() -> argparse.ArgumentParser:
     words = {name: commands.add_parser(name, help=help, description=help) for name, (help, _) in COMMANDS.items()}
     for word in words.values():
         word.add_argument("path", metavar="PATH")
-    words["set"].add_argument("data", metavar="TEXT")
-    words["create"].add_argument("data", metavar="TEXT", nargs="?", default="")
+    for name in ("set", "create"):
+        words[name].add_argument("data", metavar="TEXT", nargs="?", default=None if name == "set" else "")
+        words[name].add_argument("--file", metavar="FILE", help="the data are those of a file; - is standard input")
+    words["get"].add_argument("--raw", action="store_true", help="write the bytes as they are, without a line's end")
+    words["watch"].add_argument("--children", action="store_true", help="the names of the node's children")
     for name in ("set", "delete"):
         words[name].add_argument("--version", type=int, default=-1, help="only if the node has this version")
     words["create"].add_argument("--sequence", action="store_true", help="add a number of ten digits to the path")
@@ -196,40 +238,74 @@ def parser() -> argparse.ArgumentParser:
     return made
 
 
+def _read(chosen: argparse.Namespace) -> None:
+    """Reads what files have that the words name, before a server is asked."""
+    try:
+        if chosen.ca or chosen.cert:
+            chosen.tls = tls_context(ca=chosen.ca, certfile=chosen.cert, keyfile=chosen.key)
+        if getattr(chosen, "file", None) is not None:
+            with open(0 if chosen.file == "-" else chosen.file, "rb", closefd=chosen.file != "-") as file:
+                chosen.value = file.read()
+        elif "data" in chosen:
+            if chosen.data is None:
+                raise NoFile("TEXT or --file is wanted")
+            chosen.value = os.fsencode(chosen.data)
+    except OSError as error:
+        named = error.filename or chosen.ca or chosen.cert
+        raise NoFile(f"{named}: {error.strerror or error}") from error
+
+
 def _client(chosen: argparse.Namespace) -> Client:
-    has_tls = chosen.ca or chosen.cert
     return Client(
         chosen.hosts,
         chosen.timeout,
         auth_data=[(scheme, text) for scheme, _, text in (one.partition(":") for one in chosen.auth)],
-        ssl=tls_context(ca=chosen.ca, certfile=chosen.cert, keyfile=chosen.key) if has_tls else None,
+        ssl=chosen.tls,
     )
 
 
 def _run(chosen: argparse.Namespace, write: Write) -> None:
+    _read(chosen)
     client = _client(chosen)
     client.start(chosen.timeout)
-    with client:
-        show = COMMANDS[chosen.command][1]
-        for shown in watched(client, chosen) if show is None else [show(client, chosen)]:
+    with client, contextlib.closing(_shown_by(client, chosen)) as shows:
+        for shown in shows:
+            if shown.raw is not None:
+                sys.stdout.buffer.write(shown.raw)
+                sys.stdout.flush()
+                continue
             for line in [json.dumps(shown.value)] if chosen.json else shown.lines:
                 write(line)
 
 
+def _shown_by(client: Client, chosen: argparse.Namespace) -> Generator[Shown, None, None]:
+    show = COMMANDS[chosen.command][1]
+    if show is None:
+        yield from watched(client, chosen)
+    else:
+        yield show(client, chosen)
+
+
+def _status_of(error: BaseException) -> int:
+    if isinstance(error, ZookeeperError):
+        return NO_ANSWER if isinstance(error, UNANSWERED) else REFUSED
+    return NO_ANSWER if isinstance(error, OSError) else NO_COMMAND
+
+
 def main(words: Optional[list[str]] = None) -> int:
     """Does what the words say, and answers the exit status."""
-    chosen = parser().parse_args(words)
+    chosen = parser().parse_args(words, argparse.Namespace(tls=None))
     try:
         _run(chosen, lambda line: print(line, flush=True))
-    except ZookeeperError as error:
-        print(f"{chosen.command}: {error}", file=sys.stderr)
-        return 3 if error.code in (None, -4) else 1
-    except (OSError, ValueError) as error:
-        print(f"{chosen.command}: {error}", file=sys.stderr)
-        return 2 if isinstance(error, ValueError) else 3
     except KeyboardInterrupt:
-        return 130
-    return 0
+        return INTERRUPTED
+    except BrokenPipeError:
+        os.dup2(os.open(os.devnull, os.O_WRONLY), 1)  # what the interpreter writes at its end
+        return NO_READER
+    except (ZookeeperError, OSError, ValueError, NoFile) as error:
+        print(f"{chosen.command}: {error}", file=sys.stderr)
+        return _status_of(error)
+    return DONE
 
 
 if __name__ == "__main__":

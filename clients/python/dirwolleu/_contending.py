@@ -1,51 +1,97 @@
 """How a contender takes a lock: what it asks, one step after the other, for both kinds of clients.
 
 Contenders are ephemeral nodes with a number, below the path of the lock. The one with the least number holds, and each
-other one watches the one before it. A node's name has a tag of its own, so that a create whose answer was lost is
-found again. The names are those of Curator, and kazoo's are understood too.
+other one watches the one before it; those that share a lock wait for those before them that do not. A node's name has a
+tag of its own, so that a create whose answer was lost is found again. The names are those of Curator or of kazoo, and
+both are understood.
 """
 
 from __future__ import annotations
 
+import logging
 import re
 import time
 import uuid
-from collections.abc import Generator
-from typing import Any, Callable, NamedTuple, Optional, Union
+from typing import TYPE_CHECKING, Any, Callable, Generic, NamedTuple, Optional, TypeVar
 
 from dirwolleu import _lane as lane
 from dirwolleu import _plans as plans
 from dirwolleu import _requests as requests
-from dirwolleu._engine import Engine
-from dirwolleu._lane import LaneRequest
+from dirwolleu._clock import moment
+from dirwolleu._engine import Engine, News
 from dirwolleu._plans import Plan
-from dirwolleu._requests import Request
 from dirwolleu._retry import is_passing
-from dirwolleu.exceptions import NoNodeError, SessionExpiredError, ZookeeperError
+from dirwolleu._steps import Result, Steps, TimeIsOver, Wait, bounded, until_of
+from dirwolleu.exceptions import LockLostError, LockTimeout, NoNodeError, SessionExpiredError, ZookeeperError
 from dirwolleu.types import Mark, State
 
-_CONTENDER = re.compile(r"(?:-lock-|__lock__)(-?\d{10})$")
+if TYPE_CHECKING:
+    from dirwolleu._shown import Shown
+
+logger = logging.getLogger("dirwolleu.connection")
+
 BETWEEN_TRIES = 0.1
-"""How long a contender waits before it asks again what a connection has lost, in seconds."""
+"""How long a recipe waits before it asks again what a connection has lost, in seconds."""
+
+_CONTENDER = re.compile(r"(-lock-|__lock__|-__WRIT__|__rlock__|-__READ__)(-?\d{10})$")
+_SHARING = ("__rlock__", "-__READ__")
 
 
-class Wait(NamedTuple):
-    """Wait for news, for at most this many seconds; None is no bound."""
+class Kind(NamedTuple):
+    """What the name of a contender's node is made of besides its number, and whether it shares the lock."""
 
-    seconds: Optional[float]
+    curators: str
+    kazoos: str
+    shares: bool = False
+
+    def tag(self, names: str) -> str:
+        """The beginning of a name that no other node has. Raises `ValueError` where nobody has such names."""
+        if names not in ("curator", "kazoo"):
+            raise ValueError(f"names are those of curator or of kazoo, and not of {names}")
+        own = uuid.uuid4()
+        return f"_c_{own}{self.curators}" if names == "curator" else f"{own.hex}{self.kazoos}"
 
 
-Steps = Generator[Union[Request[Any], LaneRequest[Any], Wait], Any, Any]
+EXCLUSIVE = Kind("-lock-", "__lock__")
+WRITING = Kind("-__WRIT__", "__lock__")
+READING = Kind("-__READ__", "__rlock__", shares=True)
+
+
+class _Place(NamedTuple):
+    number: int
+    name: str
+    shares: bool
+
+
+def _places(names: list[str]) -> list[_Place]:
+    found = ((_CONTENDER.search(name), name) for name in names)
+    return sorted(_Place(int(match[2]), name, match[1] in _SHARING) for match, name in found if match)
 
 
 def in_line(names: list[str]) -> list[str]:
-    """The names of contenders, that which holds first.
+    """The names of contenders, that which is first in front.
 
     >>> in_line(["b-lock-0000000010", "a__lock__0000000009", "other"])
     ['a__lock__0000000009', 'b-lock-0000000010']
     """
-    found = ((_CONTENDER.search(name), name) for name in names)
-    return [name for _, name in sorted((int(match[1]), name) for match, name in found if match)]
+    return [place.name for place in _places(names)]
+
+
+def before(names: list[str], own: str, shares: bool) -> Optional[str]:
+    """Which contender is waited for: the last one before this one that it can't hold the lock with, if there is one.
+
+    >>> before(["a-lock-0000000001", "b-__READ__0000000002", "c-__READ__0000000003"], "c-__READ__0000000003", True)
+    'a-lock-0000000001'
+
+    Raises `LookupError` where this one is not there.
+    """
+    last = None
+    for place in _places(names):
+        if place.name == own:
+            return last
+        if not (shares and place.shares):
+            last = place.name
+    raise LookupError(own)
 
 
 class Holding:
@@ -72,11 +118,10 @@ class Holding:
                 return f"the server was not heard within {within} seconds"
         return self._why
 
-    def lose(self, why: str) -> None:
-        self._why = self._why or why
-
     def _found_lost(self) -> str:
         engine = self._engine
+        if not engine.is_here():
+            return "it is held in another process, before a fork"
         is_cut = engine.state is not State.CONNECTED or engine.contact.admissions != self._connections
         if is_cut and not self._keeps:
             return "the connection was lost"
@@ -88,50 +133,59 @@ class Holding:
         return ""
 
 
-def _let_pass(error: ZookeeperError) -> None:
+def let_pass(error: ZookeeperError) -> None:
     """Raises an error after which the same session brings nothing more."""
     if isinstance(error, SessionExpiredError) or not is_passing(error):
         raise error
 
 
 class Contender:
-    """One try to take a lock."""
+    """One try to take a lock, in steps within which `news` is set at each change of the state."""
 
-    def __init__(self, engine: Engine, path: str, data: bytes, wake: Callable[[], object], clear: Callable[[], object]):
-        self._engine, self._path, self._data = engine, path, data
-        self._wake, self._clear = wake, clear
+    def __init__(self, engine: Engine, path: str, data: bytes, kind: Kind, names: str, news: News) -> None:
+        self._engine, self._path, self._data, self._news = engine, path, data, news
+        self._kind, self._names = kind, names
+        self._may_be_there = False
 
-    def take(self, on_told: Callable[[Any], object]) -> Steps:
+    def take(self, on_told: Callable[[Any], object]) -> Steps[tuple[str, int]]:
         """Waits until this contender holds, and answers its path and its token. Where it ends before, it leaves none."""
         while True:
-            tag = f"_c_{uuid.uuid4()}-lock-"
+            tag = self._kind.tag(self._names)
             path: Optional[str] = None
+            self._may_be_there = False
             try:
-                path = yield from self._stand(tag)
+                path = yield from self._enter(tag)
                 token = yield from self._wait_for_turn(path, on_told)
                 if token is not None:
                     return path, token
             except SessionExpiredError:
                 pass  # the node is gone with its session
+            except GeneratorExit:
+                raise
             except BaseException:
-                yield from self._leave(tag, path)
+                if self._may_be_there:
+                    yield from self._leave(tag, path)
                 raise
 
-    def _stand(self, tag: str) -> Generator[Any, Any, str]:
+    def _enter(self, tag: str) -> Steps[str]:
         """Makes the node. One whose answer was lost is looked for by its tag."""
         while True:
             try:
                 yield from plans.ensure_path(self._path, None)
+                self._may_be_there = True
                 created: str = yield requests.create(plans.child_of(self._path, tag), self._data, True, True)
                 return created
+            except NoNodeError:
+                self._may_be_there = False  # the path was deleted meanwhile
             except ZookeeperError as error:
-                _let_pass(error)
+                self._may_be_there = self._may_be_there and error.may_have_happened
+                let_pass(error)
             yield Wait(BETWEEN_TRIES)
-            found = yield from self._find(tag)
+            found = (yield from self._find(tag)) if self._may_be_there else None
             if found is not None:
                 return found
 
-    def _find(self, tag: str) -> Generator[Any, Any, Optional[str]]:
+    def _find(self, tag: str) -> Steps[Optional[str]]:
         """The node of a tag, once what was sent before has happened or can't happen any more."""
         while True:
             try:
@@ -141,31 +195,31 @@ class Contender:
             except NoNodeError:
                 return None
             except ZookeeperError as error:
-                _let_pass(error)
+                let_pass(error)
             yield Wait(BETWEEN_TRIES)
 
-    def _wait_for_turn(self, path: str, on_told: Callable[[Any], object]) -> Generator[Any, Any, Optional[int]]:
-        """Waits until the node is the first, and answers its token: None where the node is gone."""
+    def _wait_for_turn(self, path: str, on_told: Callable[[Any], object]) -> Steps[Optional[int]]:
+        """Waits until no one is before the node, and answers its token: None where the node is gone."""
         own = path.rpartition("/")[2]
         while True:
-            self._clear()
+            self._news.clear()
             try:
-                line = in_line((yield requests.get_children(self._path, None)))
-                if own not in line:
-                    return None
-                place = line.index(own)
-                if place == 0:
+                other = before((yield requests.get_children(self._path, None)), own, self._kind.shares)
+                if other is None:
                     stat = yield requests.exists(path, on_told)
-                    return None if stat is None else int(stat.czxid)
-                yield requests.get(plans.child_of(self._path, line[place - 1]), lambda _: self._wake())
+                    is_ours = stat is not None and stat.ephemeral_owner == self._engine.session_id()
+                    return int(stat.czxid) if is_ours else None
+                yield requests.get(plans.child_of(self._path, other), lambda _: self._news.set())
                 yield Wait(None)
+            except LookupError:
+                return None
             except NoNodeError:
                 pass  # the one before it has gone
             except ZookeeperError as error:
-                _let_pass(error)
+                let_pass(error)
                 yield Wait(BETWEEN_TRIES)
 
-    def _leave(self, tag: str, path: Optional[str]) -> Steps:
+    def _leave(self, tag: str, path: Optional[str]) -> Steps[None]:
         """Deletes the node, whether its path is known or not."""
         until = time.monotonic() + 2 * self._engine.timeout()
         while self._engine.is_running and time.monotonic() < until:
@@ -182,34 +236,198 @@ class Contender:
             yield Wait(BETWEEN_TRIES)
 
 
-def release(engine: Engine, path: str) -> Steps:
-    """Deletes the node of a lock: after lost answers again, as long as its session may live."""
+def patiently(engine: Engine, plan: Callable[[], Steps[Result]]) -> Steps[Result]:
+    """Does what may be done twice, and again where the connection, the session or the load of a server ended it: for
+    twice the timeout of the session, and then the error is raised.
+    """
     until = time.monotonic() + 2 * engine.timeout()
     while True:
         try:
-            yield requests.delete(path, -1)
-            return
-        except NoNodeError:
-            return
+            return (yield from plan())
         except ZookeeperError as error:
-            if isinstance(error, SessionExpiredError):
-                return
             if not is_passing(error) or time.monotonic() > until:
                 raise
         yield Wait(BETWEEN_TRIES)
 
 
+def release(engine: Engine, path: str) -> Steps[None]:
+    """Deletes the node of a lock: after lost answers again, as long as its session may live."""
+    try:
+        yield from patiently(engine, lambda: _deleted(path))
+    except SessionExpiredError:
+        pass
+    engine.used()
+
+
+def _deleted(path: str) -> Plan[None]:
+    try:
+        yield requests.delete(path, -1)
+    except NoNodeError:
+        pass
+
+
 def contenders(path: str) -> Plan[list[str]]:
     """What the contenders say of themselves, that which holds first."""
-    found = []
     try:
         names: list[str] = yield requests.get_children(path, None)
     except NoNodeError:
         return []
-    for name in in_line(names):
+    return (yield from identifiers(path, in_line(names)))
+
+
+def identifiers(path: str, names: list[str]) -> Plan[list[str]]:
+    """What the nodes of these names below a path say of themselves, without those that have gone."""
+    found = []
+    for name in names:
         try:
             data, _ = yield requests.get(plans.child_of(path, name), None)
             found.append((data or b"").decode(errors="replace"))
         except NoNodeError:
             pass
     return found
+
+
+AnyClient = TypeVar("AnyClient", bound="Shown")
+
+
+class BaseHeld(Generic[AnyClient]):
+    """What was taken, for both kinds of clients."""
+
+    def __init__(self, client: AnyClient, holding: Holding, on_lost: Optional[Callable[[Any], object]]) -> None:
+        self._client, self._holding, self._on_lost = client, holding, on_lost
+        self._is_released, self._is_told = False, False
+
+    @property
+    def path(self) -> str:
+        """The path of the node that holds."""
+        return self._holding.path
+
+    @property
+    def token(self) -> int:
+        """The zxid at which that node was made: each later holder of an exclusive lock has a greater one.
+
+        Hand it on with each request, and let what is protected refuse one that is smaller than the greatest it has seen.
+        """
+        return self._holding.token
+
+    @property
+    def is_held(self) -> bool:
+        """Whether it is shown that it is held: at the last seen zxid, not now. In a forked child it is not."""
+        return not self._is_released and not self._holding.why_lost()
+
+    def check(self, within: Optional[float] = None) -> None:
+        """Raises `LockLostError` from the step on at which it is not shown that it is held. It asks no server.
+
+        With `within` also where what the client knows may be older than this many seconds.
+        """
+        why = "it was released" if self._is_released else self._holding.why_lost(within, moment())
+        if why:
+            raise LockLostError(f"{self.path}: {why}")
+
+    def _releasing(self) -> Steps[None]:
+        self._client._engine.check_process()
+        if not self._is_released:
+            self._is_released = True
+            self._client.remove_listener(self._look)
+        return release(self._client._engine, self.path)
+
+    def _look(self, _: object = None) -> None:
+        """Tells that it was lost, once."""
+        if not self._is_released and not self._is_told and self._holding.why_lost():
+            self._is_told = True
+            logger.warning("the lock %s is lost: %s", self.path, self._holding.why_lost())
+            if self._on_lost is not None:
+                self._client._call_back(self._on_lost, self)
+
+
+AnyHeld = TypeVar("AnyHeld", bound="BaseHeld[Any]")
+Take = Callable[[Callable[[Any], object]], Steps[tuple[str, int]]]
+
+
+class BaseTaker(Generic[AnyClient, AnyHeld]):
+    """What takes and gives back, for both kinds of clients."""
+
+    def __init__(
+        self,
+        client: AnyClient,
+        path: str,
+        identifier: str = "",
+        *,
+        on_lost: Optional[Callable[[AnyHeld], object]] = None,
+        keeps_while_suspended: bool = False,
+    ) -> None:
+        self._client, self._path, self._data = client, path, identifier.encode()
+        self._on_lost, self._keeps = on_lost, keeps_while_suspended
+        self._entered: dict[object, list[AnyHeld]] = {}
+
+    def _enter(self, who: object, held: AnyHeld) -> AnyHeld:
+        """Keeps what a thread or a task has taken by `with`, which it gives back at the end of the block."""
+        self._entered.setdefault(who, []).append(held)
+        return held
+
+    def _exit(self, who: object) -> AnyHeld:
+        found = who if who in self._entered else next(reversed(self._entered))
+        held = self._entered[found].pop()
+        if not self._entered[found]:
+            del self._entered[found]
+        return held
+
+    def _held(self, holding: Holding) -> AnyHeld:
+        raise NotImplementedError
+
+    def _taken_by(self, news: News) -> Take:
+        """What makes the steps that take it, given what is told news of the node."""
+        raise NotImplementedError
+
+    def _taking(self, news: News, timeout: Optional[float]) -> Steps[AnyHeld]:
+        engine = self._client._engine
+        told: list[AnyHeld] = []
+        take = self._taken_by(news)
+        with engine.news(news.set):
+            try:
+                path, token = yield from bounded(take(lambda _: _look_at(told)), until_of(timeout))
+            except TimeIsOver:
+                raise LockTimeout(f"{self._path} was not taken in time") from None
+        held = self._held(Holding(engine, path, token, self._keeps))
+        told.append(held)
+        self._client.add_listener(held._look)
+        self._client._tell(held._look, None)  # what was told before is not told again
+        return held
+
+
+def _look_at(told: list[AnyHeld]) -> None:
+    for held in told:
+        held._look()
+
+
+class BaseLock(BaseTaker[AnyClient, AnyHeld]):
+    """A lock, for both kinds of clients."""
+
+    _kind = EXCLUSIVE
+
+    def __init__(
+        self,
+        client: AnyClient,
+        path: str,
+        identifier: str = "",
+        *,
+        names: str = "curator",
+        on_lost: Optional[Callable[[AnyHeld], object]] = None,
+        keeps_while_suspended: bool = False,
+    ) -> None:
+        super().__init__(client, path, identifier, on_lost=on_lost, keeps_while_suspended=keeps_while_suspended)
+        self._kind.tag(names)
+        self._names = names
+
+    def _taken_by(self, news: News) -> Take:
+        return Contender(self._client._engine, self._path, self._data, self._kind, self._names, news).take
+
+
+def names_of(path: str) -> Plan[list[str]]:
+    """The names below a path: none where there is no node."""
+    try:
+        names: list[str] = yield requests.get_children(path, None)
+    except NoNodeError:
+        return []
+    return names
+

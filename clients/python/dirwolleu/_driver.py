@@ -8,9 +8,9 @@ import functools
 import logging
 import os
 import ssl
-import time
 from typing import Any, Callable, Optional, cast
 
+from dirwolleu._clock import moment as moment
 from dirwolleu._engine import Engine
 from dirwolleu._hosts import Place, Servers
 from dirwolleu._pauses import BETWEEN_DIALS, Pauses
@@ -22,11 +22,6 @@ SHORTEST_DIAL = 1.0
 """How long an attempt to connect has at least, in seconds, however short the timeout is."""
 SHORTEST_WAIT = 0.1
 _NO_DESCRIPTOR = (errno.EMFILE, errno.ENFILE)
-
-
-def moment() -> int:
-    """Milliseconds of a clock that does not go back."""
-    return int(time.monotonic() * 1000)
 
 
 def _words_of(error: Optional[BaseException]) -> str:

@@ -20,6 +20,8 @@ from dirwolleu._frames import Frames, Kind, is_ping
 from dirwolleu._jute import Malformed
 from dirwolleu._lane import Lane, LaneRequest, Reply
 from dirwolleu._library import Answer, Closed, Drop, Found, Halted, Machine, Output, Report, Send
+from dirwolleu._growing import Growing
+from dirwolleu._listening import Listeners, Listening
 from dirwolleu._requests import Request, Watcher
 from dirwolleu._root import Root
 from dirwolleu.exceptions import (
@@ -32,7 +34,7 @@ from dirwolleu.exceptions import (
     ZookeeperError,
 )
 from dirwolleu.security import AuthFailedError
-from dirwolleu.types import EventType, Kept, KeptChildren, Mark, State, Stats, WatchedEvent
+from dirwolleu.types import EventType, Kept, KeptChildren, Mark, Snapshot, State, Stats, WatchedEvent
 
 logger = logging.getLogger("dirwolleu.connection")
 
@@ -49,6 +51,8 @@ _EVENTS = {
 # end of what is made
 _ENDING = (SessionExpiredError.code, SessionMovedError.code)
 _LONGEST_TIMEOUT_MS = 2_147_483_647
+RECIPES_BEFORE_FORGETTING = 1024
+"""How many nodes recipes are done with before what is stale is forgotten."""
 _SESSION = 0xFFFF_FFFF_FFFF_FFFF
 
 
@@ -127,14 +131,6 @@ def _is_auth(asked: _Asked) -> bool:
     return isinstance(asked.request, LaneRequest) and asked.request.operation is lane.Operation.AUTH
 
 
-class _Listening(NamedTuple):
-    """What is woken at news of the data of a path, or at news of the state alone, and the last good answer for it."""
-
-    path: Optional[str]
-    wake: Callable[[], None]
-    found: collections.deque[Kept]
-
-
 @dataclass
 class Contact:
     """What was heard of servers, for whoever decides when to dial again. Moments are milliseconds."""
@@ -204,11 +200,12 @@ class Engine:
         self._line: collections.deque[_Asked] = collections.deque()
         self._sent: dict[int, _Asked] = {}
         self._lane: Lane[_Asked] = Lane()
-        self._lane_zxid = 0
+        self._lane_zxid = self._used = 0
         self._credentials = list(credentials)
         self._timed: list[tuple[int, int, _Asked]] = []
         self._watchers: dict[tuple[str, int], dict[Watcher, None]] = {}
-        self._listening: dict[object, _Listening] = {}
+        self._listening = Listeners()
+        self._trees: list[Growing] = []
         self._listeners: list[Listener] = []
         self._came, self._frames = Frames(), list[bytes]()
         self._pinged: collections.deque[int] = collections.deque()
@@ -248,8 +245,19 @@ class Engine:
         self._begin_anew(ConnectionClosedError("the client was stopped"))
 
     def leave(self) -> None:
-        """Takes no request any more, at the end of the program: the session goes on for its timeout."""
+        """Takes no request any more, at the end of the program: the session goes on for its timeout.
+
+        Nobody is told, since the threads that wait still are those that end with the program.
+        """
         self.is_running = False
+        self._listening = Listeners()
+        self._lane = Lane()
+        self._handed.clear()
+        self._line.clear()
+        self._sent.clear()
+        self._timed.clear()
+        self._watchers.clear()
+        self._listeners.clear()
 
     def close(self) -> None:
         """Takes no request any more, and frees the machine. It ends no session."""
@@ -290,6 +298,7 @@ class Engine:
         while self._line and self._is_given_up(self._line[0], now):
             error = NotConnectedError(self.no_server(self._timeout_ms / 1000))
             self._count_loss(self._line.popleft(), error)
+        self._grow_trees(now)
 
     def received(self, now: int, data: bytes) -> None:
         """Bytes came. Each frame is a step of its own, so that what is kept can be looked up as it was with the frame.
@@ -300,6 +309,7 @@ class Engine:
             self._step(now, lambda machine: machine.received(now, piece.data))
             if piece.kind is Kind.PONG and self._pinged:
                 self.contact.answered(self._pinged.popleft(), now)
+            self._grow_trees(now)
         if self.state is State.CONNECTED:
             self.contact.heard_at = now
         self._send_line(now)
@@ -319,6 +329,8 @@ class Engine:
             moments.append(self._line[0].until)
         if self._timed:
             moments.append(self._timed[0][0])
+        if self.state is State.CONNECTED:
+            moments += [tree.deadline() for tree in list(self._trees)]
         return min((moment for moment in moments if moment is not None), default=None)
 
     def no_server(self, seconds: Optional[float]) -> str:
@@ -358,11 +370,16 @@ class Engine:
             if asked.ends_at is not None:
                 heapq.heappush(self._timed, (asked.ends_at, next(self._tickets), asked))
         self._send_line(now)
+        self._grow_trees(now)
 
     def check_process(self) -> None:
         """Raises where this is a forked child of the process in which the client was started."""
-        if self._process not in (None, os.getpid()):
+        if not self.is_here():
             raise ConnectionClosedError("the client was started in another process, before a fork: make one here")
+
+    def is_here(self) -> bool:
+        """Whether this is no forked child of the process in which the client was started."""
+        return self._process in (None, os.getpid())
 
     def is_introduced(self) -> bool:
         """Whether a server has accepted the session, and answered for all credentials."""
@@ -388,6 +405,20 @@ class Engine:
         found, last_zxid = looked
         return Kept(path, Mark(found.mark), last_zxid, found.stat, found.data, found.kind == library.FULL)
 
+    def snapshot(self, nodes: tuple[str, ...], parents: tuple[str, ...]) -> Optional[Snapshot]:
+        """What is kept of nodes and of the names below parents, where all of it is good at one zxid."""
+        while True:
+            kept, names = [self.kept(path) for path in nodes], [self.kept_children(path) for path in parents]
+            if any(one is None or one.mark is not Mark.GOOD for one in [*kept, *names]):
+                return None
+            zxids = {one.last_zxid for one in [*kept, *names] if one is not None} or {self.last_zxid()}
+            if len(zxids) == 1:  # else a step lay between two look-ups
+                return Snapshot(
+                    zxids.pop(),
+                    {one.path: one for one in kept if one is not None},
+                    {one.path: one for one in names if one is not None},
+                )
+
     def settled(self, path: str) -> Optional[Kept]:
         """What is kept of a path, where it is good and whole: its data, or that there is no node."""
         kept = self.kept(path)
@@ -400,8 +431,56 @@ class Engine:
         found, last_zxid = looked
         return KeptChildren(path, Mark(found.mark), last_zxid, found.names, found.pzxid)
 
+    def settled_children(self, path: str) -> Optional[KeptChildren]:
+        """What is kept of the children of a path, where it is good: their names, or that there is no node."""
+        children = self.kept_children(path)
+        if children is not None and children.mark is Mark.GOOD:
+            return children
+        kept = self.kept(path)
+        if kept is None or kept.mark is not Mark.GOOD or kept.exists:
+            return None
+        return KeptChildren(path, Mark.GOOD, kept.last_zxid, (), 0, exists=False)
+
+    # Trees. Their reads are asked by the engine itself.
+
+    def add_tree(self, tree: Growing) -> None:
+        """Has a tree be read, from the next step on."""
+        self._trees.append(tree)
+
+    def remove_tree(self, tree: Growing) -> None:
+        with contextlib.suppress(ValueError):
+            self._trees.remove(tree)
+
+    def has_tree(self, tree: Growing) -> bool:
+        return tree in self._trees
+
+    def hand_in(self, request: Request[Any], waiter: Waiter) -> None:
+        """Has a request be sent after those that wait."""
+        self._line.append(_Asked(request, waiter, self._now + self._timeout_ms))
+
+    def lacking(self, path: str, most: int) -> list[library.Lacking]:
+        """What is still to be read, with a watch, before there is a subtree."""
+        return self._look(lambda machine: machine.lacking(path, most)) or []
+
+    def subtree(self, path: str, most: int) -> tuple[Optional[list[library.SubtreeNode]], int]:
+        """All nodes at and below a path, and the zxid at which the servers have just these; None where that is not shown."""
+        return self._look(lambda machine: machine.subtree(path, most)) or (None, 0)
+
+    def _grow_trees(self, now: int) -> None:
+        """Has trees be read on, where a server has accepted the session."""
+        if self._trees and self.state is State.CONNECTED and self.is_running:
+            for tree in list(self._trees):
+                tree.advance(now)
+            self._send_line(now)
+
     def forget_stale(self) -> None:
         self._look(Machine.forget)
+
+    def used(self) -> None:
+        """Counts that a recipe has done with a node. What it has left is stale, and is forgotten from time to time."""
+        self._used += 1
+        if self._used % RECIPES_BEFORE_FORGETTING == 0:
+            self.forget_stale()
 
     def saved(self) -> bytes:
         """The session, as the library puts it away. It is a secret."""
@@ -418,6 +497,10 @@ class Engine:
         looked = self._look(Machine.last_zxid)
         return looked if looked is not None else int(struct.unpack(">q", (self._saved_at_close or b"")[-8:])[0])
 
+    def lane_zxid(self) -> int:
+        """The greatest zxid that the lane has seen."""
+        return self._lane_zxid
+
     def timeout(self) -> float:
         """The timeout of the session in seconds: the one that a server granted last, or the one to ask for."""
         return (self._look(Machine.timeout_ms) or self._timeout_ms) / 1000
@@ -433,17 +516,23 @@ class Engine:
         self._listeners.remove(listener)
 
     @contextlib.contextmanager
-    def news(self, wake: Callable[[], None], path: Optional[str] = None) -> Iterator[collections.deque[Kept]]:
-        """Within it, `wake` is called at each change of the state, and at each answer and report of a path's data.
+    def news(
+        self,
+        wake: Callable[[], None],
+        path: Optional[str] = None,
+        settled: Callable[[], Optional[Any]] = lambda: None,
+    ) -> Iterator[collections.deque[Any]]:
+        """Within it, `wake` is called at each change of the state, at each report of a path, and at each answer after
+        which something of it is `settled`.
 
-        What it gives holds the last answer that was good and whole when it came, until somebody takes it.
+        What it gives holds the last such answer, which was good and whole when it came, until somebody takes it.
         """
-        key, found = object(), collections.deque[Kept](maxlen=1)
-        self._listening[key] = _Listening(path, wake, found)
+        key, found = object(), collections.deque[Any](maxlen=1)
+        self._listening.add(path, key, Listening(wake, settled, found))
         try:
             yield found
         finally:
-            self._listening.pop(key, None)
+            self._listening.remove(path, key)
 
     def _look(self, look: Callable[[Machine], Found]) -> Optional[Found]:
         """What is found in the machine, once more where that was closed meanwhile; None where the client is closed."""
@@ -629,19 +718,19 @@ class Engine:
 
     def _bring(self, path: str) -> None:
         """Hands an answer to those who follow the node, as long as it is good: the next frame may be a notice."""
-        following = [listening for listening in list(self._listening.values()) if listening.path == path]
-        kept = self.settled(path) if following else None
-        if kept is not None:
-            for listening in following:
-                listening.found.append(kept)
+        for listening in self._listening.of(path):
+            settled = listening.settled()
+            if settled is not None:
+                listening.found.append(settled)
                 listening.wake()
 
     def _report(self, report: Report) -> None:
         event = WatchedEvent(_EVENTS[report.event], self.state, report.path)
         for watcher in self._watchers.pop((report.path, report.side), ()):
             self._tell(watcher.function, event)
-        if report.side == library.DATA_SIDE:
-            self._wake(report.path)
+        for tree in list(self._trees):
+            tree.reported(report.path, report.side)
+        self._wake(report.path)
 
     def _change(self, state: int) -> None:
         if state == library.CONNECTED:
@@ -686,6 +775,8 @@ class Engine:
     def _forget_callers(self, error: ZookeeperError, state: State) -> None:
         """Fails all that waits for an answer, ends all watches, and enters a state."""
         self._refuse_handed(error)
+        for tree in list(self._trees):
+            tree.forget()
         for asked in [*self._sent.values(), *self._lane.pending(), *self._line]:
             self._count_loss(asked, type(error)(*error.args))
         self._lane = Lane()
@@ -710,9 +801,8 @@ class Engine:
 
     def _wake(self, path: Optional[str]) -> None:
         """Wakes those who wait for news of this path, or all."""
-        for listening in list(self._listening.values()):
-            if path is None or listening.path == path:
-                listening.wake()
+        for listening in self._listening.all() if path is None else self._listening.of(path):
+            listening.wake()
 
 
 class _Introduction:

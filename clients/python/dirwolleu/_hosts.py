@@ -2,15 +2,15 @@
 
 from __future__ import annotations
 
-import asyncio
 import contextlib
 import ipaddress
 import random
-import socket
-import threading
-from typing import NamedTuple, Optional
+from typing import TYPE_CHECKING, NamedTuple, Optional
 
 from dirwolleu._root import Root
+
+if TYPE_CHECKING:
+    import asyncio
 
 DEFAULT_PORT = 2181
 
@@ -109,40 +109,9 @@ class Servers:
         return current.choose([Place(host, address, port) for address in await self._look_up(host, port)])
 
     async def _look_up(self, host: str, port: int) -> list[str]:
-        """The addresses of a host. A look-up that is under way already is shared, so that no more than one waits."""
+        """The addresses of a host."""
         with contextlib.suppress(ValueError):
             return [str(ipaddress.ip_address(host))]
-        pending = self._lookups.get((host, port))
-        if pending is None or pending.done() or pending.get_loop() is not asyncio.get_running_loop():
-            pending = self._lookups[host, port] = _looked_up(host, port)
-        try:
-            return await asyncio.shield(pending)
-        except OSError as error:
-            raise OSError(error.errno, f"{host}: {error.strerror}") from error
+        from dirwolleu import _lookups  # here, so that no import of the package loads asyncio
 
-
-def _looked_up(host: str, port: int) -> asyncio.Future[list[str]]:
-    """Looks a host up in a thread of its own, which holds up neither the event loop nor the end of the program."""
-    loop = asyncio.get_running_loop()
-    future: asyncio.Future[list[str]] = loop.create_future()
-    future.add_done_callback(lambda done: done.cancelled() or done.exception())  # it may be that nobody waits any more
-
-    def settle(addresses: list[str], error: Optional[OSError]) -> None:
-        if future.done():
-            return
-        if error is not None:
-            future.set_exception(error)
-        else:
-            future.set_result(addresses)
-
-    def run() -> None:
-        try:
-            found = socket.getaddrinfo(host, port, type=socket.SOCK_STREAM)
-            outcome: tuple[list[str], Optional[OSError]] = [str(one[4][0]) for one in found], None
-        except OSError as error:
-            outcome = [], error
-        with contextlib.suppress(RuntimeError):  # the loop is closed
-            loop.call_soon_threadsafe(settle, *outcome)
-
-    threading.Thread(target=run, name="dirwolleu-lookup", daemon=True).start()
-    return future
+        return await _lookups.shared(self._lookups, host, port)

@@ -13,20 +13,24 @@ import ctypes.util
 import os
 import pathlib
 import platform
+import struct
 import sys
 from collections.abc import Collection
 from ctypes import POINTER, Structure, byref, string_at
 from ctypes import c_bool, c_char, c_char_p, c_int32, c_int64, c_size_t, c_uint32, c_uint64, c_void_p
 from operator import attrgetter
-from typing import Any, Callable, Iterator, NamedTuple, Optional, TypeVar, Union
+from typing import Any, Callable, Iterable, Iterator, NamedTuple, Optional, TypeVar, Union
 
 from dirwolleu._paths import no_path
 from dirwolleu._root import Root
 from dirwolleu.types import DataStat, Stat
 
 # made by scripts/interface from include/interface.toml
+VERSION = 3000
+
 OK = 0
 NONE = 1
+WAITS = 2
 HALTED = -1
 NO_MEMORY = -2
 CLOSED = -3
@@ -35,6 +39,9 @@ NOT_PATH = -5
 BAD_TIMEOUT = -6
 NO_SUCH_MODE = -7
 NOT_SAVED = -8
+NOT_WHOLE = -9
+TOO_MANY = -10
+NOT_TEXTS = -11
 
 SEND = 1
 ANSWER = 2
@@ -179,6 +186,7 @@ class _KeptNames(Structure):
 
 _HANDLE = POINTER(_Handle)
 _FUNCTIONS: dict[str, tuple[Any, tuple[Any, ...]]] = {
+    "dw_version": (c_uint32, ()),
     "dw_open": (c_int32, (_HANDLE, c_int32)),
     "dw_resume": (c_int32, (_HANDLE, c_int32, c_char_p, c_size_t)),
     "dw_renew": (c_int32, (_HANDLE, c_int32)),
@@ -197,6 +205,7 @@ _FUNCTIONS: dict[str, tuple[Any, tuple[Any, ...]]] = {
     "dw_next": (c_int32, (_HANDLE, POINTER(_Output))),
     "dw_copy": (c_size_t, (_HANDLE, c_size_t, POINTER(c_char), c_size_t)),
     "dw_name": (c_size_t, (_HANDLE, c_size_t, POINTER(c_char), c_size_t)),
+    "dw_names": (c_int32, (_HANDLE, POINTER(c_char), c_size_t, POINTER(c_size_t))),
     "dw_words": (c_int32, (_HANDLE, POINTER(c_char), c_size_t, POINTER(c_size_t))),
     "dw_state": (c_int32, (_HANDLE,)),
     "dw_last_zxid": (c_int64, (_HANDLE,)),
@@ -207,6 +216,12 @@ _FUNCTIONS: dict[str, tuple[Any, tuple[Any, ...]]] = {
     "dw_peek_children": (c_int32, (_HANDLE, c_char_p, c_size_t, POINTER(_KeptNames))),
     "dw_peek_name": (c_int32, (_HANDLE, c_char_p, c_size_t, c_size_t, POINTER(c_char), c_size_t, POINTER(c_size_t))),
     "dw_peek_names": (c_int32, (_HANDLE, c_char_p, c_size_t, POINTER(c_char), c_size_t, POINTER(c_size_t))),
+    "dw_subtree": (c_int32, (_HANDLE, c_char_p, c_size_t, c_size_t, POINTER(c_char), c_size_t, POINTER(c_size_t))),
+    "dw_lacking": (c_int32, (_HANDLE, c_char_p, c_size_t, c_size_t, POINTER(c_char), c_size_t, POINTER(c_size_t))),
+    "dw_standing": (
+        c_int32,
+        (_HANDLE, c_char_p, c_size_t, c_char_p, c_size_t, c_char_p, c_size_t, c_int64, c_char_p, c_size_t, POINTER(c_int64), POINTER(c_char), c_size_t, POINTER(c_size_t)),
+    ),
     "dw_forget": (c_int32, (_HANDLE,)),
 }
 
@@ -219,6 +234,9 @@ _RESULT_WORDS = {
     BAD_TIMEOUT: "the timeout is not 1 to 2147483647 milliseconds",
     NO_SUCH_MODE: "the mode is no sum of EPHEMERAL and SEQUENTIAL",
     NOT_SAVED: "the bytes are no saved session; take all of those that a client has saved",
+    NOT_WHOLE: "some of the subtree is not kept, or not good; read what is lacking, with a watch",
+    TOO_MANY: "the subtree has more nodes than were asked for; ask for more, or for a path below",
+    NOT_TEXTS: "the bytes are no texts, each after its length",
 }
 # end of what is made
 
@@ -249,8 +267,24 @@ def _check_machine() -> None:
         raise ImportError("dirwolleu wants an interpreter with its global lock (GIL)")
 
 
+def _version_text(number: int) -> str:
+    """A version as people write it: 1002003 is 1.2.3."""
+    return f"{number // 1000000}.{number // 1000 % 1000}.{number % 1000}"
+
+
+def _check_version(file: str, library: ctypes.PyDLL) -> None:
+    """Fails in words where the library is not of the version that this package was written for."""
+    function = getattr(library, "dw_version", None)
+    found = _version_text(function()) if function else "0.2.0 or earlier"
+    if found != _version_text(VERSION):
+        raise ImportError(
+            f"{file} is of version {found}, and this package of {_version_text(VERSION)}: install both of one version"
+        )
+
+
 def _load(file: str) -> ctypes.PyDLL:
     library = ctypes.PyDLL(file)
+    _check_version(file, library)
     for name, (result, parameters) in _FUNCTIONS.items():
         function = getattr(library, name, None)
         if function is None:
@@ -322,6 +356,37 @@ class KeptNames(NamedTuple):
     pzxid: int
 
 
+class SubtreeNode(NamedTuple):
+    """A node of a subtree. The pzxid is the zxid of the last change of the names below it."""
+
+    path: str
+    data: Optional[bytes]
+    stat: DataStat
+    pzxid: int
+
+
+class Lacking(NamedTuple):
+    """A read, with a watch, that is lacking before there is a subtree. The side is `DATA_SIDE` or `CHILDREN_SIDE`."""
+
+    path: str
+    side: int
+
+
+class Standing(NamedTuple):
+    """Whether a session comes first in a directory, by a token; or after a rival; or neither is shown."""
+
+    token: Optional[int]
+    rival: Optional[str]
+
+
+class NotWhole(LookupError):
+    """Some of the subtree is not kept, or not good."""
+
+
+class TooManyNodes(ValueError):
+    """The subtree has more nodes than were asked for."""
+
+
 class Halted(MemoryError):
     """The machine ran out of memory within a step. It has no use from then on, but its session can still be taken."""
 
@@ -346,7 +411,13 @@ def _checked(code: int) -> None:
     if code >= OK:
         return
     words = _RESULT_WORDS[_known("result", code, _RESULT_WORDS)]
-    raise {HALTED: Halted, NO_MEMORY: MemoryError, CLOSED: Closed}.get(code, ValueError)(words)
+    raise {
+        HALTED: Halted,
+        NO_MEMORY: MemoryError,
+        CLOSED: Closed,
+        NOT_WHOLE: NotWhole,
+        TOO_MANY: TooManyNodes,
+    }.get(code, ValueError)(words)
 
 
 def _texts_in(spelled: bytes) -> Iterator[str]:
@@ -356,6 +427,42 @@ def _texts_in(spelled: bytes) -> Iterator[str]:
         begin = end + 4
         end = begin + int.from_bytes(spelled[end:begin], "big")
         yield spelled[begin:end].decode()
+
+
+def _buffer_at(spelled: bytes, at: int) -> tuple[Optional[bytes], int]:
+    """The bytes at this place, after their length in four bytes, and the place after them. None are null."""
+    length = int.from_bytes(spelled[at : at + 4], "big", signed=True)
+    begin = at + 4
+    return (None, begin) if length < 0 else (spelled[begin : begin + length], begin + length)
+
+
+_FIELDS_OF_A_NODE = struct.Struct(">qqqqiqiq")  # as a Stat has them, from czxid to pzxid
+
+
+def _nodes_in(spelled: bytes, root: Root) -> Iterator[SubtreeNode]:
+    """The nodes that follow one another: path, data, and numbers."""
+    at = 0
+    while at < len(spelled):
+        path, at = _buffer_at(spelled, at)
+        data, at = _buffer_at(spelled, at)
+        *fields, pzxid = _FIELDS_OF_A_NODE.unpack_from(spelled, at)
+        at += _FIELDS_OF_A_NODE.size
+        yield SubtreeNode(root.read(path or b""), data, DataStat._make(fields), pzxid)
+
+
+def _lacking_in(spelled: bytes, root: Root) -> Iterator[Lacking]:
+    """The reads that follow one another: path and side."""
+    at = 0
+    while at < len(spelled):
+        path, at = _buffer_at(spelled, at)
+        side = int.from_bytes(spelled[at : at + 4], "big")
+        at += 4
+        yield Lacking(root.read(path or b""), _known("side", side, (DATA_SIDE, CHILDREN_SIDE)))
+
+
+def _spelled(texts: Iterable[str]) -> bytes:
+    """Texts that follow one another, each after its length in four bytes."""
+    return b"".join(len(text).to_bytes(4, "big") + text for text in map(str.encode, texts))
 
 
 class _Room:
@@ -508,6 +615,36 @@ class Machine:
         )
         return KeptNames(side[0], names, side[1]), last_zxid
 
+    def subtree(self, path: str, most: int) -> tuple[Optional[list[SubtreeNode]], int]:
+        """All nodes at and below a path, each after its parent, and the last zxid at that moment: these are all that the
+        servers had there at that zxid. None where some of it is not kept good: read what is lacking. `TooManyNodes` where
+        more than this many are reached."""
+        spelled, last_zxid = _steady(lambda: self._collected(_library.dw_subtree, path, most), self.last_zxid)
+        return None if spelled is None else list(_nodes_in(spelled, self._root)), last_zxid
+
+    def lacking(self, path: str, most: int) -> list[Lacking]:
+        """The reads, with a watch, that are lacking before there is a subtree: none exactly where there is one. `NotWhole`
+        where a name makes no path, so that no read helps."""
+        spelled = self._collected(_library.dw_lacking, path, most)
+        if spelled is None:
+            raise NotWhole(f"a name below {path} makes no path")
+        return list(_lacking_in(spelled, self._root))
+
+    def standing(self, directory: str, name: str, names: Iterable[str], listed: int, markers: Iterable[str]) -> Standing:
+        """Where the session stands by its node of this name in a directory, by the names of a listing, which needs no watch,
+        and the zxid of that answer. The first marker is that of its name, the others are those of its rivals."""
+        spelled, own, room = self._root.spell(directory), name.encode(), _Room()
+        listing, kinds, token, count = _spelled(names), _spelled(markers), c_int64(), c_size_t()
+        contender = (spelled, len(spelled), own, len(own), listing, len(listing), listed, kinds, len(kinds))
+        is_whole = False
+        while not is_whole:
+            given = room.bytes, len(room.bytes)
+            code = _library.dw_standing(self._handle, *contender, byref(token), *given, byref(count))
+            self._check(code, directory)
+            is_whole = not room.widen(count.value)
+        rival = string_at(room.bytes, count.value).decode() if code == WAITS else None
+        return Standing(token.value if code == OK else None, rival)
+
     def forget(self) -> None:
         """Forgets all stale answers."""
         _checked(_library.dw_forget(self._handle))
@@ -537,6 +674,18 @@ class Machine:
         spelled = self._root.spell(path)
         names = _Room().filled(lambda *room: _library.dw_peek_names(self._handle, spelled, len(spelled), *room))
         return tuple(_texts_in(names))
+
+    def _collected(self, collect: Callable[..., int], path: str, most: int) -> Optional[bytes]:
+        """What a function copies of what is at and below a path, and None where that is not whole."""
+        spelled = self._root.spell(path)
+        try:
+            return _Room().filled(lambda *room: self._checked_at(collect(self._handle, spelled, len(spelled), most, *room), path))
+        except NotWhole:
+            return None
+
+    def _checked_at(self, code: int, path: str) -> int:
+        self._check(code, path)
+        return code
 
     # What a step tells.
 
@@ -581,7 +730,7 @@ class Machine:
             output.code,
             Stat._make(_fields_of_stat(output.stat)) if output.has_stat else None,
             text,
-            [self._name(index) for index in range(output.names)],
+            list(_texts_in(self._names())) if output.names else [],
         )
 
     def _text(self) -> bytes:
@@ -590,11 +739,8 @@ class Machine:
         _library.dw_copy(self._handle, 0, self._room.bytes, length)
         return string_at(self._room.bytes, length)
 
-    def _name(self, index: int) -> str:
-        length = _library.dw_name(self._handle, index, self._room.bytes, len(self._room.bytes))
-        if self._room.widen(length):
-            _library.dw_name(self._handle, index, self._room.bytes, length)
-        return string_at(self._room.bytes, length).decode()
+    def _names(self) -> bytes:
+        return self._room.filled(lambda *room: _library.dw_names(self._handle, *room))
 
     def _words(self) -> str:
         return self._room.filled(lambda *room: _library.dw_words(self._handle, *room)).decode(errors="replace")

@@ -65,7 +65,7 @@ class Request(Generic[Result]):
     is_create: bool = False
     watcher: Optional[Watcher] = None
     node: Optional[str] = None
-    """The path of the node whose data or absence the answer tells."""
+    """The path of the node that the answer tells of."""
 
     def leaves_watch(self, answer: Answer) -> bool:
         """Whether a watch that was asked for is left: where there is no node, `exists` alone leaves one."""
@@ -124,6 +124,7 @@ def get_children(path: str, watch: Watch) -> Request[list[str]]:
         path,
         is_repeatable=True,
         watcher=_watcher(path, library.CHILDREN_SIDE, watch),
+        node=path,
     )
 
 

@@ -4,28 +4,57 @@ from __future__ import annotations
 
 import math
 from collections.abc import Iterable
-from typing import Optional, Union
+from typing import Any, Callable, Optional, TypeVar, Union
 
-from dirwolleu._driver import moment
-from dirwolleu._engine import Credential, Engine, Listener
+from dirwolleu import _lane as lane
+from dirwolleu import _watches as watches
+from dirwolleu._clock import moment
+from dirwolleu._engine import Credential, Engine, Listener, News, Tell
+from dirwolleu._freshening import freshening
 from dirwolleu._hosts import Servers
+from dirwolleu._plans import Plan
 from dirwolleu._retry import Retry
-from dirwolleu.types import Kept, KeptChildren, Mark, State, Stats
+from dirwolleu._steps import Steps
+from dirwolleu.types import Kept, KeptChildren, Mark, Snapshot, State, Stats
 
 AuthData = Iterable[tuple[str, Union[str, bytes]]]
+AnyKept = TypeVar("AnyKept", bound=Union[Kept, KeptChildren])
 
 
 def credential_of(scheme: str, credential: Union[str, bytes]) -> Credential:
     return Credential(scheme, credential.encode() if isinstance(credential, str) else credential)
 
 
+def parts_of(
+    hosts: str, timeout: float, saved: Optional[bytes], auth_data: AuthData, randomize_hosts: bool, tell: Tell
+) -> tuple[Servers, Engine]:
+    """What both clients are made of, by their parameters."""
+    servers = Servers(hosts, randomize_hosts)
+    credentials = [credential_of(scheme, credential) for scheme, credential in auth_data]
+    return servers, Engine(timeout, saved, tell, servers.hosts.root, credentials)
+
+
 class Shown:
     """What a client shows of its session, and of what it keeps."""
 
     def __init__(self, servers: Servers, engine: Engine, retry: Optional[Retry]) -> None:
-        self._servers = servers
-        self._engine = engine
-        self._retry = retry
+        self._servers, self._engine, self._retry = servers, engine, retry
+        self._tasks: dict[Any, None] = {}
+        """What is done that nobody waits for, until it is done."""
+
+    def _tell(self, function: Callable[[Any], object], argument: Any) -> object:
+        """Has a function of the program called, not within this call."""
+        raise NotImplementedError
+
+    def _call_back(self, function: Callable[[Any], object], argument: Any) -> None:
+        """Calls a function of the program, where callbacks are called."""
+        raise NotImplementedError
+
+    def _begin(
+        self, begin: Callable[[News], Steps[Any]], end: Callable[[Any, Optional[BaseException]], object]
+    ) -> None:
+        """Has steps done that nobody waits for. `begin` makes them of the news that they wait for."""
+        raise NotImplementedError
 
     @property
     def chroot(self) -> str:
@@ -109,25 +138,55 @@ class Shown:
             kept = client.kept("/config", within=5.0)
             data = kept.data if kept is not None else client.get("/config", watch=True)[0]
         """
-        self._engine.check_process()
-        age = self.age()  # before the look-up: what is good later was good by then
-        kept = self._engine.kept(path)
-        if within is None or kept is None:
-            return kept
-        return kept if kept.mark is Mark.GOOD and age <= within else None
+        return self._within(within, lambda: self._engine.kept(path))
 
     def kept_children(self, path: str, within: Optional[float] = None) -> Optional[KeptChildren]:
         """What is kept of the children of a node that `get_children` read with a watch, or None. It asks no server.
 
         `within` is that of `kept`.
         """
+        return self._within(within, lambda: self._engine.kept_children(path))
+
+    def _within(self, within: Optional[float], look: Callable[[], Optional[AnyKept]]) -> Optional[AnyKept]:
         self._engine.check_process()
-        age = self.age()
-        kept = self._engine.kept_children(path)
+        age = self.age()  # before the look-up: what is good later was good by then
+        kept = look()
         if within is None or kept is None:
             return kept
         return kept if kept.mark is Mark.GOOD and age <= within else None
 
+    def snapshot(self, nodes: Iterable[str] = (), parents: Iterable[str] = ()) -> Optional[Snapshot]:
+        """What is kept of several nodes, and of the names below several parents, of one moment. It asks no server.
+
+        None where some of it is not kept, or not good: read that, with a watch. Answers that are all good at one zxid are
+        those of one tree, the servers' at that zxid: that is proved, whatever was told between the reads. Of a node that
+        is not there, its absence is kept by `exists`.
+
+            found = client.snapshot(nodes=["/host", "/port"], parents=["/workers"])
+            if found is not None:
+                print(found.nodes["/host"].data, found.children["/workers"].names, "at zxid", found.zxid)
+        """
+        self._engine.check_process()
+        return self._engine.snapshot(tuple(nodes), tuple(parents))
+
     def forget_stale(self) -> None:
         """Forgets all kept answers that are stale. Until then, what was read with a watch takes memory."""
         self._engine.forget_stale()
+
+    def DataWatch(self, path: str, function: Optional[Callable[..., object]] = None) -> watches.DataWatch:
+        """Calls a function with a node's data whenever they have changed, as in kazoo: see `dirwolleu.DataWatch`."""
+        return watches.DataWatch(self, path, function)
+
+    def ChildrenWatch(self, path: str, function: Optional[Callable[..., object]] = None) -> watches.ChildrenWatch:
+        """Calls a function with the names of a node's children whenever they have changed, as in kazoo: see
+        `dirwolleu.ChildrenWatch`.
+        """
+        return watches.ChildrenWatch(self, path, function)
+
+    def _introducing(self, credential: Credential) -> Plan[None]:
+        """Says who the session is, now and on each later connection."""
+        yield lane.auth(*credential)
+        self._engine.add_credential(credential)
+
+    def _freshening(self, quorum: bool) -> Plan[int]:
+        return freshening(self._engine, quorum)

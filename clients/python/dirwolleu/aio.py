@@ -6,30 +6,61 @@ import asyncio
 import contextlib
 import inspect
 import ssl as _ssl
-import time
 from collections.abc import AsyncGenerator, Awaitable, Sequence
 from types import TracebackType
 from typing import Any, Callable, Optional, TypeVar, Union
 
+from dirwolleu import _following as following
 from dirwolleu import _lane as lane
 from dirwolleu import _plans as plans
 from dirwolleu import _requests as requests
-from dirwolleu._aio_recipes import Election, Held, Lock, Registration
-from dirwolleu._driver import Driver, moment
-from dirwolleu._engine import Engine
-from dirwolleu._follow import Follower, Need, Wait, passing
-from dirwolleu._hosts import Servers
+from dirwolleu import _steps as steps_of
+from dirwolleu._clock import moment
+from dirwolleu._driver import Driver
+from dirwolleu._engine import News as AnyNews
 from dirwolleu._lane import Created
 from dirwolleu._plans import Acls, AnyRequest, Plan
 from dirwolleu._requests import Result
 from dirwolleu._retry import Retry
-from dirwolleu._shown import AuthData, Shown, credential_of
-from dirwolleu.exceptions import ConnectionClosedError, NoNodeError, ZookeeperError
+from dirwolleu._shown import AuthData, Shown, credential_of, parts_of
+from dirwolleu._steps import Ask, Call, Step, Steps, Wait
+from dirwolleu._trees import MOST_NODES, AsyncTree
+from dirwolleu._watches import ChildrenWatch, DataWatch
+from dirwolleu.exceptions import ConnectionClosedError, ZookeeperError
 from dirwolleu.security import ACL
 from dirwolleu.transaction import AsyncTransaction
-from dirwolleu.types import Kept, Stat, Watch
+from dirwolleu.types import Kept, KeptChildren, Stat, Watch
 
-__all__ = ["Client", "Election", "Held", "Lock", "Registration"]
+from dirwolleu._aio_recipes import (  # isort: skip
+    Barrier,
+    Counter,
+    DoubleBarrier,
+    Election,
+    Held,
+    Lock,
+    Queue,
+    ReadLock,
+    Registration,
+    Semaphore,
+    WriteLock,
+)
+
+__all__ = [
+    "Barrier",
+    "ChildrenWatch",
+    "Client",
+    "Counter",
+    "DataWatch",
+    "DoubleBarrier",
+    "Election",
+    "Held",
+    "Lock",
+    "Queue",
+    "ReadLock",
+    "Registration",
+    "Semaphore",
+    "WriteLock",
+]
 
 Returned = TypeVar("Returned")
 
@@ -64,9 +95,7 @@ class Client(Shown):
         retry: Optional[Retry] = None,
         randomize_hosts: bool = True,
     ) -> None:
-        servers = Servers(hosts, randomize_hosts)
-        credentials = [credential_of(scheme, credential) for scheme, credential in auth_data]
-        super().__init__(servers, Engine(timeout, saved, self._tell, servers.hosts.root, credentials), retry)
+        super().__init__(*parts_of(hosts, timeout, saved, auth_data, randomize_hosts, self._tell), retry)
         self._tls = ssl
         self._driver: Optional[Driver] = None
         self._callbacks: set[asyncio.Future[Any]] = set()
@@ -123,6 +152,8 @@ class Client(Shown):
 
         The session of a client that was not stopped lives on for its timeout, and `saved_session` can be taken up.
         """
+        for task in list(self._tasks):
+            task.cancel()
         self._end_driver(self._engine.close)
 
     async def exists(self, path: str, watch: Watch = None, *, timeout: Optional[float] = None) -> Optional[Stat]:
@@ -207,6 +238,17 @@ class Client(Shown):
         """
         return await self._call(lane.sync(path), timeout)
 
+    async def fresh(self, *, quorum: bool = False, timeout: Optional[float] = None) -> int:
+        """Sees to it that what is good has each write that was answered before this call, to whichever client.
+
+        How, and what `quorum` is for, is said at `dirwolleu.Client.fresh`. It tells the zxid that was seen.
+
+            await client.fresh()
+            kept = client.kept("/config")
+            is_current = kept is not None and kept.mark is dirwolleu.Mark.GOOD
+        """
+        return await self._run(self._freshening(quorum), timeout)
+
     async def get_acls(self, path: str, *, timeout: Optional[float] = None) -> tuple[list[ACL], Stat]:
         """The ACL of a node, and what is known of it. Raises `NoNodeError`."""
         return await self._call(lane.get_acls(path), timeout)
@@ -229,9 +271,7 @@ class Client(Shown):
             await client.add_auth("digest", "bob:secret")
             await client.create("/bobs", acl=dirwolleu.security.CREATOR_ALL_ACL)
         """
-        known = credential_of(scheme, credential)
-        await self._call(lane.auth(*known), timeout)
-        self._engine.add_credential(known)
+        await self._run(self._introducing(credential_of(scheme, credential)), timeout)
 
     def transaction(self) -> AsyncTransaction:
         """Several changes that happen together or not at all: see `AsyncTransaction`."""
@@ -254,67 +294,184 @@ class Client(Shown):
                 pause = attempts.after(error)
             await asyncio.sleep(pause)
 
+    def exists_async(self, path: str, watch: Watch = None) -> asyncio.Future[Optional[Stat]]:
+        """`exists`, which is handed in at once, and needs no task."""
+        return self._send(requests.exists(path, watch))
+
+    def get_async(self, path: str, watch: Watch = None) -> asyncio.Future[tuple[Optional[bytes], Stat]]:
+        """`get`, which is handed in at once, and needs no task.
+
+            futures = [client.get_async(f"/config/{name}") for name in names]
+            data = [(await future)[0] for future in futures]
+        """
+        return self._send(requests.get(path, watch))
+
+    def get_children_async(self, path: str, watch: Watch = None) -> asyncio.Future[list[str]]:
+        """`get_children`, which is handed in at once, and needs no task."""
+        return self._send(requests.get_children(path, watch))
+
+    def create_async(
+        self,
+        path: str,
+        value: Optional[bytes] = b"",
+        *,
+        acl: Acls = None,
+        ephemeral: bool = False,
+        sequence: bool = False,
+        makepath: bool = False,
+    ) -> asyncio.Future[str]:
+        """`create`, which is handed in at once, and needs no task, unless `makepath` is true."""
+        request = plans.create_request(path, value, acl, ephemeral, sequence)
+        return self._begin_plan(plans.create(request, path, acl, makepath)) if makepath else self._send(request)
+
+    def create2_async(
+        self,
+        path: str,
+        value: Optional[bytes] = b"",
+        *,
+        acl: Acls = None,
+        ephemeral: bool = False,
+        sequence: bool = False,
+        makepath: bool = False,
+    ) -> asyncio.Future[Created]:
+        """`create2`, which is handed in at once, and needs no task, unless `makepath` is true."""
+        request = lane.create2(path, value, acl, ephemeral, sequence)
+        return self._begin_plan(plans.create(request, path, acl, makepath)) if makepath else self._send(request)
+
+    def ensure_path_async(self, path: str, *, acl: Acls = None) -> asyncio.Future[None]:
+        """`ensure_path`, as a task."""
+        return self._begin_plan(plans.ensure_path(path, acl))
+
+    def set_async(self, path: str, value: Optional[bytes], version: int = -1) -> asyncio.Future[Stat]:
+        """`set`, which is handed in at once, and needs no task."""
+        return self._send(requests.set(path, value, version))
+
+    def delete_async(self, path: str, version: int = -1, *, recursive: bool = False) -> asyncio.Future[None]:
+        """`delete`, which is handed in at once, and needs no task, unless `recursive` is true."""
+        if recursive:
+            return self._begin_plan(plans.delete(path, version, recursive))
+        return self._send(requests.delete(path, version))
+
+    def sync_async(self, path: str = "/") -> asyncio.Future[str]:
+        """`sync`, which is handed in at once, and needs no task."""
+        return self._send(lane.sync(path))
+
+    def get_acls_async(self, path: str) -> asyncio.Future[tuple[list[ACL], Stat]]:
+        """`get_acls`, which is handed in at once, and needs no task."""
+        return self._send(lane.get_acls(path))
+
+    def set_acls_async(self, path: str, acls: Sequence[ACL], version: int = -1) -> asyncio.Future[Stat]:
+        """`set_acls`, which is handed in at once, and needs no task."""
+        return self._send(lane.set_acls(path, acls, version))
+
+    def add_auth_async(self, scheme: str, credential: Union[str, bytes]) -> asyncio.Future[None]:
+        """`add_auth`, as a task."""
+        return self._begin_plan(self._introducing(credential_of(scheme, credential)))
+
+    def fresh_async(self, *, quorum: bool = False) -> asyncio.Future[int]:
+        """`fresh`, as a task."""
+        return self._begin_plan(self._freshening(quorum))
+
     async def follow(self, path: str) -> AsyncGenerator[Kept, None]:
         """Yields what a node holds, and again whenever that has changed, as `follow` of `dirwolleu.Client` does."""
-        news = asyncio.Event()
-        with contextlib.closing(Follower(self._engine, path, news, time.monotonic).steps()) as steps:
-            for step in steps:
-                if isinstance(step, Kept):
-                    yield step
-                elif isinstance(step, Wait):
-                    with contextlib.suppress(asyncio.TimeoutError):
-                        await asyncio.wait_for(news.wait(), step.seconds)
-                elif step is Need.READ:
-                    await self._read(path)
+        async for kept in self._follow(following.data_of(self._engine, path)):
+            yield kept
 
-    async def _read(self, path: str) -> None:
-        """Reads a node, or its absence, with a watch."""
-        with passing():
-            try:
-                await self.get(path, watch=True)
-            except NoNodeError:
-                await self.exists(path, watch=True)
+    async def follow_children(self, path: str) -> AsyncGenerator[KeptChildren, None]:
+        """Yields the names of a node's children, and again whenever these have changed, as `follow_children` of
+        `dirwolleu.Client` does.
+        """
+        async for kept in self._follow(following.children_of(self._engine, path)):
+            yield kept
+
+    def tree(self, path: str, *, most: int = MOST_NODES) -> AsyncTree:
+        """Reads all nodes at and below a path, and reads again what changes, as `tree` of `dirwolleu.Client` does."""
+        tree = AsyncTree(self, path, most, asyncio.Event)
+        self._act()
+        return tree
+
+    async def _follow(self, subject: following.Subject[following.Told]) -> AsyncGenerator[following.Told, None]:
+        following.begun(self._engine)
+        news = asyncio.Event()
+        with following.Follower(self._engine, subject, news).listening() as next_one:
+            while (kept := await self._drive(next_one(), news)) is not None:
+                yield kept
 
     async def _call(self, request: AnyRequest[Result], timeout: Optional[float] = None) -> Result:
-        return await self._ask_by_policy(request, None if timeout is None else time.monotonic() + timeout)
+        if self._retry is None:
+            return await self._ask(request, timeout)
+        result: Result = await self._drive(steps_of.by_policy(request, self._retry, steps_of.until_of(timeout)))
+        return result
 
     async def _run(self, plan: Plan[Result], timeout: Optional[float] = None) -> Result:
         """Asks what a plan asks for, one request after the other, within a number of seconds in all."""
-        until = None if timeout is None else time.monotonic() + timeout
+        return await self._drive(steps_of.run(plan, self._retry, steps_of.until_of(timeout)))
+
+    async def _drive(self, steps: Steps[Result], news: Optional[asyncio.Event] = None) -> Result:
+        """Does steps, one after the other. What a step raises is theirs to handle, and so is it to be cancelled."""
+        news = news or asyncio.Event()
         try:
-            request = next(plan)
+            step = next(steps)
             while True:
                 try:
-                    answer = await self._ask_by_policy(request, until)
-                except ZookeeperError as error:
-                    request = plan.throw(error)
+                    answer = await self._do(step, news)
+                except BaseException as error:
+                    step = steps.throw(error)
                 else:
-                    request = plan.send(answer)
+                    step = steps.send(answer)
         except StopIteration as end:
             result: Result = end.value
             return result
 
-    async def _ask_by_policy(self, request: AnyRequest[Result], until: Optional[float]) -> Result:
-        if self._retry is None:
-            return await self._ask(request, None if until is None else until - time.monotonic())
-        attempts = self._retry.attempts()
-        while True:
-            left = None if until is None else until - time.monotonic()
-            try:
-                return await self._ask(request, left)
-            except ZookeeperError as error:
-                pause = attempts.after(error)
-                if until is not None and time.monotonic() + pause > until:
-                    raise
-            await asyncio.sleep(pause)
+    async def _do(self, step: Step, news: asyncio.Event) -> Any:
+        if isinstance(step, Wait):
+            with contextlib.suppress(asyncio.TimeoutError):
+                await asyncio.wait_for(news.wait(), step.seconds)
+            return news.clear()
+        if isinstance(step, Call):
+            told = step.function()
+            return (await told) if inspect.isawaitable(told) else told
+        return await (self._ask(step.request, step.timeout) if isinstance(step, Ask) else self._ask(step))
 
     async def _ask(self, request: AnyRequest[Result], timeout: Optional[float] = None) -> Result:
+        result: Result = await self._send(request, timeout)
+        return result
+
+    def _send(self, request: AnyRequest[Any], timeout: Optional[float] = None) -> _Waiter:
         waiter = _Waiter(loop=asyncio.get_running_loop())
         self._engine.ask(moment(), request, waiter, timeout)
+        self._act()
+        return waiter
+
+    def _act(self) -> None:
         if self._driver is not None:
             self._driver.act_soon()
-        result: Result = await waiter
-        return result
+
+    def _begin(
+        self, begin: Callable[[AnyNews], Steps[Any]], end: Callable[[Any, Optional[BaseException]], object]
+    ) -> None:
+        """Has a task of the event loop do steps, from the start of the client on."""
+
+        async def run() -> None:
+            news = asyncio.Event()
+            try:
+                result = await self._drive(begin(news), news)
+            except Exception as error:
+                end(None, error)
+            else:
+                end(result, None)
+
+        self._keep(asyncio.ensure_future(run()))
+
+    def _begin_plan(self, plan: Plan[Any]) -> asyncio.Future[Any]:
+        task = asyncio.ensure_future(self._run(plan))
+        self._keep(task)
+        return task
+
+    def _keep(self, task: asyncio.Future[Any]) -> None:
+        """Holds a task until it is done, since the event loop does not."""
+        self._tasks[task] = None
+        task.add_done_callback(lambda done: self._tasks.pop(done, None))
 
     async def _wait_until_connected(self) -> None:
         news = asyncio.Event()

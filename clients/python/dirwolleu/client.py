@@ -2,37 +2,42 @@
 
 from __future__ import annotations
 
-import asyncio
 import atexit
 import concurrent.futures
 import contextlib
 import logging
-import os
-import queue
-import ssl as _ssl
-import threading
 import time
 import weakref
 from collections.abc import Generator, Sequence
 from types import TracebackType
-from typing import Any, Callable, Optional, TypeVar, Union
+from typing import TYPE_CHECKING, Any, Callable, Optional, TypeVar, Union
 
+from dirwolleu import _following as following
 from dirwolleu import _lane as lane
 from dirwolleu import _plans as plans
 from dirwolleu import _requests as requests
-from dirwolleu._driver import Driver, moment
-from dirwolleu._engine import Engine
-from dirwolleu._follow import Follower, Need, Wait, passing
-from dirwolleu._hosts import Servers
+from dirwolleu import _steps as steps_of
+from dirwolleu._clock import moment
+from dirwolleu._engine import News as AnyNews
+from dirwolleu._engine import Waiter as AnyWaiter
 from dirwolleu._lane import Created
 from dirwolleu._plans import Acls, AnyRequest, Plan
 from dirwolleu._requests import Result
 from dirwolleu._retry import Retry
-from dirwolleu._shown import AuthData, Shown, credential_of
-from dirwolleu.exceptions import ConnectionClosedError, NoNodeError, ZookeeperError
+from dirwolleu._shown import AuthData, Shown, credential_of, parts_of
+from dirwolleu._steps import Ask, Call, Step, Steps, Wait
+from dirwolleu._trees import MOST_NODES, Tree
+from dirwolleu._waiting import Future, News, Task, Waiter
+from dirwolleu.exceptions import ConnectionClosedError, ZookeeperError
 from dirwolleu.security import ACL
 from dirwolleu.transaction import Transaction
-from dirwolleu.types import Kept, Stat, State, Watch
+from dirwolleu.types import Kept, KeptChildren, Stat, State, Watch
+
+if TYPE_CHECKING:
+    import ssl as _ssl
+
+    from dirwolleu._driver import Driver
+    from dirwolleu._threads import Threads
 
 Returned = TypeVar("Returned")
 
@@ -40,168 +45,8 @@ logger = logging.getLogger("dirwolleu")
 
 LONGEST_FAREWELL = 2.0
 """How long `stop` waits for a server to end the session, in seconds."""
-LONGEST_CALLBACK = 5.0
-"""How long `stop` waits for a callback that runs, in seconds."""
 LONGEST_LEAVING = 1.0
 """How long the end of the program waits for the thread of a client that was not stopped, in seconds."""
-LONGEST_END = 5.0
-"""How long `stop` waits for its own threads, in seconds: they end at once, unless the process is held up."""
-
-
-class _News:
-    """An event for one thread that waits. The thread that sets it waits for no lock.
-
-    So it does not matter where a thread that waits is interrupted, and its signal handlers may wait for other events.
-    """
-
-    def __init__(self) -> None:
-        self._lack = threading.Lock()
-        self._lack.acquire()
-
-    def set(self) -> None:
-        with contextlib.suppress(RuntimeError):  # it is set already
-            self._lack.release()
-
-    def clear(self) -> None:
-        self._lack.acquire(blocking=False)
-
-    def wait(self, timeout: Optional[float]) -> bool:
-        """Waits until it is set, and clears it. Answers whether it was set in time."""
-        return self._lack.acquire(timeout=-1 if timeout is None else min(max(timeout, 0), threading.TIMEOUT_MAX))
-
-
-class _Waiter:
-    """One thread that waits for an answer. What is said of `_News` holds here too."""
-
-    def __init__(self) -> None:
-        self._news = _News()
-        self._answer: Optional[tuple[Any, Optional[BaseException]]] = None
-        self._is_given_up = False
-
-    def begin(self) -> bool:
-        return not self.done()
-
-    def cancel(self) -> None:
-        """Waits no longer. What was not sent yet is not sent."""
-        self._is_given_up = True
-
-    def done(self) -> bool:
-        return self._is_given_up or self._answer is not None
-
-    def set_result(self, result: Any) -> None:
-        self._answer = result, None
-        self._news.set()
-
-    def set_exception(self, error: BaseException) -> None:
-        self._answer = None, error
-        self._news.set()
-
-    def result(self, timeout: Optional[float]) -> Any:
-        self._news.wait(timeout)
-        if self._answer is None:
-            raise TimeoutError
-        result, error = self._answer
-        if error is not None:
-            raise error
-        return result
-
-
-class _Future(concurrent.futures.Future[Any]):
-    """What a call that ends in `_async` answers. `cancel` answers true only where the call is not sent.
-
-    Its callbacks run where those of watches do, so that they may call the client.
-    """
-
-    def __init__(self, tell: Callable[[Callable[[Any], object], Any], bool]) -> None:
-        super().__init__()
-        self._tell = tell
-
-    def begin(self) -> bool:
-        return self.running() or not self.done() and self.set_running_or_notify_cancel()
-
-    def add_done_callback(self, function: Callable[[Any], object]) -> None:
-        def tell(done: Any) -> None:
-            if not self._tell(function, done):
-                function(done)
-
-        super().add_done_callback(tell)
-
-
-class _Loop(threading.Thread):
-    """The thread of the event loop that keeps a client connected. It makes each step of the engine."""
-
-    def __init__(self, driver: Driver) -> None:
-        super().__init__(name="dirwolleu", daemon=True)
-        self._driver = driver
-        self._loop = asyncio.new_event_loop()
-
-    def run(self) -> None:
-        if self._loop.is_closed():  # it was stopped before it began
-            return
-        try:
-            self._loop.run_until_complete(self._driver.run())
-        finally:
-            self._loop.close()
-
-    def act(self) -> None:
-        """Lets the driver do what was asked."""
-        self._soon(self._driver.act)
-
-    def stop(self, end: Callable[[], None], longest: float = LONGEST_END) -> None:
-        """Does what ends the engine, and ends. Where the thread has ended already, `end` is not called."""
-        if self.ident is None:
-            return self._loop.close()
-        self._soon(lambda: self._driver.stop(end))
-        self.join(longest)
-
-    def _soon(self, call: Callable[[], object]) -> None:
-        with contextlib.suppress(RuntimeError):  # the loop is closed
-            self._loop.call_soon_threadsafe(call)
-
-
-class _Callbacks(threading.Thread):
-    """The thread that calls a program's functions, one after the other, so that these may use the client."""
-
-    def __init__(self) -> None:
-        super().__init__(name="dirwolleu-callbacks", daemon=True)
-        self._queue: queue.SimpleQueue[Optional[tuple[Callable[[Any], object], Any]]] = queue.SimpleQueue()
-
-    def tell(self, function: Callable[[Any], object], argument: Any) -> None:
-        self._queue.put((function, argument))
-
-    def stop(self) -> None:
-        """Ends after what was told before, which it waits for, though not without bound."""
-        self._queue.put(None)
-        if self.ident is None or threading.current_thread() is self:
-            return
-        self.join(LONGEST_CALLBACK)
-        if self.is_alive():
-            logger.warning("a callback has not returned in %s seconds: it is left to itself", LONGEST_CALLBACK)
-
-    def run(self) -> None:
-        while (told := self._queue.get()) is not None:
-            function, argument = told
-            try:
-                function(argument)
-            except BaseException:  # SystemExit too, which would end the callbacks alone, and no program
-                logger.exception("a callback failed")
-
-
-class _Threads:
-    """The threads of a client that is started, in one process."""
-
-    def __init__(self, servers: Servers, engine: Engine, tls: Optional[_ssl.SSLContext]) -> None:
-        self.loop = _Loop(Driver(servers, engine, tls))
-        self.callbacks = _Callbacks()
-        self._process = os.getpid()
-
-    def are_here(self) -> bool:
-        """Whether this is the process that they run in. A forked child has none of them."""
-        return os.getpid() == self._process
-
-    def start(self) -> None:
-        self.callbacks.start()
-        self.loop.start()
 
 
 class Client(Shown):
@@ -250,11 +95,9 @@ class Client(Shown):
         retry: Optional[Retry] = None,
         randomize_hosts: bool = True,
     ) -> None:
-        servers = Servers(hosts, randomize_hosts)
-        credentials = [credential_of(scheme, credential) for scheme, credential in auth_data]
-        super().__init__(servers, Engine(timeout, saved, self._tell, servers.hosts.root, credentials), retry)
+        super().__init__(*parts_of(hosts, timeout, saved, auth_data, randomize_hosts, self._tell), retry)
         self._tls = ssl
-        self._running: dict[str, _Threads] = {}  # a dict's functions are single steps of the interpreter: no lock
+        self._running: dict[str, Threads] = {}  # a dict's functions are single steps of the interpreter: no lock
 
     def __enter__(self) -> Client:
         self.start()
@@ -390,6 +233,22 @@ class Client(Shown):
         """
         return self._call(lane.sync(path), timeout)
 
+    def fresh(self, *, quorum: bool = False, timeout: Optional[float] = None) -> int:
+        """Sees to it that what is good has each write that was answered before this call, to whichever client.
+
+        It asks a server, by the lane's `sync`, for all that was done, and then for a zxid that is not before it, unless
+        that was seen already. Notices of what has changed come first, so those answers are stale, and what is good after
+        it is what the servers held when it was called, or later. It tells the zxid that was seen.
+
+        A leader of an ensemble that is cut off from the others, and has not found out yet, answers `sync` all the same.
+        With `quorum` an empty transaction is asked for instead, which a majority of the servers has to take.
+
+            client.fresh()
+            kept = client.kept("/config")
+            is_current = kept is not None and kept.mark is dirwolleu.Mark.GOOD
+        """
+        return self._run(self._freshening(quorum), timeout)
+
     def get_acls(self, path: str, *, timeout: Optional[float] = None) -> tuple[list[ACL], Stat]:
         """The ACL of a node, and what is known of it. Raises `NoNodeError`."""
         return self._call(lane.get_acls(path), timeout)
@@ -412,9 +271,7 @@ class Client(Shown):
             client.add_auth("digest", "bob:secret")
             client.create("/bobs", acl=dirwolleu.security.CREATOR_ALL_ACL)
         """
-        known = credential_of(scheme, credential)
-        self._call(lane.auth(*known), timeout)
-        self._engine.add_credential(known)
+        self._run(self._introducing(credential_of(scheme, credential)), timeout)
 
     def transaction(self) -> Transaction:
         """Several changes that happen together or not at all: see `Transaction`."""
@@ -459,9 +316,29 @@ class Client(Shown):
         acl: Acls = None,
         ephemeral: bool = False,
         sequence: bool = False,
+        makepath: bool = False,
     ) -> concurrent.futures.Future[str]:
         """`create`, which does not wait."""
-        return self._send(plans.create_request(path, value, acl, ephemeral, sequence))
+        request = plans.create_request(path, value, acl, ephemeral, sequence)
+        return self._begin_plan(plans.create(request, path, acl, makepath)) if makepath else self._send(request)
+
+    def create2_async(
+        self,
+        path: str,
+        value: Optional[bytes] = b"",
+        *,
+        acl: Acls = None,
+        ephemeral: bool = False,
+        sequence: bool = False,
+        makepath: bool = False,
+    ) -> concurrent.futures.Future[Created]:
+        """`create2`, which does not wait."""
+        request = lane.create2(path, value, acl, ephemeral, sequence)
+        return self._begin_plan(plans.create(request, path, acl, makepath)) if makepath else self._send(request)
+
+    def ensure_path_async(self, path: str, *, acl: Acls = None) -> concurrent.futures.Future[None]:
+        """`ensure_path`, which does not wait."""
+        return self._begin_plan(plans.ensure_path(path, acl))
 
     def set_async(
         self, path: str, value: Optional[bytes], version: int = -1
@@ -469,8 +346,12 @@ class Client(Shown):
         """`set`, which does not wait."""
         return self._send(requests.set(path, value, version))
 
-    def delete_async(self, path: str, version: int = -1) -> concurrent.futures.Future[None]:
+    def delete_async(
+        self, path: str, version: int = -1, *, recursive: bool = False
+    ) -> concurrent.futures.Future[None]:
         """`delete`, which does not wait."""
+        if recursive:
+            return self._begin_plan(plans.delete(path, version, recursive))
         return self._send(requests.delete(path, version))
 
     def sync_async(self, path: str = "/") -> concurrent.futures.Future[str]:
@@ -487,6 +368,14 @@ class Client(Shown):
         """`set_acls`, which does not wait."""
         return self._send(lane.set_acls(path, acls, version))
 
+    def add_auth_async(self, scheme: str, credential: Union[str, bytes]) -> concurrent.futures.Future[None]:
+        """`add_auth`, which does not wait."""
+        return self._begin_plan(self._introducing(credential_of(scheme, credential)))
+
+    def fresh_async(self, *, quorum: bool = False) -> concurrent.futures.Future[int]:
+        """`fresh`, which does not wait."""
+        return self._begin_plan(self._freshening(quorum))
+
     def follow(self, path: str) -> Generator[Kept, None, None]:
         """Yields what a node holds, and again whenever that has changed, through reconnects and new sessions.
 
@@ -495,86 +384,141 @@ class Client(Shown):
         It ends when the client is stopped or closed, and raises what `get` raises for other reasons than the
         connection, the session and the load of a server.
         """
-        news = _News()
-        with contextlib.closing(Follower(self._engine, path, news, time.monotonic).steps()) as steps:
-            for step in steps:
-                self._check_process()
-                if isinstance(step, Kept):
-                    yield step
-                elif isinstance(step, Wait):
-                    news.wait(step.seconds)
-                elif step is Need.READ:
-                    self._read(path)
+        return self._follow(following.data_of(self._engine, path))
 
-    def _read(self, path: str) -> None:
-        """Reads a node, or its absence, with a watch."""
-        with passing():
-            try:
-                self.get(path, watch=True)
-            except NoNodeError:
-                self.exists(path, watch=True)
+    def follow_children(self, path: str) -> Generator[KeptChildren, None, None]:
+        """Yields the names of a node's children, and again whenever these have changed, as `follow` does.
+
+        Where there is no node, that is told: `exists` is false then, and there are no names.
+
+            for kept in client.follow_children("/config"):
+                print(kept.names, "at zxid", kept.last_zxid)
+                client.stop()
+        """
+        return self._follow(following.children_of(self._engine, path))
+
+    def tree(self, path: str, *, most: int = MOST_NODES) -> Tree:
+        """Reads all nodes at and below a path, of which there are `most` at most, and reads again what changes.
+
+        Each of its snapshots is of one moment. Close it where it is wanted no longer.
+
+            with client.tree("/config") as tree:
+                snapshot = tree.wait(timeout=10)
+                print(len(snapshot), "nodes at zxid", snapshot.zxid)
+        """
+        tree = Tree(self, path, most)
+        self._act()
+        return tree
+
+    def _follow(self, subject: following.Subject[following.Told]) -> Generator[following.Told, None, None]:
+        following.begun(self._engine)
+        news = News()
+        with following.Follower(self._engine, subject, news).listening() as next_one:
+            while (kept := self._drive(next_one(), news)) is not None:
+                yield kept
 
     def _call(self, request: AnyRequest[Result], timeout: Optional[float] = None) -> Result:
-        return self._ask_by_policy(request, None if timeout is None else time.monotonic() + timeout)
+        if self._retry is None:
+            return self._ask(request, timeout=timeout)
+        result: Result = self._drive(steps_of.by_policy(request, self._retry, steps_of.until_of(timeout)))
+        return result
 
     def _run(self, plan: Plan[Result], timeout: Optional[float] = None) -> Result:
         """Asks what a plan asks for, one request after the other, within a number of seconds in all."""
-        until = None if timeout is None else time.monotonic() + timeout
+        return self._drive(steps_of.run(plan, self._retry, steps_of.until_of(timeout)))
+
+    def _drive(self, steps: Steps[Result], news: Optional[News] = None) -> Result:
+        """Does steps in this thread, one after the other. What a step raises is theirs to handle, and so is an interrupt.
+        """
+        self._check_process()
+        news = news or News()
         try:
-            request = next(plan)
+            step = next(steps)
             while True:
                 try:
-                    answer = self._ask_by_policy(request, until)
-                except ZookeeperError as error:
-                    request = plan.throw(error)
+                    answer = self._do(step, news)
+                except BaseException as error:
+                    step = steps.throw(error)
                 else:
-                    request = plan.send(answer)
+                    step = steps.send(answer)
         except StopIteration as end:
             result: Result = end.value
             return result
 
-    def _ask_by_policy(self, request: AnyRequest[Result], until: Optional[float]) -> Result:
-        if self._retry is None:
-            return self._ask(request, timeout=None if until is None else until - time.monotonic())
-        attempts = self._retry.attempts()
-        while True:
-            left = None if until is None else until - time.monotonic()
-            try:
-                return self._ask(request, timeout=left)
-            except ZookeeperError as error:
-                pause = attempts.after(error)
-                if until is not None and time.monotonic() + pause > until:
-                    raise
-            time.sleep(pause)
+    def _do(self, step: Step, news: News) -> Any:
+        if isinstance(step, Wait):
+            return news.wait(step.seconds)
+        if isinstance(step, Call):
+            return step.function()
+        return self._ask(step.request, timeout=step.timeout) if isinstance(step, Ask) else self._ask(step)
 
     def _ask(
         self, request: AnyRequest[Result], patience: Optional[float] = None, timeout: Optional[float] = None
     ) -> Result:
-        self._check_process()
-        waiter = _Waiter()
+        waiter = Waiter()
         try:
-            self._engine.ask(moment(), request, waiter, timeout)
-            threads = self._threads()
-            if threads is not None:
-                threads.loop.act()
+            self._hand_in(request, waiter, timeout)
             result: Result = waiter.result(patience)
             return result
         except BaseException:
             waiter.cancel()
             raise
 
-    def _send(self, request: AnyRequest[Any]) -> _Future:
+    def _send(self, request: AnyRequest[Any]) -> Future:
+        future = Future(self._tell)
+        self._hand_in(request, future)
+        return future
+
+    def _hand_in(self, request: AnyRequest[Any], waiter: AnyWaiter, timeout: Optional[float] = None) -> None:
         self._check_process()
-        future = _Future(self._tell)
-        self._engine.ask(moment(), request, future)
+        self._engine.ask(moment(), request, waiter, timeout)
+        self._act()
+
+    def _act(self) -> None:
+        """Has the thread of the connection look for what is to be done."""
         threads = self._threads()
         if threads is not None:
             threads.loop.act()
+
+    def _begin(
+        self, begin: Callable[[AnyNews], Steps[Any]], end: Callable[[Any, Optional[BaseException]], object]
+    ) -> None:
+        """Has the thread of the callbacks do steps, from the start of the client on."""
+        self._engine.check_process()
+        tasks = self._tasks
+
+        def ended(result: Any, error: Optional[BaseException]) -> None:
+            tasks.pop(task, None)
+            end(result, error)
+
+        task = Task(self, begin, ended)
+        tasks[task] = None
+        if self._threads() is not None:
+            task.start()
+
+    def _begin_plan(self, plan: Plan[Any]) -> Future:
+        """Has the thread of the callbacks ask what a plan asks for."""
+        self._check_process()
+        future = Future(self._tell)
+        future.begin()
+
+        def end(result: Any, error: Optional[BaseException]) -> None:
+            if error is not None:
+                future.set_exception(error)
+            else:
+                future.set_result(result)
+
+        Task(self, lambda _: steps_of.run(plan, None, None), end).start()
         return future
+
+    def _later(self, seconds: float, function: Callable[[], object]) -> None:
+        threads = self._threads()
+        if threads is not None:
+            threads.loop.later(seconds, function)
 
     def _wait_until_connected(self, timeout: Optional[float]) -> bool:
         until = None if timeout is None else time.monotonic() + timeout
-        news = _News()
+        news = News()
         with self._engine.news(news.set):
             while not self._engine.is_introduced():
                 if self._engine.refused is not None:
@@ -586,7 +530,7 @@ class Client(Shown):
                     return False
         return True
 
-    def _threads(self) -> Optional[_Threads]:
+    def _threads(self) -> Optional[Threads]:
         return self._running.get("threads")
 
     def _is_here(self) -> bool:
@@ -597,6 +541,9 @@ class Client(Shown):
     def _check_process(self) -> None:
         if not self._is_here():
             raise ConnectionClosedError("the client was started in another process, before a fork: make one here")
+
+    def _call_back(self, function: Callable[[Any], object], argument: Any) -> None:
+        function(argument)
 
     def _tell(self, function: Callable[[Any], object], argument: Any) -> bool:
         """Has the thread of the callbacks call a function, if there is one."""
@@ -613,12 +560,22 @@ class Client(Shown):
 
     def _begin_threads(self) -> None:
         if self._threads() is None:
-            threads = _Threads(self._servers, self._engine, self._tls)
+            from dirwolleu._threads import Threads  # here, so that no import of the package loads asyncio
+
+            threads = Threads(self._driver())
             if self._running.setdefault("threads", threads) is threads:
                 _started.add(self)
                 threads.start()
+                for task in list(self._tasks):
+                    task.start()
             else:
                 threads.loop.stop(lambda: None)
+
+    def _driver(self) -> Driver:
+        """What keeps the client connected, once it is started."""
+        from dirwolleu._driver import Driver
+
+        return Driver(self._servers, self._engine, self._tls)
 
     def _end_threads(self, end: Callable[[], None]) -> None:
         """Ends the engine and the threads. It may be called again, and by another thread, while it runs."""

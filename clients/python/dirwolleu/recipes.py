@@ -1,119 +1,67 @@
-"""Recipes over a client with threads: a lock, an election, and a node that is there as long as its program.
+"""Recipes over a client with threads: locks, a semaphore, an election, a registration, barriers, a counter, a queue.
 
 They are tested, and not proved. `dirwolleu.aio` has the same as coroutines.
 """
 
 from __future__ import annotations
 
-import logging
 import threading
-import time
 from types import TracebackType
-from typing import Any, Callable, Optional, TypeVar
+from typing import Any, Callable, Optional, TypeVar, cast, overload
 
 from dirwolleu import _contending as contending
-from dirwolleu._contending import Contender, Holding, Steps, Wait
-from dirwolleu._driver import moment
-from dirwolleu._retry import is_passing
-from dirwolleu.client import Client, _News
-from dirwolleu.exceptions import LockLostError, LockTimeout, NodeExistsError, NoNodeError, ZookeeperError
-from dirwolleu.types import EventType, Mark, State, WatchedEvent
+from dirwolleu._contending import READING, WRITING, BaseHeld, BaseLock, Holding
+from dirwolleu._counting import BaseCounter, Number
+from dirwolleu._gathering import BaseBarrier, BaseDoubleBarrier
+from dirwolleu._leasing import BaseSemaphore
+from dirwolleu._queueing import BaseQueue
+from dirwolleu._registering import BaseRegistration
+from dirwolleu._waiting import News
+from dirwolleu.client import Client
 
-__all__ = ["Election", "Held", "Lock", "Registration"]
-
-logger = logging.getLogger("dirwolleu.connection")
+__all__ = [
+    "Barrier",
+    "Counter",
+    "DoubleBarrier",
+    "Election",
+    "Held",
+    "Lock",
+    "Queue",
+    "ReadLock",
+    "Registration",
+    "Semaphore",
+    "WriteLock",
+]
 
 Returned = TypeVar("Returned")
-OnLost = Callable[["Held"], object]
 
 
-def _drive(client: Client, steps: Steps, news: _News, until: Optional[float], path: str) -> Any:
-    """Does what steps want, one after the other. When the time is over they are told so, and may still clean up."""
-    try:
-        step = next(steps)
-        while True:
-            try:
-                answer = None
-                if not isinstance(step, Wait):
-                    answer = client._ask(step)
-                elif until is None:
-                    news.wait(step.seconds)
-                elif until <= time.monotonic():
-                    until = None
-                    raise LockTimeout(f"the lock {path} was not taken in time")
-                else:
-                    left = until - time.monotonic()
-                    news.wait(left if step.seconds is None else min(step.seconds, left))
-            except BaseException as error:
-                step = steps.throw(error)
-            else:
-                step = steps.send(answer)
-    except StopIteration as end:
-        return end.value
-
-
-class Held:
-    """A lock that was taken: see `Lock`."""
-
-    def __init__(self, client: Client, holding: Holding, on_lost: Optional[OnLost]) -> None:
-        self._client, self._holding, self._on_lost = client, holding, on_lost
-        self._is_released, self._is_told = False, False
-
-    @property
-    def path(self) -> str:
-        """The path of the node that holds the lock."""
-        return self._holding.path
-
-    @property
-    def token(self) -> int:
-        """The zxid at which that node was made: each later holder has a greater one.
-
-        Hand it on with each request, and let what is protected refuse one that is smaller than the greatest it has seen.
-        """
-        return self._holding.token
-
-    @property
-    def is_held(self) -> bool:
-        """Whether it is shown that the lock is held: at the last seen zxid, not now."""
-        return not self._is_released and not self._holding.why_lost()
-
-    def check(self, within: Optional[float] = None) -> None:
-        """Raises `LockLostError` from the step on at which it is not shown that the lock is held.
-
-        With `within` also where what the client knows may be older than this many seconds. It asks no server.
-        """
-        why = "it was released" if self._is_released else self._holding.why_lost(within, moment())
-        if why:
-            raise LockLostError(f"{self.path}: {why}")
+class Held(BaseHeld[Client]):
+    """A lock or a lease that was taken: see `Lock`."""
 
     def release(self) -> None:
-        """Lets go of the lock. It may be called again. Where its session is over, so is the lock.
+        """Lets go of it. It may be called again. Where its session is over, so is it.
 
         A lost answer is asked for again, for twice the timeout of the session; then the error is raised.
         """
-        if not self._is_released:
-            self._is_released = True
-            self._client.remove_listener(self._told_state)
-        _drive(self._client, contending.release(self._client._engine, self.path), _News(), None, self.path)
+        self._client._drive(self._releasing())
 
-    def _told_state(self, _: object) -> None:
-        self._look()
+    def __enter__(self) -> Held:
+        return self
 
-    def _look(self) -> None:
-        """Tells that the lock was lost, once."""
-        if not self._is_released and not self._is_told and self._holding.why_lost():
-            self._is_told = True
-            logger.warning("the lock %s is lost: %s", self.path, self._holding.why_lost())
-            if self._on_lost is not None:
-                self._on_lost(self)
+    def __exit__(
+        self, kind: Optional[type[BaseException]], error: Optional[BaseException], trace: Optional[TracebackType]
+    ) -> None:
+        self.release()
 
 
-class Lock:
+class Lock(BaseLock[Client, Held]):
     """An exclusive lock: one of those that take it at a path holds it at a time, at each zxid.
 
-    The contenders are nodes below the path, in the order of their numbers, and each watches the one before it. Curator's
-    and kazoo's locks at the same path contend with it (`extra_lock_patterns=["-lock-"]` in kazoo's). A create whose
-    answer was lost is settled, so that no contender is left which nobody waits for.
+    The contenders are ephemeral nodes below the path, in the order of their numbers, and each watches the one before it.
+    A create whose answer was lost is settled, so that no contender is left which nobody waits for. Whose locks at the
+    same path contend with it is said by `names`: with `"curator"` those of Curator's `InterProcessMutex`, and of kazoo's
+    `Lock(.., extra_lock_patterns=["-lock-"])`; with `"kazoo"` those of kazoo's plain `Lock`.
 
     A program that was paused, or whose packets are late, can still believe that it holds when another one does. So work
     in small steps, `check` before each, and hand the `token` on. `on_lost` is called once, in the thread of the
@@ -127,67 +75,120 @@ class Lock:
                 print(part, "with token", held.token)
     """
 
+    def acquire(self, timeout: Optional[float] = None) -> Held:
+        """Waits until the lock is held. It is not reentrant: who holds it and takes it again waits for itself.
+
+        Raises `LockTimeout` after `timeout` seconds, and leaves no contender then; a timeout of 0 tries once. Where a
+        contender may be left and there is no connection, it is looked for first, for twice the timeout of the session at
+        most. Lost connections and expired sessions are lived through. Raises `ConnectionClosedError` where the client is
+        stopped.
+        """
+        news = News()
+        return self._client._drive(self._taking(news, timeout), news)
+
+    def contenders(self) -> list[str]:
+        """The identifiers of those that take the lock, in their order: that of the holder first."""
+        return self._client._run(contending.contenders(self._path))
+
+    def _held(self, holding: Holding) -> Held:
+        return Held(self._client, holding, self._on_lost)
+
+    def __enter__(self) -> Held:
+        return self._enter(threading.get_ident(), self.acquire())
+
+    def __exit__(
+        self, kind: Optional[type[BaseException]], error: Optional[BaseException], trace: Optional[TracebackType]
+    ) -> None:
+        self._exit(threading.get_ident()).release()
+
+
+class WriteLock(Lock):
+    """The exclusive side of a lock that others share: it is held while no other one holds the lock, shared or not.
+
+    With `names="curator"` it contends with the `writeLock` of Curator's `InterProcessReadWriteLock` at the same path,
+    and with `names="kazoo"` with kazoo's `WriteLock`. All else is as for `Lock`.
+
+        with dirwolleu.WriteLock(client, "/locks/table") as held:
+            print("writes with token", held.token)
+    """
+
+    _kind = WRITING
+
+
+class ReadLock(Lock):
+    """The shared side of a lock: any number hold it at a time, while no `WriteLock` and no `Lock` at the path does.
+
+    It waits for those alone that came before it and do not share. With `names="curator"` it contends with the
+    `readLock` of Curator's `InterProcessReadWriteLock`, and with `names="kazoo"` with kazoo's `ReadLock`. Those that
+    hold it together have tokens in no order that says anything; a `WriteLock` that comes after them has a greater one.
+
+        with dirwolleu.ReadLock(client, "/locks/table") as held:
+            held.check()
+    """
+
+    _kind = READING
+
+
+class Semaphore(BaseSemaphore[Client, Held]):
+    """A lock that `max_leases` hold at a time, at each zxid, by the nodes of kazoo's `Semaphore`.
+
+    The node of the path says how many they are at most. Leases are ephemeral nodes below it, and whoever takes one holds
+    the lock at `PATH-__lock__` meanwhile: a transaction makes the lease only while that lock is held. What is said of
+    `check`, `on_lost` and `keeps_while_suspended` at `Lock` holds here too. The token of a lease is the zxid at which it
+    was made; it is of no use to fence, since others hold beside it.
+
+        semaphore = dirwolleu.Semaphore(client, "/downloads", max_leases=3)
+        with semaphore as held:
+            held.check()
+    """
+
+    def acquire(self, timeout: Optional[float] = None) -> Held:
+        """Waits until there is a lease, as `Lock.acquire` does.
+
+        Raises `LockTimeout`, and `ValueError` where the node says that there are more leases or fewer.
+        """
+        news = News()
+        return self._client._drive(self._taking(news, timeout), news)
+
+    def lease_holders(self) -> list[str]:
+        """The identifiers of those that hold a lease, in no order."""
+        return self._client._run(self._holders())
+
+    def _held(self, holding: Holding) -> Held:
+        return Held(self._client, holding, self._on_lost)
+
+    def __enter__(self) -> Held:
+        return self._enter(threading.get_ident(), self.acquire())
+
+    def __exit__(
+        self, kind: Optional[type[BaseException]], error: Optional[BaseException], trace: Optional[TracebackType]
+    ) -> None:
+        self._exit(threading.get_ident()).release()
+
+
+class Election:
+    """One of the candidates at a path leads at a time: whoever holds the lock there.
+
+    Its nodes are those of a `Lock`. kazoo's `Election` takes a plain lock of kazoo's, so with `names="kazoo"` it has
+    candidates of both.
+
+        election = dirwolleu.Election(client, "/leader", identifier="host-1")
+        election.run(lambda held: print("leads with token", held.token))
+    """
+
     def __init__(
         self,
         client: Client,
         path: str,
         identifier: str = "",
         *,
-        on_lost: Optional[OnLost] = None,
+        names: str = "curator",
+        on_lost: Optional[Callable[[Held], object]] = None,
         keeps_while_suspended: bool = False,
     ) -> None:
-        self._client, self._path, self._data = client, path, identifier.encode()
-        self._on_lost, self._keeps = on_lost, keeps_while_suspended
-        self._entered: Optional[Held] = None
-
-    def acquire(self, timeout: Optional[float] = None) -> Held:
-        """Waits until the lock is held. It is not reentrant: who holds it and takes it again waits for itself.
-
-        Raises `LockTimeout` after `timeout` seconds, and leaves no contender then; a timeout of 0 tries once. Lost
-        connections and expired sessions are lived through. Raises `ConnectionClosedError` where the client is stopped.
-        """
-        engine, news = self._client._engine, _News()
-        told: list[Held] = []
-        contender = Contender(engine, self._path, self._data, news.set, news.clear)
-        until = None if timeout is None else time.monotonic() + timeout
-
-        def tell(_: object) -> None:
-            for held in told:
-                held._look()
-
-        with engine.news(news.set):
-            path, token = _drive(self._client, contender.take(tell), news, until, self._path)
-        held = Held(self._client, Holding(engine, path, token, self._keeps), self._on_lost)
-        told.append(held)
-        self._client.add_listener(held._told_state)
-        self._client._tell(held._told_state, None)  # what was told before is not told again
-        return held
-
-    def contenders(self) -> list[str]:
-        """The identifiers of those that take the lock, that of the holder first."""
-        return self._client._run(contending.contenders(self._path))
-
-    def __enter__(self) -> Held:
-        self._entered = self.acquire()
-        return self._entered
-
-    def __exit__(
-        self, kind: Optional[type[BaseException]], error: Optional[BaseException], trace: Optional[TracebackType]
-    ) -> None:
-        held, self._entered = self._entered, None
-        if held is not None:
-            held.release()
-
-
-class Election:
-    """One of the candidates at a path leads at a time: whoever holds the lock there.
-
-        election = dirwolleu.Election(client, "/leader", identifier="host-1")
-        election.run(lambda held: print("leads with token", held.token))
-    """
-
-    def __init__(self, client: Client, path: str, identifier: str = "", *, on_lost: Optional[OnLost] = None) -> None:
-        self._lock = Lock(client, path, identifier, on_lost=on_lost)
+        self._lock = Lock(
+            client, path, identifier, names=names, on_lost=on_lost, keeps_while_suspended=keeps_while_suspended
+        )
 
     def run(self, lead: Callable[[Held], Returned]) -> Returned:
         """Waits until this candidate leads, calls a function with the lock that it holds, and answers what that does.
@@ -202,11 +203,12 @@ class Election:
         return self._lock.contenders()
 
 
-class Registration:
+class Registration(BaseRegistration[Client]):
     """An ephemeral node that is made again in each new session, until it is withdrawn.
 
     A node of an earlier session of this program is waited for until it is gone. Where somebody deletes the node, it is
-    made again.
+    made again, and where somebody sets other data, these are set again. The thread of the callbacks sees to it, and is
+    not held up by it.
 
         with dirwolleu.Registration(client, "/workers/host-1", b"10.0.0.1:80") as registration:
             registration.wait(10.0)
@@ -214,11 +216,8 @@ class Registration:
     """
 
     def __init__(self, client: Client, path: str, value: bytes = b"") -> None:
-        self._client, self._path, self._value = client, path, value
         self._is_there = threading.Event()
-        self._is_wanted = True
-        client.add_listener(self._told_state)
-        client._tell(lambda _: self._make(), None)
+        super().__init__(client, path, value, self._is_there)
 
     def __enter__(self) -> Registration:
         return self
@@ -228,77 +227,128 @@ class Registration:
     ) -> None:
         self.withdraw()
 
-    @property
-    def is_registered(self) -> bool:
-        """Whether the node is known to be there, as one of this session: at the last seen zxid, not now."""
-        kept = self._client.kept(self._path)
-        if kept is None or kept.mark is not Mark.GOOD or kept.stat is None:
-            return False
-        return kept.stat.ephemeral_owner == self._client.session_id
-
     def wait(self, timeout: Optional[float] = None) -> bool:
         """Waits until the node is there, for at most this many seconds, and answers whether it is."""
+        self._client._engine.check_process()
         return self._is_there.wait(timeout)
 
     def set(self, value: bytes) -> None:
         """Gives the node other data, now and in later sessions."""
-        self._value = value
-        try:
-            self._client.set(self._path, value)
-        except ZookeeperError as error:
-            if not is_passing(error) and not isinstance(error, NoNodeError):
-                raise  # else it is made with these data, or set when the connection is back
-            self._client._tell(lambda _: self._make(), None)
+        self._client._drive(self._setting(value))
 
     def withdraw(self) -> None:
         """Deletes the node, and makes it no more. Where its session is over, so is the node."""
-        if self._is_wanted:
-            self._is_wanted = False
-            self._client.remove_listener(self._told_state)
-        if self._client.state is not State.LOST:
-            self._remove()
+        self._client._drive(self._withdrawing())
 
-    def _remove(self) -> None:
-        """Deletes the node, if it is one of this session."""
-        stat = self._client.retry(self._client.exists, self._path)
-        if stat is not None and stat.ephemeral_owner == self._client.session_id:
-            _drive(self._client, contending.release(self._client._engine, self._path), _News(), None, self._path)
-        self._is_there.clear()
 
-    def _told_state(self, state: State) -> None:
-        if state is State.LOST:
-            self._is_there.clear()
-        elif state is State.CONNECTED:
-            self._make()
+class Barrier(BaseBarrier[Client]):
+    """What holds clients back while its node is there, as kazoo's `Barrier` does.
 
-    def _told(self, event: WatchedEvent) -> None:
-        if event.type is EventType.DELETED:
-            self._is_there.clear()
-        if event.type is not EventType.NONE:
-            self._make()
+        barrier = dirwolleu.Barrier(client, "/migration")
+        barrier.create()
+        barrier.remove()
+        is_open = barrier.wait(10.0)
+    """
 
-    def _make(self) -> None:
-        """Sees to it that the node is there, and watches it."""
-        try:
-            while self._is_wanted and self._client.connected and not self._is_settled():
-                pass
-            if not self._is_wanted:
-                self._remove()  # it was withdrawn meanwhile
-        except ZookeeperError as error:
-            if not is_passing(error):
-                logger.error("the registration %s failed: %s", self._path, error)
+    def create(self) -> None:
+        """Puts the barrier up, where it is not."""
+        self._client._drive(self._creating())
 
-    def _is_settled(self) -> bool:
-        """Whether nothing is left to do before the next news of the node: it is there, or another session's is."""
-        try:
-            self._client.create(self._path, self._value, ephemeral=True, makepath=True)
-        except NodeExistsError:
-            pass
-        stat = self._client.exists(self._path, watch=self._told)
-        if stat is None:
-            return False
-        if stat.ephemeral_owner == self._client.session_id:
-            if self._client.get(self._path)[0] != self._value:
-                self._client.set(self._path, self._value)
-            self._is_there.set()
-        return True
+    def remove(self) -> bool:
+        """Takes the barrier away, and answers whether it was seen to be there."""
+        return self._client._drive(self._removing())
+
+    def wait(self, timeout: Optional[float] = None) -> bool:
+        """Waits until there is no barrier, for at most this many seconds, and answers whether that came to pass.
+
+        Lost connections and expired sessions are lived through.
+        """
+        news = News()
+        return self._client._drive(self._waiting(news, timeout), news)
+
+
+class DoubleBarrier(BaseDoubleBarrier[Client]):
+    """A barrier at which `num_clients` wait for one another, before and after their work, by kazoo's nodes.
+
+        barrier = dirwolleu.DoubleBarrier(client, "/step", num_clients=1)
+        if barrier.enter(60.0):
+            print("all have come")
+            barrier.leave(60.0)
+    """
+
+    def enter(self, timeout: Optional[float] = None) -> bool:
+        """Waits until all have come, for at most this many seconds, and answers whether they have.
+
+        Where they have not, this one is withdrawn. A member whose session ends meanwhile comes again in the next one.
+        """
+        news = News()
+        return self._client._drive(self._entering(news, timeout), news)
+
+    def leave(self, timeout: Optional[float] = None) -> bool:
+        """Waits until all have left, for at most this many seconds, and answers whether they have. This one has."""
+        news = News()
+        return self._client._drive(self._leaving(news, timeout), news)
+
+
+class Counter(BaseCounter[Client, Number]):
+    """A number that is changed by compare and set, by the node of kazoo's `Counter`: an int or a float, as `default` is.
+
+    Each change happens once, whoever else changes the number. Where the answer to one was lost it is looked for: if it
+    has not happened, it is asked again; where that can't be told, `ConnectionLoss` says that it may have happened.
+
+        counter = dirwolleu.Counter(client, "/jobs", default=0)
+        before = counter.get()
+        print(counter.add(5), "is", counter.change(lambda number: number * 2) // 2)
+    """
+
+    @overload
+    def __init__(self: Counter[int], client: Client, path: str) -> None: ...
+
+    @overload
+    def __init__(self, client: Client, path: str, default: Number) -> None: ...
+
+    def __init__(self, client: Client, path: str, default: Any = 0) -> None:
+        super().__init__(client, path, default)
+
+    def get(self) -> Number:
+        """The number. Raises `ValueError` where the node has other data."""
+        return self._client._drive(self._getting())
+
+    def add(self, number: Number) -> Number:
+        """Adds a number, and answers what it comes to."""
+        return self.change(lambda current: cast(Number, current + number))
+
+    def change(self, function: Callable[[Number], Number]) -> Number:
+        """Sets the number to what a function makes of it, and answers that.
+
+        The function is called again where another client was first.
+        """
+        return self._client._drive(self._changing(function))
+
+
+class Queue(BaseQueue[Client]):
+    """Entries that each go to one of those that take them: by priority, where 0 is first, then in the order of making.
+
+    An entry that was put is there once, also where an answer was lost. It is deleted before it is worked on: where its
+    taker ends then, or the answer to its delete is lost, nobody works on it. That `ConnectionLoss` says that it may have
+    happened. For work that must not be lost, see the queue of docs/COOKBOOK.md, which deletes after the work. The nodes
+    have the names of kazoo's `Queue`, with a tag more.
+
+        queue = dirwolleu.Queue(client, "/jobs")
+        queue.put(b"one")
+        data = queue.get(10.0)
+    """
+
+    def put(self, value: bytes, priority: int = 100) -> str:
+        """Adds an entry, and answers its path. A priority is 0 to 999."""
+        return self._client._drive(self._putting(value, priority))
+
+    def get(self, timeout: Optional[float] = None) -> Optional[bytes]:
+        """Takes the first entry out, waits for one for at most this many seconds, and answers its data: None where none
+        came. A timeout of 0 tries once.
+        """
+        news = News()
+        return self._client._drive(self._taking(news, timeout), news)
+
+    def __len__(self) -> int:
+        return self._client._run(self._counting())

@@ -2,8 +2,10 @@
 
 from __future__ import annotations
 
-import ssl
-from typing import Optional
+from typing import TYPE_CHECKING, Optional
+
+if TYPE_CHECKING:
+    import ssl
 
 __all__ = ["tls_context"]
 
@@ -29,6 +31,8 @@ def tls_context(
         context = dirwolleu.tls_context(ca="ca.pem", certfile="client.pem", keyfile="client.key")
         client = dirwolleu.Client("zk1.example:2281", ssl=context)
     """
+    import ssl  # here, so that no import of the package loads it
+
     context = ssl.create_default_context(cafile=ca)
     if not verify_certs:
         context.check_hostname = False

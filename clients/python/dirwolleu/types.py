@@ -3,10 +3,11 @@
 from __future__ import annotations
 
 import enum
+from collections.abc import Mapping
 from dataclasses import dataclass
 from typing import Callable, NamedTuple, Optional, Union
 
-__all__ = ["DataStat", "EventType", "Kept", "KeptChildren", "Mark", "Stat", "State", "Stats", "Watch", "WatchedEvent"]
+__all__ = ["DataStat", "EventType", "Kept", "KeptChildren", "Mark", "Snapshot", "Stat", "State", "Stats", "Watch", "WatchedEvent"]
 
 
 class State(str, enum.Enum):
@@ -148,6 +149,20 @@ class Kept:
 
 
 @dataclass(frozen=True)
+class Snapshot:
+    """What is kept of several nodes, all of it good, and of one moment: what `client.snapshot` gives."""
+
+    zxid: int
+    """The zxid at which the servers had all of it."""
+
+    nodes: Mapping[str, Kept]
+    """What is kept of the nodes, by path."""
+
+    children: Mapping[str, KeptChildren]
+    """What is kept of the names below the parents, by path."""
+
+
+@dataclass(frozen=True)
 class KeptChildren:
     """What a client keeps of the children of a node that were read with a watch."""
 
@@ -164,4 +179,7 @@ class KeptChildren:
     """The names of the children, in the order of their bytes."""
 
     pzxid: int
-    """The zxid of the last change of this set."""
+    """The zxid of the last change of this set, 0 where there is no node."""
+
+    exists: bool = True
+    """Whether there is a node. `follow_children` tells its absence too, which is kept of its data."""

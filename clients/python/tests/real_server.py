@@ -1,16 +1,24 @@
 """real_server.py HOST:PORT: what a real server answers to the client's calls, its lane and its locks.
 
-`scripts/clients` runs it with a server. Where the package kazoo is there, its locks contend with those of the client.
+`scripts/clients` runs it with a server. Where the package kazoo is there, and where DIRWOLLEU_CURATOR names the jars of Curator,
+their locks contend with those of the client.
 """
 
 from __future__ import annotations
 
+import asyncio
+import functools
+import importlib
+import os
 import pathlib
+import queue
+import subprocess
 import sys
 import threading
 import time
 import unittest
-from typing import Any
+from collections.abc import Sequence
+from typing import Any, Callable, Optional
 
 sys.path.insert(0, str(pathlib.Path(__file__).resolve().parents[1]))
 
@@ -18,19 +26,64 @@ import dirwolleu  # noqa: E402
 from dirwolleu import (  # noqa: E402
     AuthFailedError,
     BadVersionError,
+    Barrier,
     Client,
+    Counter,
+    DoubleBarrier,
     InvalidACLError,
     Lock,
     Mark,
     NoAuthError,
     NoNodeError,
+    ReadLock,
     Registration,
+    Semaphore,
     TransactionFailedError,
+    WriteLock,
+    aio,
     security,
 )
 
 HOST = "127.0.0.1:2181"
 WAIT = 30.0
+ROUNDS = 10
+CURATOR = os.environ.get("DIRWOLLEU_CURATOR", "")
+"""The jars of Curator, with those that it needs. Without them its locks are left out."""
+TOKENS: list[int] = []
+
+
+def kazoo_or_none() -> Optional[Any]:
+    try:
+        importlib.import_module("kazoo.client")
+        return importlib.import_module("kazoo")
+    except ImportError:
+        return None
+
+
+KAZOO = kazoo_or_none()
+
+
+def in_threads(works: Sequence[Callable[[], object]]) -> list[Optional[BaseException]]:
+    """Has each work done by a thread of its own, and tells what each has raised."""
+    ends: queue.Queue[Optional[BaseException]] = queue.Queue()
+
+    def run(work: Callable[[], object]) -> None:
+        try:
+            work()
+            ends.put(None)
+        except BaseException as error:
+            ends.put(error)
+
+    for work in works:
+        threading.Thread(target=run, args=(work,), daemon=True).start()
+    return [ends.get(timeout=6 * WAIT) for _ in works]
+
+
+def within(condition: Callable[[], Any]) -> None:
+    until = time.monotonic() + WAIT
+    while not condition():
+        if time.monotonic() > until:
+            raise AssertionError("this has not come to pass in time")
 
 
 class RealServerTest(unittest.TestCase):
@@ -124,44 +177,164 @@ class RealServerTest(unittest.TestCase):
             self.assertEqual(self.other.get("/workers/one")[0], b"x")
         self.assertIsNone(self.other.exists("/workers/one"))
 
-    def test_locks_contend_with_those_of_kazoo(self) -> None:
+    def test_twenty_contenders_of_three_clients(self) -> None:
+        """Each holder makes one node and deletes it again, which fails where two hold at once."""
+        self.contend("lock", "Lock", {"extra_lock_patterns": ["-lock-"]}, "curator", 6)
+        tokens = TOKENS[:]
+        self.assertEqual((len(tokens), tokens), (len(set(tokens)), sorted(tokens)))
+
+    def test_readers_and_writers_of_three_clients(self) -> None:
+        self.contend("readwrite", "", {}, "curator", 6)
+
+    def test_contenders_with_the_names_of_plain_kazoo(self) -> None:
+        self.contend("lock", "Lock", {}, "kazoo", 0)
+        self.contend("readwrite", "WriteLock", {}, "kazoo", 0)
+
+    def contend(self, kind: str, kazoos: str, named: dict[str, Any], names: str, curators: int) -> None:
+        """Contenders of each kind of client on one lock; those that share do every second time."""
+        TOKENS.clear()
+        path = f"/{kind}-{names}"
+        shares = kind == "readwrite"
+        works: list[Callable[[], None]] = []
+        clients = self.client(), self.client(), self.one, self.other
+        works += [functools.partial(self.contend_in_thread, one, path, names, shares) for one in clients]
+        works += [functools.partial(self.contend_in_asyncio, path, names, shares)]
+        if kazoos and KAZOO is not None:
+            works += [functools.partial(self.contend_as_kazoo, path, kazoos, named, shares) for _ in range(6)]
+        if curators and CURATOR:
+            works.append(functools.partial(self.contend_as_curator, path, kind, curators))
+        self.assertEqual([error for error in in_threads(works) if error is not None], [])
+
+    def hold(self, client: Client, held: dirwolleu.Held, reads: bool) -> None:
+        if reads:
+            self.assertIsNone(client.exists("/judge"))
+        else:
+            client.create("/judge")
+            TOKENS.append(held.token)
+        time.sleep(0.002)
+        held.check()
+        if not reads:
+            client.delete("/judge")
+
+    def contend_in_thread(self, client: Client, path: str, names: str, shares: bool) -> None:
+        for number in range(ROUNDS):
+            reads = shares and number % 2 == 1
+            kind = (ReadLock if reads else WriteLock) if shares else Lock
+            with kind(client, path, names=names) as held:
+                self.hold(client, held, reads)
+
+    def contend_in_asyncio(self, path: str, names: str, shares: bool) -> None:
+        async def contend() -> None:
+            async with aio.Client(HOST + self.root, 10.0) as client:
+                for number in range(ROUNDS):
+                    reads = shares and number % 2 == 1
+                    kind = (aio.ReadLock if reads else aio.WriteLock) if shares else aio.Lock
+                    async with kind(client, path, names=names) as held:
+                        if reads:
+                            self.assertIsNone(await client.exists("/judge"))
+                        else:
+                            await client.create("/judge")
+                            TOKENS.append(held.token)
+                        await asyncio.sleep(0.002)
+                        held.check()
+                        if not reads:
+                            await client.delete("/judge")
+
+        async def run() -> None:
+            await asyncio.gather(*(contend() for _ in range(4)))
+
+        asyncio.run(run())
+
+    def contend_as_kazoo(self, path: str, kind: str, named: dict[str, Any], shares: bool) -> None:
+        assert KAZOO is not None
+        client = KAZOO.client.KazooClient(HOST + self.root)
+        client.start()
         try:
-            import kazoo.client  # type: ignore[import]
-        except ImportError:
-            self.skipTest("there is no kazoo")
-        holders, most, tokens = [0], [0], list[int]()
-
-        def hold(token: int) -> None:
-            holders[0] += 1
-            most[0] = max(most[0], holders[0])
-            tokens.append(token)
-            time.sleep(0.002)
-            holders[0] -= 1
-
-        def contend(client: Client) -> None:
-            for _ in range(10):
-                with Lock(client, "/lock") as held:
-                    hold(held.token)
-                    held.check()
-
-        def contend_as_kazoo() -> None:
-            client = kazoo.client.KazooClient(HOST + self.root)
-            client.start()
-            for _ in range(10):
-                lock = client.Lock("/lock", extra_lock_patterns=["-lock-"])
+            for number in range(ROUNDS):
+                reads = shares and number % 2 == 1
+                lock = client.ReadLock(path) if reads else getattr(client, kind)(path, **named)
                 with lock:
-                    hold(client.get(f"/lock/{lock.node}")[1].czxid)
+                    if reads:
+                        self.assertIsNone(client.exists("/judge"))
+                    else:
+                        client.create("/judge")
+                        TOKENS.append(client.get(f"{path}/{lock.node}")[1].czxid)
+                    time.sleep(0.002)
+                    if not reads:
+                        client.delete("/judge")
+        finally:
             client.stop()
             client.close()
 
-        threads = [threading.Thread(target=contend, args=(one,), daemon=True) for one in 3 * (self.one, self.other)]
-        threads += [threading.Thread(target=contend_as_kazoo, daemon=True) for _ in range(3)]
-        for thread in threads:
-            thread.start()
-        for thread in threads:
-            thread.join(4 * WAIT)
-            self.assertFalse(thread.is_alive())
-        self.assertEqual((most[0], len(set(tokens)), tokens), (1, 90, sorted(tokens)))
+    def contend_as_curator(self, path: str, kind: str, count: int) -> None:
+        source = pathlib.Path(__file__).parent / "CuratorContenders.java"
+        words = ["java", "-cp", CURATOR, str(source), HOST + self.root, path, "/judge", str(count), str(ROUNDS), kind]
+        done = subprocess.run(words, capture_output=True, text=True, timeout=6 * WAIT, check=False)
+        self.assertEqual((done.returncode, done.stdout), (0, "done\n"), done.stderr[-2000:])
+
+    def test_a_semaphore_beside_those_of_kazoo(self) -> None:
+        """Whoever has a lease sees no more of them than there may be."""
+        def work() -> None:
+            client = self.client()
+            for _ in range(ROUNDS):
+                with Semaphore(client, "/leases", max_leases=3) as held:
+                    self.assertLessEqual(len(client.get_children("/leases")), 3)
+                    held.check()
+
+        def work_as_kazoo() -> None:
+            if KAZOO is None:
+                return
+            client = KAZOO.client.KazooClient(HOST + self.root)
+            client.start()
+            for _ in range(ROUNDS):
+                with client.Semaphore("/leases", max_leases=3):
+                    self.assertLessEqual(len(client.get_children("/leases")), 3)
+            client.stop()
+            client.close()
+
+        self.assertEqual([error for error in in_threads([*3 * [work], *3 * [work_as_kazoo]]) if error is not None], [])
+
+    def test_a_counter_and_a_barrier_beside_those_of_kazoo(self) -> None:
+        if KAZOO is None:
+            self.skipTest("there is no kazoo")
+        client = KAZOO.client.KazooClient(HOST + self.root)
+        client.start()
+        self.addCleanup(client.close)
+        self.addCleanup(client.stop)
+        counter = client.Counter("/count")
+        counter += 2
+        self.assertEqual(Counter(self.one, "/count").add(3), 5)
+        self.assertEqual(counter.value, 5)
+        barrier = client.DoubleBarrier("/step", 2)
+        own = DoubleBarrier(self.one, "/step", 2)
+        self.assertEqual(in_threads([barrier.enter, lambda: self.assertTrue(own.enter(WAIT))]), [None, None])
+        self.assertEqual(in_threads([barrier.leave, lambda: self.assertTrue(own.leave(WAIT))]), [None, None])
+        client.Barrier("/closed").create()
+        self.assertFalse(Barrier(self.one, "/closed").wait(0.05))
+        client.Barrier("/closed").remove()
+        self.assertTrue(Barrier(self.one, "/closed").wait(WAIT))
+
+    def test_what_is_good_is_fresh(self) -> None:
+        """After `fresh`, what another session has written before is known to the core."""
+        self.one.create("/a", b"0")
+        for number in range(20):
+            self.one.get("/a", watch=True)
+            written = self.other.set("/a", b"%d" % number)
+            self.assertGreaterEqual(self.one.fresh(quorum=number % 2 == 1), written.mzxid)
+            kept = self.one.kept("/a")
+            assert kept is not None
+            self.assertGreaterEqual(kept.last_zxid, written.mzxid)
+            self.assertIs(kept.mark, Mark.STALE)
+
+    def test_watches(self) -> None:
+        told: queue.Queue[Any] = queue.Queue()
+        self.one.DataWatch("/a", lambda data, stat: told.put(data))
+        self.one.ChildrenWatch("/a", told.put)
+        self.assertEqual({repr(told.get(timeout=WAIT)) for _ in range(2)}, {"None", "[]"})
+        self.other.create("/a", b"x")
+        within(lambda: told.get(timeout=WAIT) == b"x")
+        self.other.create("/a/b", b"")
+        within(lambda: told.get(timeout=WAIT) == ["b"])
 
     def test_a_lock_whose_session_a_server_ends(self) -> None:
         held = Lock(self.one, "/lock").acquire(WAIT)

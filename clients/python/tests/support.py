@@ -175,10 +175,23 @@ def within(condition: Callable[[], Any], seconds: float = WAIT) -> Any:
 class PartnerCase(unittest.TestCase):
     """A test that has partners."""
 
+    _shared: Partner
+
     def partner(self, *options: str, port: int = 0) -> Partner:
         partner = Partner(*options, port=port)
         self.addCleanup(partner.stop)
         return partner
+
+    def shared_partner(self) -> Partner:
+        """One partner of all tests of the class, which are to keep to a root of their own, `own_root`."""
+        kind = type(self)
+        if "_shared" not in vars(kind):
+            kind._shared = Partner()
+            kind.addClassCleanup(kind._shared.stop)
+        return kind._shared
+
+    def own_root(self) -> str:
+        return f"/{self._testMethodName}"
 
     def raw_server(self, serve: Callable[[Peer], None]) -> RawServer:
         server = RawServer(serve)

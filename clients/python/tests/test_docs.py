@@ -10,6 +10,7 @@ import importlib
 import inspect
 import io
 import pathlib
+import re
 import textwrap
 import unittest
 from collections.abc import Iterator
@@ -48,16 +49,20 @@ def blocks(docstring: str, margin: str) -> Iterator[str]:
 
 
 class DocsTest(PartnerCase):
-    def setUp(self) -> None:
-        self.server: Partner = self.partner()
-        self.server.do("create /config one", "create /config/a x", "create /log", *3 * ["set /config one"])
+    def begin(self, number: int, example: Example) -> None:
+        """Makes a root of its own for an example, with what examples find there. One that takes other hosts has none."""
+        self.server: Partner = self.shared_partner()
+        self.root = "" if "set_hosts" in example.lines else f"/example-{number}"
+        if self.root:
+            self.server.do(f"create {self.root}")
+        self.server.do(*(f"create {self.root}{node}" for node in ("/config one", "/config/a x", "/log")))
+        self.server.do(*3 * [f"set {self.root}/config one"])
         self.ends = contextlib.ExitStack()
-        self.addCleanup(self.ends.close)
 
     def client(self, hosts: str = "", *words: Any, **named: Any) -> dirwolleu.Client:
-        """A client of the partner, started, whatever its hosts are; the root is that of the hosts."""
+        """A client of the partner, started, whatever its hosts are; the root is that of the hosts, below that of the example."""
         _, slash, root = hosts.partition("/")
-        client = REAL(self.server.host + slash + root, *words, **named)
+        client = REAL(self.server.host + self.root + slash + root, *words, **named)
         self.ends.callback(client.close)
         self.ends.callback(client.stop)
         client.start(WAIT)
@@ -66,11 +71,11 @@ class DocsTest(PartnerCase):
     def test_each_example_runs(self) -> None:
         found = [example for example in examples() if not example.lines.startswith(">>>")]
         self.assertGreaterEqual(len(found), 18)
-        for example in found:
+        for number, example in enumerate(found):
             with self.subTest(example.where):
-                self.setUp()
-                self.run_example(example)
-                self.ends.close()
+                self.begin(number, example)
+                with self.ends:
+                    self.run_example(example)
 
     def run_example(self, example: Example) -> None:
         names = {"dirwolleu": dirwolleu, "names": ["a"], "Retry": dirwolleu.Retry, "Client": self.client}
@@ -83,7 +88,7 @@ class DocsTest(PartnerCase):
 
     async def run_coroutine(self, example: Example, names: dict[str, Any]) -> None:
         body = "async def example():\n" + textwrap.indent(example.lines, "    ")
-        async with REAL_AIO(self.server.host) as client:
+        async with REAL_AIO(self.server.host + self.root) as client:
             found: dict[str, Any] = {**names, "client": client}
             exec(compile(body, example.where, "exec"), found)
             await asyncio.wait_for(found["example"](), 3 * WAIT)
@@ -98,6 +103,18 @@ class DocsTest(PartnerCase):
                     for own, part in vars(found).items():
                         if inspect.isfunction(part) and not own.startswith("_"):
                             self.assertTrue(part.__doc__, f"{name}.{own}")
+
+    def test_the_readme_names_each_public_name(self) -> None:
+        readme = (CLIENTS / "python" / "README.md").read_text()
+        names = {*dirwolleu.__all__, *dirwolleu.aio.__all__}
+        for kind in (dirwolleu.Client, dirwolleu.Held, dirwolleu.Lock, dirwolleu.Semaphore, dirwolleu.Registration, dirwolleu.Queue):
+            names.update(own for own in dir(kind) if not own.startswith("_") and not own.endswith("_async"))
+        self.assertEqual([name for name in sorted(names) if not re.search(rf"\b{name}\b", readme)], [])
+
+    def test_both_clients_and_their_recipes_have_the_same_names(self) -> None:
+        for name in ("Client", *dirwolleu.recipes.__all__):
+            ours, theirs = ({own for own in dir(getattr(one, name)) if not own.startswith("_")} for one in (dirwolleu, dirwolleu.aio))
+            self.assertEqual(ours - {"size"}, theirs - {"size"}, name)
 
     def test_prompts(self) -> None:
         for file in PACKAGE.glob("*.py"):

@@ -10,7 +10,9 @@ import contextlib
 import os
 import random
 import signal
+import subprocess
 import sys
+import textwrap
 import threading
 import time
 import unittest
@@ -19,9 +21,22 @@ from types import FrameType
 from typing import Any, Callable, Optional
 from unittest import mock
 
-from support import CLOSE_SESSION, WAIT, PartnerCase, Peer, reply, within
+from support import CLIENTS, CLOSE_SESSION, WAIT, PartnerCase, Peer, reply, within
 
-from dirwolleu import Client, ConnectionClosedError, NoNodeError, State, WatchedEvent
+from dirwolleu import (
+    Barrier,
+    Client,
+    ConnectionClosedError,
+    Counter,
+    Held,
+    Lock,
+    LockLostError,
+    NoNodeError,
+    Queue,
+    Registration,
+    State,
+    WatchedEvent,
+)
 
 INTERRUPTED_CALLS, LONGEST = 100_000, 20.0
 
@@ -132,23 +147,34 @@ class SignalTest(ClientCase):
 class ForkTest(ClientCase):
     def test_a_forked_child_is_told_so(self) -> None:
         client = self.client(self.partner().host)
+        held = Lock(client, "/lock").acquire(WAIT)
+        registration = Registration(client, "/one")
+        self.assertTrue(registration.wait(WAIT))
         child = os.fork()
         if child == 0:
             signal.alarm(int(WAIT))
-            os._exit(self.try_in_child(client))
+            os._exit(self.try_in_child(client, held, registration))
         _, status = os.waitpid(child, 0)
         self.assertEqual(status, 0)
-        self.assertEqual(client.get_children("/"), [])
+        self.assertEqual(sorted(client.get_children("/")), ["lock", "one"])
+        held.check()
 
-    def try_in_child(self, client: Client) -> int:
+    def try_in_child(self, client: Client, held: Held, registration: Registration) -> int:
         failures = 0
-        calls: list[Callable[[], object]] = [lambda: client.get("/"), lambda: next(client.follow("/")), client.start]
+        calls: list[Callable[[], object]] = [
+            lambda: client.get("/"), lambda: next(client.follow("/")), client.start, client.fresh,
+            lambda: next(client.follow_children("/")), lambda: client.ensure_path_async("/a"),
+            lambda: client.DataWatch("/a", print), lambda: Lock(client, "/lock").acquire(), held.release, held.check,
+            registration.wait, lambda: registration.is_registered, registration.withdraw, lambda: Registration(client, "/x"),
+            Barrier(client, "/barrier").wait, Counter(client, "/count").get, Queue(client, "/queue").get,
+        ]  # fmt: skip
         for call in calls:
             try:
                 call()
                 failures += 1
-            except ConnectionClosedError as error:
+            except (ConnectionClosedError, LockLostError) as error:
                 failures += "fork" not in str(error)
+        failures += held.is_held
         client.stop()
         client.close()
         return failures
@@ -167,7 +193,7 @@ class EndTest(ClientCase):
         client.exists("/a", watch=watch)
         partner.do("create /a")
         self.assertTrue(runs.wait(WAIT))
-        with mock.patch("dirwolleu.client.LONGEST_CALLBACK", 0.2), self.assertLogs("dirwolleu", "WARNING"):
+        with mock.patch("dirwolleu._waiting.LONGEST_CALLBACK", 0.2), self.assertLogs("dirwolleu", "WARNING"):
             began = time.monotonic()
             client.stop()
         self.assertLess(time.monotonic() - began, 2.0)
@@ -197,6 +223,38 @@ class EndTest(ClientCase):
         began = time.monotonic()
         client.stop()
         self.assertLess(time.monotonic() - began, 4.0)
+
+    def test_a_program_that_does_not_stop_its_client_ends_at_once_and_says_nothing(self) -> None:
+        program = """
+            import sys, threading; sys.path.insert(0, sys.argv[2])
+            import dirwolleu
+            client = dirwolleu.Client(sys.argv[1])
+            client.start()
+            told = threading.Event()
+            client.DataWatch("/a", lambda *_: told.set())
+            dirwolleu.Registration(client, "/one").wait()
+            held = dirwolleu.Lock(client, "/lock").acquire()
+            waits = [dirwolleu.Lock(client, "/lock").acquire, lambda: [*client.follow("/a")], dirwolleu.Queue(client, "/b").get]
+            for wait in waits:
+                threading.Thread(target=wait, daemon=True).start()
+            while not told.is_set() or len(client.get_children("/lock")) < 2:
+                pass
+            print("ends", flush=True)
+        """
+        words = [sys.executable, "-c", textwrap.dedent(program), self.partner().host, str(CLIENTS / "python")]
+        process = subprocess.Popen(words, stdout=subprocess.PIPE, stderr=subprocess.PIPE, text=True)
+        assert process.stdout is not None
+        self.assertEqual(process.stdout.readline(), "ends\n")
+        began = time.monotonic()
+        self.assertEqual(process.communicate(timeout=3 * WAIT), ("", ""))
+        self.assertEqual(process.returncode, 0)
+        self.assertLess(time.monotonic() - began, 2.0)
+
+    def test_no_import_loads_asyncio(self) -> None:
+        program = "import sys; sys.path.insert(0, sys.argv[1]); import dirwolleu; print({'asyncio', 'ssl'} & {*sys.modules}, dirwolleu.aio.Client.__name__)"
+        words = [sys.executable, "-c", program, str(CLIENTS / "python")]
+        done = subprocess.run(words, capture_output=True, text=True, timeout=3 * WAIT, check=True)
+        self.assertEqual(done.stdout, "set() Client\n")
 
     def test_a_call_that_was_given_up_before_it_was_sent_is_not_sent(self) -> None:
         partner = self.partner()

@@ -102,6 +102,11 @@ class NumberTest(unittest.TestCase):
         with self.assertRaises(library.UnknownNumber):
             library._checked(-99)
 
+    def test_the_version_is_compared(self) -> None:
+        with mock.patch.object(library, "VERSION", 1002003):
+            with self.assertRaisesRegex(ImportError, r"is of version 0\.3\.0, and this package of 1\.2\.3: install both of one version"):
+                library._load(library._find())
+
     def test_a_library_of_another_version_is_told_as_that(self) -> None:
         with mock.patch.dict(library._FUNCTIONS, {"dw_of_tomorrow": (None, ())}):
             with self.assertRaisesRegex(ImportError, "of another version than this package: it has no dw_of_tomorrow"):
@@ -196,6 +201,42 @@ class MachineTest(unittest.TestCase):
         machine.received(300, reply(1, 9, 0, spelled + STAT_BYTES))
         self.assertEqual(machine.peek_children("/a"), ((1, tuple(sorted(names)), STAT.pzxid), 9))
         self.assertEqual(machine.peek_children("/b"), ((0, (), 0), 9))
+
+    def test_a_subtree_is_told_once_nothing_is_lacking(self) -> None:
+        machine, data_of = connected(), library.DATA_SIDE
+        self.assertEqual(machine.lacking("/a", 9), [("/a", data_of), ("/a", library.CHILDREN_SIDE)])
+        self.assertEqual(machine.subtree("/a", 9), (None, 0))
+        machine.get_data(200, 1, "/a", True)
+        machine.get_children(200, 2, "/a", True)
+        machine.received(300, reply(1, 9, 0, buffer(b"hello") + STAT_BYTES))
+        machine.received(300, reply(2, 9, 0, struct.pack(">i", 1) + buffer("ö".encode()) + STAT_BYTES))
+        self.assertEqual(machine.lacking("/a", 9), [("/a/ö", data_of), ("/a/ö", library.CHILDREN_SIDE)])
+        machine.get_data(400, 3, "/a/ö", True)
+        machine.get_children(400, 4, "/a/ö", True)
+        machine.received(500, reply(3, 9, 0, struct.pack(">i", -1) + STAT_BYTES))
+        machine.received(500, reply(4, 9, 0, struct.pack(">i", 0) + STAT_BYTES))
+        self.assertEqual(machine.lacking("/a", 9), [])
+        stat = DataStat(2, 5, 1000, 2000, 3, 0, 5)
+        nodes = [library.SubtreeNode("/a", b"hello", stat, 6), library.SubtreeNode("/a/ö", None, stat, 6)]
+        self.assertEqual(machine.subtree("/a", 2), (nodes, 9))
+        with self.assertRaises(library.TooManyNodes):
+            machine.subtree("/a", 1)
+        with self.assertRaises(ValueError):
+            machine.subtree("a", 1)
+
+    def test_who_stands_first_has_a_token_and_others_wait(self) -> None:
+        machine, own, other = connected(), "x-lock-0000000007", "a-lock-0000000008"
+        machine.get_data(200, 1, f"/l/{own}", True)
+        owned = struct.pack(">qqqqiiiqiiq", *Stat(88, 88, 0, 0, 0, 0, 0, 0x1234, 0, 0, 88))
+        machine.received(300, reply(1, 90, 0, buffer(b"") + owned))
+        names, markers = [other, own, "y-0000000001"], ["lock-", "lock-"]
+        self.assertEqual(machine.standing("/l", own, names, 90, markers), (88, None))
+        self.assertEqual(machine.standing("/l", own, names, 87, markers), (None, None))
+        self.assertEqual(machine.standing("/l", other, names, 90, markers), (None, own))
+        with self.assertRaises(ValueError):
+            machine.standing("/l", own, names, 90, [])
+        with self.assertRaises(ValueError):
+            machine.standing("/l", "a/b", names, 90, markers)
 
     def test_a_bad_frame_ends_the_connection(self) -> None:
         machine = connected()

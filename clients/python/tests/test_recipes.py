@@ -23,6 +23,7 @@ from dirwolleu import (
     Lock,
     LockLostError,
     LockTimeout,
+    ReadLock,
     Registration,
     State,
     aio,
@@ -55,8 +56,10 @@ class RecipeCase(PartnerCase):
 
 class LockTest(RecipeCase):
     def setUp(self) -> None:
-        self.server = self.partner()
-        self.one, self.other = self.client(self.server.host), self.client(self.server.host)
+        self.server, self.root = self.shared_partner(), self.own_root()
+        self.host = self.server.host + self.root
+        self.one, self.other = self.client(self.host), self.client(self.host)
+        self.one.ensure_path("/")
 
     def test_one_holds_and_the_next_has_a_greater_token(self) -> None:
         first, second = Lock(self.one, "/locks/x", "one"), Lock(self.other, "/locks/x", "other")
@@ -91,16 +94,17 @@ class LockTest(RecipeCase):
         self.assertEqual(in_line([curator, "x-lock--0000000001"]), ["x-lock--0000000001", curator])
 
     def test_one_of_kazoo_that_is_first_is_waited_for(self) -> None:
-        self.server.do("create /locks", "create /locks/other", "create /locks/b5a4__lock__0000000000 k")
+        kazoos = f"{self.root}/locks/b5a4__lock__0000000000"
+        self.server.do(f"create {self.root}/locks", f"create {self.root}/locks/other", f"create {kazoos} k")
         waits = self.in_thread(lambda: Lock(self.one, "/locks", "one").acquire(3 * WAIT))
         within(lambda: Lock(self.other, "/locks").contenders() == ["k", "one"])
         time.sleep(0.1)
         self.assertTrue(waits.empty())
-        self.server.do("delete /locks/b5a4__lock__0000000000")
+        self.server.do(f"delete {kazoos}")
         waits.get(timeout=WAIT).release()
 
     def test_each_watches_the_one_before_it_alone(self) -> None:
-        clients = self.one, self.other, self.client(self.server.host)
+        clients = self.one, self.other, self.client(self.host)
         first, second, third = (Lock(client, "/locks") for client in clients)
         held = first.acquire(WAIT)
         waits = self.in_thread(lambda: second.acquire(3 * WAIT))
@@ -152,6 +156,71 @@ class LockTest(RecipeCase):
         self.assertTrue(lost.empty())
         held.release()
         self.check_lost(lock, lost, lambda held: self.server.do("expire"), "session is over|not known to be there")
+
+    def test_it_is_lost_with_the_first_step_that_can_know(self) -> None:
+        """After each step of the client: what it is told, and whether the lock is held still."""
+        for keeps, end, wanted in (
+            (False, "drop", [(State.CONNECTED, True), (State.SUSPENDED, False)]),
+            (True, "expire", [(State.CONNECTED, True), (State.SUSPENDED, True), (State.LOST, False)]),
+            (True, "delete", [(State.CONNECTED, True), (State.CONNECTED, False)]),
+        ):
+            with self.subTest(end):
+                held = Lock(self.one, f"/{end}", keeps_while_suspended=keeps).acquire(WAIT)
+                seen = [(State.CONNECTED, held.is_held)]
+                engine, step = self.one._engine, self.one._engine._step
+
+                def stepped(*words: Any, seen: Any = seen, held: Held = held, step: Any = step) -> None:
+                    step(*words)
+                    if (engine.state, held.is_held) != seen[-1]:
+                        seen.append((engine.state, held.is_held))
+
+                with mock.patch.object(engine, "_step", stepped):
+                    if end == "delete":
+                        self.other.delete(held.path)
+                    else:
+                        self.server.do(end)
+                    within(lambda: not held.is_held)
+                self.assertEqual(seen[: len(wanted)], wanted)
+                within(lambda: self.one.connected)
+                held.release()
+                later = Lock(self.one, f"/{end}").acquire(WAIT)
+                self.assertGreater(later.token, held.token)
+                later.release()
+
+    def test_a_wait_without_a_connection_ends_in_time(self) -> None:
+        self.server.do("down")
+        self.addCleanup(self.server.do, "up")
+        within(lambda: self.one.state is State.SUSPENDED)
+        began = time.monotonic()
+        with self.assertRaises(LockTimeout):
+            Lock(self.one, "/locks").acquire(0.1)
+        self.assertLess(time.monotonic() - began, 4.0)
+
+    def test_each_thread_gives_back_what_it_has_taken(self) -> None:
+        lock, may_end, helds = ReadLock(self.one, "/locks"), threading.Event(), queue.Queue[Held]()
+        self.addCleanup(may_end.set)
+
+        def work() -> None:
+            with lock as held:
+                helds.put(held)
+                may_end.wait(WAIT)
+
+        end = self.in_thread(work)
+        first = helds.get(timeout=WAIT)
+        with lock as second:
+            may_end.set()
+            self.assertIsNone(end.get(timeout=WAIT))
+            self.assertFalse(first.is_held)
+            second.check()
+        self.assertFalse(second.is_held)
+
+    def test_what_locks_have_left_is_forgotten(self) -> None:
+        with mock.patch("dirwolleu._engine.RECIPES_BEFORE_FORGETTING", 3):
+            paths = []
+            for _ in range(3):
+                with Lock(self.one, "/locks") as held:
+                    paths.append(held.path)
+        self.assertEqual([self.one.kept(path) for path in paths[:2]], [None, None])
 
     def test_a_lost_create_is_settled(self) -> None:
         for happens in (True, False):

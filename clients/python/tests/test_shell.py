@@ -16,7 +16,8 @@ from unittest import mock
 
 from support import CLIENTS, WAIT, Partner, PartnerCase
 
-from dirwolleu.__main__ import EPILOG, main
+import dirwolleu
+from dirwolleu.__main__ import EPILOG, _status_of, main
 
 
 class ShellTest(PartnerCase):
@@ -78,7 +79,9 @@ class ShellTest(PartnerCase):
         self.assertEqual(told("ls", "/a"), ["b"])
         self.assertEqual({**told("get", "/a"), "ctime": 0, "mtime": 0}["data"], "one")
         self.assertEqual(told("stat", "/a")["num_children"], 1)
-        self.assertEqual(told("tree", "/a"), [{"path": "/a", "data": "one"}, {"path": "/a/b", "data": ""}])
+        tree = told("tree", "/a")
+        self.assertEqual(len({node.pop("zxid") for node in tree}), 1)
+        self.assertEqual(tree, [{"path": "/a", "data": "one"}, {"path": "/a/b", "data": ""}])
         self.assertEqual(told("create", "/a/c"), {"path": "/a/c"})
 
     def test_exit_statuses(self) -> None:
@@ -86,12 +89,46 @@ class ShellTest(PartnerCase):
         for words in (("get", "/none"), ("stat", "/none"), ("create", "/"), ("set", "/", "x", "--version", "7")):
             status, printed, said = self.run_words(partner, *words)
             self.assertEqual((status, printed, said.count("\n")), (1, "", 1))
-        for wrong in (("nonsense", "/"), ("get",), ("get", "no-path"), ("--hosts", "a:x", "get", "/")):
+        for wrong in (
+            ("nonsense", "/"), ("get",), ("get", "no-path"), ("--hosts", "a:x", "get", "/"), ("set", "/"),
+            ("set", "/", "--file", "/none"), ("--ca", "/none", "get", "/"),
+        ):  # fmt: skip
             status, printed, said = self.run_words(partner, *wrong)
             self.assertEqual((status, printed, bool(said)), (2, "", True))
         partner.do("down")
         status, printed, said = self.run_words(partner, "--timeout", "0.5", "get", "/")
         self.assertEqual((status, printed), (3, ""))
+
+    def test_what_is_refused_and_what_has_no_answer(self) -> None:
+        for error, status in (
+            (dirwolleu.NoAuthError(), 1), (dirwolleu.TooLargeError(), 1), (dirwolleu.ConnectionLoss(), 3),
+            (dirwolleu.SessionExpiredError(), 3), (dirwolleu.CallTimeoutError(), 3), (TimeoutError(), 3), (ValueError(), 2),
+        ):  # fmt: skip
+            self.assertEqual(_status_of(error), status, error)
+
+    def test_data_of_any_bytes(self) -> None:
+        partner = self.partner()
+        environment = {**os.environ, "PYTHONPATH": str(CLIENTS / "python"), "DIRWOLLEU_HOSTS": partner.host}
+        data = bytes(range(256))
+
+        def piped(*words: str, given: bytes = b"") -> bytes:
+            command = [sys.executable, "-m", "dirwolleu", *words]
+            return subprocess.run(command, input=given, stdout=subprocess.PIPE, env=environment, check=True, timeout=3 * WAIT).stdout
+
+        self.assertEqual(piped("create", "/a", "--file", "-", given=data), b"/a\n")
+        self.assertEqual(piped("get", "--raw", "/a"), data)
+        self.assertEqual(json.loads(self.printed(partner, "--json", "get", "/a"))["data_hex"], data.hex())
+
+    def test_whoever_reads_no_more_ends_it_quietly(self) -> None:
+        partner = self.partner()
+        process = self.begin(partner, "watch", "--children", "/")
+        assert process.stdout is not None and process.stderr is not None
+        self.assertRegex(process.stdout.readline(), r"^zxid \d+  good  $")
+        process.stdout.close()
+        partner.do("create /a")
+        self.assertEqual(process.wait(3 * WAIT), 141)
+        self.assertEqual(process.stderr.read(), "")
+        process.stderr.close()
 
     def test_a_node_is_watched_until_it_is_interrupted(self) -> None:
         partner = self.partner()
@@ -101,10 +138,11 @@ class ShellTest(PartnerCase):
         self.assertRegex(process.stdout.readline(), r"^zxid \d+  good  one$")
         partner.do("set /a two")
         self.assertRegex(process.stdout.readline(), r"^zxid \d+  good  two$")
-        partner.do("delete /a")
+        partner.do("down", "delete /a", "up")
         self.assertRegex(process.stdout.readline(), r"^zxid \d+  good  \(no node\)$")
         process.send_signal(signal.SIGINT)
-        process.communicate(timeout=3 * WAIT)
+        _, said = process.communicate(timeout=3 * WAIT)
+        self.assertEqual(said, "watch: the connection is lost\nwatch: connected\n")
         self.assertEqual(process.returncode, 130)
 
 

@@ -5,8 +5,11 @@ use crate::ffi::{Call, Handle, KeptData};
 use crate::kept::{mark_of, Children, DataAnswer, Kept, Mark};
 use crate::moment::Moment;
 use crate::node::{Mode, Watch};
+use crate::numbers::result;
 use crate::output::Outputs;
 use crate::saved::SavedSession;
+use crate::standing::{spelled, Contender, Standing};
+use crate::subtree::{lacking_in, nodes_in, Lacking, Subtree};
 use std::fmt;
 use std::time::Duration;
 
@@ -33,7 +36,7 @@ pub(crate) fn whole_text(bytes: Vec<u8>) -> String {
 }
 
 /// This many texts, which follow one another, each after its length in four bytes.
-fn texts_in(count: usize, mut spelled: &[u8]) -> Vec<String> {
+pub(crate) fn texts_in(count: usize, mut spelled: &[u8]) -> Vec<String> {
     let mut texts = Vec::with_capacity(count);
     while let [a, b, c, d, rest @ ..] = spelled {
         let (text, rest) = rest.split_at(u32::from_be_bytes([*a, *b, *c, *d]) as usize);
@@ -105,7 +108,8 @@ impl Client {
     ///
     /// # Errors
     ///
-    /// [`Fault::BadTimeout`], [`Fault::NoMemory`], and [`Fault::UnknownNumber`].
+    /// [`Fault::BadTimeout`], [`Fault::NoMemory`], [`Fault::UnknownNumber`], and [`Fault::OtherVersion`] where the library that is linked
+    /// is not this crate's.
     pub fn open(timeout: Duration) -> Result<Client, Fault> {
         Client::of(Handle::open(timeout_ms(timeout)?)?)
     }
@@ -321,6 +325,63 @@ impl Client {
     /// As [`peek_data`](Client::peek_data).
     pub fn children_mark(&self, path: &str) -> Result<Option<Mark>, Fault> {
         Ok(mark_of(self.handle.peek_children(path)?.mark)?)
+    }
+
+    /// All nodes at and below a path, at most this many, and none where some of it is not kept good: then read what is
+    /// [`lacking`](Client::lacking). There is a subtree exactly where the path, and each node that is reached from it through kept names,
+    /// is kept good with its data, and its names are kept good. It is the servers' at that zxid, and no other node was there.
+    ///
+    /// # Errors
+    ///
+    /// As [`peek_data`](Client::peek_data), and [`Fault::TooManyNodes`] where more nodes are reached.
+    pub fn subtree(&self, path: &str, most: usize) -> Result<Option<Subtree>, Fault> {
+        match whole(|room| self.handle.subtree(path, most, room)) {
+            Ok(spelled) => Ok(Some(Subtree {
+                zxid: self.last_zxid(),
+                nodes: nodes_in(&spelled),
+            })),
+            Err(Fault::NotWhole) => Ok(None),
+            Err(other) => Err(other),
+        }
+    }
+
+    /// The reads, with a watch, that are lacking before there is a [`subtree`](Client::subtree) of a path with at most this many nodes:
+    /// none exactly where there is one. All can be asked at once; what lies below a node shows when its names are there.
+    ///
+    /// # Errors
+    ///
+    /// As [`peek_data`](Client::peek_data), [`Fault::TooManyNodes`], and [`Fault::NotWhole`] where a name makes no path, so that no read
+    /// helps.
+    pub fn lacking(&self, path: &str, most: usize) -> Result<Vec<Lacking>, Fault> {
+        let spelled = whole(|room| self.handle.lacking(path, most, room))?;
+        Ok(lacking_in(&spelled))
+    }
+
+    /// Whether the session comes first in a directory by its node there, and by one listing of it that needs no watch: it does so
+    /// [`First`](Standing::First) where what is kept of the node's data, or that it exists, is good, its owner is this session, no listed
+    /// rival is before it, and the listing is neither older than the node nor newer than [`last_zxid`](Client::last_zxid). It stays so
+    /// while what is kept of its node is good, where numbers rise with creation.
+    ///
+    /// # Errors
+    ///
+    /// As [`peek_data`](Client::peek_data), of the directory and of the name.
+    pub fn standing(&self, contender: &Contender<'_>) -> Result<Standing, Fault> {
+        let names = spelled(contender.names.iter().map(String::as_str));
+        let (own, against) = (contender.markers.own, contender.markers.against);
+        let markers = spelled([own].into_iter().chain(against.iter().copied()));
+        let (mut code, mut token) = (0, 0);
+        let rival = whole(|room| {
+            let found = self.handle.standing(contender, &names, &markers, room)?;
+            (code, token) = (found.0, found.1);
+            Ok(found.2)
+        })?;
+        Ok(match code {
+            result::OK => Standing::First { token },
+            result::WAITS => Standing::After {
+                rival: whole_text(rival),
+            },
+            _ => Standing::Unsure,
+        })
     }
 
     /// Forgets all stale answers. What is kept is bounded by nothing but memory: who goes from path to path calls this now and then.

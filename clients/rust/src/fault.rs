@@ -1,6 +1,6 @@
 //! Why something was not done: by the library, on the way to the server, or by the server.
 
-use crate::numbers::{advice, result, words};
+use crate::numbers::{advice, result, words, VERSION};
 use crate::path_fault::{PathFault, Shown};
 use std::error;
 use std::fmt;
@@ -83,6 +83,16 @@ pub enum Fault {
     BadTimeout,
     /// The bytes are no saved session.
     NotSaved,
+    /// Some of the subtree is not kept, or not good.
+    NotWhole,
+    /// The subtree has more nodes than were asked for.
+    TooManyNodes,
+    /// The library that is linked is of another version than this crate.
+    #[non_exhaustive]
+    OtherVersion {
+        /// The version of the library, as a number in which 1.2.3 is 1002003.
+        library: u32,
+    },
     /// The library gives a number that this crate does not know. The client has no use any more, and neither has one that resumes it.
     UnknownNumber(UnknownNumber),
 }
@@ -106,31 +116,31 @@ impl Fault {
         }
     }
 
-    /// The number that the library has for it. It has none for one that this crate does not know.
-    fn number(&self) -> i32 {
-        match self {
+    /// The number that the library has for it. It has none where it is of another version.
+    fn number(&self) -> Option<i32> {
+        Some(match self {
             Fault::Halted => result::HALTED,
             Fault::NoMemory => result::NO_MEMORY,
             Fault::NotPath { .. } => result::NOT_PATH,
             Fault::BadTimeout => result::BAD_TIMEOUT,
             Fault::NotSaved => result::NOT_SAVED,
-            Fault::UnknownNumber(unknown) => unknown.number,
-        }
+            Fault::NotWhole => result::NOT_WHOLE,
+            Fault::TooManyNodes => result::TOO_MANY,
+            Fault::OtherVersion { .. } | Fault::UnknownNumber(_) => return None,
+        })
     }
 
     pub(crate) fn reason(&self) -> &'static str {
-        match self {
-            Fault::UnknownNumber(_) => "the library is of another version than this crate",
-            _ => words::result(self.number()).unwrap_or_default(),
+        match self.number() {
+            Some(number) => words::result(number).unwrap_or_default(),
+            None => "the library is of another version than this crate",
         }
     }
 
     /// What to do. Nothing where the reason says it.
     pub(crate) fn advice(&self) -> &'static str {
-        match self {
-            Fault::UnknownNumber(_) => "take both of one version",
-            _ => advice::result(self.number()),
-        }
+        self.number()
+            .map_or("take both of one version", advice::result)
     }
 
     /// Whether the client has no use any more.
@@ -148,6 +158,13 @@ impl fmt::Display for Fault {
                 reason: Some(reason),
             } => write!(f, "{} is no path: {reason}", Shown(path)),
             Fault::NotPath { path, reason: None } => write!(f, "{} is no path", Shown(path)),
+            Fault::OtherVersion { library } => write!(
+                f,
+                "the library is of version {}, and this crate of {}; {}",
+                version_text(*library),
+                version_text(VERSION),
+                self.advice()
+            ),
             Fault::UnknownNumber(unknown) => unknown.fmt(f),
             _ if self.advice().is_empty() => f.write_str(self.reason()),
             _ => write!(f, "{}; {}", self.reason(), self.advice()),
@@ -156,6 +173,12 @@ impl fmt::Display for Fault {
 }
 
 impl error::Error for Fault {}
+
+/// A version as people write it.
+fn version_text(number: u32) -> String {
+    let (major, minor) = (number / 1_000_000, number / 1000 % 1000);
+    format!("{major}.{minor}.{}", number % 1000)
+}
 
 impl From<UnknownNumber> for Fault {
     fn from(unknown: UnknownNumber) -> Fault {
@@ -173,6 +196,8 @@ pub(crate) fn done_at(path: &str, code: i32) -> Result<(), Fault> {
         result::NOT_PATH => Err(Fault::not_path(path)),
         result::BAD_TIMEOUT => Err(Fault::BadTimeout),
         result::NOT_SAVED => Err(Fault::NotSaved),
+        result::NOT_WHOLE => Err(Fault::NotWhole),
+        result::TOO_MANY => Err(Fault::TooManyNodes),
         _ => Err(UnknownNumber::of("result", code).into()),
     }
 }
@@ -250,11 +275,15 @@ mod tests {
             (-1, Fault::Halted),
             (-2, Fault::NoMemory),
             (-5, Fault::not_path("/a")),
-            (-7, UnknownNumber::of("result", -7).into()),
-            (-9, UnknownNumber::of("result", -9).into()),
+            (-9, Fault::NotWhole),
+            (-10, Fault::TooManyNodes),
         ] {
-            assert_eq!(fault.number(), number);
+            assert_eq!(fault.number(), Some(number));
             assert_eq!(done_at("/a", number), Err(fault));
+        }
+        for number in [-7, -11] {
+            let unknown = UnknownNumber::of("result", number);
+            assert_eq!(done_at("/a", number), Err(unknown.into()));
         }
     }
 

@@ -5,7 +5,8 @@
 use crate::fault::{done, done_at, Fault};
 use crate::moment::Moment;
 use crate::node::{DataStat, Mode, Stat, Watch};
-use crate::numbers::result;
+use crate::numbers::{result, VERSION};
+use crate::standing::Contender;
 use std::cell::UnsafeCell;
 use std::ptr;
 
@@ -65,6 +66,7 @@ pub(crate) struct KeptNames {
 #[rustfmt::skip]
 #[allow(dead_code)]
 extern "C" {
+    fn dw_version() -> u32;
     fn dw_open(handle: *mut Raw, timeout_ms: i32) -> i32;
     fn dw_resume(handle: *mut Raw, timeout_ms: i32, saved: *const u8, saved_length: usize) -> i32;
     fn dw_renew(handle: *mut Raw, timeout_ms: i32) -> i32;
@@ -83,6 +85,7 @@ extern "C" {
     fn dw_next(handle: *mut Raw, out: *mut Output) -> i32;
     fn dw_copy(handle: *mut Raw, from: usize, out: *mut u8, room: usize) -> usize;
     fn dw_name(handle: *mut Raw, index: usize, out: *mut u8, room: usize) -> usize;
+    fn dw_names(handle: *mut Raw, out: *mut u8, room: usize, count: *mut usize) -> i32;
     fn dw_words(handle: *mut Raw, out: *mut u8, room: usize, count: *mut usize) -> i32;
     fn dw_state(handle: *mut Raw) -> i32;
     fn dw_last_zxid(handle: *mut Raw) -> i64;
@@ -93,6 +96,9 @@ extern "C" {
     fn dw_peek_children(handle: *mut Raw, path: *const u8, path_length: usize, kept: *mut KeptNames) -> i32;
     fn dw_peek_name(handle: *mut Raw, path: *const u8, path_length: usize, index: usize, out: *mut u8, room: usize, count: *mut usize) -> i32;
     fn dw_peek_names(handle: *mut Raw, path: *const u8, path_length: usize, out: *mut u8, room: usize, count: *mut usize) -> i32;
+    fn dw_subtree(handle: *mut Raw, path: *const u8, path_length: usize, most: usize, out: *mut u8, room: usize, count: *mut usize) -> i32;
+    fn dw_lacking(handle: *mut Raw, path: *const u8, path_length: usize, most: usize, out: *mut u8, room: usize, count: *mut usize) -> i32;
+    fn dw_standing(handle: *mut Raw, directory: *const u8, directory_length: usize, name: *const u8, name_length: usize, names: *const u8, names_length: usize, listed: i64, markers: *const u8, markers_length: usize, token: *mut i64, out: *mut u8, room: usize, count: *mut usize) -> i32;
     fn dw_forget(handle: *mut Raw) -> i32;
 }
 // end of what is made
@@ -138,6 +144,20 @@ impl Drop for Handle {
     }
 }
 
+/// Fails where the library is not of the version that this crate was written for.
+fn check_version() -> Result<(), Fault> {
+    // SAFETY: it has no argument, and answers a constant.
+    let library = unsafe { dw_version() };
+    if library == VERSION {
+        return Ok(());
+    }
+    Err(Fault::OtherVersion { library })
+}
+
+/// A look-up that copies what is at and below a path, with the most nodes that there may be.
+type Collect =
+    unsafe extern "C" fn(*mut Raw, *const u8, usize, usize, *mut u8, usize, *mut usize) -> i32;
+
 /// The bytes of data, and whether they are null. The bytes of null data are not looked at.
 fn bytes_of(data: Option<&[u8]>) -> (&[u8], bool) {
     (data.unwrap_or_default(), data.is_none())
@@ -157,6 +177,7 @@ impl Handle {
     }
 
     pub(crate) fn open(timeout_ms: i32) -> Result<Handle, Fault> {
+        check_version()?;
         let mut handle = Handle::closed();
         // SAFETY: as `Handle` says.
         done(unsafe { dw_open(handle.raw.get_mut(), timeout_ms) })?;
@@ -164,6 +185,7 @@ impl Handle {
     }
 
     pub(crate) fn resume(timeout_ms: i32, saved: &[u8]) -> Result<Handle, Fault> {
+        check_version()?;
         let mut handle = Handle::closed();
         let raw = handle.raw.get_mut();
         // SAFETY: as `Handle` says.
@@ -301,6 +323,14 @@ impl Handle {
         unsafe { dw_name(self.raw.get(), index, room.as_mut_ptr(), room.len()) }
     }
 
+    /// Copies all names of the listing that was told last, each after its length in four bytes, and tells how many bytes there are.
+    pub(crate) fn names(&self, room: &mut [u8]) -> Result<usize, Fault> {
+        let mut count = 0;
+        // SAFETY: as `Handle` says.
+        done(unsafe { dw_names(self.raw.get(), room.as_mut_ptr(), room.len(), &mut count) })?;
+        Ok(count)
+    }
+
     /// Copies the words of the drop that was told last, and tells how many bytes they have.
     pub(crate) fn words(&self, room: &mut [u8]) -> Result<usize, Fault> {
         let mut count = 0;
@@ -365,6 +395,68 @@ impl Handle {
         // SAFETY: as `Handle` says.
         let code = unsafe { dw_peek_names(self.raw.get(), text, length, out, room, &mut count) };
         done_at(path, code).map(|()| count)
+    }
+
+    /// Copies what this function of the library finds at and below a path, and tells how many bytes there are.
+    fn collect(
+        &self,
+        collect: Collect,
+        path: &str,
+        most: usize,
+        room: &mut [u8],
+    ) -> Result<usize, Fault> {
+        let mut count = 0;
+        let (text, length) = (path.as_ptr(), path.len());
+        let (out, room) = (room.as_mut_ptr(), room.len());
+        // SAFETY: as `Handle` says.
+        let code = unsafe { collect(self.raw.get(), text, length, most, out, room, &mut count) };
+        done_at(path, code).map(|()| count)
+    }
+
+    /// Copies all nodes at and below a path, as the header spells them.
+    pub(crate) fn subtree(&self, path: &str, most: usize, room: &mut [u8]) -> Result<usize, Fault> {
+        self.collect(dw_subtree, path, most, room)
+    }
+
+    /// Copies the reads that are lacking before there is a subtree, as the header spells them.
+    pub(crate) fn lacking(&self, path: &str, most: usize, room: &mut [u8]) -> Result<usize, Fault> {
+        self.collect(dw_lacking, path, most, room)
+    }
+
+    /// What the library answers of where a session stands, by names and markers that are spelled: its code, the token, and how many bytes
+    /// the name of the rival has, of which it copies as many as there is room for.
+    pub(crate) fn standing(
+        &self,
+        contender: &Contender<'_>,
+        names: &[u8],
+        markers: &[u8],
+        room: &mut [u8],
+    ) -> Result<(i32, i64, usize), Fault> {
+        let (mut token, mut count) = (0, 0);
+        let (directory, name) = (contender.directory, contender.name);
+        // SAFETY: as `Handle` says.
+        let code = unsafe {
+            dw_standing(
+                self.raw.get(),
+                directory.as_ptr(),
+                directory.len(),
+                name.as_ptr(),
+                name.len(),
+                names.as_ptr(),
+                names.len(),
+                contender.listed,
+                markers.as_ptr(),
+                markers.len(),
+                &mut token,
+                room.as_mut_ptr(),
+                room.len(),
+                &mut count,
+            )
+        };
+        if !matches!(code, result::WAITS | result::NONE) {
+            done_at(directory, code)?;
+        }
+        Ok((code, token, count))
     }
 
     /// Forgets stale answers, which an open client always does.

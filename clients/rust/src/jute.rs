@@ -65,6 +65,10 @@ impl<'a> Reader<'a> {
         Some(taken)
     }
 
+    pub(crate) fn is_empty(&self) -> bool {
+        self.bytes.is_empty()
+    }
+
     pub(crate) fn int(&mut self) -> Option<i32> {
         Some(i32::from_be_bytes(self.take(4)?.try_into().ok()?))
     }
@@ -75,6 +79,10 @@ impl<'a> Reader<'a> {
 
     pub(crate) fn boolean(&mut self) -> Option<bool> {
         Some(self.take(1)? != [0])
+    }
+
+    pub(crate) fn bytes(&mut self, count: usize) -> Option<Vec<u8>> {
+        self.take(count).map(<[u8]>::to_vec)
     }
 
     pub(crate) fn text(&mut self) -> Option<String> {

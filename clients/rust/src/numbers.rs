@@ -3,9 +3,13 @@
 
 use crate::fault::{Code, UnknownNumber};
 
+/// The version, as a number in which 1.2.3 is 1002003.
+pub(crate) const VERSION: u32 = 3000;
+
 pub(crate) mod result {
     pub(crate) const OK: i32 = 0;
     pub(crate) const NONE: i32 = 1;
+    pub(crate) const WAITS: i32 = 2;
     pub(crate) const HALTED: i32 = -1;
     pub(crate) const NO_MEMORY: i32 = -2;
     pub(crate) const CLOSED: i32 = -3;
@@ -14,6 +18,9 @@ pub(crate) mod result {
     pub(crate) const BAD_TIMEOUT: i32 = -6;
     pub(crate) const NO_SUCH_MODE: i32 = -7;
     pub(crate) const NOT_SAVED: i32 = -8;
+    pub(crate) const NOT_WHOLE: i32 = -9;
+    pub(crate) const TOO_MANY: i32 = -10;
+    pub(crate) const NOT_TEXTS: i32 = -11;
 }
 
 pub(crate) mod kind {
@@ -396,6 +403,7 @@ pub(crate) mod words {
         Some(match number {
             0 => "done",
             1 => "there is none",
+            2 => "another session stands before this one",
             -1 => "out of memory within a step",
             -2 => "out of memory",
             -3 => "the handle holds no client",
@@ -404,6 +412,9 @@ pub(crate) mod words {
             -6 => "the timeout is not 1 to 2147483647 milliseconds",
             -7 => "the mode is no sum of DW_MODE_EPHEMERAL and DW_MODE_SEQUENTIAL",
             -8 => "the bytes are no saved session",
+            -9 => "some of the subtree is not kept, or not good",
+            -10 => "the subtree has more nodes than were asked for",
+            -11 => "the bytes are no texts, each after its length",
             _ => return None,
         })
     }
@@ -470,6 +481,8 @@ pub(crate) mod advice {
             -2 => "hand the same in again",
             -3 => "open one",
             -8 => "take all of those that a client has saved",
+            -9 => "read what is lacking, with a watch",
+            -10 => "ask for more, or for a path below",
             _ => "",
         }
     }

@@ -1,6 +1,6 @@
 //! What a client says at a step.
 
-use crate::client::{whole, whole_text, Client, State};
+use crate::client::{texts_in, whole, whole_text, Client, State};
 use crate::fault::{Code, Fault, NoReply, UnknownNumber};
 use crate::ffi::{self, Handle};
 use crate::node::{NodeEvent, Side, Stat};
@@ -314,7 +314,17 @@ impl<'a> Names<'a> {
         self.count == 0
     }
 
-    /// Copies of them, in the order of the reply.
+    /// Copies of all of them, in the order of the reply, by one call of the library.
+    ///
+    /// # Errors
+    ///
+    /// [`Fault::NoMemory`] where the library has no memory for them.
+    pub fn to_vec(&self) -> Result<Vec<String>, Fault> {
+        let spelled = whole(|room| self.handle.names(room))?;
+        Ok(texts_in(self.count, &spelled))
+    }
+
+    /// Copies of them, in the order of the reply, by a call for each.
     pub fn iter(&self) -> impl Iterator<Item = String> + 'a {
         let handle = self.handle;
         (0..self.count).map(move |index| {

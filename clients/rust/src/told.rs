@@ -112,7 +112,7 @@ impl Found {
                 found.stat = *stat;
             }
             Brought::Names { names, stat } => {
-                found.names = names.iter().collect();
+                found.names = names.to_vec().unwrap_or_else(|_| names.iter().collect());
                 found.stat = *stat;
             }
             Brought::Created(path) => found.path = chroot.inner(String::from(*path)),

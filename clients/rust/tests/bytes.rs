@@ -3,8 +3,9 @@
 mod jute;
 
 use dirwolleu::{
-    Brought, Cause, Client, Code, DataAnswer, Fault, Kept, Mark, Mode, Moment, NoReply, NodeEvent,
-    Output, Outputs, Reply, SavedSession, Side, State, Watch, ANY_VERSION,
+    Brought, Cause, Client, Code, Contender, DataAnswer, Fault, Kept, Lacking, Mark, Markers, Mode,
+    Moment, NoReply, NodeEvent, Output, Outputs, Reply, SavedSession, Side, Standing, State,
+    Subtree, Watch, ANY_VERSION,
 };
 use jute::Record;
 use std::time::Duration;
@@ -294,11 +295,93 @@ fn names_of_each_length_are_kept_in_byte_order() {
         panic!("no names");
     };
     assert_eq!(names.iter().collect::<Vec<_>>(), ["z", &long, "", "b"]);
+    assert_eq!(names.to_vec().unwrap(), ["z", &long, "", "b"]);
     let kept = client.peek_children("/a").unwrap().unwrap();
     assert_eq!(kept.answer.names, ["", "b", &long, "z"]);
     assert_eq!((kept.answer.pzxid, kept.mark), (5, Mark::Good));
     assert_eq!(client.children_mark("/a").unwrap(), Some(Mark::Good));
     assert_eq!(client.peek_children("/b").unwrap(), None);
+}
+
+#[test]
+fn a_subtree_is_told_once_nothing_is_lacking() {
+    let mut client = connected();
+    let read = |path: &str, side| Lacking {
+        path: String::from(path),
+        side,
+    };
+    let both = |path| vec![read(path, Side::Data), read(path, Side::Children)];
+    assert_eq!(client.lacking("/a", 9).unwrap(), both("/a"));
+    assert_eq!(client.subtree("/a", 9).unwrap(), None);
+    let _ = client.get_data(START, 1, "/a", Watch::Yes).unwrap();
+    let _ = client.get_children(START, 2, "/a", Watch::Yes).unwrap();
+    let data = Record::reply(1, 5, 0).buffer(b"one").stat(5, 2, 3, 1);
+    let names = Record::reply(2, 5, 0).texts(&["b"]).stat(5, 2, 3, 1);
+    let came = [data.framed(), names.framed()].concat();
+    let _ = client.bytes(START, &came).unwrap();
+    assert_eq!(client.lacking("/a", 9).unwrap(), both("/a/b"));
+    let _ = client.get_data(START, 3, "/a/b", Watch::Yes).unwrap();
+    let _ = client.get_children(START, 4, "/a/b", Watch::Yes).unwrap();
+    let data = Record::reply(3, 6, 0).int(-1).stat(6, 0, 0, 0);
+    let names = Record::reply(4, 6, 0).texts(&[]).stat(6, 0, 0, 0);
+    let came = [data.framed(), names.framed()].concat();
+    let _ = client.bytes(START, &came).unwrap();
+    assert_eq!(client.lacking("/a", 9).unwrap(), []);
+    let Subtree { zxid, nodes } = client.subtree("/a", 2).unwrap().unwrap();
+    let [root, leaf] = nodes.as_slice() else {
+        panic!("{nodes:?}");
+    };
+    assert_eq!((zxid, root.path.as_str(), root.pzxid), (6, "/a", 5));
+    assert_eq!(
+        (root.data.as_deref(), root.stat.version),
+        (Some(b"one".as_slice()), 2)
+    );
+    assert_eq!(
+        (root.stat.czxid, root.stat.ctime, root.stat.mtime),
+        (5, 1_000, 2_000)
+    );
+    assert_eq!((root.stat.data_length, root.stat.ephemeral_owner), (3, 0));
+    assert_eq!(
+        (leaf.path.as_str(), &leaf.data, leaf.stat.mzxid),
+        ("/a/b", &None, 6)
+    );
+    assert_eq!(client.subtree("/a", 1), Err(Fault::TooManyNodes));
+    assert!(matches!(client.lacking("a", 1), Err(Fault::NotPath { .. })));
+}
+
+#[test]
+fn who_stands_first_has_a_token_and_others_wait() {
+    let mut client = connected();
+    let _ = client
+        .get_data(START, 1, "/l/x-lock-0000000007", Watch::Yes)
+        .unwrap();
+    let longs = Record::reply(1, 90, 0).buffer(b"").long(88).long(88);
+    let owned = longs.long(0).long(0).int(0).int(0).int(0).long(SESSION);
+    let data = owned.int(0).int(0).long(88).framed();
+    let _ = client.bytes(START, &data).unwrap();
+    let names = ["a-lock-0000000008", "x-lock-0000000007", "y-0000000001"].map(String::from);
+    let mut contender = Contender {
+        directory: "/l",
+        name: "x-lock-0000000007",
+        names: &names,
+        listed: 90,
+        markers: Markers {
+            own: "lock-",
+            against: &["lock-"],
+        },
+    };
+    let first = Standing::First { token: 88 };
+    assert_eq!(client.standing(&contender), Ok(first));
+    contender.listed = 87;
+    assert_eq!(client.standing(&contender), Ok(Standing::Unsure));
+    contender.name = "a-lock-0000000008";
+    let rival = String::from("x-lock-0000000007");
+    assert_eq!(client.standing(&contender), Ok(Standing::After { rival }));
+    contender.name = "a/b";
+    assert!(matches!(
+        client.standing(&contender),
+        Err(Fault::NotPath { .. })
+    ));
 }
 
 #[test]

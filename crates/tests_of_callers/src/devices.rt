@@ -5,7 +5,7 @@ mod session;
 mod told;
 
 use anyhow::Result;
-use events::{CLOSES, EXPIRES, Event};
+use events::{CLOSES, COLLECTS, EXPIRES, Event, STANDS};
 use session::play;
 use std::alloc::Global;
 use std::io::Write;
@@ -28,8 +28,10 @@ fn play_cut<W: Write>(alloc: Global, events: &[Event], out: &mut W) -> Result<()
     Ok(writeln!(out, "the same in pieces")?)
 }
 
-/// Plays both sessions.
+/// Plays the sessions.
 pub fn play_devices<W: Write>(alloc: Global, out: &mut W) -> Result<()> {
     play_cut(alloc, &EXPIRES, out)?;
-    play_cut(alloc, &CLOSES, out)
+    play_cut(alloc, &CLOSES, out)?;
+    play_cut(alloc, &COLLECTS, out)?;
+    play_cut(alloc, &STANDS, out)
 }

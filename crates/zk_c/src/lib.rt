@@ -3,6 +3,7 @@
 #![tactic(auto)]
 
 mod calls;
+mod conclusions;
 mod handle;
 mod kept;
 mod making;
@@ -12,3 +13,4 @@ mod session;
 mod slot;
 mod steps;
 mod taking;
+mod version;

@@ -2,8 +2,12 @@
 
 ghost use Rattle.std.specs.Prelude.{◌≡◌, ◌++◌, Some, None, drop, length, negsuc, take};
 ghost use Rattle.zk_device.specs.declared.device.Device.{Device};
-ghost use Rattle.zk_device.specs.Outputs.{told_name, told_text, told_words};
+ghost use Rattle.zk_device.specs.Kept.{WritesText};
+ghost use Rattle.zk_device.specs.Outputs.{told_name, told_names, told_text, told_words};
+ghost use Rattle.zk_device.specs.Refused.{RefusesMemory};
+ghost use Rattle.zk_device.specs.Texts.{AreTexts};
 ghost use Rattle.zk_c.specs.Held.{Holds, Tells, Writes};
+ghost use Rattle.zk_c.specs.Kept.{FindsText};
 
 use crate::handle::DwClient;
 use crate::taking::{CLOSED, NONE, take};
@@ -72,6 +76,34 @@ pub extern "C" fn dw_name(
     let count = device.copy_name(index, out);
     *handle = DwClient::of(device);
     count
+}
+
+/// Copies all names of the listing that was told last, in the order of the reply and each after its length in four bytes, as many bytes
+/// of them as there is room for, and writes how many there are.
+#[unsafe(no_mangle)]
+pub extern "C" fn dw_names(
+    alloc: Global,
+    handle: &mut DwClient,
+    out: &mut [u8],
+    count: &mut usize,
+) -> i32
+    ensures closed { handle.old.slot.held ≡ None → result ≡ negsuc 2 }
+    ensures names { (d : Device) → handle.old.slot.held ≡ Some d → FindsText RefusesMemory (WritesText (AreTexts (told_names d.said.items d.read))) result out.old out.new count.new }
+    ensures same { handle.new.slot.held ≡ handle.old.slot.held }
+{
+    *count = 0;
+    let Some(device) = take(alloc, handle) else {
+        return CLOSED;
+    };
+    let names = device.copy_names(alloc, out);
+    *handle = DwClient::of(device);
+    match names {
+        Ok(length) => {
+            *count = length;
+            0
+        }
+        Err(_) => Refusal::Memory.code(),
+    }
 }
 
 /// Writes the words of a drop that was told last, as many bytes as there is room for, and how many there are.

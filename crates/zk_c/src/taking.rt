@@ -17,6 +17,9 @@ pub const CLOSED: i32 = -3;
 /// There is none.
 pub const NONE: i32 = 1;
 
+/// The session does not stand first: it waits for another one.
+pub const WAITS: i32 = 2;
+
 /// Takes the device of a handle, if it has one.
 pub fn take(alloc: Global, handle: &mut DwClient) -> Option<Box<Device, Global>>
     ensures some { IfSome result (λ device. handle.old.slot.held ≡ Some device.value) }

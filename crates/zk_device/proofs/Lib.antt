@@ -1,2 +1,3 @@
 pub mod Ordered
 pub mod Refusing
+pub mod Spelled

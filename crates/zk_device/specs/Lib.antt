@@ -4,4 +4,7 @@ pub mod Kept
 pub mod Outputs
 pub mod Refused
 pub mod Sessions
+pub mod Standings
 pub mod Steps
+pub mod Subtrees
+pub mod Texts

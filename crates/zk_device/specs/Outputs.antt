@@ -1,5 +1,5 @@
 -- What was said, one output at a time.
-use Rattle.std.specs.Prelude.{ℕ, zero, suc, List, [], Option, Some, None, String, string_bytes}
+use Rattle.std.specs.Prelude.{ℕ, zero, suc, List, [], Option, Some, None, String, string_bytes, map}
 use Rattle.std.specs.List.{slice_get}
 use Rattle.zk_client.specs.FaultText.{fault_words}
 use Rattle.zk_client.specs.Views.{fault_view}
@@ -57,3 +57,17 @@ name_of index _ = []
 -- the name of this index in the listing that was told last, if there is one
 abbrev pub told_name : {A : Type 0} → (index : ℕ) → List (Output A) → (read : ℕ) → List ℕ
 told_name index said read = name_of index (told said read)
+
+-- the names that a reply brings, if it does
+abbrev pub result_names : {A : Type 0} → CallResult A → List (List ℕ)
+result_names (result.Names names stat) = map string_bytes names.items
+result_names _ = []
+
+-- the names of a listing, in the order of the reply
+abbrev pub names_in : {A : Type 0} → Option (Output A) → List (List ℕ)
+names_in (Some (output.Answer ticket (outcome.Replied zxid brought))) = result_names brought
+names_in _ = []
+
+-- the names of the listing that was told last
+abbrev pub told_names : {A : Type 0} → List (Output A) → (read : ℕ) → List (List ℕ)
+told_names said read = names_in (told said read)

@@ -11,6 +11,9 @@ mod outputs;
 mod paths;
 mod refusal;
 mod sessions;
+mod standings;
+mod subtrees;
+mod texts;
 
 pub use copying::copy_into;
 pub use device::Device;
@@ -18,3 +21,4 @@ pub use flat::{Flat, FlatStat};
 pub use kept::{FlatDataStat, KeptData, KeptNames};
 pub use paths::path_of;
 pub use refusal::{Refusal, code_of};
+pub use standings::{Contender, Stands};

@@ -1,16 +1,37 @@
 //! What was said, one output at a time.
 
-ghost use Rattle.std.specs.Prelude.{◌≡◌, ◌++◌, IfOk, drop, length, string_bytes, take};
+ghost use Rattle.std.specs.Prelude.{◌≡◌, ◌++◌, IfOk, OnErr, drop, length, string_bytes, take};
 ghost use Rattle.std.specs.Option.{option_map};
 ghost use Rattle.std.specs.List.{slice_get};
 ghost use Rattle.zk_device.specs.Flats.{flat_of};
-ghost use Rattle.zk_device.specs.Outputs.{read_after, told, told_name, told_text, told_words};
+ghost use Rattle.zk_device.specs.Kept.{WritesText};
+ghost use Rattle.zk_device.specs.Outputs.{names_in, read_after, told, told_name, told_names, told_text, told_words};
+ghost use Rattle.zk_device.specs.Texts.{AreTexts};
 
 use crate::copying::copy_into;
 use crate::device::Device;
 use crate::flat::{Flat, flat_of, text_of};
+use crate::texts::spelled_texts;
 use std::alloc::{AllocError, Global};
 use zk_client::{CallResult, Outcome, Output};
+
+// The names of a listing, each after its length, and nothing where it is none.
+fn names_text(alloc: Global, told: Option<&Output<Global>>) -> Result<Vec<u8>, AllocError>
+    ensures { IfOk result (λ text. AreTexts (names_in (option_map (λ output. output.now) told.entry)) text.items) }
+{
+    match told {
+        Some(
+            Output::Answer {
+                outcome: Outcome::Replied {
+                    result: CallResult::Names { names, .. },
+                    ..
+                },
+                ..
+            },
+        ) => spelled_texts(alloc, names.as_slice()),
+        _ => Ok(Vec::new(alloc)),
+    }
+}
 
 impl Device {
     /// The next output of the last step, as numbers. The one before is over.
@@ -98,5 +119,15 @@ impl Device {
         ensures copied { room.new ≡ take (length room.old) (told_name index self.now.said.items self.now.read) ++ drop (length (told_name index self.now.said.items self.now.read)) room.old }
     {
         copy_into(self.told_name(index), room)
+    }
+
+    /// Copies all names of the listing that was told last, in the order of the reply and each after its length in four bytes, as many
+    /// bytes of them as there is room for, and tells how many there are. An error says that memory ran out.
+    pub fn copy_names(&self, alloc: Global, room: &mut [u8]) -> Result<usize, AllocError>
+        ensures written { IfOk result (WritesText (AreTexts (told_names self.now.said.items self.now.read)) room.old room.new) }
+        ensures same { OnErr result (room.new ≡ room.old) }
+    {
+        let text = names_text(alloc, self.told())?;
+        Ok(copy_into(text.as_slice(), room))
     }
 }

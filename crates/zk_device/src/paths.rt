@@ -1,9 +1,11 @@
 //! Paths from bytes.
 
-ghost use Rattle.std.specs.Prelude.{◌≡◌, IfOk, IfErr, OnOk};
-ghost use Rattle.zk_nodes.specs.PathFault.{IsPath};
+ghost use Rattle.std.specs.Prelude.{◌≡◌, ◌≢◌, IfOk, IfErr, None, OnOk};
+ghost use Rattle.std.specs.Str.{IsUtf8};
+ghost use Rattle.zk_nodes.specs.Path.{child_text};
+ghost use Rattle.zk_nodes.specs.PathFault.{IsPath, child_fault};
 ghost use Rattle.zk_device.specs.Codes.{refusal_code};
-ghost use Rattle.zk_device.specs.Refused.{RefusesPath};
+ghost use Rattle.zk_device.specs.Refused.{RefusesChild, RefusesPath, RefusesText};
 
 use crate::refusal::Refusal;
 use std::alloc::Global;
@@ -22,5 +24,33 @@ pub fn path_of(alloc: Global, bytes: &[u8]) -> Result<Path<Global>, Refusal>
         Ok(path) => Ok(path),
         Err(PathFault::Memory) => Err(Refusal::Memory),
         Err(_) => Err(Refusal::NotPath),
+    }
+}
+
+/// The text that these bytes are. The one refusal is `NotText`.
+pub(crate) fn text_of(bytes: &[u8]) -> Result<&str, Refusal>
+    ensures text { IfOk result (λ text. text.now ≡ bytes.now) }
+    ensures refused { IfErr result (λ refusal. RefusesText bytes.now (refusal_code refusal)) }
+{
+    match std::str::from_utf8(bytes) {
+        Ok(text) => Ok(text),
+        Err(_) => Err(Refusal::NotText),
+    }
+}
+
+/// The path of the child of this name. A refusal is `NotPath`, else `Memory`.
+pub(crate) fn child_of(
+    alloc: Global,
+    directory: &Path<Global>,
+    name: &str,
+) -> Result<Path<Global>, Refusal>
+    ensures path { IfOk result (λ path. path ≡ child_text directory.now name.now) }
+    ensures accepted { OnOk result (child_fault directory.now name.now ≡ None) }
+    ensures refused { IfErr result (λ refusal. RefusesChild directory.now name.now (refusal_code refusal)) }
+{
+    match directory.join(alloc, name) {
+        Ok(path) => Ok(path),
+        Err(PathFault::Memory) => Err(Refusal::Memory),
+        Err(_fault) => Err(Refusal::NotPath),
     }
 }

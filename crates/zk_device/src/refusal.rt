@@ -5,6 +5,7 @@ ghost use Rattle.zk_device.specs.Codes.{refusal_code, code_of};
 
 use std::alloc::AllocError;
 use zk_client::Halt;
+use zk_conclusions::NoSubtree;
 
 /// Why a device does not do what it is asked. But for `Halted`, nothing happened then.
 #[derive(Clone, Copy, Debug, PartialEq, Eq)]
@@ -23,6 +24,12 @@ pub enum Refusal {
     NoSuchMode,
     /// The bytes are no saved session.
     NotSaved,
+    /// Not all nodes at and below the path are kept whole and good.
+    NotWhole,
+    /// There are more of them than were asked for.
+    TooMany,
+    /// The bytes are no texts that follow one another, each after its length.
+    NotTexts,
 }
 
 impl Refusal {
@@ -38,6 +45,9 @@ impl Refusal {
             Refusal::BadTimeout => -6,
             Refusal::NoSuchMode => -7,
             Refusal::NotSaved => -8,
+            Refusal::NotWhole => -9,
+            Refusal::TooMany => -10,
+            Refusal::NotTexts => -11,
         }
     }
 }
@@ -61,6 +71,21 @@ impl From<Halt> for Refusal {
 
     fn from(_halt: Halt) -> Refusal {
         Refusal::Halted
+    }
+}
+
+impl From<NoSubtree> for Refusal {
+    ghost use Rattle.std.specs.Prelude.{◌≡◌};
+    ghost use Rattle.zk_device.specs.Codes.{refusal_of};
+
+    ghost from_gives = { λ why refusal. refusal ≡ refusal_of why };
+
+    fn from(why: NoSubtree) -> Refusal {
+        match why {
+            NoSubtree::NotWhole => Refusal::NotWhole,
+            NoSubtree::TooMany => Refusal::TooMany,
+            NoSubtree::Memory => Refusal::Memory,
+        }
     }
 }
 

@@ -28,6 +28,11 @@ is_due now dialler = has_come now (first_moment dialler)
 abbrev pub attempt_ms : (timeout : ℕ) → ℕ
 attempt_ms timeout = max (timeout / 3) 1000
 
+-- whether there is a connection
+abbrev pub is_open : Phase → Bool
+is_open Open = true
+is_open _ = false
+
 -- An address is dialled where there is no connection, and none is asked for, and not before its moment. It is the one whose turn it is.
 pub record Dials {A : Type 0} (timeout now : ℕ) (old new : Dialler A) (place its : ℕ) : Type 0 where
   pub waiting : old.phase ≡ Waiting

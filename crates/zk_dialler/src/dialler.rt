@@ -4,7 +4,7 @@ ghost use Rattle.std.specs.Prelude.{◌≡◌, Bool, true, false, is_some, IfOk,
 ghost use Rattle.std.specs.List.Sorted.{IsPermutation};
 ghost use Rattle.zk_dialler.specs.Backoffs.{connected_at, row_ended};
 ghost use Rattle.zk_dialler.specs.Chances.{state_after};
-ghost use Rattle.zk_dialler.specs.Dialling.{first_moment, is_due, Ends, Opens, DialsWell};
+ghost use Rattle.zk_dialler.specs.Dialling.{first_moment, is_due, is_open, Ends, Opens, DialsWell};
 ghost use Rattle.zk_dialler.specs.Orders.{numbers, shuffled};
 
 use crate::backoff::Backoff;
@@ -108,6 +108,13 @@ impl<A: Allocator> Dialler<A> {
             Phase::Dialling { until, .. } => Some(until),
             _ => None,
         }
+    }
+
+    /// Whether there is a connection.
+    pub fn is_open(&self) -> bool
+        ensures { result ≡ is_open self.now.phase }
+    {
+        matches!(self.phase, Phase::Open)
     }
 
     /// The connection that was asked for is there since this moment. The answer is false where none was asked for, as where the attempt was

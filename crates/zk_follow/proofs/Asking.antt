@@ -1,5 +1,5 @@
 -- What comes of a read that is asked of a client that is connected.
-use Rattle.std.proofs.Common.{◌≡◌, ◌≤◌, ◌<◌, ◌^◌, ◌+◌, ◌⊎◌, inl, inr, ℕ, pos, Bool, true, false, cond, List, [], ◌∷◌, ◌++◌, Option, Some, None, refl, sym, ap, subst, ◌∙◌, arith, eq-eqb}
+use Rattle.std.proofs.Common.{◌≡◌, ◌≢◌, ◌<◌, ◌^◌, ◌+◌, ◌⊎◌, inl, inr, ℕ, pos, Bool, true, false, cond, List, [], ◌∷◌, ◌++◌, Option, Some, None, refl, sym, ap, subst, ◌∙◌, arith, eq-eqb}
 use Rattle.std.proofs.lemmas.List.{append-nil, length-append}
 use Rattle.std.proofs.lemmas.List.Elements.{filter-append}
 use Rattle.std.proofs.lemmas.List.Folds.{list_any-append}
@@ -22,7 +22,7 @@ use Rattle.zk_limits.specs.declared.limits.TheConstants.{LONGEST_OUTGOING, MOST_
 use Rattle.zk_follow.specs.declared.subject.Subject.{Subject}
 use Rattle.zk_follow.specs.declared.progress.Progress.{Progress}
 use Rattle.zk_follow.specs.declared.progress.Progress.TheVariants.{Due, Reading, Refused}
-use Rattle.zk_follow.specs.Following.{progress_after, answered, heard, heard_all, is_due, is_shown, read_of, rested, rested_progress, IsBeingRead, IsCounted, IsRefused, IsFollowed, IsFull, Asks, VisitsAnd, is_read_by}
+use Rattle.zk_follow.specs.Following.{progress_after, answered, heard, heard_all, is_shown, read_of, rested, rested_progress, woken, woken_progress, IsAhead, IsBeingRead, IsCounted, IsRefused, IsFollowed, IsFull, Asks, VisitsAnd, is_read_by}
 use Rattle.zk_follow.proofs.Hearing.{no_answer}
 use Rattle.zk_follow.proofs.Reading.{is_found}
 
@@ -181,17 +181,35 @@ module _ {A : Type 0} (now : ℕ) (fits : now < 2 ^ 64) (subject : Subject A) (r
 
 -- ---- a subject that is not to be read now
 
-pub not_due : {A : Type 0} (now : ℕ) (view : View) (subject : Subject A) → is_due now subject.progress ≡ false → view.standing.halted ≡ false → IsCounted view subject
-    → IsFollowed now view subject
-not_due now view subject e goes_on counted = by subject.progress refl
+pub woken_ahead : (now : ℕ) (progress : Progress) → IsAhead now (woken_progress now progress)
+woken_ahead now Due = tt
+woken_ahead now Reading = tt
+woken_ahead now (Refused why until) = by (nat_le until now) refl
+  where
+    by : (passed : Bool) → nat_le until now ≡ passed → IsAhead now (cond passed Due (Refused why until))
+    by true e = tt
+    by false e = let bound : now < until = grind (arith, nat_tests) in omega arith
+
+pub woken_counted : {A : Type 0} (now : ℕ) (view : View) (subject : Subject A) → IsCounted view subject → IsCounted view (woken now subject)
+woken_counted now view subject counted going reads = counted going (by subject.progress reads)
+  where
+    past : (passed : Bool) (why : _) (until : ℕ) → cond passed Due (Refused why until) ≡ Reading → ⊥
+    past true why until e = let f : Due ≡ Reading = e in cc
+    past false why until e = let f : Refused why until ≡ Reading = e in cc
+
+    by : (progress : Progress) → woken_progress now progress ≡ Reading → progress ≡ Reading
+    by Due e = e
+    by Reading e = refl
+    by (Refused why until) e = absurd (past (nat_le until now) why until e)
+
+pub not_due : {A : Type 0} (now : ℕ) (view : View) (subject : Subject A) → IsAhead now subject.progress → subject.progress ≢ Due → view.standing.halted ≡ false
+    → IsCounted view subject → IsFollowed now view subject
+not_due now view subject ahead read goes_on counted = by subject.progress refl
   where
     by : (progress : Progress) → subject.progress ≡ progress → IsFollowed now view subject
-    by Due s = absurd (let f : true ≡ false = sym (ap (is_due now) s) ∙ e in cc)
+    by Due s = absurd (read s)
     by Reading s = inr (inl (counted goes_on s))
-    by (Refused why until) s =
-        let later : nat_le until now ≡ false = sym (ap (is_due now) s) ∙ e in
-        let bound : now ≤ until = grind (arith, nat_tests) in
-        inr (inr (inr (inr (subst (IsRefused now) (sym s) bound))))
+    by (Refused why until) s = inr (inr (inr (inr (subst (IsRefused now) (sym s) (subst (IsAhead now) s ahead)))))
 
 -- ---- a visit that asks
 

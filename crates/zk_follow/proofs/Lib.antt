@@ -3,3 +3,4 @@ pub mod Reading
 pub mod Hearing
 pub mod Asking
 pub mod Visiting
+pub mod Telling

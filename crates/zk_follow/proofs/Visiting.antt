@@ -1,20 +1,25 @@
 -- Subjects are visited one after the other: those before are followed, and those after it are as they were.
-use Rattle.std.proofs.Common.{◌≡◌, ◌≢◌, ◌≤◌, ◌<◌, ◌+◌, ◌++◌, append_assoc, ℕ, Bool, true, false, List, [], ◌∷◌, inl, inr, length, get_or, set, take, refl, sym, ap, subst, ◌∙◌, arith}
+use Rattle.std.proofs.Common.{◌≡◌, ◌≢◌, ◌≤◌, ◌<◌, ◌^◌, ◌+◌, ◌++◌, append_assoc, cond, ℕ, ℤ, Bool, true, false, List, [], ◌∷◌, inl, inr, length, get_or, map, set, take, refl, sym, ap, subst, ◌∙◌, arith}
 use Rattle.std.proofs.lemmas.List.{append-nil, get_or_default, get_or-set_same, get_or-set_other}
 use Rattle.std.proofs.Math.Seq.{take-append_seam}
 use Rattle.std.proofs.lemmas.Grind.{flat_map-append}
+use Rattle.std.proofs.lemmas.List.Elements.{All-map}
 use Rattle.std.proofs.lemmas.Bool.Decides.{Decides-eqb}
 use Rattle.std.specs.Prelude.{◌==◌, All, slice_index_or}
 use Rattle.std.specs.List.{FoldsTo}
-use Rattle.zk_turns.specs.Turns.{Output, Turn, Input, Call}
-use Rattle.zk_turns.specs.View.{View}
+use Rattle.zk_conversation.specs.Results.{Refused as Refused_by}
+use Rattle.zk_turns.specs.Turns.{Outcome, Replied, TooManyWatches, TooLarge, SessionClosed, Output, Answer, Enters, Turn, Input, Call}
+use Rattle.zk_session.specs.declared.states.State.TheVariants.{Connected, Idle}
+use Rattle.zk_client.specs.Clients.{renewed_start}
+use Rattle.zk_turns.specs.View.{View, view_at}
 use Rattle.zk_turns.specs.Rule.{Rule, RuleAt}
 use Rattle.zk_follow.specs.declared.subject.Subject.{Subject}
-use Rattle.zk_follow.specs.declared.progress.Progress.TheVariants.{Due, Reading}
-use Rattle.zk_follow.specs.Following.{heard_all, outputs_in, read_of, AreReads, AreVisited, Asks, IsCounted, IsFollowed, IsReadOf, IsVisited, Reads, Steps, Visits, VisitsAnd}
+use Rattle.zk_follow.specs.declared.progress.Progress.{Progress}
+use Rattle.zk_follow.specs.declared.progress.Progress.TheVariants.{Due, Reading, Refused}
+use Rattle.zk_follow.specs.Following.{heard_all, outputs_in, due_again, progress_after, read_of, rested_progress, taken, AreReads, AreVisited, Asks, IsAhead, IsCounted, IsFollowed, IsReadOf, IsVisited, Reads, Steps, Visits, VisitsAnd, answered, heard}
 use Rattle.zk_follow.proofs.Waiting.{still_going}
 use Rattle.zk_follow.proofs.Hearing.{all_same_path, all_same_side, all_same_ticket, counted_at}
-use Rattle.zk_follow.proofs.Asking.{others_counted, others_followed}
+use Rattle.zk_follow.proofs.Asking.{others_counted, others_followed, woken_ahead}
 
 -- after this and that
 pub asks_on : (view between after : View) → Asks view between → Asks between after → Asks view after
@@ -87,32 +92,86 @@ written_back P count written rest size all = subst (All P) (sym (ap (λ n. take 
 pub new_counted : {A : Type 0} (view : View) (subject : Subject A) → subject.progress ≡ Due → IsCounted view subject
 new_counted view subject due going reads = absurd (let e : Due ≡ Reading = sym due ∙ reads in cc)
 
+pub begun_followed : {A : Type 0} (now : ℕ) (view : View) (subjects : List (Subject A)) → view.standing.state ≢ Connected → All (IsFollowed now view) subjects
+begun_followed now view subjects away k d within = inr (inr (inr (inl away)))
+
+pub begun_counted : {A : Type 0} (view : View) (subjects : List (Subject A)) → All (IsCounted view) (map due_again subjects)
+begun_counted view subjects = All-map (IsCounted view) due_again subjects (λ k d within. new_counted view (due_again (get_or subjects k d)) refl)
+
+-- a new client is not connected
+pub not_connected : (timeout : ℤ) (before : View) → (view_at (renewed_start timeout before) []).standing.state ≢ Connected
+not_connected timeout before e = let f : Idle ≡ Connected = e in absurd cc
+
 -- ---- each was visited
 
 abbrev pub VisitedBefore : {A : Type 0} → (count now : ℕ) → List Output → (old new : List (Subject A)) → Type 0
-VisitedBefore {A} count now outputs old new = (k : ℕ) (d : Subject A) → k < count → IsVisited now (heard_all now (get_or old k d) outputs) (get_or new k d)
+VisitedBefore {A} count now outputs old new = (k : ℕ) (d : Subject A) → k < count → IsVisited now (taken now outputs (get_or old k d)) (get_or new k d)
 
 pub one_more_visited : {A : Type 0} (now : ℕ) (outputs : List Output) (first subjects : List (Subject A)) (index : ℕ) (element new : Subject A) → index < length first → index < length subjects
-    → element ≡ get_or subjects index element → SameFrom index subjects first → IsVisited now (heard_all now element outputs) new
+    → element ≡ get_or subjects index element → SameFrom index subjects first → IsVisited now (taken now outputs element) new
     → VisitedBefore index now outputs first subjects → VisitedBefore (index + 1) now outputs first (set subjects index new)
 one_more_visited {A} now outputs first subjects index element new within fits is same visited before k d below = by (k == index) refl
   where
     here : element ≡ get_or first index d
     here = is ∙ same index element (omega arith) ∙ get_or_default first index element d within
 
-    by : (equal : Bool) → (k == index) ≡ equal → IsVisited now (heard_all now (get_or first k d) outputs) (get_or (set subjects index new) k d)
+    by : (equal : Bool) → (k == index) ≡ equal → IsVisited now (taken now outputs (get_or first k d)) (get_or (set subjects index new) k d)
     by true e =
         let at : k ≡ index = (Decides-eqb k index).0 e in
-        subst (λ n. IsVisited now (heard_all now (get_or first n d) outputs) (get_or (set subjects index new) n d)) (sym at)
-        (subst (IsVisited now (heard_all now (get_or first index d) outputs)) (sym (get_or-set_same subjects index new d fits))
-        (subst (λ subject. IsVisited now (heard_all now subject outputs) new) here visited))
+        subst (λ n. IsVisited now (taken now outputs (get_or first n d)) (get_or (set subjects index new) n d)) (sym at)
+        (subst (IsVisited now (taken now outputs (get_or first index d))) (sym (get_or-set_same subjects index new d fits))
+        (subst (λ subject. IsVisited now (taken now outputs subject) new) here visited))
     by false e =
         let other : k ≢ index = λ equal. let t : (k == index) ≡ true = (Decides-eqb k index).1 equal in cc in
         let earlier : k < index = omega arith in
-        subst (IsVisited now (heard_all now (get_or first k d) outputs)) (sym (get_or-set_other subjects index k new d other)) (before k d earlier)
+        subst (IsVisited now (taken now outputs (get_or first k d))) (sym (get_or-set_other subjects index k new d other)) (before k d earlier)
 
 pub whole_written : {X : Type 0} (count : ℕ) (written rest : List X) → count ≡ length written → take count (written ++ rest) ≡ written
 whole_written count written rest size = ap (λ n. take n (written ++ rest)) size ∙ take-append_seam written rest
+
+-- ---- where a subject counts as refused, its moment is after this one
+
+answer_ahead : (now : ℕ) → now < 2 ^ 64 → (outcome : Outcome) → IsAhead now (progress_after now outcome)
+answer_ahead now fits (Replied zxid (Refused_by code)) = omega arith
+answer_ahead now fits (Replied zxid _) = tt
+answer_ahead now fits TooManyWatches = omega arith
+answer_ahead now fits TooLarge = omega arith
+answer_ahead now fits SessionClosed = omega arith
+answer_ahead now fits _ = tt
+
+rested_ahead : (now : ℕ) (progress : Progress) → IsAhead now (rested_progress progress)
+rested_ahead now Due = tt
+rested_ahead now Reading = tt
+rested_ahead now (Refused why until) = tt
+
+module _ {A : Type 0} (now : ℕ) (fits : now < 2 ^ 64) where
+  one_ahead : (subject : Subject A) (output : Output) → IsAhead now subject.progress → IsAhead now (heard now subject output).progress
+  one_ahead subject (Answer ticket outcome) ahead = by (subject.ticket == ticket)
+    where
+      by : (b : Bool) → IsAhead now (cond b (answered now outcome subject) subject).progress
+      by true = answer_ahead now fits outcome
+      by false = ahead
+  one_ahead subject (Enters state) ahead = tt
+  one_ahead subject _ ahead = ahead
+
+  heard_ahead : (outputs : List Output) (subject : Subject A) → IsAhead now subject.progress → IsAhead now (heard_all now subject outputs).progress
+  heard_ahead [] subject ahead = ahead
+  heard_ahead (output ∷ outputs) subject ahead = heard_ahead outputs (heard now subject output) (one_ahead subject output ahead)
+
+  visited_ahead : (subject new : Subject A) → IsAhead now subject.progress → IsVisited now subject new → IsAhead now new.progress
+  visited_ahead subject new ahead visited = by visited.3
+    where
+      by : Visits now visited.0 subject visited.1 visited.2 new → IsAhead now new.progress
+      by (inl kept) = elim kept.2 [
+        | inl same ↦ subst (λ (s : Subject A). IsAhead now s.progress) (sym same) ahead
+        | inr rests ↦ subst (λ (s : Subject A). IsAhead now s.progress) (sym rests) (rested_ahead now subject.progress)
+      ]
+      by (inr asked) = subst (λ (s : Subject A). IsAhead now s.progress) (sym asked.4) (heard_ahead asked.0.outputs (record subject { progress = Reading }) tt)
+
+  pub all_ahead : (outputs : List Output) (old new : List (Subject A)) → length new ≡ length old → AreVisited now outputs old new → All (λ subject. IsAhead now subject.progress) new
+  all_ahead outputs old new size visited k d within =
+      visited_ahead (taken now outputs (slice_index_or old k d)) (slice_index_or new k d) (woken_ahead now (heard_all now (slice_index_or old k d) outputs).progress)
+      (visited k d (omega (arith, within, size)))
 
 -- ---- the turns of the calls
 
@@ -132,35 +191,35 @@ outputs_on calls more = flat_map-append (λ (turn : Turn). turn.outputs) calls m
 
 -- what is asked by a visit of the subject at this place
 visit_calls : {A : Type 0} (now : ℕ) (subjects : List (Subject A)) (index : ℕ) (element : Subject A) (outputs : List Output) (view : View) (calls : List Turn) (after : View) (new : Subject A)
-    → index < length subjects → element ≡ get_or subjects index element → Visits now view (heard_all now element outputs) calls after new
+    → index < length subjects → element ≡ get_or subjects index element → Visits now view (taken now outputs element) calls after new
     → FoldsTo Rule view calls after × AreReads subjects calls
 visit_calls {A} now subjects index element outputs view calls after new within is (inl kept) =
     (subst (λ cs. FoldsTo Rule view cs after) (sym kept.1) (sym kept.0), subst (AreReads subjects) (sym kept.1) tt)
 visit_calls {A} now subjects index element outputs view calls after new within is (inr asked) =
-    (subst (λ cs. FoldsTo Rule view cs after) (sym asked.1) (after, asked.3, refl), subst (AreReads subjects) (sym asked.1) ((index, element, heard.is_missing, within, read), tt))
+    (subst (λ cs. FoldsTo Rule view cs after) (sym asked.1) (after, asked.3, refl), subst (AreReads subjects) (sym asked.1) ((index, element, it.is_missing, within, read), tt))
   where
-    heard : Subject A
-    heard = heard_all now element outputs
+    it : Subject A
+    it = taken now outputs element
 
-    ticket : heard.ticket ≡ (get_or subjects index element).ticket
+    ticket : it.ticket ≡ (get_or subjects index element).ticket
     ticket = all_same_ticket now outputs element ∙ ap (λ (s : Subject A). s.ticket) is
 
-    side : heard.side ≡ (get_or subjects index element).side
+    side : it.side ≡ (get_or subjects index element).side
     side = all_same_side now outputs element ∙ ap (λ (s : Subject A). s.side) is
 
-    path : heard.path ≡ (get_or subjects index element).path
+    path : it.path ≡ (get_or subjects index element).path
     path = all_same_path now outputs element ∙ ap (λ (s : Subject A). s.path) is
 
-    read : IsReadOf (get_or subjects index element) heard.is_missing asked.0
+    read : IsReadOf (get_or subjects index element) it.is_missing asked.0
     read = (
       asked.2.0,
       asked.2.1 ∙ ap (λ t. Call t asked.2.0) ticket,
-      asked.2.2 ∙ ap (λ s. read_of s heard.is_missing heard.path) side ∙ ap (λ p. read_of (get_or subjects index element).side heard.is_missing p) path,
+      asked.2.2 ∙ ap (λ s. read_of s it.is_missing it.path) side ∙ ap (λ p. read_of (get_or subjects index element).side it.is_missing p) path,
     )
 
 pub more_reads : {A : Type 0} (now : ℕ) (first subjects : List (Subject A)) (index : ℕ) (element : Subject A) (outputs : List Output) (view0 view after : View) (given0 given given_after : List Output)
     (new : Subject A) → index < length first → element ≡ get_or subjects index element → SameFrom index subjects first
-    → Reads first view0 given0 view given → VisitsAnd now view given (heard_all now element outputs) after given_after new → Reads first view0 given0 after given_after
+    → Reads first view0 given0 view given → VisitsAnd now view given (taken now outputs element) after given_after new → Reads first view0 given0 after given_after
 more_reads now first subjects index element outputs view0 view after given0 given given_after new within is same reads visits =
     let whole : element ≡ get_or first index element = is ∙ same index element (omega arith) in
     let asked = visit_calls now first index element outputs view visits.0 after new within whole visits.1 in

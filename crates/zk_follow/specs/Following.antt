@@ -1,6 +1,7 @@
 -- What it is to follow a subject, and what becomes of its reading.
-use Rattle.std.specs.Prelude.{◌≡◌, ◌≢◌, ◌≤◌, ◌<◌, ◌⊎◌, ◌==◌, ◌+◌, ◌-◌, ◌^◌, ◌||◌, ◌&&◌, ⊤, min, ℕ, Bool, true, false, List, [], ◌∷◌, ◌++◌, fold, Option, Some, None, if◌then◌else◌, nat_le, length, slice_index_or, bytes_eq}
-use Rattle.std.specs.List.{list_any, flat_map, FoldsTo}
+use Rattle.std.specs.Prelude.{◌≡◌, ◌≢◌, ◌≤◌, ◌<◌, ◌⊎◌, ◌==◌, ◌+◌, ◌-◌, ◌^◌, ◌||◌, ◌&&◌, not, ⊤, min, ℕ, Bool, true, false, List, [], ◌∷◌, ◌++◌, fold, Option, Some, None, if◌then◌else◌, nat_le, length, slice_index_or, bytes_eq}
+use Rattle.std.specs.List.{filter, list_any, flat_map, FoldsTo}
+use Rattle.std.specs.Ordering.{int_eq}
 use Rattle.zk_nodes.specs.Path.{Text}
 use Rattle.zk_nodes.specs.declared.side.Side.{Side}
 use Rattle.zk_nodes.specs.declared.side.Side.TheVariants.{Data, Child}
@@ -18,7 +19,10 @@ use Rattle.zk_turns.specs.View.{View, Cache}
 use Rattle.zk_turns.specs.Rule.{Rule}
 use Rattle.zk_follow.specs.declared.progress.Progress.{Progress}
 use Rattle.zk_follow.specs.declared.progress.Progress.TheVariants.{Due, Reading, Refused}
+use Rattle.zk_follow.specs.declared.progress.Refusal.{Refusal}
 use Rattle.zk_follow.specs.declared.progress.Refusal.TheVariants.{Code, TooManyWatches, TooLarge, SessionClosed}
+use Rattle.zk_follow.specs.declared.news.News.{News}
+use Rattle.zk_follow.specs.declared.news.News.TheVariants.{Shown, Refused as Denied}
 use Rattle.zk_follow.specs.declared.subject.Subject.{Subject}
 
 -- a second later, and never after the last moment that there is
@@ -95,11 +99,18 @@ reads side path _ = false
 abbrev pub is_read_by : ℕ → Side → Text → Pending → Bool
 is_read_by ticket side path pending = elim pending.waiting [ Part_waits last ↦ false | Call_waits its question ↦ (ticket == its) && reads side path question ]
 
--- whether a subject is to be read at this moment, where what is kept of it is not good
-abbrev pub is_due : (now : ℕ) → Progress → Bool
-is_due now Due = true
-is_due now Reading = false
-is_due now (Refused why until) = nat_le until now
+-- A refusal is over once its moment has come: the subject is to be read again.
+abbrev pub woken_progress : (now : ℕ) → Progress → Progress
+woken_progress now Due = Due
+woken_progress now Reading = Reading
+woken_progress now (Refused why until) = if nat_le until now then Due else Refused why until
+
+abbrev pub woken : {A : Type 0} → (now : ℕ) → Subject A → Subject A
+woken now subject = record subject { progress = woken_progress now subject.progress }
+
+-- a subject that has taken what was said, at this moment
+abbrev pub taken : {A : Type 0} → (now : ℕ) → List Output → Subject A → Subject A
+taken now outputs subject = woken now (heard_all now subject outputs)
 
 -- A read of a subject, with a watch, is on its way: the call waits for its reply.
 abbrev pub IsBeingRead : View → ℕ → Side → Text → Type 0
@@ -113,13 +124,22 @@ IsCounted view subject = view.standing.halted ≡ false → subject.progress ≡
 abbrev pub IsFull : View → Type 0
 IsFull view = MOST_PENDING ≤ calls_pending view.pending
 
--- The last read of it was refused, and the moment to read it again has not passed.
+-- A moment is after this one, or the last that there is.
+abbrev pub IsAfter : (now moment : ℕ) → Type 0
+IsAfter now moment = min (now + 1) (2 ^ 64 - 1) ≤ moment
+
+-- The last read of it was refused, and the moment to read it again is after this one.
 abbrev pub IsRefused : (now : ℕ) → Progress → Type 0
-IsRefused now (Refused why until) = now ≤ until
+IsRefused now (Refused why until) = IsAfter now until
 IsRefused now _ = ⊥
 
+-- Where it counts as refused, the moment to read it again is after this one.
+abbrev pub IsAhead : (now : ℕ) → Progress → Type 0
+IsAhead now (Refused why until) = IsAfter now until
+IsAhead now _ = ⊤
+
 -- THE promise about a subject: what is kept of it is good; or else a read of it is under way, or waits its turn, or no server has accepted
--- the connection, or the last read was refused, and the moment to read it again has not passed.
+-- the connection, or the last read was refused, and the moment to read it again is after this one.
 abbrev pub IsFollowed : {A : Type 0} → (now : ℕ) → View → Subject A → Type 0
 IsFollowed now view subject =
     (is_shown view.cache subject.side subject.path ≡ true) ⊎ (IsBeingRead view subject.ticket subject.side subject.path
@@ -145,7 +165,7 @@ abbrev pub IsReadOf : {A : Type 0} → Subject A → (is_missing : Bool) → Tur
 IsReadOf subject is_missing turn =
     (call : Call) × (turn.input ≡ turns.Call subject.ticket call) × (question_of call ≡ read_of subject.side is_missing subject.path)
 
--- One visit: nothing is asked, and the subject is as it had heard, or it rests; or it is read by one call, and hears what came of that.
+-- One visit: nothing is asked, and the subject is as it was, or it rests; or it is read by one call, and hears what came of that.
 abbrev pub Visits : {A : Type 0} → (now : ℕ) → View → Subject A → List Turn → View → Subject A → Type 0
 Visits now view subject calls after new =
     ((after ≡ view) × (calls ≡ []) × ((new ≡ subject) ⊎ (new ≡ rested subject)))
@@ -167,7 +187,7 @@ IsVisited now subject new = (view : View) × (calls : List Turn) × (after : Vie
 -- each of these subjects has heard these outputs, and was visited
 abbrev pub AreVisited : {A : Type 0} → (now : ℕ) → List Output → (old new : List (Subject A)) → Type 0
 AreVisited {A} now outputs old new =
-    (k : ℕ) (d : Subject A) → k < length old → IsVisited now (heard_all now (slice_index_or old k d) outputs) (slice_index_or new k d)
+    (k : ℕ) (d : Subject A) → k < length old → IsVisited now (taken now outputs (slice_index_or old k d)) (slice_index_or new k d)
 
 -- each of these turns is a call that reads one of these subjects
 abbrev pub AreReads : {A : Type 0} → List (Subject A) → List Turn → Type 0
@@ -192,3 +212,80 @@ pub record Steps {A : Type 0} (now : ℕ) (view : View) (input : Input) (old : L
   pub reads : AreReads old calls
   pub said : given ≡ (first ++ second) ++ outputs_in calls
   pub visited : AreVisited now (first ++ second) old new
+
+-- ---- between steps
+
+-- to be read: another session begins
+abbrev pub due_again : {A : Type 0} → Subject A → Subject A
+due_again subject = record subject { progress = Due }
+
+-- those that are followed on, once this ticket is followed no more
+abbrev pub unfollowed : {A : Type 0} → (ticket : ℕ) → List (Subject A) → List (Subject A)
+unfollowed ticket subjects = filter (λ subject. not (subject.ticket == ticket)) subjects
+
+-- when a subject is read again whose read was refused
+abbrev pub again_at : Progress → Option ℕ
+again_at (Refused why until) = Some until
+again_at _ = None
+
+-- the first of two moments
+abbrev pub first_of : (moment other : Option ℕ) → Option ℕ
+first_of None other = other
+first_of (Some moment) None = Some moment
+first_of (Some moment) (Some other) = Some (min moment other)
+
+-- the first moment at which one of them is read again
+abbrev pub first_again : {A : Type 0} → List (Subject A) → Option ℕ
+first_again subjects = fold (λ first subject. first_of first (again_at subject.progress)) None subjects
+
+-- ---- what there is to tell
+
+-- whether this was told of a subject last
+abbrev pub was_shown : Option News → Bool
+was_shown (Some Shown) = true
+was_shown _ = false
+
+abbrev pub is_same : (why other : Refusal) → Bool
+is_same (Code code) (Code other) = int_eq code other
+is_same TooManyWatches TooManyWatches = true
+is_same TooLarge TooLarge = true
+is_same SessionClosed SessionClosed = true
+is_same why other = false
+
+abbrev pub was_refused : Refusal → Option News → Bool
+was_refused why (Some (Denied other)) = is_same why other
+was_refused why _ = false
+
+-- whether a report among these is about the path
+abbrev pub is_report_of : Text → Output → Bool
+is_report_of path (turns.Report at side event) = bytes_eq at path
+is_report_of path _ = false
+
+abbrev pub is_reported : Text → List Output → Bool
+is_reported path outputs = list_any (is_report_of path) outputs
+
+-- What there is to tell of a subject, by whether what is kept of it is good, and whether its path was reported since. That it is good is
+-- told once, and again after each report; why its read was refused, once for each new reason.
+abbrev pub news_about : (is_good is_reported : Bool) → Progress → (told : Option News) → Option News
+news_about true is_reported progress told = if was_shown told && not is_reported then None else Some Shown
+news_about false is_reported (Refused why until) told = if was_refused why told then None else Some (Denied why)
+news_about false is_reported progress told = None
+
+-- what was told of it last, after that
+abbrev pub told_after : (is_good : Bool) → Progress → (told : Option News) → Option News
+told_after true progress told = Some Shown
+told_after false (Refused why until) told = Some (Denied why)
+told_after false progress told = if was_shown told then None else told
+
+-- with the ticket of the subject
+abbrev pub news_list : (ticket : ℕ) → Option News → List (ℕ × News)
+news_list ticket None = []
+news_list ticket (Some what) = (ticket, what) ∷ []
+
+abbrev pub news_in : {A : Type 0} → View → List Output → Subject A → List (ℕ × News)
+news_in view outputs subject =
+    news_list subject.ticket (news_about (is_shown view.cache subject.side subject.path) (is_reported subject.path outputs) subject.progress subject.told)
+
+-- each was told of
+abbrev pub told_of : {A : Type 0} → View → Subject A → Subject A
+told_of view subject = record subject { told = told_after (is_shown view.cache subject.side subject.path) subject.progress subject.told }

@@ -1,23 +1,29 @@
 //! A client with the subjects that its program follows.
 
-ghost use Rattle.std.specs.Prelude.{◌≡◌, ◌++◌, ◌∷◌, false, [], IfOk, OnOk, OnErr, All};
-ghost use Rattle.zk_client.specs.Clients.{view_of};
+ghost use Rattle.std.specs.Prelude.{◌≡◌, ◌++◌, ◌∷◌, ◌<ℤ◌, ◌==◌, ℕ, false, not, pos, map, [], None, IfOk, OnOk, OnErr, All};
+ghost use Rattle.std.specs.List.{flat_map};
+ghost use Rattle.std.proofs.Props.{props};
+ghost use Rattle.zk_turns.specs.View.{view_at};
+ghost use Rattle.zk_client.specs.Clients.{renewed_start, view_of};
 ghost use Rattle.zk_client.specs.Views.{input_view, said};
-ghost use Rattle.zk_follow.specs.Following.{heard_all, AreVisited, IsCounted, IsFollowed, Reads, Steps};
+ghost use Rattle.zk_follow.specs.Following.{due_again, first_again, first_of, again_at, heard_all, news_in, told_of, unfollowed, AreVisited, IsAhead, IsCounted, IsFollowed, Reads, Steps};
 
+use crate::news::{News, tell_all};
 use crate::progress::Progress;
 use crate::stop::Stop;
 use crate::subject::Subject;
 use std::alloc::{AllocError, Allocator, Global};
+use std::mem;
 use zk_client::{Client, Input, Output, Path, Side};
 
 /// A client with the subjects that its program follows: after each step what is kept of each is good, or a read of it is under way or waits
-/// its turn, or no server has accepted the connection, or the last read was refused and is made again at a moment that has not passed.
+/// its turn, or no server has accepted the connection, or the last read was refused and is made again at a moment after this one.
 #[derive(Drop)]
 pub struct Follower<A: Allocator + Copy = Global> {
     alloc: A,
     pub(crate) client: Client<A>,
     pub(crate) subjects: Vec<Subject<A>, A>,
+    ghost counted: { All (IsCounted (view_of client)) subjects.items } by { Prim.hlevel props },
 }
 
 /// Each subject takes what the client has said, and is read where it is to be read.
@@ -54,6 +60,7 @@ fn advance<A: Allocator + Copy>(
     requires { All (IsCounted (view_of client.old)) subjects.old }
     ensures followed { OnOk result (All (IsFollowed now (view_of client.new)) subjects.new) }
     ensures counted { OnOk result (All (IsCounted (view_of client.new)) subjects.new) }
+    ensures ahead { OnOk result (All (λ subject. IsAhead now subject.progress) subjects.new) }
     ensures steps { IfOk result (λ outputs. Steps now (view_of client.old) (input_view input) subjects.old (view_of client.new) (said outputs.items) subjects.new) }
 {
     let Ok(mut outputs) = client.step_at(now, input) else {
@@ -67,12 +74,78 @@ fn advance<A: Allocator + Copy>(
     }
 }
 
+/// The subject of this ticket is one no more.
+fn remove<A: Allocator>(subjects: &mut Vec<Subject<A>, A>, ticket: u64)
+    ensures { subjects.new.items ≡ unfollowed ticket subjects.old.items }
+{
+    subjects.retain(
+        |subject: &Subject<A>| -> bool
+            ensures { result ≡ not (subject.now.ticket == ticket) }
+        { subject.ticket != ticket },
+    );
+}
+
+/// When a subject is read again whose read was refused.
+fn again_at<A: Allocator>(subject: &Subject<A>) -> Option<u64>
+    ensures { result ≡ again_at subject.now.progress }
+{
+    match subject.progress {
+        Progress::Refused { until, .. } => Some(until),
+        _ => None,
+    }
+}
+
+/// The first of two moments.
+fn first_of(moment: Option<u64>, other: Option<u64>) -> Option<u64>
+    ensures { result ≡ first_of moment other }
+{
+    match (moment, other) {
+        (Some(moment), Some(other)) => Some(moment.min(other)),
+        (Some(moment), None) => Some(moment),
+        (None, other) => other,
+    }
+}
+
+/// The first moment at which one of these is read again.
+fn first_again<A: Allocator>(subjects: &[Subject<A>]) -> Option<u64>
+    ensures { result ≡ first_again subjects.now }
+{
+    let mut first = None;
+    for subject in subjects {
+        first = first_of(first, again_at(subject));
+    }
+    first
+}
+
+/// The client is one of another session, which keeps the last seen zxid.
+fn begin_client<A: Allocator + Copy>(
+    alloc: A,
+    client: &mut Client<A>,
+    timeout_ms: i32,
+) -> Result<(), AllocError>
+    requires { pos 0 <ℤ timeout_ms }
+    ensures view { OnOk result (view_of client.new ≡ view_at (renewed_start timeout_ms (view_of client.old)) []) }
+    ensures same { OnErr result (client.new ≡ client.old) }
+{
+    let next = client.renewed(alloc, timeout_ms)?;
+    drop(mem::replace(client, next));
+    Ok(())
+}
+
+/// Each of these is to be read.
+fn begin_all<A: Allocator>(subjects: &mut [Subject<A>])
+    ensures { subjects.new ≡ map due_again subjects.old }
+{
+    for subject in subjects.iter_mut() {
+        subject.begin();
+    }
+}
+
 impl<A: Allocator + Copy> Follower<A> {
     /// A client with no subjects.
     pub fn new(alloc: A, client: Client<A>) -> Follower<A>
         ensures client { view_of result.client ≡ view_of client }
         ensures subjects { result.subjects.items ≡ [] }
-        ensures counted { All (IsCounted (view_of result.client)) result.subjects.items }
     {
         Follower {
             alloc,
@@ -93,9 +166,8 @@ impl<A: Allocator + Copy> Follower<A> {
     ///
     /// An error means that memory ran out. Nothing is followed any more then.
     pub fn step(&mut self, now: u64, input: Input<A>) -> Result<Vec<Output<A>, A>, Stop>
-        requires { All (IsCounted (view_of self.old.client)) self.old.subjects.items }
         ensures followed { OnOk result (All (IsFollowed now (view_of self.new.client)) self.new.subjects.items) }
-        ensures counted { All (IsCounted (view_of self.new.client)) self.new.subjects.items }
+        ensures ahead { OnOk result (All (λ subject. IsAhead now subject.progress) self.new.subjects.items) }
         ensures steps { IfOk result (λ outputs. Steps now (view_of self.old.client) (input_view input) self.old.subjects.items (view_of self.new.client) (said outputs.items) self.new.subjects.items) }
         ensures err { OnErr result (self.new.subjects.items ≡ []) }
     {
@@ -109,16 +181,69 @@ impl<A: Allocator + Copy> Follower<A> {
         }
     }
 
-    /// Follows a subject, which is read at the next step. The tickets of its reads are this number, which no other call may have.
+    /// Follows a subject, which is read at the next step. The tickets of its reads are this number, which no other call may have, and no
+    /// subject that is followed after it.
     pub fn follow(&mut self, ticket: u64, side: Side, path: Path<A>) -> Result<(), AllocError>
-        requires { All (IsCounted (view_of self.old.client)) self.old.subjects.items }
         ensures client { self.new.client ≡ self.old.client }
-        ensures subjects { OnOk result (self.new.subjects.items ≡ self.old.subjects.items ++ record { ticket = ticket; side = side; path = path; progress = Progress.Due; is_missing = false } ∷ []) }
-        ensures counted { All (IsCounted (view_of self.new.client)) self.new.subjects.items }
+        ensures subjects { OnOk result (self.new.subjects.items ≡ self.old.subjects.items ++ record { ticket = ticket; side = side; path = path; progress = Progress.Due; is_missing = false; told = None } ∷ []) }
     {
         match self.subjects.push(Subject::new(ticket, side, path)) {
             Ok(()) => Ok(()),
             Err(_) => Err(AllocError),
         }
+    }
+
+    /// Follows the subject of this ticket no more. A read of it that is under way is answered to nobody.
+    pub fn unfollow(&mut self, ticket: u64)
+        ensures client { self.new.client ≡ self.old.client }
+        ensures subjects { self.new.subjects.items ≡ unfollowed ticket self.old.subjects.items }
+    {
+        remove(&mut self.subjects, ticket);
+    }
+
+    /// The first moment at which a subject is read again whose read was refused: at the latest then a step is due.
+    pub fn deadline(&self) -> Option<u64>
+        ensures { result ≡ first_again self.now.subjects.items }
+    {
+        first_again(self.subjects.as_slice())
+    }
+
+    /// What there is to tell of each subject since the call before this one, with its ticket, after what `all` has. These outputs are those
+    /// that the steps have given since then. An error means that memory ran out.
+    pub fn tell(
+        &mut self,
+        outputs: &[Output<A>],
+        all: &mut Vec<(u64, News), A>,
+    ) -> Result<(), AllocError>
+        ensures client { self.new.client ≡ self.old.client }
+        ensures news { OnOk result (all.new.items ≡ all.old.items ++ flat_map (news_in (view_of self.old.client) (said outputs.now)) self.old.subjects.items) }
+        ensures told { OnOk result (self.new.subjects.items ≡ map (told_of (view_of self.old.client)) self.old.subjects.items) }
+        ensures err { OnErr result (self.new.subjects.items ≡ []) }
+    {
+        let subjects = self.subjects.as_mut_slice();
+        match tell_all(subjects, &self.client, outputs, all) {
+            Ok(()) => Ok(()),
+            Err(fault) => {
+                self.subjects.truncate(0);
+                Err(fault)
+            }
+        }
+    }
+
+    /// Another session begins, with this timeout in milliseconds, as where the one before has expired. The client keeps the last seen zxid
+    /// and nothing else. The subjects go on: each is read as soon as a server has accepted the session. An error means that memory ran
+    /// out, and nothing has happened then.
+    pub fn renew(&mut self, timeout_ms: i32) -> Result<(), AllocError>
+        requires { pos 0 <ℤ timeout_ms }
+        ensures client { OnOk result (view_of self.new.client ≡ view_at (renewed_start timeout_ms (view_of self.old.client)) []) }
+        ensures subjects { OnOk result (self.new.subjects.items ≡ map due_again self.old.subjects.items) }
+        ensures followed { OnOk result ((now : ℕ) → All (IsFollowed now (view_of self.new.client)) self.new.subjects.items) }
+        ensures same_client { OnErr result (self.new.client ≡ self.old.client) }
+        ensures same_subjects { OnErr result (self.new.subjects ≡ self.old.subjects) }
+    {
+        begin_client(self.alloc, &mut self.client, timeout_ms)?;
+        let subjects = self.subjects.as_mut_slice();
+        begin_all(subjects);
+        Ok(())
     }
 }

@@ -7,12 +7,14 @@
 
 mod follower;
 mod kept;
+mod news;
 mod progress;
 mod reads;
 mod stop;
 mod subject;
 
 pub use follower::Follower;
+pub use news::News;
 pub use progress::{Progress, Refusal};
 pub use stop::Stop;
 pub use subject::Subject;

@@ -1,5 +1,7 @@
 //! Memory that ran out.
 
+use std::alloc::AllocError;
+
 /// Memory was refused, so that a follower goes on no further.
 #[derive(Clone, Copy)]
 pub enum Stop {
@@ -7,4 +9,15 @@ pub enum Stop {
     Halted,
     /// To the follower: what the client said is lost.
     Memory,
+}
+
+impl From<AllocError> for Stop {
+    ghost use Rattle.std.specs.Prelude.{◌≡◌};
+    ghost use Rattle.zk_follow.specs.declared.stop.Stop.TheVariants.{Memory};
+
+    ghost from_gives = { λ _ stop. stop ≡ Memory };
+
+    fn from(_fault: AllocError) -> Stop {
+        Stop::Memory
+    }
 }

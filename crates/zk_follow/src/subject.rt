@@ -1,6 +1,6 @@
 //! One subject that is followed.
 
-ghost use Rattle.std.specs.Prelude.{◌≡◌, ◌≢◌, ◌++◌, true, false, Bool, List, IfOk, OnOk};
+ghost use Rattle.std.specs.Prelude.{◌≡◌, ◌≢◌, ◌++◌, true, false, Bool, List, None, IfOk, OnOk};
 ghost use Rattle.zk_session.specs.declared.states.State.TheVariants.{Connected};
 ghost use Rattle.zk_conversation.specs.Questions.{question_of};
 ghost use Rattle.zk_conversation.specs.Views.{call_view};
@@ -8,9 +8,10 @@ ghost use Rattle.zk_turns.specs.Turns.{Call as Calls, Output as Said};
 ghost use Rattle.zk_turns.specs.Rule.{Rule};
 ghost use Rattle.zk_client.specs.Clients.{view_of};
 ghost use Rattle.zk_client.specs.Views.{output_view, said};
-ghost use Rattle.zk_follow.specs.Following.{heard, heard_all, is_due, read_of, rested, Asks, IsCounted, IsFollowed, IsFull, VisitsAnd};
+ghost use Rattle.zk_follow.specs.Following.{heard, heard_all, read_of, rested, taken, due_again, woken, Asks, IsCounted, IsFollowed, IsFull, VisitsAnd};
 
 use crate::kept::is_shown;
+use crate::news::News;
 use crate::progress::{Progress, missing_after, progress_after};
 use crate::reads::read_of;
 use crate::stop::Stop;
@@ -25,6 +26,7 @@ pub struct Subject<A: Allocator> {
     pub(crate) path: Path<A>,
     pub(crate) progress: Progress,
     pub(crate) is_missing: bool,
+    pub(crate) told: Option<News>,
 }
 
 /// Whether a server has accepted the connection.
@@ -38,7 +40,7 @@ fn is_connected<A: Allocator + Copy>(client: &Client<A>) -> bool
 impl<A: Allocator> Subject<A> {
     /// A subject that is to be read. The tickets of its reads are this number.
     pub(crate) fn new(ticket: u64, side: Side, path: Path<A>) -> Subject<A>
-        ensures { result ≡ record { ticket = ticket; side = side; path = path; progress = Progress.Due; is_missing = false } }
+        ensures { result ≡ record { ticket = ticket; side = side; path = path; progress = Progress.Due; is_missing = false; told = None } }
     {
         Subject {
             ticket,
@@ -46,6 +48,7 @@ impl<A: Allocator> Subject<A> {
             path,
             progress: Progress::Due,
             is_missing: false,
+            told: None,
         }
     }
 
@@ -65,13 +68,39 @@ impl<A: Allocator> Subject<A> {
         }
     }
 
-    /// Takes what the client has said at this moment.
-    pub(crate) fn hear(&mut self, now: u64, outputs: &[Output<A>])
+    /// Hears what the client has said at this moment.
+    fn hear(&mut self, now: u64, outputs: &[Output<A>])
         ensures { self.new ≡ heard_all now self.old (said outputs.now) }
     {
         for output in outputs {
             self.hear_one(now, output);
         }
+    }
+
+    /// A refusal is over whose moment has come.
+    fn wake(&mut self, now: u64)
+        ensures { self.new ≡ woken now self.old }
+    {
+        if let Progress::Refused { until, .. } = self.progress {
+            if until <= now {
+                self.progress = Progress::Due;
+            }
+        }
+    }
+
+    /// Takes what the client has said at this moment.
+    fn take(&mut self, now: u64, outputs: &[Output<A>])
+        ensures { self.new ≡ taken now (said outputs.now) self.old }
+    {
+        self.hear(now, outputs);
+        self.wake(now);
+    }
+
+    /// The subject is to be read: another session begins.
+    pub(crate) fn begin(&mut self)
+        ensures { self.new ≡ due_again self.old }
+    {
+        self.progress = Progress::Due;
     }
 }
 
@@ -104,22 +133,12 @@ impl<A: Allocator + Copy> Subject<A> {
         }
     }
 
-    /// Whether the subject is to be read at once.
+    /// Whether the subject is to be read at once, where what is kept of it is not good and the client is connected.
     fn is_unread(&self) -> bool
-        ensures { result ≡ true → self.now.progress ≡ Progress.Due }
+        ensures yes { result ≡ true → self.now.progress ≡ Progress.Due }
+        ensures no { result ≡ false → self.now.progress ≢ Progress.Due }
     {
         matches!(self.progress, Progress::Due)
-    }
-
-    /// Whether the subject is to be read at this moment, where what is kept of it is not good and the client is connected.
-    fn is_due(&self, now: u64) -> bool
-        ensures { result ≡ is_due now self.now.progress }
-    {
-        match self.progress {
-            Progress::Due => true,
-            Progress::Reading => false,
-            Progress::Refused { until, .. } => until <= now,
-        }
     }
 
     /// What is kept of the subject is good.
@@ -150,9 +169,9 @@ impl<A: Allocator + Copy> Subject<A> {
         ensures counted { OnOk result (IsCounted (view_of client.new) self.new) }
         ensures asks { OnOk result (Asks (view_of client.old) (view_of client.new)) }
         ensures full { IfOk result (λ is_full. is_full ≡ true → IsFull (view_of client.new)) }
-        ensures visits { OnOk result (VisitsAnd now (view_of client.old) (said made.old.items) (heard_all now self.old (said outputs.now)) (view_of client.new) (said made.new.items) self.new) }
+        ensures visits { OnOk result (VisitsAnd now (view_of client.old) (said made.old.items) (taken now (said outputs.now) self.old) (view_of client.new) (said made.new.items) self.new) }
     {
-        self.hear(now, outputs);
+        self.take(now, outputs);
         if is_shown(client, self.side, &self.path) {
             self.rest();
             return Ok(is_full);
@@ -163,7 +182,7 @@ impl<A: Allocator + Copy> Subject<A> {
         if !is_connected(client) {
             return Ok(false);
         }
-        if !self.is_due(now) {
+        if !self.is_unread() {
             return Ok(false);
         }
         match read_of(alloc, self.side, self.is_missing, &self.path) {

@@ -20,6 +20,10 @@ pub enum Event {
     Sets(&'static str, Option<&'static str>, i32),
     Deletes(&'static str, i32),
     Peeks(&'static str),
+    /// All nodes at and below a path, at most this many, and what is lacking.
+    Collects(&'static str, usize),
+    /// Whether the session comes first in `/l` by its node of this name, by these names that were listed at a zxid.
+    Stands(&'static str, &'static [&'static str], i64),
 }
 
 /// A session that expires.
@@ -66,4 +70,60 @@ pub static CLOSES: [Event; 11] = [
     Event::Peeks("/a"),
     Event::Closes,
     Event::Reads("/a"),
+];
+
+/// A session that asks for all nodes at and below a path.
+pub static COLLECTS: [Event; 18] = [
+    Event::Opens,
+    Event::Collects("/a", 4),
+    Event::Creates("/a", Some("one"), 0),
+    Event::Reads("/a"),
+    Event::Collects("/a", 4),
+    Event::Lists("/a"),
+    Event::Collects("/a", 4),
+    Event::Creates("/a/b", None, 1),
+    Event::Collects("/a", 4),
+    Event::Lists("/a"),
+    Event::Collects("/a", 4),
+    Event::Reads("/a/b"),
+    Event::Lists("/a/b"),
+    Event::Collects("/a", 2),
+    Event::Collects("/a", 1),
+    Event::Collects("/a/b", 1),
+    Event::Collects("/a/", 4),
+    Event::Collects("/a", 0),
+];
+
+/// A session that waits for another one's node, and then stands first.
+pub static STANDS: [Event; 14] = [
+    Event::Opens,
+    Event::Creates("/l", None, 0),
+    Event::Creates("/l/a-lock-", None, 2),
+    Event::Creates("/l/x-lock-", None, 3),
+    Event::Stands(
+        "x-lock-0000000001",
+        &["x-lock-0000000001", "a-lock-0000000000"],
+        3,
+    ),
+    Event::Reads("/l/x-lock-0000000001"),
+    Event::Stands(
+        "x-lock-0000000001",
+        &["x-lock-0000000001", "a-lock-0000000000"],
+        3,
+    ),
+    Event::Deletes("/l/a-lock-0000000000", -1),
+    Event::Stands("x-lock-0000000001", &["x-lock-0000000001"], 4),
+    Event::Stands("x-lock-0000000001", &["x-lock-0000000001"], 2),
+    Event::Stands(
+        "x-lock-0000000001",
+        &["a-lock-0000000000", "x-lock-0000000001"],
+        5,
+    ),
+    Event::Stands(
+        "x-lock-0000000001",
+        &["x-lock-0000000001", "a-0000000000"],
+        4,
+    ),
+    Event::Stands("a/b", &[], 4),
+    Event::Stands("x-lock-1", &[], 4),
 ];

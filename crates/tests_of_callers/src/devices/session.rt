@@ -1,7 +1,7 @@
 //! A device and the server that it speaks to.
 
 use crate::devices::events::Event;
-use crate::devices::told::{tell, tell_kept, tell_number};
+use crate::devices::told::{tell, tell_collected, tell_kept, tell_number, tell_standing};
 use anyhow::Result;
 use std::alloc::Global;
 use zk_bench::{Bench, History};
@@ -112,6 +112,12 @@ impl Session {
         self.now = self.now.saturating_add(APART);
         if let Event::Peeks(path) = event {
             return tell_kept(self.alloc, &self.device, path, told);
+        }
+        if let Event::Collects(path, most) = event {
+            return tell_collected(self.alloc, &self.device, path, most, told);
+        }
+        if let Event::Stands(name, names, listed) = event {
+            return tell_standing(self.alloc, &self.device, name, names, listed, told);
         }
         let done = self.happen(event);
         tell_number("event", code_of(done), told)?;

@@ -3,13 +3,13 @@
 use anyhow::Result;
 use std::alloc::Global;
 use std::fmt::Write;
-use zk_device::{Device, Flat};
+use zk_device::{Contender, Device, Flat, Refusal, Stands};
 
 /// More outputs than one step has.
 const OUTPUTS: usize = 100;
 
 /// More bytes than a text of the session has, except for frames.
-const ROOM: usize = 64;
+const ROOM: usize = 192;
 
 /// A number, unless it is 0.
 pub fn tell_number(name: &str, number: i32, told: &mut String) -> Result<()> {
@@ -44,7 +44,10 @@ fn tell_texts(alloc: Global, flat: Flat, device: &Device, told: &mut String) -> 
         let count = device.copy_name(index, &mut room);
         tell_text(alloc, &room[..count.min(ROOM)], told)?;
     }
-    Ok(())
+    match device.copy_names(alloc, &mut room) {
+        Ok(0) | Err(_) => Ok(()),
+        Ok(count) => Ok(writeln!(told, "  {:?}", &room[..count.min(ROOM)])?),
+    }
 }
 
 /// An output that is no frame.
@@ -112,4 +115,69 @@ pub fn tell_kept(alloc: Global, device: &Device, path: &str, told: &mut String) 
         )?;
     }
     tell_names(alloc, device, path, told)
+}
+
+/// Bytes that were copied, or the number of the refusal.
+fn tell_copied(
+    name: &str,
+    copied: Result<usize, Refusal>,
+    room: &[u8],
+    told: &mut String,
+) -> Result<()> {
+    match copied {
+        Ok(count) => writeln!(told, "{name} {count} {:?}", &room[..count.min(room.len())])?,
+        Err(refusal) => writeln!(told, "{name} {}", refusal.code())?,
+    }
+    Ok(())
+}
+
+/// Tells all nodes at and below a path, if there are at most this many, and what is lacking, as the bytes that spell them.
+pub fn tell_collected(
+    alloc: Global,
+    device: &Device,
+    path: &str,
+    most: usize,
+    told: &mut String,
+) -> Result<()> {
+    let mut room = [0; ROOM];
+    let nodes = device.subtree(alloc, path.as_bytes(), most, &mut room);
+    tell_copied("nodes", nodes, &room, told)?;
+    let lacking = device.lacking(alloc, path.as_bytes(), most, &mut room);
+    tell_copied("lacking", lacking, &room, told)
+}
+
+/// A text after its length, which is below 128.
+fn add_text(text: &str, spelled: &mut Vec<u8>) -> Result<()> {
+    let length = u8::try_from(text.len()).unwrap_or(u8::MAX);
+    spelled.extend_from_slice(&[0, 0, 0, length])?;
+    Ok(spelled.extend_from_slice(text.as_bytes())?)
+}
+
+/// Tells whether the session comes first in `/l`, where names have the marker `lock-` before their number.
+pub fn tell_standing(
+    alloc: Global,
+    device: &Device,
+    name: &str,
+    names: &[&str],
+    listed: i64,
+    told: &mut String,
+) -> Result<()> {
+    let (mut spelled, mut room) = (Vec::new(alloc), [0; ROOM]);
+    for listed_name in names {
+        add_text(*listed_name, &mut spelled)?;
+    }
+    let contender = Contender {
+        directory: b"/l",
+        name: name.as_bytes(),
+        names: spelled.as_slice(),
+        listed,
+        markers: b"\0\0\0\x05lock-\0\0\0\x05lock-",
+    };
+    match device.standing(alloc, &contender, &mut room) {
+        Ok(Stands::First(token)) => writeln!(told, "first {token}")?,
+        Ok(Stands::After(count)) => tell_text(alloc, &room[..count.min(ROOM)], told)?,
+        Ok(Stands::Unsure) => writeln!(told, "unsure")?,
+        Err(refusal) => writeln!(told, "standing {}", refusal.code())?,
+    }
+    Ok(())
 }

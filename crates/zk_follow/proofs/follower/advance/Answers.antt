@@ -5,7 +5,7 @@ use Rattle.std.specs.Prelude.{All}
 use Rattle.zk_client.specs.Clients.{view_of}
 use Rattle.zk_client.specs.Views.{input_view, output_view, said, turn_of}
 use Rattle.zk_follow.specs.Following.{heard_all, AreVisited, IsCounted, Reads}
-use Rattle.zk_follow.proofs.Visiting.{all_counted, going_at, steps}
+use Rattle.zk_follow.proofs.Visiting.{all_ahead, all_counted, going_at, steps}
 use Rattle.zk_follow.proofs.follower.advance.Goals as goal
 
 pub visit_all-requires-clause-counted : goal.visit_all-requires-clause-counted
@@ -24,3 +24,8 @@ returns-in-Ok-append-clause-steps g c =
     (subst (λ given. Reads c.args.subjects.now (view_of c.step_at.new.self) given (view_of c.visit_all.new.client) (said c.visit_all.new.made.items)) (ap said c.new-made.ensures.items) c.in_ok-visit_all.ensures.reads)
     (subst (λ outputs. AreVisited c.args.now (said outputs) c.args.subjects.now c.visit_all.new.subjects) c.as_slice.ensures.value c.in_ok-visit_all.ensures.visited)
     (ap said c.in-Ok-append.ensures.items ∙ map-append output_view c.in-Ok.outputs.items c.visit_all.new.made.items)
+
+pub returns-in-Ok-append-clause-ahead : goal.returns-in-Ok-append-clause-ahead
+returns-in-Ok-append-clause-ahead g c =
+    all_ahead c.args.now c.ranges.now.fits (said c.in-Ok.outputs.items) c.args.subjects.now c.visit_all.new.subjects c.visit_all.auto.subjects
+    (subst (λ outputs. AreVisited c.args.now (said outputs) c.args.subjects.now c.visit_all.new.subjects) c.as_slice.ensures.value c.in_ok-visit_all.ensures.visited)

@@ -41,7 +41,7 @@ returns-in-Ok-append-clause-full g c = λ full.
     (view_of c.args.client.now) (view_of c.step.new.self) (said c.in-Ok.outputs.items) c.in-Ok.ensures.rule c.requires.connected in
     let heard : c.hear.new.self ≡ heard_all c.args.now reading (said c.in-Ok.outputs.items) =
     c.hear.ensures ∙ ap (λ outputs. heard_all c.args.now reading (said outputs)) c.as_slice.ensures.value in
-    settled.3 (sym (ap (λ subject. subject.progress) heard) ∙ c.is_unread.ensures full)
+    settled.3 (sym (ap (λ subject. subject.progress) heard) ∙ c.is_unread.ensures.yes full)
 
 pub returns-in-Ok-append-clause-asked : goal.returns-in-Ok-append-clause-asked
 returns-in-Ok-append-clause-asked g c =

@@ -1,0 +1,147 @@
+"""How both clients follow a node or its children: what is told, and what is to be done before the next answer."""
+
+from __future__ import annotations
+
+import logging
+import time
+from collections.abc import Iterator
+from contextlib import contextmanager
+from dataclasses import dataclass
+from typing import Any, Callable, Generic, Optional, TypeVar, Union
+
+from dirwolleu import _requests as requests
+from dirwolleu._engine import Engine, News
+from dirwolleu._plans import Plan
+from dirwolleu._retry import is_passing
+from dirwolleu._steps import Call, Steps, Wait
+from dirwolleu.exceptions import ConnectionClosedError, NoNodeError, ZookeeperError
+from dirwolleu.types import Kept, KeptChildren, State
+
+logger = logging.getLogger("dirwolleu")
+
+BETWEEN_REFUSED_READS = 1.0
+"""The least number of seconds from a read that brought no good answer to the next one."""
+
+Told = TypeVar("Told", bound=Union[Kept, KeptChildren])
+
+
+@dataclass(frozen=True)
+class Subject(Generic[Told]):
+    """What is followed of a path."""
+
+    path: str
+    settled: Callable[[], Optional[Told]]
+    """What is good and whole of it now, or None."""
+    fields: Callable[[Told], Any]
+    """What makes an answer another one."""
+    read: Callable[[], Plan[Any]]
+
+
+def data_of(engine: Engine, path: str) -> Subject[Kept]:
+    return Subject(
+        path, lambda: engine.settled(path), lambda kept: (kept.stat, kept.data), lambda: _read(path, requests.get)
+    )
+
+
+def children_of(engine: Engine, path: str) -> Subject[KeptChildren]:
+    return Subject(
+        path,
+        lambda: engine.settled_children(path),
+        lambda kept: (kept.exists, kept.names, kept.pzxid),
+        lambda: _read(path, requests.get_children),
+    )
+
+
+def _read(path: str, read: Callable[[str, bool], Any]) -> Plan[None]:
+    """Reads what is followed, or that there is no node, with a watch."""
+    try:
+        yield read(path, True)
+    except NoNodeError:
+        yield requests.exists(path, True)
+
+
+class Follower(Generic[Told]):
+    """One who follows: within it, `next` gives each answer that is to be told.
+
+    `news` is set at each news of the path. An answer that was good when it came is told, even where a notice has come
+    since; with `is_strict` one that is good now alone.
+    """
+
+    def __init__(
+        self,
+        engine: Engine,
+        subject: Subject[Told],
+        news: News,
+        is_strict: bool = False,
+        is_wanted: Callable[[], bool] = lambda: True,
+    ) -> None:
+        self._engine, self._subject, self._news = engine, subject, news
+        self._is_strict, self._is_wanted = is_strict, is_wanted
+        self._told: Optional[Told] = None
+        self._read_at: Optional[float] = None
+
+    @contextmanager
+    def listening(self) -> Iterator[Callable[[], Steps[Optional[Told]]]]:
+        """What it gives makes the steps to the next answer: None where the client was stopped, or none is wanted."""
+        with self._engine.news(self._news.set, self._subject.path, self._subject.settled) as found:
+            yield lambda: self._next(lambda: found.pop() if found and not self._is_strict else None)
+
+    def _next(self, found: Callable[[], Optional[Told]]) -> Steps[Optional[Told]]:
+        while self._engine.is_running and self._is_wanted():
+            self._news.clear()
+            for kept in (found(), self._subject.settled()):
+                if kept is not None and self._is_another(kept):
+                    return kept
+            yield from self._read_or_wait()
+        return None
+
+    def _is_another(self, kept: Told) -> bool:
+        """Takes a good answer, and tells whether it is another one than that which was told last."""
+        self._read_at = None
+        told, self._told = self._told, kept
+        return told is None or self._subject.fields(kept) != self._subject.fields(told)
+
+    def _read_or_wait(self) -> Steps[None]:
+        """A read where nothing good is kept, though a second after one that brought nothing; else news is waited for."""
+        if self._engine.state is not State.CONNECTED or self._subject.settled() is not None:
+            yield Wait(None)
+            return
+        now = time.monotonic()
+        if self._read_at is not None and now < self._read_at + BETWEEN_REFUSED_READS:
+            yield Wait(self._read_at + BETWEEN_REFUSED_READS - now)
+            return
+        self._read_at = now
+        try:
+            yield from self._subject.read()
+        except ConnectionClosedError:
+            pass  # it was stopped meanwhile, and may have been started again
+        except ZookeeperError as error:
+            if not is_passing(error):
+                raise
+
+
+def begun(engine: Engine) -> None:
+    if not engine.is_running:
+        raise ConnectionClosedError("the client is not started")
+
+
+def watching(
+    engine: Engine, subject: Subject[Told], news: News, call: Callable[[Told], Any], is_wanted: Callable[[], bool]
+) -> Steps[None]:
+    """Calls a function with each good answer, until it answers False. It goes on where the client is started again."""
+    with Follower(engine, subject, news, is_strict=True, is_wanted=is_wanted).listening() as next_one:
+        while is_wanted():
+            kept = yield from next_one()
+            if kept is not None:
+                if is_wanted() and (yield from _called(call, kept)) is False:
+                    return
+            elif is_wanted():
+                yield Wait(None)
+
+
+def _called(call: Callable[[Told], Any], kept: Told) -> Steps[Any]:
+    try:
+        return (yield Call(lambda: call(kept)))
+    except Exception:
+        logger.exception("a callback failed")
+        return None

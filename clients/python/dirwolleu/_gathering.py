@@ -1,0 +1,156 @@
+"""Barriers, for both kinds of clients: by kazoo's nodes."""
+
+from __future__ import annotations
+
+import os
+import socket
+import uuid
+from typing import Generic, Optional
+
+from dirwolleu import _plans as plans
+from dirwolleu import _requests as requests
+from dirwolleu._contending import BETWEEN_TRIES, AnyClient, names_of, patiently
+from dirwolleu._engine import News
+from dirwolleu._plans import Plan
+from dirwolleu._retry import is_passing
+from dirwolleu._steps import Steps, TimeIsOver, Wait, bounded, until_of
+from dirwolleu.exceptions import NodeExistsError, NoNodeError, SessionExpiredError, ZookeeperError
+
+_READY = "ready"
+
+
+class BaseBarrier(Generic[AnyClient]):
+    """A barrier, for both kinds of clients."""
+
+    def __init__(self, client: AnyClient, path: str) -> None:
+        self._client, self._path = client, path
+
+    def _creating(self) -> Steps[None]:
+        return patiently(self._client._engine, lambda: plans.ensure_path(self._path, None))
+
+    def _removing(self) -> Steps[bool]:
+        return patiently(self._client._engine, self._remove)
+
+    def _remove(self) -> Plan[bool]:
+        try:
+            yield requests.delete(self._path, -1)
+        except NoNodeError:
+            return False
+        return True
+
+    def _waiting(self, news: News, timeout: Optional[float]) -> Steps[bool]:
+        with self._client._engine.news(news.set):
+            try:
+                yield from bounded(self._wait(news), until_of(timeout))
+            except TimeIsOver:
+                return False
+        return True
+
+    def _wait(self, news: News) -> Steps[None]:
+        while True:
+            news.clear()
+            try:
+                if (yield requests.exists(self._path, lambda _: news.set())) is None:
+                    return
+                yield Wait(None)
+            except ZookeeperError as error:
+                if not is_passing(error):
+                    raise
+                yield Wait(BETWEEN_TRIES)
+
+
+class BaseDoubleBarrier(Generic[AnyClient]):
+    """A double barrier, for both kinds of clients."""
+
+    def __init__(self, client: AnyClient, path: str, num_clients: int, identifier: str = "") -> None:
+        if num_clients < 1:
+            raise ValueError("a double barrier is for one client at least")
+        self._client, self._path, self._count = client, path, num_clients
+        self._data = (identifier or f"{socket.getfqdn()}-{os.getpid()}").encode()
+        self._name = uuid.uuid4().hex
+        self._own, self._ready = plans.child_of(path, self._name), plans.child_of(path, _READY)
+
+    def _entering(self, news: News, timeout: Optional[float]) -> Steps[bool]:
+        is_in = False
+        with self._client._engine.news(news.set):
+            try:
+                yield from bounded(self._enter(news), until_of(timeout))
+                is_in = True
+            except TimeIsOver:
+                pass
+            finally:
+                if not is_in:
+                    yield from self._withdraw()
+        return is_in
+
+    def _leaving(self, news: News, timeout: Optional[float]) -> Steps[bool]:
+        with self._client._engine.news(news.set):
+            try:
+                yield from bounded(self._leave(news), until_of(timeout))
+            except TimeIsOver:
+                yield from self._withdraw()
+                return False
+        return True
+
+    def _withdraw(self) -> Steps[None]:
+        """Deletes the node of this one. Where its session is over, so is the node."""
+        try:
+            yield from patiently(self._client._engine, self._delete)
+        except SessionExpiredError:
+            pass
+
+    def _delete(self, path: Optional[str] = None) -> Plan[None]:
+        try:
+            yield requests.delete(path or self._own, -1)
+        except NoNodeError:
+            pass
+
+    def _enter(self, news: News) -> Steps[None]:
+        """Makes the node of this one, and waits until the barrier is ready: whoever is the last one says so."""
+        while True:
+            news.clear()
+            try:
+                yield from self._make()
+                if (yield requests.exists(self._ready, lambda _: news.set())) is not None:
+                    return
+                names = yield from self._members()
+                if len(names) >= self._count:
+                    yield from plans.ensure_path(self._ready, None)
+                    return
+                yield Wait(None)
+            except ZookeeperError as error:
+                if not is_passing(error):
+                    raise
+                yield Wait(BETWEEN_TRIES)
+
+    def _make(self) -> Plan[None]:
+        yield from plans.ensure_path(self._path, None)
+        try:
+            yield requests.create(self._own, self._data, True, False)
+        except NodeExistsError:
+            pass
+
+    def _members(self) -> Plan[list[str]]:
+        names = yield from names_of(self._path)
+        return sorted(name for name in names if name != _READY)
+
+    def _leave(self, news: News) -> Steps[None]:
+        """Deletes the node of this one, and waits until all are gone. The first one in the order of names goes last."""
+        while True:
+            news.clear()
+            try:
+                yield from self._delete(self._ready)
+                names = yield from self._members()
+                if names and names != [self._name]:
+                    other = names[-1] if names[0] == self._name else names[0]
+                    if names[0] != self._name:
+                        yield from self._delete()
+                    if (yield requests.exists(plans.child_of(self._path, other), lambda _: news.set())) is not None:
+                        yield Wait(None)
+                    continue
+                yield from self._delete()
+                return
+            except ZookeeperError as error:
+                if not is_passing(error):
+                    raise
+                yield Wait(BETWEEN_TRIES)

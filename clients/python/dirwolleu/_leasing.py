@@ -1,0 +1,179 @@
+"""How a lease of a semaphore is taken, for both kinds of clients: by kazoo's nodes.
+
+Leases are ephemeral nodes below the path. Only the holder of the lock beside it makes one, in a transaction that also
+checks the lock's node: so a holder that was overtaken makes none, and at no zxid there are more than the most.
+"""
+
+from __future__ import annotations
+
+import uuid
+from typing import Any, Callable, Optional
+
+from dirwolleu import _lane as lane
+from dirwolleu import _plans as plans
+from dirwolleu import _requests as requests
+from dirwolleu._contending import (
+    BETWEEN_TRIES,
+    EXCLUSIVE,
+    AnyClient,
+    AnyHeld,
+    BaseTaker,
+    Contender,
+    Take,
+    identifiers,
+    let_pass,
+    names_of,
+    patiently,
+    release,
+)
+from dirwolleu._engine import Engine, News
+from dirwolleu._plans import Plan
+from dirwolleu._steps import Steps, Wait
+from dirwolleu.exceptions import (
+    NodeExistsError,
+    NoNodeError,
+    SessionExpiredError,
+    TransactionFailedError,
+    ZookeeperError,
+)
+from dirwolleu.transaction import Transaction
+
+
+def _number_in(data: Optional[bytes]) -> Optional[int]:
+    """The number that a node of a semaphore has. It may be used for something else too."""
+    try:
+        return int(data or b"")
+    except ValueError:
+        return None
+
+
+class Lessee:
+    """One try to take a lease, in steps within which `news` is set at each change of the state."""
+
+    def __init__(self, engine: Engine, path: str, data: bytes, most: int, news: News) -> None:
+        self._engine, self._path, self._data, self._most, self._news = engine, path, data, most, news
+        self._may_be_there = False
+
+    def take(self, on_told: Callable[[Any], object]) -> Steps[tuple[str, int]]:
+        """Waits until there is a lease, and answers its path and the zxid at which it was made."""
+        while True:
+            try:
+                yield from self._agree()
+                lock = Contender(
+                    self._engine, f"{self._path}-__lock__", self._data, EXCLUSIVE, "kazoo", self._news
+                )
+                lock_path, _ = yield from lock.take(lambda _: self._news.set())
+                found = yield from self._within(lock_path, on_told)
+                if found is not None:
+                    return found
+            except SessionExpiredError:
+                pass  # the nodes are gone with their session
+            except ZookeeperError as error:
+                let_pass(error)
+                yield Wait(BETWEEN_TRIES)
+
+    def _agree(self) -> Plan[None]:
+        """Sees to it that the node says how many leases there are at most. Raises `ValueError` where it says otherwise."""
+        while True:
+            try:
+                data, _ = yield requests.get(self._path, None)
+            except NoNodeError:
+                yield from plans.ensure_path(plans.parent_of(self._path), None)
+                yield from self._make_path()
+            else:
+                number = _number_in(data)
+                if number not in (None, self._most):
+                    raise ValueError(f"{self._path} has {number} leases at most, and not {self._most}")
+                return
+
+    def _make_path(self) -> Plan[None]:
+        try:
+            yield requests.create(self._path, str(self._most).encode(), False, False)
+        except NodeExistsError:
+            pass
+
+    def _within(self, lock_path: str, on_told: Callable[[Any], object]) -> Steps[Optional[tuple[str, int]]]:
+        """Takes a lease within the lock, and releases that. None where the lock was lost."""
+        lease = plans.child_of(self._path, uuid.uuid4().hex)
+        self._may_be_there = False
+        try:
+            found = yield from self._wait_for_room(lock_path, lease, on_told)
+        except GeneratorExit:
+            raise
+        except BaseException:
+            yield from self._leave(lock_path, lease)
+            raise
+        yield from release(self._engine, lock_path)
+        return found
+
+    def _wait_for_room(
+        self, lock_path: str, lease: str, on_told: Callable[[Any], object]
+    ) -> Steps[Optional[tuple[str, int]]]:
+        while True:
+            self._news.clear()
+            try:
+                names = yield requests.get_children(self._path, lambda _: self._news.set())
+                if self._may_be_there or len(names) < self._most:
+                    if not (yield from self._make(lock_path, lease)):
+                        return None
+                    stat = yield requests.exists(lease, on_told)
+                    is_ours = stat is not None and stat.ephemeral_owner == self._engine.session_id()
+                    return (lease, int(stat.czxid)) if is_ours else None
+                yield Wait(None)
+            except NoNodeError:
+                return None
+            except ZookeeperError as error:
+                let_pass(error)
+                yield Wait(BETWEEN_TRIES)
+
+    def _make(self, lock_path: str, lease: str) -> Plan[bool]:
+        """Makes the lease while the lock is held, and tells whether it is there. It may be asked again."""
+        transaction = Transaction(lambda *_: [])
+        transaction.check(lock_path, -1)
+        transaction.create(lease, self._data, ephemeral=True)
+        self._may_be_there = True
+        try:
+            yield transaction.request()
+        except TransactionFailedError as refused:
+            return isinstance(refused.error, NodeExistsError)
+        return True
+
+    def _leave(self, lock_path: str, lease: str) -> Steps[None]:
+        """Leaves neither a lease nor a contender of the lock, as far as the session lives."""
+        try:
+            if self._may_be_there:
+                yield from patiently(self._engine, lambda: _synced(self._path))
+                yield from release(self._engine, lease)
+            yield from release(self._engine, lock_path)
+        except ZookeeperError:
+            pass
+
+
+def _synced(path: str) -> Plan[None]:
+    yield lane.sync(path)
+
+
+class BaseSemaphore(BaseTaker[AnyClient, AnyHeld]):
+    """A semaphore, for both kinds of clients."""
+
+    def __init__(
+        self,
+        client: AnyClient,
+        path: str,
+        identifier: str = "",
+        max_leases: int = 1,
+        *,
+        on_lost: Optional[Callable[[AnyHeld], object]] = None,
+        keeps_while_suspended: bool = False,
+    ) -> None:
+        super().__init__(client, path, identifier, on_lost=on_lost, keeps_while_suspended=keeps_while_suspended)
+        if max_leases < 1:
+            raise ValueError("a semaphore has one lease at least")
+        self._most = max_leases
+
+    def _taken_by(self, news: News) -> Take:
+        return Lessee(self._client._engine, self._path, self._data, self._most, news).take
+
+    def _holders(self) -> Plan[list[str]]:
+        names = yield from names_of(self._path)
+        return (yield from identifiers(self._path, names))

@@ -1,0 +1,47 @@
+"""Those that are woken at news of a path, or of the state alone."""
+
+from __future__ import annotations
+
+import collections
+from collections.abc import Iterator
+from typing import Any, Callable, NamedTuple, Optional
+
+
+class Listening(NamedTuple):
+    """What is woken, and the last answer that was good when it came, until somebody takes it."""
+
+    wake: Callable[[], None]
+    settled: Callable[[], Any]
+    """What is good and whole of the path now, or None."""
+    found: collections.deque[Any]
+
+
+class Listeners:
+    """Those who listen, by path. Any thread may add and remove one, and none takes a lock: each line here is a single
+    step of the interpreter, or harms nothing where another thread comes between.
+    """
+
+    def __init__(self) -> None:
+        self._by_path: dict[Optional[str], dict[object, Listening]] = {}
+
+    def add(self, path: Optional[str], key: object, listening: Listening) -> None:
+        is_there = False
+        while not is_there:  # another thread may just have taken the last one away, with all of the path
+            of_path = self._by_path.setdefault(path, {})
+            of_path[key] = listening
+            is_there = self._by_path.get(path) is of_path
+
+    def remove(self, path: Optional[str], key: object) -> None:
+        self._by_path.get(path, {}).pop(key, None)
+        if self._by_path.get(path, {"": ""}):
+            return
+        for one, listening in list(self._by_path.pop(path, {}).items()):  # who came meanwhile
+            self.add(path, one, listening)
+            listening.wake()
+
+    def of(self, path: str) -> list[Listening]:
+        return list(self._by_path.get(path, {}).values())
+
+    def all(self) -> Iterator[Listening]:
+        for of_path in list(self._by_path.values()):
+            yield from list(of_path.values())

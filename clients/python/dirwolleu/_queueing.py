@@ -1,0 +1,100 @@
+"""A queue, for both kinds of clients."""
+
+from __future__ import annotations
+
+import re
+import uuid
+from typing import Generic, Optional
+
+from dirwolleu import _lane as lane
+from dirwolleu import _plans as plans
+from dirwolleu import _requests as requests
+from dirwolleu._contending import BETWEEN_TRIES, AnyClient, names_of, patiently
+from dirwolleu._engine import News
+from dirwolleu._plans import Plan
+from dirwolleu._retry import is_passing
+from dirwolleu._steps import Steps, TimeIsOver, Wait, bounded, until_of
+from dirwolleu.exceptions import BadVersionError, NoNodeError, ZookeeperError
+
+_ENTRY = re.compile(r"entry-(\d{3})-(?:.*-)?(\d{10})$")
+_MOST_PRIORITY = 999
+
+
+def in_turn(names: list[str]) -> list[str]:
+    """The names of entries, that which is taken first in front: by priority, and then in the order of their making.
+
+    >>> in_turn(["entry-100-0000000003", "entry-001-tag-0000000007", "entry-100-tag-0000000001", "other"])
+    ['entry-001-tag-0000000007', 'entry-100-tag-0000000001', 'entry-100-0000000003']
+    """
+    found = ((_ENTRY.match(name), name) for name in names)
+    return [name for _, name in sorted(((int(match[1]), int(match[2])), name) for match, name in found if match)]
+
+
+class BaseQueue(Generic[AnyClient]):
+    """A queue, for both kinds of clients."""
+
+    def __init__(self, client: AnyClient, path: str) -> None:
+        self._client, self._path = client, path
+
+    def _putting(self, value: bytes, priority: int) -> Steps[str]:
+        """Makes an entry, and answers its path. One whose answer was lost is looked for by its tag."""
+        if not 0 <= priority <= _MOST_PRIORITY:
+            raise ValueError(f"a priority is 0 to {_MOST_PRIORITY}")
+        tag = f"entry-{priority:03d}-{uuid.uuid4().hex}-"
+        while True:
+            try:
+                yield from plans.ensure_path(self._path, None)
+                return str((yield requests.create(plans.child_of(self._path, tag), value, False, True)))
+            except ZookeeperError as error:
+                if not is_passing(error):
+                    raise
+                may_be_there = error.may_have_happened
+            yield Wait(BETWEEN_TRIES)
+            if may_be_there:
+                found: Optional[str] = yield from patiently(self._client._engine, lambda: self._find(tag))
+                if found is not None:
+                    return found
+
+    def _find(self, tag: str) -> Plan[Optional[str]]:
+        yield lane.sync(self._path)
+        names = yield from names_of(self._path)
+        return next((plans.child_of(self._path, name) for name in names if name.startswith(tag)), None)
+
+    def _taking(self, news: News, timeout: Optional[float]) -> Steps[Optional[bytes]]:
+        with self._client._engine.news(news.set):
+            try:
+                return (yield from bounded(self._take(news), until_of(timeout)))
+            except TimeIsOver:
+                return None
+
+    def _take(self, news: News) -> Steps[bytes]:
+        """Waits until there is an entry, deletes it, and answers its data."""
+        while True:
+            news.clear()
+            try:
+                names = yield requests.get_children(self._path, lambda _: news.set())
+                for name in in_turn(names):
+                    data = yield from self._claim(plans.child_of(self._path, name))
+                    if data is not None:
+                        self._client._engine.used()
+                        return data
+                yield Wait(None)
+            except NoNodeError:
+                yield from plans.ensure_path(self._path, None)
+            except ZookeeperError as error:
+                if not is_passing(error) or error.may_have_happened:
+                    raise
+                yield Wait(BETWEEN_TRIES)
+
+    def _claim(self, path: str) -> Plan[Optional[bytes]]:
+        """Deletes an entry, and answers its data: None where another one was faster."""
+        try:
+            data, stat = yield requests.get(path, None)
+            yield requests.delete(path, stat.version)
+        except (NoNodeError, BadVersionError):
+            return None
+        return data or b""
+
+    def _counting(self) -> Plan[int]:
+        names = yield from names_of(self._path)
+        return len(in_turn(names))

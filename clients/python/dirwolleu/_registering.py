@@ -1,0 +1,124 @@
+"""How an ephemeral node is kept there, for both kinds of clients."""
+
+from __future__ import annotations
+
+import logging
+from typing import Any, Generic, Optional, Protocol
+
+from dirwolleu import _plans as plans
+from dirwolleu import _requests as requests
+from dirwolleu._contending import BETWEEN_TRIES, AnyClient, patiently, release
+from dirwolleu._engine import News
+from dirwolleu._plans import Plan
+from dirwolleu._retry import is_passing
+from dirwolleu._steps import Steps, Wait
+from dirwolleu.exceptions import NodeExistsError, NoNodeError, SessionExpiredError, ZookeeperError
+from dirwolleu.types import Kept, State
+
+logger = logging.getLogger("dirwolleu.connection")
+
+
+class Event(Protocol):
+    """What is set while the node is there."""
+
+    def set(self) -> None: ...
+    def clear(self) -> None: ...
+
+
+class BaseRegistration(Generic[AnyClient]):
+    """A registration, for both kinds of clients."""
+
+    def __init__(self, client: AnyClient, path: str, value: bytes, is_there: Event) -> None:
+        self._client, self._path, self._value = client, path, value
+        self._there, self._is_wanted = is_there, True
+        self._news: Optional[News] = None
+        client._engine.kept(path)  # a ValueError where it is no path
+        client._begin(self._going_on, self._end)
+
+    @property
+    def is_registered(self) -> bool:
+        """Whether the node is known to be there, as one of this session: at the last seen zxid, not now."""
+        self._client._engine.check_process()
+        return self._is_ours(self._client._engine.settled(self._path))
+
+    def _is_ours(self, kept: Optional[Kept]) -> bool:
+        stat = None if kept is None else kept.stat
+        return stat is not None and stat.ephemeral_owner == self._client._engine.session_id()
+
+    def _end(self, _: Any, error: Optional[BaseException]) -> None:
+        if error is not None:
+            logger.error("the registration %s has ended: %s", self._path, error)
+
+    def _going_on(self, news: News) -> Steps[None]:
+        """Sees to it that the node is there, until it is withdrawn; and then that it is not."""
+        self._news = news
+        engine = self._client._engine
+        with engine.news(news.set, self._path):
+            while self._is_wanted:
+                news.clear()
+                try:
+                    yield from self._make()
+                    pause = None
+                except ZookeeperError as error:
+                    pause = BETWEEN_TRIES if is_passing(error) and engine.state is State.CONNECTED else None
+                    if not is_passing(error) and engine.is_running:
+                        logger.error("the registration %s failed: %s", self._path, error)
+                if self._is_wanted:
+                    yield Wait(pause)
+        if engine.is_running:
+            yield from self._withdrawing()
+
+    def _make(self) -> Plan[None]:
+        """Reads the node with a watch, where nothing good is known of it, and makes it where it is not there."""
+        engine = self._client._engine
+        if engine.state is State.LOST:
+            self._there.clear()
+        while self._is_wanted and engine.state is State.CONNECTED:
+            kept = engine.settled(self._path)
+            if kept is None or not kept.exists:
+                yield from self._read_or_create()
+            elif not self._is_ours(kept):
+                return self._there.clear()  # another session's is waited for
+            elif kept.data != self._value:
+                yield requests.set(self._path, self._value, -1)
+            else:
+                return self._there.set()
+
+    def _read_or_create(self) -> Plan[None]:
+        try:
+            yield requests.get(self._path, True)
+        except NoNodeError:
+            self._there.clear()
+            create = requests.create(self._path, self._value, True, False)
+            try:
+                yield from plans.create(create, self._path, None, True)
+            except NodeExistsError:
+                pass
+
+    def _setting(self, value: bytes) -> Plan[None]:
+        self._value = value
+        try:
+            yield requests.set(self._path, value, -1)
+        except ZookeeperError as error:
+            if not is_passing(error) and not isinstance(error, NoNodeError):
+                raise  # else it is made with these data, or set when the connection is back
+        if self._news is not None:
+            self._news.set()
+
+    def _withdrawing(self) -> Steps[None]:
+        """Deletes the node, if it is one of this session, and makes it no more. Where its session is over, so is the node."""
+        self._is_wanted = False
+        self._there.clear()
+        if self._news is not None:
+            self._news.set()
+        if self._client._engine.state is State.LOST:
+            return
+        try:
+            stat = yield from patiently(self._client._engine, self._look)
+            if stat is not None and stat.ephemeral_owner == self._client._engine.session_id():
+                yield from release(self._client._engine, self._path)
+        except SessionExpiredError:
+            pass
+
+    def _look(self) -> Plan[Any]:
+        return (yield requests.exists(self._path, None))

@@ -1,0 +1,181 @@
+"""The trees that both kinds of clients give a program."""
+
+from __future__ import annotations
+
+from collections.abc import AsyncGenerator, Generator
+from types import TracebackType
+from typing import Any, Callable, Optional, Protocol
+
+from dirwolleu._engine import Engine, News
+from dirwolleu._growing import Growing
+from dirwolleu._steps import Steps, TimeIsOver, Wait, bounded, until_of
+from dirwolleu._waiting import News as ThreadNews
+from dirwolleu.exceptions import CallTimeoutError, ConnectionClosedError
+from dirwolleu.tree import TreeSnapshot
+
+MOST_NODES = 65_536
+"""How many nodes a tree has at most, if a program says nothing else: as many as the core watches."""
+
+
+class _Grown:
+    """A tree of one client, and those who wait for its snapshots."""
+
+    def __init__(self, engine: Engine, path: str, most: int) -> None:
+        if most < 1:
+            raise ValueError("a tree has one node at least")
+        engine.kept(path)  # a ValueError where it is no path
+        self._engine = engine
+        self._waiting: list[Callable[[], None]] = []
+        self._growing = Growing(engine, path, most, self._told)
+        engine.add_tree(self._growing)
+
+    @property
+    def latest(self) -> Optional[TreeSnapshot]:
+        """The newest snapshot, or None before there is one. It asks no server, and any thread may look."""
+        return self._growing.latest
+
+    @property
+    def current(self) -> Optional[TreeSnapshot]:
+        """The newest snapshot, where nothing that the client was told since has ended it, else None.
+
+        So it is the servers' tree at the client's last seen zxid.
+        """
+        return self._growing.latest if self._growing.is_current() else None
+
+    @property
+    def trouble(self) -> Optional[Exception]:
+        """Why there is no newer snapshot, or None where that is only that reads are under way.
+
+        `NoNodeError`: there is no root. Another error of a server: what it refused to read. `ValueError`: there are more
+        nodes than the tree was to have.
+        """
+        return self._growing.trouble
+
+    def close(self) -> None:
+        """Reads no more. What was read stays kept by the client, until it is stale and forgotten."""
+        self._engine.remove_tree(self._growing)
+        self._told()
+
+    def _told(self) -> None:
+        for wake in list(self._waiting):
+            wake()
+
+    def _first(self, news: News) -> Steps[TreeSnapshot]:
+        """Waits for a snapshot where there is none."""
+        found = yield from self._next(news, None)
+        if found is None:
+            raise ConnectionClosedError("the tree was closed, or its client stopped")
+        return found
+
+    def _next(self, news: News, told: Optional[TreeSnapshot]) -> Steps[Optional[TreeSnapshot]]:
+        """Waits for another snapshot than this one: None where the tree or the client ends before."""
+        self._waiting.append(news.set)
+        try:
+            with self._engine.news(news.set):
+                while self._engine.is_running and self._engine.has_tree(self._growing):
+                    news.clear()
+                    if self.latest is not told:
+                        return self.latest
+                    if self.latest is None and self.trouble is not None:
+                        raise self.trouble
+                    yield Wait(None)
+        finally:
+            self._waiting.remove(news.set)
+        return None
+
+
+class _Client(Protocol):
+    """What a tree wants of a client for threads."""
+
+    _engine: Engine
+
+    def _drive(self, steps: Steps[Any], news: Any = None) -> Any: ...
+
+
+class Tree(_Grown):
+    """All nodes at and below a path, kept as the servers have them: what `client.tree` gives. A thread of the client reads, and reads
+    again what changes, through lost connections and new sessions.
+
+    Each snapshot is of one moment, and no node is left out: the proved core judges that. When one is shown is tested.
+
+        with client.tree("/config") as tree:
+            for snapshot in tree.snapshots():
+                print(len(snapshot), "nodes at zxid", snapshot.zxid)
+    """
+
+    def __init__(self, client: _Client, path: str, most: int) -> None:
+        super().__init__(client._engine, path, most)
+        self._client = client
+
+    def __enter__(self) -> Tree:
+        return self
+
+    def __exit__(
+        self, kind: Optional[type[BaseException]], error: Optional[BaseException], trace: Optional[TracebackType]
+    ) -> None:
+        self.close()
+
+    def wait(self, timeout: Optional[float] = None) -> TreeSnapshot:
+        """The newest snapshot. Where there is none yet it waits, for at most this many seconds: None is no bound.
+
+        Raises `CallTimeoutError` where none came in time, and the `trouble` that keeps it from coming.
+        """
+        news = ThreadNews()
+        try:
+            found: TreeSnapshot = self._client._drive(bounded(self._first(news), until_of(timeout)), news)
+            return found
+        except TimeIsOver:
+            raise CallTimeoutError("the tree is not whole yet", "it is read on") from None
+
+    def snapshots(self) -> Generator[TreeSnapshot, None, None]:
+        """Yields the newest snapshot, and each newer one. Where several come between two of them, the last one is told.
+
+        It ends where the tree is closed or the client is stopped.
+        """
+        news, told = ThreadNews(), None
+        while (told := self._client._drive(self._next(news, told), news)) is not None:
+            yield told
+
+
+class _AsyncClient(Protocol):
+    """What a tree wants of a client for asyncio."""
+
+    _engine: Engine
+
+    async def _drive(self, steps: Steps[Any], news: Any = None) -> Any: ...
+
+
+class AsyncTree(_Grown):
+    """`dirwolleu.Tree` for asyncio: what `client.tree` of `dirwolleu.aio` gives.
+
+    async with client.tree("/config") as tree:
+        async for snapshot in tree.snapshots():
+            print(len(snapshot), "nodes at zxid", snapshot.zxid)
+    """
+
+    def __init__(self, client: _AsyncClient, path: str, most: int, event: Callable[[], Any]) -> None:
+        super().__init__(client._engine, path, most)
+        self._client, self._event = client, event
+
+    async def __aenter__(self) -> AsyncTree:
+        return self
+
+    async def __aexit__(
+        self, kind: Optional[type[BaseException]], error: Optional[BaseException], trace: Optional[TracebackType]
+    ) -> None:
+        self.close()
+
+    async def wait(self, timeout: Optional[float] = None) -> TreeSnapshot:
+        """The newest snapshot, as `wait` of `dirwolleu.Tree`."""
+        news = self._event()
+        try:
+            found: TreeSnapshot = await self._client._drive(bounded(self._first(news), until_of(timeout)), news)
+            return found
+        except TimeIsOver:
+            raise CallTimeoutError("the tree is not whole yet", "it is read on") from None
+
+    async def snapshots(self) -> AsyncGenerator[TreeSnapshot, None]:
+        """Yields the newest snapshot, and each newer one, as `snapshots` of `dirwolleu.Tree`."""
+        news, told = self._event(), None
+        while (told := await self._client._drive(self._next(news, told), news)) is not None:
+            yield told

@@ -1,0 +1,253 @@
+"""How threads wait: for an answer, for news, and for steps that another thread does."""
+
+from __future__ import annotations
+
+import concurrent.futures
+import contextlib
+import logging
+import queue
+import threading
+from collections.abc import Generator
+from typing import Any, Callable, Optional, Protocol
+
+from dirwolleu._lane import LaneRequest
+from dirwolleu._requests import Request
+from dirwolleu._steps import Ask, Call, Step, Steps, Wait
+
+logger = logging.getLogger("dirwolleu")
+
+LONGEST_CALLBACK = 5.0
+"""How long `stop` waits for a callback that runs, in seconds."""
+
+
+class News:
+    """An event for one thread that waits. The thread that sets it waits for no lock.
+
+    So it does not matter where a thread that waits is interrupted, and its signal handlers may wait for other events.
+    """
+
+    def __init__(self) -> None:
+        self._lack = threading.Lock()
+        self._lack.acquire()
+
+    def set(self) -> None:
+        with contextlib.suppress(RuntimeError):  # it is set already
+            self._lack.release()
+
+    def clear(self) -> None:
+        self._lack.acquire(blocking=False)
+
+    def wait(self, timeout: Optional[float]) -> bool:
+        """Waits until it is set, and clears it. Answers whether it was set in time."""
+        return self._lack.acquire(timeout=-1 if timeout is None else min(max(timeout, 0), threading.TIMEOUT_MAX))
+
+
+class Waiter:
+    """One thread that waits for an answer. What is said of `News` holds here too."""
+
+    def __init__(self) -> None:
+        self._news = News()
+        self._answer: Optional[tuple[Any, Optional[BaseException]]] = None
+        self._is_given_up = False
+
+    def begin(self) -> bool:
+        return not self.done()
+
+    def cancel(self) -> None:
+        """Waits no longer. What was not sent yet is not sent."""
+        self._is_given_up = True
+
+    def done(self) -> bool:
+        return self._is_given_up or self._answer is not None
+
+    def set_result(self, result: Any) -> None:
+        self._answer = result, None
+        self._news.set()
+
+    def set_exception(self, error: BaseException) -> None:
+        self._answer = None, error
+        self._news.set()
+
+    def result(self, timeout: Optional[float]) -> Any:
+        self._news.wait(timeout)
+        if self._answer is None:
+            raise TimeoutError
+        result, error = self._answer
+        if error is not None:
+            raise error
+        return result
+
+
+class Future(concurrent.futures.Future[Any]):
+    """What a call that ends in `_async` answers. `cancel` answers true only where the call is not sent.
+
+    Its callbacks run where those of watches do, so that they may call the client.
+    """
+
+    def __init__(self, tell: Callable[[Callable[[Any], object], Any], bool]) -> None:
+        super().__init__()
+        self._tell = tell
+
+    def begin(self) -> bool:
+        return self.running() or not self.done() and self.set_running_or_notify_cancel()
+
+    def add_done_callback(self, function: Callable[[Any], object]) -> None:
+        def tell(done: Any) -> None:
+            if not self._tell(function, done):
+                function(done)
+
+        super().add_done_callback(tell)
+
+
+class Callbacks(threading.Thread):
+    """The thread that calls a program's functions, one after the other, so that these may use the client."""
+
+    def __init__(self) -> None:
+        super().__init__(name="dirwolleu-callbacks", daemon=True)
+        self._queue: queue.SimpleQueue[Optional[tuple[Callable[[Any], object], Any]]] = queue.SimpleQueue()
+
+    def tell(self, function: Callable[[Any], object], argument: Any) -> None:
+        self._queue.put((function, argument))
+
+    def stop(self) -> None:
+        """Ends after what was told before, which it waits for, though not without bound."""
+        self._queue.put(None)
+        if self.ident is None or threading.current_thread() is self:
+            return
+        self.join(LONGEST_CALLBACK)
+        if self.is_alive():
+            logger.warning("a callback has not returned in %s seconds: it is left to itself", LONGEST_CALLBACK)
+
+    def run(self) -> None:
+        while (told := self._queue.get()) is not None:
+            function, argument = told
+            try:
+                function(argument)
+            except BaseException:  # SystemExit too, which would end the callbacks alone, and no program
+                logger.exception("a callback failed")
+
+
+class Doing(Protocol):
+    """What a task needs of its client."""
+
+    def _tell(self, function: Callable[[Any], object], argument: Any) -> bool: ...
+    def _later(self, seconds: float, function: Callable[[], object]) -> None: ...
+    def _hand_in(self, request: Any, waiter: Any, timeout: Optional[float] = None) -> None: ...
+
+
+class _Turn:
+    """What waits for the answer to one step of a task."""
+
+    def __init__(self, task: Task, number: int) -> None:
+        self._task, self._number, self._is_done = task, number, False
+
+    def begin(self) -> bool:
+        return not self.done()
+
+    def cancel(self) -> None:
+        self._is_done = True
+
+    def done(self) -> bool:
+        return self._is_done or self._task.is_past(self._number)
+
+    def set_result(self, result: Any) -> None:
+        self._is_done = True
+        self._task.soon(self._number, result, None)
+
+    def set_exception(self, error: BaseException) -> None:
+        self._is_done = True
+        self._task.soon(self._number, None, error)
+
+
+class Task:
+    """Steps that no thread waits for. The thread of the callbacks does each of them, and is not held up between them.
+
+    It is also the news that its own steps wait for. `end` is told how it ended: the result, or the error.
+    """
+
+    def __init__(
+        self,
+        client: Doing,
+        begin: Callable[[Task], Steps[Any]],
+        end: Callable[[Any, Optional[BaseException]], object],
+    ) -> None:
+        self._client, self._end = client, end
+        self._is_news, self._is_told, self._waits, self._number = False, False, False, 0
+        self._steps: Optional[Generator[Step, Any, Any]] = begin(self)
+
+    def start(self) -> None:
+        """Begins, or goes on in the threads of a client that was started again."""
+        self._is_told = False
+        self.soon(0, None, None)
+        self.set()
+
+    def set(self) -> None:
+        """There is news. Any thread may say so."""
+        self._is_news = True
+        if not self._is_told:
+            self._is_told = self._client._tell(self._wake, None)
+
+    def clear(self) -> None:
+        self._is_news = False
+
+    def is_past(self, number: int) -> bool:
+        """Whether it does not wait for this step any more."""
+        return self._steps is None or number != self._number
+
+    def soon(self, number: int, answer: Any, error: Optional[BaseException]) -> None:
+        """Has the task go on with what a step has brought, unless it is past."""
+        came = number, answer, error
+        if not self._client._tell(self._go_on, came):
+            self._go_on(came)
+
+    def _wake(self, _: object) -> None:
+        self._is_told = False
+        if self._waits and self._is_news:
+            self._go_on((self._number, None, None))
+
+    def _go_on(self, came: tuple[int, Any, Optional[BaseException]]) -> None:
+        number, answer, error = came
+        steps = self._steps
+        if steps is None or number != self._number:
+            return
+        self._number += 1
+        self._waits = False
+        try:
+            step = steps.send(answer) if error is None else steps.throw(error)
+        except StopIteration as end:
+            self._finish(end.value, None)
+        except BaseException as failed:
+            self._finish(None, failed)
+        else:
+            self._do(step)
+
+    def _finish(self, result: Any, error: Optional[BaseException]) -> None:
+        self._steps = None
+        self._end(result, error)
+
+    def _do(self, step: Step) -> None:
+        number = self._number
+        try:
+            if isinstance(step, Wait):
+                self._wait(step.seconds)
+            elif isinstance(step, Call):
+                self.soon(number, step.function(), None)
+            else:
+                self._ask(step)
+        except BaseException as error:
+            self.soon(number, None, error)
+
+    def _ask(self, step: Any) -> None:
+        request, timeout = step if isinstance(step, Ask) else (step, None)
+        assert isinstance(request, (Request, LaneRequest))
+        self._client._hand_in(request, _Turn(self, self._number), timeout)
+
+    def _wait(self, seconds: Optional[float]) -> None:
+        """Waits for news, which may be there already."""
+        number = self._number
+        if self._is_news:
+            self._is_news = False
+            return self.soon(number, None, None)
+        self._waits = True
+        if seconds is not None:
+            self._client._later(seconds, lambda: self.soon(number, None, None))

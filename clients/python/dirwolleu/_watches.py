@@ -1,0 +1,109 @@
+"""Functions that are called with what is good, by kazoo's names. They are the same for both kinds of clients."""
+
+from __future__ import annotations
+
+import logging
+from typing import TYPE_CHECKING, Any, Callable, Generic, Optional
+
+from dirwolleu import _following as following
+from dirwolleu._engine import News
+from dirwolleu._following import Subject, Told
+from dirwolleu._steps import Steps
+from dirwolleu.types import Kept, KeptChildren
+
+if TYPE_CHECKING:
+    from dirwolleu._shown import Shown
+
+logger = logging.getLogger("dirwolleu")
+
+Function = Callable[..., object]
+
+
+class _Watch(Generic[Told]):
+    """One function that is called with one subject."""
+
+    def __init__(self, client: Shown, path: str, function: Optional[Function] = None) -> None:
+        self._client, self._path = client, path
+        self._function: Optional[Function] = None
+        self._is_wanted = True
+        self._news: Optional[News] = None
+        if function is not None:
+            self(function)
+
+    def __call__(self, function: Function) -> Function:
+        """Begins to call this function. A watch has one: a second one is a `ValueError`."""
+        if self._function is not None:
+            raise ValueError("a watch calls one function")
+        self._function = function
+        subject = self._subject()
+        subject.settled()  # a ValueError where the path is none
+
+        def begin(news: News) -> Steps[None]:
+            self._news = news
+            return following.watching(self._client._engine, subject, news, self._call, lambda: self._is_wanted)
+
+        self._client._begin(begin, self._end)
+        return function
+
+    def stop(self) -> None:
+        """Calls the function no more. It may be called again."""
+        self._is_wanted = False
+        if self._news is not None:
+            self._news.set()
+
+    def _end(self, _: Any, error: Optional[BaseException]) -> None:
+        self._is_wanted = False
+        if error is not None:
+            logger.error("the watch of %s has ended: %s", self._path, error)
+
+    def _subject(self) -> Subject[Told]:
+        raise NotImplementedError
+
+    def _call(self, kept: Told) -> object:
+        raise NotImplementedError
+
+
+class DataWatch(_Watch[Kept]):
+    """Calls a function with a node's data and its `DataStat`, now and whenever they have changed: with None and None
+    where there is no node.
+
+    It goes on through reconnects, new sessions and a client that is started again. What the function is called with was
+    looked up right before, and was good then: so it is never older than at an earlier call, and never what the client
+    was told to be different. A node that changes faster than it can be read is told when it comes to rest, or between
+    two changes; `follow` tells each answer that was good when it came.
+
+    The function is called where watches are, one after the other, and may call the client. With asyncio it may be a
+    coroutine function. Where it answers False, and after `stop`, it is called no more. What it raises is logged. Where a
+    read is refused for another reason than the connection, the session and the load of a server, the watch ends, and the
+    log says why.
+
+        @client.DataWatch("/config")
+        def changed(data, stat):
+            print("no node" if stat is None else data)
+    """
+
+    def _subject(self) -> Subject[Kept]:
+        return following.data_of(self._client._engine, self._path)
+
+    def _call(self, kept: Kept) -> object:
+        assert self._function is not None
+        return self._function(kept.data, kept.stat)
+
+
+class ChildrenWatch(_Watch[KeptChildren]):
+    """Calls a function with the list of the names of a node's children, now and whenever they have changed: with an
+    empty one where there is no node.
+
+    All else is as for `DataWatch`.
+
+        @client.ChildrenWatch("/workers")
+        def changed(names):
+            print(len(names), "workers")
+    """
+
+    def _subject(self) -> Subject[KeptChildren]:
+        return following.children_of(self._client._engine, self._path)
+
+    def _call(self, kept: KeptChildren) -> object:
+        assert self._function is not None
+        return self._function(list(kept.names))

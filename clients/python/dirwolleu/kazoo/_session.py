@@ -1,0 +1,412 @@
+"""The session of a `KazooClient`, from `start` to `stop`: a client of dirwolleu whose steps tell kazoo's functions.
+
+What an engine tells, it tells within its step, in the thread of the event loop. So the order is the engine's own, and
+what is called here is not to wait for anything.
+"""
+
+from __future__ import annotations
+
+import asyncio
+import functools
+import logging
+import socket
+import ssl
+import struct
+import threading
+import time
+from collections.abc import Iterable
+from dataclasses import dataclass
+from typing import TYPE_CHECKING, Any, Callable, NamedTuple, Optional
+
+from dirwolleu import _requests as requests
+from dirwolleu._clock import moment
+from dirwolleu._driver import Driver, Link
+from dirwolleu._engine import Contact, Credential, Engine, Tell, _Asked
+from dirwolleu._hosts import Place, Servers
+from dirwolleu._pauses import LONGEST_PAUSE, Pauses
+from dirwolleu._plans import AnyRequest
+from dirwolleu._requests import Watcher
+from dirwolleu._root import Root
+from dirwolleu.client import Client
+from dirwolleu.kazoo.exceptions import error_of
+from dirwolleu.kazoo.handlers.threading import AsyncResult, SequentialThreadingHandler
+from dirwolleu.kazoo.retry import KazooRetry, RetryFailedError
+from dirwolleu.types import State, WatchedEvent
+
+if TYPE_CHECKING:
+    from dirwolleu.kazoo.client import KazooClient
+
+logger = logging.getLogger("dirwolleu.connection")
+
+PASSWORD_LENGTH = 16
+
+
+def _count_of_hosts(servers: Servers) -> int:
+    return len(servers.hosts.servers)
+
+
+class Ask(NamedTuple):
+    """A request, and the form that kazoo gives to its result."""
+
+    request: AnyRequest[Any]
+    form: Callable[[Any], Any]
+
+
+class Identity(NamedTuple):
+    """What a session is known by. It is a secret."""
+
+    number: int
+    password: bytes
+    last_zxid: int = 0
+
+    def spelled(self) -> bytes:
+        """As a client of dirwolleu takes it up."""
+        head = struct.pack(">qi", self.number, len(self.password))
+        return head + self.password + struct.pack(">q", self.last_zxid)
+
+
+def identity_of(saved: bytes) -> Identity:
+    """What a client of dirwolleu has saved."""
+    number, length = struct.unpack(">qi", saved[:12])
+    (last_zxid,) = struct.unpack(">q", saved[12 + length :])
+    return Identity(number, saved[12 : 12 + length], last_zxid)
+
+
+class Answered:
+    """What waits for the answer to a request, and hands it to an async result in kazoo's form."""
+
+    def __init__(self, outcome: AsyncResult, form: Callable[[Any], Any]) -> None:
+        self._outcome, self._form = outcome, form
+        self._is_given_up = False
+
+    def begin(self) -> bool:
+        return not self.done()
+
+    def cancel(self) -> None:
+        self._is_given_up = True
+
+    def done(self) -> bool:
+        return self._is_given_up or self._outcome.ready()
+
+    def set_result(self, result: Any) -> None:
+        self._outcome.set(self._form(result))
+
+    def set_exception(self, error: BaseException) -> None:
+        self._outcome.set_exception(error_of(error))
+
+
+class _Probe:
+    """What waits for the answer to a probe: that something comes is enough."""
+
+    def begin(self) -> bool:
+        return True
+
+    def cancel(self) -> None: ...
+
+    def done(self) -> bool:
+        return False
+
+    def set_result(self, _: Any) -> None: ...
+
+    def set_exception(self, _: BaseException) -> None: ...
+
+
+class KazooEngine(Engine):
+    """An engine that also gives up a connection whose server was not heard for a read timeout, as kazoo does.
+
+    Where half of that has passed without a byte, it asks for the root, and where nothing comes for the other half, the
+    connection is over. Without a read timeout the rules of `Engine` hold alone. And a server has no longer to accept the
+    session than its part of the timeout, where each host has one.
+    """
+
+    read_timeout_ms: Optional[int] = None
+
+    def __init__(
+        self,
+        timeout: float,
+        saved: Optional[bytes],
+        tell: Tell,
+        root: Root,
+        credentials: Iterable[Credential],
+        count_of_hosts: Callable[[], int],
+        on_refused: Callable[[], object],
+    ) -> None:
+        self._probed_at: Optional[int] = None
+        self._count_of_hosts = count_of_hosts
+        self._on_refused, self._is_refusal_told = on_refused, False
+        super().__init__(timeout, saved, tell, root, credentials)
+
+    def tick(self, now: int) -> None:
+        super().tick(now)
+        half = self._half_ms()
+        if half is None:
+            return
+        if self._probed_at is not None and self.contact.heard_at >= self._probed_at:
+            self._probed_at = None
+        if self._probed_at is None:
+            if now - self.contact.heard_at >= half:
+                self._probe(now)
+        elif now - self._probed_at >= half:
+            self._give_up(f"the server was not heard for {2 * half / 1000:g} seconds")
+
+    def deadline(self) -> Optional[int]:
+        deadline, half = super().deadline(), self._half_ms()
+        if half is None or deadline is None:
+            return deadline
+        since = self.contact.heard_at if self._probed_at is None else self._probed_at
+        return min(deadline, since + half)
+
+    def drop_watchers(self) -> list[Watcher]:
+        """Forgets the functions that wait for watches, and tells them."""
+        dropped = [watcher for watchers in self._watchers.values() for watcher in watchers]
+        self._watchers.clear()
+        return dropped
+
+    def drop_connection(self, why: str) -> None:
+        """Has the connection closed. The session goes on."""
+        if self.state is State.CONNECTED:
+            self._give_up(why)
+
+    def _patience_ends(self) -> Optional[int]:
+        ends = super()._patience_ends()
+        if ends is None or self._opened_at is None:
+            return ends
+        return min(ends, self._opened_at + self._timeout_ms // max(self._count_of_hosts(), 1))
+
+    def _half_ms(self) -> Optional[int]:
+        is_watched = self.read_timeout_ms is not None and self.state is State.CONNECTED
+        return self.read_timeout_ms // 2 if is_watched and self.read_timeout_ms else None
+
+    def _probe(self, now: int) -> None:
+        self._probed_at = now
+        self._line.append(_Asked(requests.exists("/", None), _Probe(), now + self._timeout_ms))
+        self._send_line(now)
+
+    def _leave_connection(self) -> None:
+        self._probed_at = None
+        super()._leave_connection()
+
+    def _wake(self, path: Optional[str]) -> None:
+        super()._wake(path)
+        if self.refused is not None and not self._is_refusal_told:
+            self._is_refusal_told = True
+            self._on_refused()
+
+
+class KazooPauses(Pauses):
+    """The pauses of dirwolleu, each no longer than that of a policy, whose tries and time are kept too."""
+
+    def __init__(self, retry: KazooRetry, count_of_hosts: Callable[[], int], give_up: Callable[[], object]) -> None:
+        super().__init__()
+        self._retry, self._count_of_hosts, self._give_up = retry.copy(), count_of_hosts, give_up
+        self._admissions = self._dials = 0
+        self._until: Optional[float] = None
+
+    def after(self, contact: Contact, timeout: float, may_live: bool) -> float:
+        pause = super().after(contact, timeout, may_live)
+        if contact.admissions != self._admissions:
+            self._admissions, self._dials, self._until = contact.admissions, 0, None
+            self._retry.reset()
+        self._dials += 1
+        if self._until is None and self._retry.deadline is not None:
+            self._until = time.monotonic() + self._retry.deadline
+        if self._dials % max(self._count_of_hosts(), 1):
+            return 0  # the next host of the list is dialled at once
+        try:
+            pause = min(pause, self._retry.next_pause())
+        except RetryFailedError:
+            return self._end(pause)
+        is_late = self._until is not None and time.monotonic() + pause >= self._until
+        return self._end(pause) if is_late else pause
+
+    def _end(self, pause: float) -> float:
+        self._give_up()
+        return max(pause, LONGEST_PAUSE)
+
+
+class KazooDriver(Driver):
+    """A driver that dials by the handler of the program."""
+
+    def __init__(
+        self,
+        servers: Servers,
+        engine: Engine,
+        tls: Optional[ssl.SSLContext],
+        handler: SequentialThreadingHandler,
+        timeout: float,
+    ) -> None:
+        super().__init__(servers, engine, tls)
+        self._handler, self._timeout = handler, timeout
+
+    def use_policy(self, retry: KazooRetry, on_end: Callable[[], object]) -> None:
+        """Has the pauses and the tries be those of a policy. Where it gives up, the engine ends."""
+
+        def give_up() -> None:
+            logger.warning("no server was found within the policy for connections: the client ends")
+            self.stop(self._engine.end)
+            on_end()
+
+        self._pauses = KazooPauses(retry, functools.partial(_count_of_hosts, self._servers), give_up)
+
+    def place(self) -> Optional[Place]:
+        """The server of the connection."""
+        return self._place
+
+    async def _connect(self, link: Link) -> None:
+        place = self._place = self._place or await self._servers.next()
+        logger.debug("dials %s", place)
+        self._engine.place = str(place)
+        connection = await _dialled(self._handler, place, self._timeout)
+        name = place.name if self._tls is not None else None
+        await self._loop.create_connection(lambda: link, sock=connection, ssl=self._tls, server_hostname=name)
+
+
+async def _dialled(handler: SequentialThreadingHandler, place: Place, timeout: float) -> socket.socket:
+    """Connects in a thread of its own. A connection that nobody waits for any more is closed."""
+    loop = asyncio.get_running_loop()
+    future: asyncio.Future[socket.socket] = loop.create_future()
+
+    def settle(connection: Optional[socket.socket], error: Optional[BaseException]) -> None:
+        if future.done():
+            if connection is not None:
+                connection.close()
+        elif connection is not None:
+            future.set_result(connection)
+        else:
+            future.set_exception(error or ConnectionError("no connection"))
+
+    def run() -> None:
+        connection: Optional[socket.socket] = None
+        failed: Optional[BaseException] = None
+        try:
+            found = handler.create_connection(address=(place.address, place.port), timeout=timeout)
+            found.setblocking(False)
+            connection = found
+        except Exception as error:
+            failed = error
+        try:
+            loop.call_soon_threadsafe(settle, connection, failed)
+        except RuntimeError:  # the loop is closed
+            if connection is not None:
+                connection.close()
+
+    threading.Thread(target=run, name="dirwolleu-dial", daemon=True).start()
+    return await future
+
+
+class Session(Client):
+    """A client of dirwolleu whose steps tell a `KazooClient`."""
+
+    _engine: KazooEngine
+
+    def __init__(
+        self,
+        owner: KazooClient,
+        servers: Servers,
+        timeout: float,
+        identity: Optional[Identity],
+        credentials: Iterable[Credential],
+        tls: Optional[ssl.SSLContext],
+    ) -> None:
+        saved = None if identity is None else identity.spelled()
+        count_of_hosts = functools.partial(_count_of_hosts, servers)
+        engine = KazooEngine(
+            timeout, saved, self._tell, servers.hosts.root, credentials, count_of_hosts, owner._told_refusal
+        )
+        self._servers, self._engine, self._retry = servers, engine, None
+        self._owner, self._tls, self._timeout = owner, tls, timeout
+        self._running, self._tasks = {}, {}
+        self._dials: Optional[KazooDriver] = None
+        engine.add_listener(owner._told_state)
+
+    def begin(self) -> None:
+        """Begins to connect, and waits for nothing."""
+        self._check_process()
+        self._engine.begin()
+        self._begin_threads()
+
+    def is_running(self) -> bool:
+        """Whether it goes on by itself."""
+        return self._engine.is_running
+
+    def send(self, ask: Ask, outcome: AsyncResult) -> None:
+        """Asks a server. Raises `ConnectionClosedError` of dirwolleu where it is not started."""
+        self._check_process()
+        self._engine.ask(moment(), ask.request, Answered(outcome, ask.form))
+        self.act()
+
+    def act(self) -> None:
+        """Has the event loop do what was asked."""
+        threads = self._threads()
+        if threads is not None:
+            threads.loop.act()
+
+    def soon(self, call: Callable[[], object]) -> None:
+        """Has the event loop call a function, and do what comes of it."""
+        threads = self._threads()
+        if threads is not None:
+            threads.loop._soon(call)
+            threads.loop.act()
+
+    def abandon(self) -> None:
+        """Ends the engine in the event loop, after the step that runs."""
+        if self._dials is not None:
+            self.soon(functools.partial(self._dials.stop, self._engine.end))
+
+    def drop_connection(self, why: str) -> None:
+        """Closes the connection, so that another one is made. The session goes on."""
+        self.soon(lambda: self._engine.drop_connection(why))
+
+    def tell_listeners(self, function: Callable[[Any], object], argument: Any) -> None:
+        """Calls what may wait, in the thread of the listeners."""
+        if not super()._tell(function, argument):
+            function(argument)
+
+    def drop_watchers(self) -> list[Watcher]:
+        """Within a step: forgets the functions that wait for watches, and tells them."""
+        return self._engine.drop_watchers()
+
+    def use_read_timeout(self, milliseconds: Optional[int]) -> None:
+        """Within a step: how long the server may be silent."""
+        self._engine.read_timeout_ms = milliseconds
+
+    def identity(self) -> Identity:
+        """What the session is known by."""
+        return identity_of(self._engine.saved())
+
+    def no_server(self, timeout: Optional[float]) -> str:
+        """That no server was found in this time, and what became of the last attempt, in words."""
+        return self._engine.no_server(timeout)
+
+    def accept_credential(self, credential: Credential) -> None:
+        """Has later connections introduce themselves by this credential too."""
+        self._engine.add_credential(credential)
+
+    def place(self) -> Optional[Place]:
+        """The server of the connection, or of the last one."""
+        return None if self._dials is None else self._dials.place()
+
+    def _driver(self) -> Driver:
+        driver = KazooDriver(self._servers, self._engine, self._tls, self._owner.handler, self._timeout)
+        driver.use_policy(self._owner._conn_retry, self._owner._told_end)
+        self._dials = driver
+        return driver
+
+    def _tell(self, function: Callable[[Any], object], argument: Any) -> bool:
+        try:
+            function(argument)
+        except Exception:  # of a program's logger or handler: the step goes on
+            logger.exception("what was told could not be handed on")
+        return True
+
+
+@dataclass(frozen=True)
+class Told:
+    """What the engine calls where a watch fires: it has the handler call the program's function."""
+
+    owner: KazooClient
+    function: Callable[[Any], object]
+
+    def __call__(self, event: WatchedEvent) -> None:
+        self.owner._told_watch(self.function, event)
+

@@ -1,0 +1,835 @@
+"""`KazooClient`, over a client of dirwolleu (kazoo.client)."""
+
+from __future__ import annotations
+
+import dataclasses
+import functools
+import inspect
+import logging
+import re
+import ssl
+import threading
+import warnings
+from collections.abc import Iterable, Sequence
+from typing import Any, Callable, Optional, Union
+
+from dirwolleu import _lane as lane
+from dirwolleu import _plans as plans
+from dirwolleu import _requests as requests
+from dirwolleu import exceptions as own
+from dirwolleu._engine import Credential
+from dirwolleu._hosts import Hosts, Servers, hosts_of
+from dirwolleu._lane import Created
+from dirwolleu._library import Answer
+from dirwolleu._plans import AnyRequest, Plan
+from dirwolleu._requests import Request
+from dirwolleu._root import Root
+from dirwolleu._shown import credential_of
+from dirwolleu.kazoo._checks import Acls, check, check_acls, check_flags, check_watch, checked_path, own_acls
+from dirwolleu.kazoo._session import PASSWORD_LENGTH, Ask, Identity, Session, Told
+from dirwolleu.kazoo._transaction import TransactionRequest
+from dirwolleu.kazoo.exceptions import (
+    AuthFailedError,
+    ConfigurationError,
+    ConnectionClosedError,
+    ConnectionLoss,
+    KazooException,
+    SessionExpiredError,
+    error_of,
+)
+from dirwolleu.kazoo.handlers.threading import AsyncResult, SequentialThreadingHandler
+from dirwolleu.kazoo.protocol.paths import normpath, own_path
+from dirwolleu.kazoo.protocol.states import Callback, EventType, KazooState, KeeperState, WatchedEvent, ZnodeStat
+from dirwolleu.kazoo.recipe.election import Election
+from dirwolleu.kazoo.recipe.lock import Lock, ReadLock, WriteLock
+from dirwolleu.kazoo.recipe.party import Party, ShallowParty
+from dirwolleu.kazoo.recipe.watchers import ChildrenWatch, DataWatch
+from dirwolleu.kazoo.retry import KazooRetry
+from dirwolleu.kazoo.security import ACL, OPEN_ACL_UNSAFE
+from dirwolleu.tls import tls_context
+from dirwolleu.types import Kept, KeptChildren, Stat, State
+from dirwolleu.types import WatchedEvent as OwnEvent
+
+__all__ = [
+    "ACL",
+    "AsyncResult",
+    "Callback",
+    "ChildrenWatch",
+    "DataWatch",
+    "Election",
+    "EventType",
+    "KazooClient",
+    "KazooRetry",
+    "KazooState",
+    "KeeperState",
+    "Lock",
+    "OPEN_ACL_UNSAFE",
+    "Party",
+    "ReadLock",
+    "SequentialThreadingHandler",
+    "ShallowParty",
+    "TransactionRequest",
+    "WatchedEvent",
+    "WriteLock",
+    "ZnodeStat",
+]
+
+log = logging.getLogger(__name__)
+
+HostList = Union[str, Sequence[str]]
+Watch = Optional[Callable[[WatchedEvent], object]]
+Listener = Callable[[str], object]
+
+_LEFT_OUT = (
+    "Barrier",
+    "Counter",
+    "DoubleBarrier",
+    "LockingQueue",
+    "MultiNonBlockingLease",
+    "NonBlockingLease",
+    "Queue",
+    "Semaphore",
+    "SetPartitioner",
+)
+_VERSION = re.compile(r"zookeeper[. ]version[=:]\s*(\d+(?:\.\d+)+)", re.IGNORECASE)
+_LONGEST_WORDS = 65536
+
+
+def _as_it_is(result: Any) -> Any:
+    return result
+
+
+def _true(_: object) -> bool:
+    return True
+
+
+def _stat(stat: Optional[Stat]) -> Optional[ZnodeStat]:
+    return None if stat is None else ZnodeStat(*stat)
+
+
+def _data(result: tuple[Optional[bytes], Stat]) -> tuple[Optional[bytes], ZnodeStat]:
+    return result[0], ZnodeStat(*result[1])
+
+
+def _acls(result: tuple[list[ACL], Stat]) -> tuple[list[ACL], ZnodeStat]:
+    return result[0], ZnodeStat(*result[1])
+
+
+def _created(result: Created) -> tuple[str, ZnodeStat]:
+    return result.path, ZnodeStat(*result.stat)
+
+
+class _Children(Request[Any]):
+    """Reads the names of a node's children, and what is known of the node."""
+
+    def result(self, answer: Answer) -> Any:
+        names = super().result(answer)
+        return names, _stat(answer.stat)
+
+
+def _hosts(hosts: HostList) -> Hosts:
+    """What a text or a list of hosts says, with the chroot in kazoo's form. Raises `ValueError`."""
+    if not isinstance(hosts, str):
+        texts = [host.strip() for host in hosts]
+        chroot = texts.pop() if texts and texts[-1].startswith("/") else ""
+        hosts = ",".join(texts) + chroot
+    servers, slash, root = hosts.partition("/")
+    chroot = normpath(slash + root)
+    return hosts_of(servers + ("" if chroot == "/" else chroot))
+
+
+def _policy(name: str, policy: object, handler: SequentialThreadingHandler) -> KazooRetry:
+    """The policy that a keyword has, where None is one without end."""
+    if policy is None:
+        return KazooRetry(max_tries=None, sleep_func=handler.sleep_func)
+    if isinstance(policy, dict):
+        policy = KazooRetry(**policy)
+    if not isinstance(policy, KazooRetry):
+        raise ConfigurationError(f"{name} is a KazooRetry or a dict of its words, and not {policy!r}")
+    if policy.sleep_func != handler.sleep_func:
+        raise ConfigurationError(f"{name} and the handler must use the same sleep func")
+    return policy
+
+
+def _refuse(sasl_options: object, read_only: object, handler: object, others: dict[str, Any]) -> None:
+    """Raises an error that names the keyword which asks for what is not done."""
+    if others:
+        raise TypeError(f"__init__() got unexpected keyword arguments: {', '.join(sorted(others))}")
+    if sasl_options:
+        raise ConfigurationError("sasl_options: dirwolleu.kazoo does no SASL")
+    if read_only:
+        raise ConfigurationError("read_only: dirwolleu.kazoo connects to no server that only reads")
+    if inspect.isclass(handler):
+        raise ConfigurationError(f"handler is an instance of a class, and not the class {handler!r}")
+
+
+class Connection:
+    """What programs reach for in kazoo's `client._connection`."""
+
+    def __init__(self, client: KazooClient) -> None:
+        self._client = client
+
+    def _connect(self, host: str, hostip: str, port: int) -> tuple[float, float]:
+        """Is called for each connection whose session a server has accepted.
+
+        Answers the read timeout and the connect timeout in milliseconds. A program that puts a function in its place
+        may answer a smaller read timeout: then a server that is silent for so long is left.
+        """
+        timeout = self._client._granted_timeout() * 1000
+        return timeout * 2 / 3, timeout / max(len(self._client.hosts), 1)
+
+    @property
+    def _socket(self) -> Connection:
+        return self
+
+    def close(self) -> None:
+        """Closes the connection to the server. The session goes on over the next one."""
+        self._client._drop_connection("the program has closed it")
+
+    def getpeername(self) -> tuple[str, int]:
+        """The address of the server."""
+        return self._client._peer()
+
+    def _read_timeout(self) -> Optional[int]:
+        """The read timeout in milliseconds where the program wants a smaller one than kazoo's own, else None."""
+        address, port = self._client._peer()
+        own_timeout = self._client._granted_timeout() * 1000 * 2 / 3
+        wanted, _ = self._connect(address, address, port)
+        return int(wanted) if wanted < own_timeout else None
+
+
+class KazooClient:
+    """A client of ZooKeeper with kazoo's names, errors and behaviour, over the proved core of dirwolleu.
+
+    It has what kazoo's documentation says of these keywords. What it does not do, it refuses by name: `sasl_options`,
+    `read_only`, and the old keywords of the retry. `README.md` of the package says where it differs.
+
+        from dirwolleu.kazoo.client import KazooClient
+
+        zk = KazooClient(hosts="zk1:2181,zk2:2181/app", timeout=10.0)
+        zk.start()
+        zk.ensure_path("/config")
+        data, stat = zk.get("/config")
+        zk.stop()
+        zk.close()
+    """
+
+    def __init__(
+        self,
+        hosts: HostList = "127.0.0.1:2181",
+        timeout: float = 10.0,
+        client_id: Optional[tuple[int, bytes]] = None,
+        handler: Optional[SequentialThreadingHandler] = None,
+        default_acl: Acls = None,
+        auth_data: Optional[Iterable[tuple[str, str]]] = None,
+        sasl_options: Optional[object] = None,
+        read_only: Optional[bool] = None,
+        randomize_hosts: bool = True,
+        connection_retry: Union[KazooRetry, dict[str, Any], None] = None,
+        command_retry: Union[KazooRetry, dict[str, Any], None] = None,
+        logger: Optional[Any] = None,
+        keyfile: Optional[str] = None,
+        keyfile_password: Optional[str] = None,
+        certfile: Optional[str] = None,
+        ca: Optional[str] = None,
+        use_ssl: bool = False,
+        verify_certs: bool = True,
+        **kwargs: Any,
+    ) -> None:
+        _refuse(sasl_options, read_only, handler, kwargs)
+        self.logger = logger or log
+        self.handler = SequentialThreadingHandler() if handler is None else handler
+        self.default_acl, self.auth_data, self.read_only = default_acl, set(auth_data or ()), read_only
+        if any(scheme == "sasl" for scheme, _ in self.auth_data):
+            raise ConfigurationError("auth_data: dirwolleu.kazoo does no SASL")
+        self.use_ssl, self.verify_certs, self.ca = use_ssl, verify_certs, ca
+        self.certfile, self.keyfile, self.keyfile_password = certfile, keyfile, keyfile_password
+        self._found: Optional[Hosts] = None
+        self.randomize_hosts = randomize_hosts
+        self.set_hosts(hosts)
+        self._session_timeout = int(timeout * 1000)
+        self._identity = None if client_id is None else Identity(client_id[0], client_id[1])
+        self._conn_retry = _policy("connection_retry", connection_retry, self.handler)
+        self._retry = _policy("command_retry", command_retry, self.handler)
+        self._begin_states()
+        self._begin_recipes()
+
+    def _begin_states(self) -> None:
+        self._state, self.state = KeeperState.CLOSED, KazooState.LOST
+        self.state_listeners: set[Listener] = set()
+        self._live, self._stopped = self.handler.event_object(), self.handler.event_object()
+        self._stopped.set()
+        self._session: Optional[Session] = None
+        self._change = threading.RLock()
+        self._connection = Connection(self)
+
+    def _begin_recipes(self) -> None:
+        self.ChildrenWatch = functools.partial(ChildrenWatch, self)
+        self.DataWatch = functools.partial(DataWatch, self)
+        self.Election = functools.partial(Election, self)
+        self.Lock = functools.partial(Lock, self)
+        self.Party = functools.partial(Party, self)
+        self.ReadLock = functools.partial(ReadLock, self)
+        self.ShallowParty = functools.partial(ShallowParty, self)
+        self.WriteLock = functools.partial(WriteLock, self)
+
+    def __getattr__(self, name: str) -> Any:
+        if name in _LEFT_OUT:
+            raise AttributeError(f"dirwolleu.kazoo has no {name}")
+        raise AttributeError(f"{type(self).__name__!r} object has no attribute {name!r}")
+
+    # How it stands.
+
+    @property
+    def client_state(self) -> str:
+        """How the session stands: one of `KeeperState`."""
+        return self._state
+
+    @property
+    def connected(self) -> bool:
+        """Whether a server has accepted the session."""
+        return self._live.is_set()
+
+    @property
+    def client_id(self) -> Optional[tuple[int, bytes]]:
+        """The number and the password of the session while it is connected, else None."""
+        session = self._session
+        if session is None or not self.connected:
+            return None
+        identity = session.identity()
+        return identity.number, identity.password
+
+    @property
+    def last_zxid(self) -> int:
+        """The greatest zxid that the client has seen."""
+        return 0 if self._session is None else self._session.last_zxid
+
+    @property
+    def hosts(self) -> list[tuple[str, int]]:
+        """The hosts that are dialled, with their ports."""
+        return [] if self._found is None else list(self._found.servers)
+
+    @property
+    def chroot(self) -> str:
+        """The node of the servers that the program knows as `/`: empty where that is the servers' own."""
+        return "" if self._found is None else self._found.root.path
+
+    def set_hosts(self, hosts: HostList, randomize_hosts: Optional[bool] = None) -> None:
+        """Has each dial from now on go to one of these hosts. A connection that there is goes on.
+
+        Raises `ConfigurationError` where the chroot is another one than before.
+        """
+        found = _hosts(hosts)
+        if self._found is not None and found.root != self._found.root:
+            raise ConfigurationError("Changing chroot at runtime is not currently supported")
+        if randomize_hosts is not None:
+            self.randomize_hosts = randomize_hosts
+        self._found = found
+        session: Optional[Session] = self.__dict__.get("_session")
+        if session is not None:
+            session.set_hosts(found.text)
+
+    def add_listener(self, listener: Listener) -> None:
+        """Calls a function with each new `KazooState`, in a thread of its own. One that returns True is called no more."""
+        if not callable(listener):
+            raise ConfigurationError("listener must be callable")
+        self.state_listeners.add(listener)
+
+    def remove_listener(self, listener: Listener) -> None:
+        """Calls the function no more."""
+        self.state_listeners.discard(listener)
+
+    def unchroot(self, path: str) -> str:
+        """The path without the chroot."""
+        return Root(self.chroot).own(path)
+
+    # Its life.
+
+    def start(self, timeout: Optional[float] = 15) -> None:
+        """Begins to connect, and waits until a server has accepted the session.
+
+        Raises the handler's `timeout_exception` after this many seconds, and `AuthFailedError` where the server refuses
+        the credentials; then it is stopped.
+        """
+        self.start_async().wait(timeout)
+        if not self.connected:
+            session, is_refused = self._session, self._state == KeeperState.AUTH_FAILED
+            words = "" if session is None else session.no_server(timeout)
+            self.stop()
+            self.close()
+            if is_refused:
+                raise AuthFailedError(words)
+            raise self.handler.timeout_exception(f"Connection time-out: {words}")
+        if self.chroot and not self.exists("/"):
+            warnings.warn("No chroot path exists, the chroot path should be created before normal use.")
+
+    def start_async(self) -> threading.Event:
+        """Begins to connect, and answers an event that is set while a server has accepted the session."""
+        with self._change:
+            session = self._session
+            if session is not None and session.is_running():
+                return self._live
+            self._end_session()
+            self._stopped.clear()
+            self.handler.start()
+            self._state = KeeperState.CONNECTING
+            self._session = self._new_session()
+            self._session.begin()
+        return self._live
+
+    def stop(self) -> None:
+        """Ends the session, with its ephemeral nodes and its watches. It may be called again, and started again."""
+        if self._stopped.is_set():
+            return
+        self._stopped.set()
+        with self._change:
+            self._end_session()
+            self._identity = None
+
+    def restart(self) -> None:
+        """Ends the session and begins another one, which is of no server that is behind what was seen."""
+        last_zxid = self.last_zxid
+        self.stop()
+        self._identity = Identity(0, bytes(PASSWORD_LENGTH), last_zxid)
+        self.start()
+
+    def close(self) -> None:
+        """Frees what a stopped client holds. It can be started again."""
+        if not self._stopped.is_set():
+            raise KazooException("Cannot close connection until it is stopped")
+        with self._change:
+            self._end_session()
+
+    def _new_session(self) -> Session:
+        assert self._found is not None
+        credentials = [credential_of(scheme, text) for scheme, text in self.auth_data]
+        timeout = self._session_timeout / 1000
+        servers = Servers(self._found.text, self.randomize_hosts)
+        return Session(self, servers, timeout, self._identity, credentials, self._tls())
+
+    def _tls(self) -> Optional[ssl.SSLContext]:
+        if not self.use_ssl:
+            return None
+        return tls_context(
+            ca=self.ca,
+            certfile=self.certfile,
+            keyfile=self.keyfile,
+            keyfile_password=self.keyfile_password,
+            verify_certs=self.verify_certs,
+            check_hostname=False,  # as kazoo
+        )
+
+    def _end_session(self) -> None:
+        session = self._session
+        if session is not None:
+            session.stop()
+            session.close()
+            self._session = None
+        self.handler.stop()
+
+    # What the engine tells, within its steps: nothing here waits.
+
+    def _told_state(self, state: State) -> None:
+        if state is State.CONNECTED:
+            self._use_read_timeout()
+            self._state = KeeperState.CONNECTED
+            self.logger.info("Zookeeper connection established, state: %s", self._state)
+            self._enter(KazooState.CONNECTED)
+            self._live.set()
+        elif state is State.SUSPENDED:
+            self._state = KeeperState.CONNECTING
+            self.logger.info("Zookeeper connection lost")
+            self._live.clear()
+            self._enter(KazooState.SUSPENDED)
+            self._end_watches()
+        else:
+            self._told_loss()
+
+    def _told_loss(self) -> None:
+        """The session is over. A new one begins, unless the client was stopped or its credentials were refused."""
+        session = self._session
+        if self._state != KeeperState.AUTH_FAILED:
+            goes_on = session is not None and session.is_running()
+            self._state = KeeperState.EXPIRED_SESSION if goes_on else KeeperState.CLOSED
+        self.logger.info("Zookeeper session closed, state: %s", self._state)
+        self._live.clear()
+        self._enter(KazooState.LOST)
+        if self._state == KeeperState.EXPIRED_SESSION:
+            self._state = KeeperState.CONNECTING
+
+    def _told_refusal(self) -> None:
+        """The server does not take the credentials."""
+        self._state = KeeperState.AUTH_FAILED
+        self.logger.warning("AUTH_FAILED closing: the server does not take the credentials")
+        if self._session is not None:
+            self._session.abandon()
+
+    def _told_end(self) -> None:
+        """The policy for connections is used up."""
+        self._state = KeeperState.CLOSED
+        self.logger.warning("Failed connecting to Zookeeper within the connection retry policy.")
+
+    def _told_watch(self, function: Callable[[Any], object], event: OwnEvent) -> None:
+        """A watch has fired, or its session is over."""
+        if event.type.value != EventType.NONE:
+            if not self._stopped.is_set():
+                self._dispatch(function, WatchedEvent(event.type.value, self._state, event.path))
+            return
+        goes_on = self._session is not None and self._session.is_running()
+        state = KeeperState.EXPIRED_SESSION if goes_on else KeeperState.CLOSED
+        self._dispatch(function, WatchedEvent(EventType.NONE, state, None))
+
+    def _end_watches(self) -> None:
+        """Tells each function that waits for a watch that the connection is over. As in kazoo, it is called no more."""
+        session = self._session
+        told = WatchedEvent(EventType.NONE, self._state, None)
+        functions = {} if session is None else {watcher.function: None for watcher in session.drop_watchers()}
+        for function in functions:
+            if isinstance(function, Told):
+                self._dispatch(function.function, told)
+
+    def _dispatch(self, function: Callable[[Any], object], event: WatchedEvent) -> None:
+        self.handler.dispatch_callback(Callback("watch", function, (event,)))
+
+    def _enter(self, state: str) -> None:
+        if state == self.state:
+            return
+        self.state = state
+        session = self._session
+        if session is not None:
+            session.tell_listeners(self._tell_listeners, (state, list(self.state_listeners)))
+
+    def _tell_listeners(self, told: tuple[str, list[Listener]]) -> None:
+        state, listeners = told
+        for listener in listeners:
+            try:
+                if listener in self.state_listeners and listener(state) is True:
+                    self.remove_listener(listener)
+            except Exception:
+                self.logger.exception("Error in connection state listener")
+
+    def _use_read_timeout(self) -> None:
+        try:
+            timeout = self._connection._read_timeout()
+        except Exception:
+            self.logger.exception("the program's function for a connection has failed")
+            timeout = None
+        if self._session is not None:
+            self._session.use_read_timeout(timeout)
+
+    def _granted_timeout(self) -> float:
+        """The timeout of the session in seconds."""
+        return self._session_timeout / 1000 if self._session is None else self._session.session_timeout
+
+    def _drop_connection(self, why: str) -> None:
+        if self._session is not None:
+            self._session.drop_connection(why)
+
+    def _peer(self) -> tuple[str, int]:
+        place = None if self._session is None else self._session.place()
+        if place is None:
+            raise ConnectionLoss("No connection to server")
+        return place.address, place.port
+
+    def _session_number(self) -> int:
+        """The number of the session, 0 where there is none."""
+        return 0 if self._session is None else self._session.session_id
+
+    def _kept(self, path: str) -> Optional[Kept]:
+        """What is kept of a node."""
+        return None if self._session is None else self._session.kept(own_path(path))
+
+    def _kept_children(self, path: str) -> Optional[KeptChildren]:
+        """What is kept of the children of a node."""
+        return None if self._session is None else self._session.kept_children(own_path(path))
+
+    # Calls.
+
+    def _call(self, request: Ask, async_object: AsyncResult) -> Optional[bool]:
+        """Sends a request, whose answer the async result is set to. Each call goes through here.
+
+        Where the session is over, the result is set to the error, and this answers False.
+        """
+        error: Optional[KazooException] = None
+        if self._state == KeeperState.AUTH_FAILED:
+            error = AuthFailedError("the server does not take the credentials")
+        elif self._state == KeeperState.CLOSED or self._session is None:
+            error = ConnectionClosedError("Connection has been closed")
+        elif self._state == KeeperState.EXPIRED_SESSION:
+            error = SessionExpiredError()
+        try:
+            if error is None and self._session is not None:
+                self._session.send(request, async_object)
+                return None
+        except own.ConnectionClosedError as closed:
+            error = ConnectionClosedError(str(closed))
+        async_object.set_exception(error or ConnectionClosedError("Connection has been closed"))
+        return False
+
+    def _send(self, request: AnyRequest[Any], form: Callable[[Any], Any] = _as_it_is) -> AsyncResult:
+        outcome = self.handler.async_result()
+        self._call(Ask(request, form), outcome)
+        return outcome
+
+    def _run(self, plan: Plan[Any], form: Callable[[Any], Any] = _as_it_is) -> AsyncResult:
+        return _Run(self, plan, form).begin()
+
+    def _told(self, watch: Watch) -> Optional[Told]:
+        check_watch(watch)
+        return Told(self, watch) if watch else None
+
+    def retry(self, func: Callable[..., Any], *args: Any, **kwargs: Any) -> Any:
+        """Calls a function by the policy `command_retry`: see `KazooRetry`."""
+        return self._retry.copy()(func, *args, **kwargs)
+
+    def exists(self, path: str, watch: Watch = None) -> Optional[ZnodeStat]:
+        """What is known of a node, or None where there is none."""
+        found: Optional[ZnodeStat] = self.exists_async(path, watch).get()
+        return found
+
+    def exists_async(self, path: str, watch: Watch = None) -> AsyncResult:
+        """`exists`, which does not wait."""
+        return self._send(requests.exists(checked_path(path), self._told(watch)), _stat)
+
+    def get(self, path: str, watch: Watch = None) -> tuple[Optional[bytes], ZnodeStat]:
+        """The data of a node, and what is known of it. Raises `NoNodeError`."""
+        found: tuple[Optional[bytes], ZnodeStat] = self.get_async(path, watch).get()
+        return found
+
+    def get_async(self, path: str, watch: Watch = None) -> AsyncResult:
+        """`get`, which does not wait."""
+        return self._send(requests.get(checked_path(path), self._told(watch)), _data)
+
+    def get_children(self, path: str, watch: Watch = None, include_data: bool = False) -> Any:
+        """The names of a node's children; with `include_data` also what is known of the node. Raises `NoNodeError`."""
+        return self.get_children_async(path, watch, include_data).get()
+
+    def get_children_async(self, path: str, watch: Watch = None, include_data: bool = False) -> AsyncResult:
+        """`get_children`, which does not wait."""
+        check_flags(include_data=include_data)
+        request: AnyRequest[Any] = requests.get_children(checked_path(path), self._told(watch))
+        if include_data:
+            request = _Children(**{field.name: getattr(request, field.name) for field in dataclasses.fields(request)})
+        return self._send(request)
+
+    def create(
+        self,
+        path: str,
+        value: Optional[bytes] = b"",
+        acl: Acls = None,
+        ephemeral: bool = False,
+        sequence: bool = False,
+        makepath: bool = False,
+        include_data: bool = False,
+    ) -> Any:
+        """Makes a node, and tells its path; with `include_data` also its `ZnodeStat`.
+
+        Raises `NodeExistsError`, `NoNodeError`, `NoChildrenForEphemeralsError`, `InvalidACLError`.
+        """
+        return self.create_async(path, value, acl, ephemeral, sequence, makepath, include_data).get()
+
+    def create_async(
+        self,
+        path: str,
+        value: Optional[bytes] = b"",
+        acl: Acls = None,
+        ephemeral: bool = False,
+        sequence: bool = False,
+        makepath: bool = False,
+        include_data: bool = False,
+    ) -> AsyncResult:
+        """`create`, which does not wait."""
+        acl = acl or self.default_acl
+        if acl:
+            check_acls(acl)
+        if value is not None:
+            check("value", value, bytes, "must be a byte string")
+        check_flags(ephemeral=ephemeral, sequence=sequence, makepath=makepath, include_data=include_data)
+        found, spelled = own_acls(acl), checked_path(path)
+        if sequence and path.endswith("/"):
+            raise ValueError(f"{path}: a node with a number needs a name before it, and no slash at its end")
+        request: AnyRequest[Any]
+        if include_data:
+            request = lane.create2(spelled, value, found, ephemeral, sequence)
+        else:
+            request = plans.create_request(spelled, value, found, ephemeral, sequence)
+        return self._run(plans.create(request, spelled, found, makepath), _created if include_data else _as_it_is)
+
+    def ensure_path(self, path: str, acl: Acls = None) -> bool:
+        """Makes a node and those above it, as far as they are not there."""
+        return bool(self.ensure_path_async(path, acl).get())
+
+    def ensure_path_async(self, path: str, acl: Acls = None) -> AsyncResult:
+        """`ensure_path`, which does not wait."""
+        return self._run(plans.ensure_path(checked_path(path), own_acls(acl or self.default_acl)), _true)
+
+    def set(self, path: str, value: Optional[bytes], version: int = -1) -> ZnodeStat:
+        """Sets the data of a node of this version, where -1 is any. Raises `NoNodeError` and `BadVersionError`."""
+        found: ZnodeStat = self.set_async(path, value, version).get()
+        return found
+
+    def set_async(self, path: str, value: Optional[bytes], version: int = -1) -> AsyncResult:
+        """`set`, which does not wait."""
+        if value is not None:
+            check("value", value, bytes, "must be a byte string")
+        check("version", version, int, "int")
+        return self._send(requests.set(checked_path(path), value, version), _stat)
+
+    def delete(self, path: str, version: int = -1, recursive: bool = False) -> bool:
+        """Deletes a node of this version, where -1 is any; with `recursive` of any version, with all below it.
+
+        Raises `NoNodeError`, `BadVersionError`, `NotEmptyError`; with `recursive` it is no error where there is none.
+        """
+        check_flags(recursive=recursive)
+        if recursive:
+            return bool(self._run(plans.delete(checked_path(path), -1, True), _true).get())
+        return bool(self.delete_async(path, version).get())
+
+    def delete_async(self, path: str, version: int = -1) -> AsyncResult:
+        """`delete` of one node, which does not wait."""
+        check("version", version, int, "int")
+        return self._send(requests.delete(checked_path(path), version), _true)
+
+    def sync(self, path: str) -> str:
+        """Has the server take in all that was done before it answers."""
+        return str(self.sync_async(path).get())
+
+    def sync_async(self, path: str) -> AsyncResult:
+        """`sync`, which does not wait."""
+        return self._send(lane.sync(checked_path(path)))
+
+    def get_acls(self, path: str) -> tuple[list[ACL], ZnodeStat]:
+        """The ACL of a node, and what is known of it. Raises `NoNodeError`."""
+        found: tuple[list[ACL], ZnodeStat] = self.get_acls_async(path).get()
+        return found
+
+    def get_acls_async(self, path: str) -> AsyncResult:
+        """`get_acls`, which does not wait."""
+        return self._send(lane.get_acls(checked_path(path)), _acls)
+
+    def set_acls(self, path: str, acls: Sequence[ACL], version: int = -1) -> ZnodeStat:
+        """Sets the ACL of a node whose `aversion` is this one, where -1 is any.
+
+        Raises `NoNodeError`, `BadVersionError`, `InvalidACLError`.
+        """
+        found: ZnodeStat = self.set_acls_async(path, acls, version).get()
+        return found
+
+    def set_acls_async(self, path: str, acls: Sequence[ACL], version: int = -1) -> AsyncResult:
+        """`set_acls`, which does not wait."""
+        check_acls(acls)
+        check("version", version, int, "int")
+        return self._send(lane.set_acls(checked_path(path), acls, version), _stat)
+
+    def add_auth(self, scheme: str, credential: str) -> bool:
+        """Says who the session is, now and on each later connection.
+
+        Raises `AuthFailedError` where the server refuses it; then the session is over, as in kazoo.
+        """
+        return bool(self.add_auth_async(scheme, credential).get())
+
+    def add_auth_async(self, scheme: str, credential: str) -> AsyncResult:
+        """`add_auth`, which does not wait."""
+        check("scheme", scheme, str, "string")
+        check("credential", credential, str, "string")
+        known = credential_of(scheme, credential)
+        outcome = self.handler.async_result()
+        answer = AsyncResult(self.handler)
+        answer.relay(lambda _: self._told_auth(known, answer, outcome))
+        self.auth_data.add((scheme, credential))
+        self._call(Ask(lane.auth(*known), _true), answer)
+        return outcome
+
+    def _told_auth(self, known: Credential, answer: AsyncResult, outcome: AsyncResult) -> None:
+        session = self._session
+        if answer.exception is None and session is not None:
+            session.accept_credential(known)
+        elif isinstance(answer.exception, AuthFailedError):
+            self._told_refusal()
+        if answer.exception is None:
+            outcome.set(True)
+        else:
+            outcome.set_exception(answer.exception)
+
+    def transaction(self) -> TransactionRequest:
+        """Several changes that happen together or not at all."""
+        return TransactionRequest(self)
+
+    def reconfig(self, *args: Any, **kwargs: Any) -> Any:
+        """Is not done here. Raises `NotImplementedError`."""
+        raise NotImplementedError("dirwolleu.kazoo does no reconfig")
+
+    def command(self, cmd: bytes = b"ruok") -> str:
+        """What the server of the connection answers to a word such as `srvr`, over a connection of its own.
+
+        Raises `ConnectionLoss` where there is no connection, and `OSError`.
+        """
+        if not self.connected:
+            raise ConnectionLoss("No connection to server")
+        connection = self.handler.create_connection(
+            address=self._peer(),
+            timeout=self._session_timeout / 1000,
+            use_ssl=self.use_ssl,
+            ca=self.ca,
+            certfile=self.certfile,
+            keyfile=self.keyfile,
+            keyfile_password=self.keyfile_password,
+            verify_certs=self.verify_certs,
+        )
+        with connection:
+            connection.sendall(cmd)
+            return _all_of(connection.recv).decode("utf-8", "replace")
+
+    def server_version(self, retries: int = 3) -> tuple[int, ...]:
+        """The version of the server, such as (3, 8, 0).
+
+        It asks by `envi` as kazoo does, and by `srvr`, which a server answers where its settings name no words. Raises
+        `KazooException` where neither tells it in this many tries and one.
+        """
+        for _ in range(1 + max(0, retries)):
+            for word in (b"envi", b"srvr"):
+                found = _VERSION.search(self.command(word))
+                if found is not None:
+                    return tuple(int(number) for number in found[1].split("."))
+        raise KazooException(f"Unable to fetch useable server version after trying {1 + max(0, retries)} times")
+
+
+def _all_of(receive: Callable[[int], bytes]) -> bytes:
+    """What comes up to the end of a connection, as far as that is of use."""
+    taken = b""
+    while len(taken) < _LONGEST_WORDS and (piece := receive(8192)):
+        taken += piece
+    return taken
+
+
+class _Run:
+    """A plan of several requests, which are asked one after the other. It waits for nothing."""
+
+    def __init__(self, client: KazooClient, plan: Plan[Any], form: Callable[[Any], Any]) -> None:
+        self._client, self._plan, self._form = client, plan, form
+        self._outcome = client.handler.async_result()
+
+    def begin(self) -> AsyncResult:
+        self._go_on(lambda: next(self._plan))
+        return self._outcome
+
+    def _go_on(self, advance: Callable[[], AnyRequest[Any]]) -> None:
+        try:
+            request = advance()
+        except StopIteration as end:
+            self._outcome.set(self._form(end.value))
+            return
+        except Exception as error:
+            self._outcome.set_exception(error_of(error))
+            return
+        step = AsyncResult(self._client.handler)
+        step.relay(self._told)
+        self._client._call(Ask(request, _as_it_is), step)
+
+    def _told(self, step: AsyncResult) -> None:
+        error = step.exception
+        if error is None:
+            self._go_on(lambda: self._plan.send(step.value))
+        else:
+            cause = error.__cause__ if isinstance(error.__cause__, own.ZookeeperError) else error
+            self._go_on(lambda: self._plan.throw(cause))

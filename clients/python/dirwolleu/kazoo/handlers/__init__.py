@@ -1,0 +1,1 @@
+"""What kazoo.handlers has for threads."""

@@ -1,0 +1,1 @@
+"""What kazoo.protocol has of states, events and paths."""

@@ -1,0 +1,1 @@
+"""The recipes of kazoo that are here: locks, elections, parties and watchers."""

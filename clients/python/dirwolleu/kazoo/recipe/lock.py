@@ -1,0 +1,227 @@
+"""Locks, by kazoo's names of nodes (kazoo.recipe.lock).
+
+Contenders are ephemeral nodes with a number. Each watches the one before it that excludes it, so that a release wakes
+one of them. A create whose answer was lost is found again by its own prefix, after a `sync`.
+"""
+
+from __future__ import annotations
+
+import re
+import threading
+import time
+import uuid
+from collections.abc import Iterable
+from types import TracebackType
+from typing import TYPE_CHECKING, Optional
+
+from dirwolleu.kazoo.exceptions import CancelledError, KazooException, LockTimeout, NoNodeError
+from dirwolleu.kazoo.protocol.paths import join
+from dirwolleu.kazoo.protocol.states import WatchedEvent
+from dirwolleu.kazoo.retry import ForceRetryError, KazooRetry, RetryFailedError
+
+if TYPE_CHECKING:
+    from dirwolleu.kazoo.client import KazooClient
+
+
+class Lock:
+    """An exclusive lock: of those that contend at a path, one holds at a time.
+
+    It is not reentrant. `extra_lock_patterns` are parts of the names of other clients' contenders, such as `-lock-` for
+    Curator's. A program that was paused may believe that it holds when another one does: see `dirwolleu.Lock`, which has
+    a token against that.
+
+        lock = client.Lock("/locks/job", "host-1")
+        with lock:
+            print(lock.contenders())
+    """
+
+    _NODE_NAME = "__lock__"
+    _EXCLUDE_NAMES = ["__lock__"]
+
+    def __init__(
+        self,
+        client: KazooClient,
+        path: str,
+        identifier: Optional[str] = None,
+        extra_lock_patterns: Iterable[str] = (),
+    ) -> None:
+        self.client, self.path = client, path
+        self.data = str(identifier or "").encode()
+        self.node: Optional[str] = None
+        self._excluding = [*self._EXCLUDE_NAMES, *extra_lock_patterns]
+        self.wake_event = client.handler.event_object()
+        self.prefix = uuid.uuid4().hex + self._NODE_NAME
+        self.create_path = join(self.path, self.prefix)
+        self.cancelled = False
+        self._lock = threading.Lock()
+        self._retry = KazooRetry(max_tries=None, sleep_func=client.handler.sleep_func)
+        self._is_tried = self._is_path_there = self._is_held = False
+        self._session: Optional[int] = None
+
+    @property
+    def is_acquired(self) -> bool:
+        """Whether the lock was taken and not released, in this session: it is lost with the session that took it."""
+        return self._is_held and self._session in (None, self.client._session_number())
+
+    def cancel(self) -> None:
+        """Has a wait for the lock end with `CancelledError`."""
+        self.cancelled = True
+        self.wake_event.set()
+
+    def acquire(self, blocking: bool = True, timeout: Optional[float] = None, ephemeral: bool = True) -> bool:
+        """Takes the lock, and answers whether it has.
+
+        Where `blocking` is false, it tries once. Raises `LockTimeout` where the one before it is there after `timeout`
+        seconds; it answers False where that time has passed otherwise. No contender is left then. A node that is not
+        `ephemeral` outlives its session: release it.
+        """
+        until = None if timeout is None else time.monotonic() + timeout
+        longest = -1.0 if timeout is None else max(timeout, 0)
+        if not (self._lock.acquire(timeout=longest) if blocking else self._lock.acquire(blocking=False)):
+            return False
+        try:
+            return self._acquire(blocking, until, ephemeral)
+        finally:
+            self._lock.release()
+
+    def _acquire(self, blocking: bool, until: Optional[float], ephemeral: bool) -> bool:
+        retry = self._retry.copy()
+        retry.deadline = None if until is None else max(until - time.monotonic(), 0)
+        was_held, is_taken = self.is_acquired, False
+        try:
+            is_taken = retry(self._try, blocking, until, ephemeral)
+        except RetryFailedError:
+            pass
+        finally:
+            self.cancelled = False
+            if not is_taken and not was_held:
+                self._clean_up()
+        return is_taken
+
+    def _try(self, blocking: bool, until: Optional[float], ephemeral: bool) -> bool:
+        if self.is_acquired:
+            if not blocking:
+                return False
+            raise ForceRetryError()
+        self._ensure_path()
+        session = self.client._session_number()
+        node = self.node = self._stand(ephemeral)
+        while True:
+            self.wake_event.clear()
+            if self.cancelled:
+                raise CancelledError()
+            before = self._get_predecessor(node)
+            if before is None:
+                self._is_held, self._session = True, session if ephemeral else None
+                return True
+            if not blocking:
+                return False
+            self._wait_for(before, until)
+
+    def _stand(self, ephemeral: bool) -> str:
+        """The name of this contender's node, which is made where it is not there."""
+        node = self._find_node() if self._is_tried else None
+        self._is_tried = True
+        if node is None:
+            made: str = self.client.create(self.create_path, self.data, ephemeral=ephemeral, sequence=True)
+            node = made.rpartition("/")[2]
+        return node
+
+    def _wait_for(self, node: str, until: Optional[float]) -> None:
+        """Waits until another contender's node is gone, or the connection is."""
+        try:
+            self.client.get(join(self.path, node), self._told)
+        except NoNodeError:
+            return
+        if not self.wake_event.wait(None if until is None else max(until - time.monotonic(), 0)):
+            raise LockTimeout(f"Failed to acquire lock on {self.path} in time")
+
+    def _told(self, _: WatchedEvent) -> None:
+        self.wake_event.set()
+
+    def _names(self, patterns: Iterable[str]) -> list[str]:
+        """The contenders of these patterns, in the order of their numbers."""
+        number = re.compile(rf"(?:{'|'.join(patterns)})(-?\d{{10}})$")
+        names: list[str] = self.client.get_children(self.path)
+        found = ((number.search(name), name) for name in names)
+        return [name for _, name in sorted((int(match[1]), name) for match, name in found if match)]
+
+    def _get_predecessor(self, node: str) -> Optional[str]:
+        """The last contender before this one that excludes it, or None."""
+        line = self._names({*self._excluding, self._NODE_NAME})
+        if node not in line:
+            raise ForceRetryError()  # its session has expired
+        number = re.compile(rf"(?:{'|'.join(self._excluding)})-?\d{{10}}$")
+        before = [name for name in line[: line.index(node)] if number.search(name)]
+        return before[-1] if before else None
+
+    def _find_node(self) -> Optional[str]:
+        """The node of this contender, once what was sent before has happened or can't happen any more."""
+        self.client.sync(self.path)
+        names: list[str] = self.client.get_children(self.path)
+        return next((name for name in names if name.startswith(self.prefix)), None)
+
+    def _clean_up(self) -> None:
+        """Deletes the node of a wait that has ended."""
+        try:
+            if self._is_tried:
+                node = self.node or self._find_node()
+                if node is not None:
+                    self.client.delete(join(self.path, node))
+        except KazooException:
+            pass  # the session ends it
+        self.node = None
+
+    def release(self) -> bool:
+        """Lets go of the lock, and answers whether it was held."""
+        return bool(self.client.retry(self._release))
+
+    def _release(self) -> bool:
+        if not self.is_acquired or self.node is None:
+            return False
+        try:
+            self.client.delete(join(self.path, self.node))
+        except NoNodeError:
+            pass
+        self._is_held, self.node, self._session = False, None, None
+        return True
+
+    def contenders(self) -> list[str]:
+        """What the contenders are called, in the order of their numbers."""
+        self._ensure_path()
+        found = []
+        for name in self._names({*self._excluding, self._NODE_NAME}):
+            try:
+                data, _ = self.client.get(join(self.path, name))
+            except NoNodeError:
+                continue
+            if data is not None:
+                found.append(data.decode())
+        return found
+
+    def _ensure_path(self) -> None:
+        if not self._is_path_there:
+            self.client.ensure_path(self.path)
+            self._is_path_there = True
+
+    def __enter__(self) -> None:
+        self.acquire()
+
+    def __exit__(
+        self, kind: Optional[type[BaseException]], error: Optional[BaseException], trace: Optional[TracebackType]
+    ) -> None:
+        self.release()
+
+
+class WriteLock(Lock):
+    """A lock that excludes all others at its path, also those of readers."""
+
+    _NODE_NAME = "__lock__"
+    _EXCLUDE_NAMES = ["__lock__", "__rlock__"]
+
+
+class ReadLock(Lock):
+    """A lock that several readers hold at a time, and no writer beside them."""
+
+    _NODE_NAME = "__rlock__"
+    _EXCLUDE_NAMES = ["__lock__"]

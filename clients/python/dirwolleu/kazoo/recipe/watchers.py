@@ -1,0 +1,201 @@
+"""Functions that are called with each new value (kazoo.recipe.watchers).
+
+A function is called with what was good right before: the core has kept the answer, and was told of no change since. An
+answer that is stale by then is read again.
+"""
+
+from __future__ import annotations
+
+import functools
+import inspect
+import logging
+import threading
+from typing import TYPE_CHECKING, Any, Callable, Optional, TypeVar
+
+from dirwolleu.kazoo.exceptions import ConnectionClosedError, KazooException, NoNodeError
+from dirwolleu.kazoo.protocol.states import EventType, KazooState, WatchedEvent, ZnodeStat
+from dirwolleu.kazoo.retry import KazooRetry
+from dirwolleu.types import Mark
+
+if TYPE_CHECKING:
+    from dirwolleu.kazoo.client import KazooClient
+
+log = logging.getLogger(__name__)
+
+Function = TypeVar("Function", bound=Callable[..., object])
+Read = TypeVar("Read")
+
+
+def _takes(function: Callable[..., object], count: int) -> bool:
+    """Whether a function can be called with this many values. One that does not tell can."""
+    try:
+        inspect.signature(function).bind(*range(count))
+    except TypeError:
+        return False
+    except ValueError:
+        pass
+    return True
+
+
+class _Watch:
+    """What both watches share: one function, and one reading at a time."""
+
+    def __init__(self, client: KazooClient, path: str, goes_on: bool) -> None:
+        self._client, self._path = client, path
+        self._func: Optional[Callable[..., object]] = None
+        self._goes_on, self._stopped = goes_on, False
+        self._run_lock = threading.Lock()
+        self._retry = KazooRetry(max_tries=None, sleep_func=client.handler.sleep_func)
+
+    def __call__(self, func: Function) -> Function:
+        """Calls a function from now on. Raises `KazooException` where there is one already."""
+        if self._func is not None or self._stopped:
+            raise KazooException(f"A function has already been associated with this {type(self).__name__} instance.")
+        self._func = func
+        if self._goes_on:
+            self._client.add_listener(self._session_watcher)
+        self._look(None)
+        return func
+
+    def _watcher(self, event: WatchedEvent) -> None:
+        if event.type != EventType.NONE:
+            self._look(event)
+
+    def _session_watcher(self, state: str) -> Optional[bool]:
+        if self._stopped:
+            return True
+        if state == KazooState.CONNECTED:
+            self._client.handler.spawn(self._look, None)
+        return None
+
+    def _look(self, event: Optional[WatchedEvent]) -> None:
+        with self._run_lock:
+            if self._stopped:
+                return
+            try:
+                self._tell(event)
+            except ConnectionClosedError:
+                pass  # the client was stopped: the next session tells
+
+    def _tell(self, event: Optional[WatchedEvent]) -> None:
+        raise NotImplementedError
+
+    def _call(self, *values: object) -> None:
+        assert self._func is not None
+        try:
+            if self._func(*values) is False:
+                self._stop()
+        except Exception:
+            log.exception("the function of a watch of %s has failed", self._path)
+            raise
+
+    def _stop(self) -> None:
+        self._stopped = True
+        self._client.remove_listener(self._session_watcher)
+
+
+class DataWatch(_Watch):
+    """Calls a function with the data and the `ZnodeStat` of a node, at once and after each change.
+
+    Where there is no node, both are None. A function that takes three values has the `WatchedEvent` too, which is None
+    at first and after a lost connection. One that returns False is called no more.
+
+        @client.DataWatch("/config")
+        def told(data, stat):
+            print(data)
+    """
+
+    def __init__(
+        self, client: KazooClient, path: str, func: Optional[Callable[..., object]] = None, *args: Any, **kwargs: Any
+    ) -> None:
+        if args or kwargs:
+            raise TypeError(f"DataWatch takes no further arguments: {[*args, *kwargs]}")
+        super().__init__(client, path, goes_on=True)
+        self._told_zxid: Optional[int] = None
+        self._was_told = False
+        if func is not None:
+            self(func)
+
+    def _tell(self, event: Optional[WatchedEvent]) -> None:
+        found = self._read()
+        if found is None:
+            return
+        data, stat = found
+        zxid = None if stat is None else stat.mzxid
+        if self._was_told and zxid == self._told_zxid:
+            return
+        self._told_zxid, self._was_told = zxid, True
+        assert self._func is not None
+        self._call(*((data, stat, event) if _takes(self._func, 3) else (data, stat)))
+
+    def _read(self) -> Optional[tuple[Optional[bytes], Optional[ZnodeStat]]]:
+        """A good answer, or None where there is no connection: the next one tells."""
+        while True:
+            found: tuple[Optional[bytes], Optional[ZnodeStat]] = self._retry(self._ask)
+            if self._is_good(found[1]):
+                return found
+            if not self._client.connected:
+                return None
+
+    def _ask(self) -> tuple[Optional[bytes], Optional[ZnodeStat]]:
+        while True:
+            try:
+                return self._client.get(self._path, self._watcher)
+            except NoNodeError:
+                if self._client.exists(self._path, self._watcher) is None:
+                    return None, None
+
+    def _is_good(self, stat: Optional[ZnodeStat]) -> bool:
+        kept = self._client._kept(self._path)
+        if kept is None or kept.mark is not Mark.GOOD:
+            return False
+        return (None if kept.stat is None else kept.stat.mzxid) == (None if stat is None else stat.mzxid)
+
+
+class ChildrenWatch(_Watch):
+    """Calls a function with the names of a node's children, at once and after each change.
+
+    With `send_event` the function has the `WatchedEvent` too, which is None at first and after a lost connection. One
+    that returns False is called no more, and neither is one whose node is gone. With `allow_session_lost` false it is not
+    called after a lost connection.
+
+        @client.ChildrenWatch("/workers")
+        def told(names):
+            print(sorted(names))
+    """
+
+    def __init__(
+        self,
+        client: KazooClient,
+        path: str,
+        func: Optional[Callable[..., object]] = None,
+        allow_session_lost: bool = True,
+        send_event: bool = False,
+    ) -> None:
+        super().__init__(client, path, goes_on=allow_session_lost)
+        self._sends_event = send_event
+        self._told_names: Optional[list[str]] = None
+        if func is not None:
+            self(func)
+
+    def _tell(self, event: Optional[WatchedEvent]) -> None:
+        try:
+            names = self._read()
+        except NoNodeError:
+            self._stop()
+            return
+        if names is None or event is None and self._told_names == sorted(names):
+            return
+        self._told_names = sorted(names)
+        self._call(*((names, event) if self._sends_event else (names,)))
+
+    def _read(self) -> Optional[list[str]]:
+        """A good answer, or None where there is no connection: the next one tells."""
+        ask = functools.partial(self._client.get_children, self._path, self._watcher)
+        while True:
+            names: list[str] = self._client.retry(ask)
+            kept = self._client._kept_children(self._path)
+            if kept is not None and kept.mark is Mark.GOOD and sorted(kept.names) == sorted(names):
+                return names
+            if not self._client.connected:
+                return None

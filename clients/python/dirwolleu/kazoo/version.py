@@ -1,0 +1,3 @@
+"""The version of kazoo whose names and behaviour these are."""
+
+__version__ = "2.8.0"

@@ -1,0 +1,91 @@
+"""What has tests of both clients use one text: the client for asyncio as if it waited for its answers, beside the one that does."""
+
+from __future__ import annotations
+
+import asyncio
+import inspect
+import threading
+from typing import Any, Callable
+
+from support import WAIT, PartnerCase
+
+import dirwolleu
+from dirwolleu import aio
+
+LONGEST = 6 * WAIT
+
+
+class Blocking:
+    """An object of `dirwolleu.aio`, whose functions are called in its event loop and waited for."""
+
+    def __init__(self, loop: asyncio.AbstractEventLoop, made: Any) -> None:
+        self._loop, self._made = loop, made
+
+    def __getattr__(self, name: str) -> Any:
+        found = getattr(self._made, name)
+        return (lambda *words, **named: self._call(found, *words, **named)) if callable(found) else found
+
+    def __enter__(self) -> Any:
+        return self._call(self._made.__aenter__)
+
+    def __exit__(self, *of_error: Any) -> None:
+        self._call(self._made.__aexit__, *of_error)
+
+    def __call__(self, *words: Any) -> Any:
+        return self._call(self._made, *words)
+
+    def __len__(self) -> int:
+        return int(self._call(self._made.size))
+
+    def _call(self, function: Callable[..., Any], *words: Any, **named: Any) -> Any:
+        async def run() -> Any:
+            told = function(*words, **named)
+            return await told if inspect.isawaitable(told) else told
+
+        found = asyncio.run_coroutine_threadsafe(run(), self._loop).result(LONGEST)
+        return Blocking(self._loop, found) if isinstance(found, aio.Held) else found
+
+
+class BothCase(PartnerCase):
+    """A test of the client for threads. A class that also is an `AioCase` makes the same test of the one for asyncio."""
+
+    def client(self, host: str, timeout: float = 6.0, **named: Any) -> Any:
+        """A client that is started, and is stopped at the end of the test."""
+        client = self.made(lambda: self.module().Client(host, timeout, **named))
+        self.addCleanup(client.close)
+        self.addCleanup(client.stop)
+        client.start(WAIT)
+        return client
+
+    def recipe(self, name: str, client: Any, *words: Any, **named: Any) -> Any:
+        """A recipe of this name."""
+        own = client._made if isinstance(client, Blocking) else client
+        return self.made(lambda: getattr(self.module(), name)(own, *words, **named))
+
+    def module(self) -> Any:
+        return dirwolleu
+
+    def made(self, make: Callable[[], Any]) -> Any:
+        return make()
+
+
+class AioCase(BothCase):
+    """A test of the client for asyncio, whose event loop has a thread of its own."""
+
+    def setUp(self) -> None:
+        self.loop = asyncio.new_event_loop()
+        thread = threading.Thread(target=self.loop.run_forever, daemon=True)
+        thread.start()
+        self.addCleanup(self.loop.close)
+        self.addCleanup(thread.join, WAIT)
+        self.addCleanup(self.loop.call_soon_threadsafe, self.loop.stop)
+        super().setUp()
+
+    def module(self) -> Any:
+        return aio
+
+    def made(self, make: Callable[[], Any]) -> Any:
+        async def run() -> Any:
+            return make()
+
+        return Blocking(self.loop, asyncio.run_coroutine_threadsafe(run(), self.loop).result(LONGEST))

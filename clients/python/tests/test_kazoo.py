@@ -1,0 +1,800 @@
+"""Tests of dirwolleu.kazoo, against the partner. What is expected is what kazoo's documentation says, or what kazoo 2.8 does."""
+
+from __future__ import annotations
+
+import contextlib
+import doctest
+import inspect
+import logging
+import subprocess
+import sys
+import tempfile
+import threading
+import time
+from collections.abc import Callable
+from typing import Any, Optional
+from unittest import mock
+
+from support import CLIENTS, WAIT, Partner, PartnerCase, Peer, within
+
+from dirwolleu.kazoo import client, exceptions, security
+from dirwolleu.kazoo import retry as retries
+from dirwolleu.kazoo._session import Ask
+from dirwolleu.kazoo.client import KazooClient, KazooState, KeeperState, WatchedEvent
+from dirwolleu.kazoo.exceptions import (
+    BadArgumentsError,
+    BadVersionError,
+    CancelledError,
+    ConfigurationError,
+    ConnectionClosedError,
+    ConnectionLoss,
+    KazooException,
+    LockTimeout,
+    NodeExistsError,
+    NoNodeError,
+    NotEmptyError,
+    RolledBackError,
+    RuntimeInconsistency,
+    SessionExpiredError,
+)
+from dirwolleu.kazoo.handlers import threading as threads
+from dirwolleu.kazoo.handlers.threading import AsyncResult, KazooTimeoutError, SequentialThreadingHandler
+from dirwolleu.kazoo.protocol import paths, serialization, states
+from dirwolleu.kazoo.recipe import election, lock, party, watchers
+from dirwolleu.kazoo.recipe.watchers import DataWatch
+from dirwolleu.kazoo.retry import ForceRetryError, InterruptedError, KazooRetry, RetryFailedError
+from dirwolleu.kazoo.security import CREATOR_ALL_ACL, OPEN_ACL_UNSAFE, make_acl, make_digest_acl
+from dirwolleu.types import Kept, Mark
+
+
+class KazooCase(PartnerCase):
+    def setUp(self) -> None:
+        self.server: Partner = self.partner()
+
+    def client(self, root: str = "", kind: type[KazooClient] = KazooClient, **named: Any) -> KazooClient:
+        client = self.unstarted(root, kind, **named)
+        client.start(WAIT)
+        return client
+
+    def unstarted(self, root: str = "", kind: type[KazooClient] = KazooClient, **named: Any) -> KazooClient:
+        words: dict[str, Any] = {"timeout": 6.0, **named}
+        client = kind(self.server.host + root, **words)
+        self.addCleanup(client.close)
+        self.addCleanup(client.stop)
+        return client
+
+
+class CallsTest(KazooCase):
+    def test_nodes(self) -> None:
+        zk = self.client()
+        self.assertEqual(zk.create("/a/b", b"one", makepath=True), "/a/b")
+        data, stat = zk.get("/a/b")
+        self.assertEqual((data, stat.version, stat.dataLength, stat.owner_session_id), (b"one", 0, 3, None))
+        self.assertEqual(zk.exists("/a/b"), stat)
+        self.assertIsNone(zk.exists("/none"))
+        self.assertEqual(zk.set("/a/b", b"two", version=0).version, 1)
+        names, of_parent = zk.get_children("/a", include_data=True)
+        self.assertEqual((names, of_parent, zk.get_children("a")), (["b"], zk.exists("/a"), ["b"]))
+        path, made = zk.create("/a/c-", None, sequence=True, ephemeral=True, include_data=True)
+        self.assertEqual(path, "/a/c-0000000001")
+        assert zk.client_id is not None
+        self.assertEqual((made.ephemeralOwner, made.owner_session_id), 2 * (zk.client_id[0],))
+        self.assertTrue(zk.delete("/a/b"))
+        self.assertTrue(zk.ensure_path("/a/d/e"))
+        self.assertTrue(zk.ensure_path("/a/d/e"))
+        self.assertTrue(zk.delete("/a", recursive=True))
+        self.assertTrue(zk.delete("/a", recursive=True))
+        self.assertEqual(zk.sync("/"), "/")
+
+    def test_errors(self) -> None:
+        zk = self.client()
+        zk.ensure_path("/a/b")
+        calls: list[tuple[Callable[[], object], type[KazooException], int]] = [
+            (lambda: zk.get("/none"), NoNodeError, -101),
+            (lambda: zk.create("/none/b"), NoNodeError, -101),
+            (lambda: zk.create("/a"), NodeExistsError, -110),
+            (lambda: zk.set("/a", b"", 7), BadVersionError, -103),
+            (lambda: zk.delete("/a"), NotEmptyError, -111),
+            (lambda: zk.get("/a\ue000"), BadArgumentsError, -8),
+        ]
+        for call, kind, code in calls:
+            with self.raises(kind, code):
+                call()
+        self.assertTrue(issubclass(ConnectionClosedError, SessionExpiredError))
+        with self.assertRaisesRegex(NoNodeError, "^no node: /none$") as caught:
+            zk.get("/none")
+        self.assertIsInstance(caught.exception, KazooException)
+
+    def test_values_of_wrong_types(self) -> None:
+        zk = self.client()
+        bad: Any = 7
+        calls: list[Callable[[], object]] = [
+            lambda: zk.get(bad),
+            lambda: zk.create("/a", bad),
+            lambda: zk.create("/a", acl=OPEN_ACL_UNSAFE[0]),  # type: ignore[arg-type]
+            lambda: zk.create("/a", ephemeral=bad),
+            lambda: zk.set("/a", b"", "1"),  # type: ignore[arg-type]
+            lambda: zk.get("/a", bad),
+            lambda: zk.add_auth("digest", bad),
+        ]
+        for call in calls:
+            with self.assertRaises(TypeError):
+                call()
+        with self.assertRaisesRegex(ValueError, "number"):
+            zk.create("/a/", sequence=True)
+        with self.assertRaisesRegex(ValueError, "relative"):
+            zk.get("/a/../b")
+
+    def test_acls(self) -> None:
+        zk = self.client(default_acl=[make_digest_acl("bob", "secret", all=True)], auth_data=[("digest", "bob:secret")])
+        zk.create("/one/two", b"", makepath=True)
+        for path in ("/one", "/one/two"):
+            acls, stat = zk.get_acls(path)
+            self.assertEqual((acls, stat), ([make_digest_acl("bob", "secret", all=True)], zk.exists(path)))
+        self.assertEqual(zk.set_acls("/one", [make_acl("x509", "CN=a", read=True, write=True)], 0).aversion, 1)
+        self.assertTrue(zk.add_auth("digest", "eve:x"))
+        self.assertIn(("digest", "eve:x"), zk.auth_data)
+        zk.create("/open", b"", acl=OPEN_ACL_UNSAFE)
+        self.assertEqual(zk.get_acls("/open")[0], OPEN_ACL_UNSAFE)
+        zk.create("/eves", b"", acl=CREATOR_ALL_ACL)
+
+    def test_transactions(self) -> None:
+        self.client().ensure_path("/app")
+        zk = self.client("/app")
+        with zk.transaction() as done:
+            done.create("/a", b"1")
+            done.set_data("/a", b"2", 0)
+            done.check("/a", 1)
+            done.create("/b-", ephemeral=True, sequence=True)
+            done.delete("/a", 1)
+        self.assertEqual(zk.get_children("/"), ["b-0000000001"])
+        again = zk.transaction()
+        again.create("/a")
+        self.assertEqual([again.operations[0].path, again.commit()], ["/a", ["/a"]])
+        with self.assertRaises(ValueError):
+            again.commit()
+        with self.assertRaises(ValueError):
+            again.delete("/a")
+        refused = zk.transaction()
+        refused.create("/c")
+        refused.check("/a", 7)
+        refused.delete("/a")
+        kinds = [type(result) for result in refused.commit()]
+        self.assertEqual(kinds, [RolledBackError, BadVersionError, RuntimeInconsistency])
+        self.assertIsNone(zk.exists("/c"))
+
+    def test_async_results(self) -> None:
+        zk = self.client()
+        told: list[Any] = []
+        result = zk.create_async("/a/b", b"x", makepath=True)
+        result.rawlink(told.append)
+        self.assertEqual(result.get(timeout=WAIT), "/a/b")
+        self.assertEqual((result.ready(), result.successful(), result.value, result.exception), (True, True, "/a/b", None))
+        within(lambda: told == [result])
+        names: list[str] = []
+        result.rawlink(lambda _: names.append(threading.current_thread().name))
+        within(lambda: names == ["kazoo-completions"])
+        failed = zk.get_async("/none")
+        self.assertTrue(failed.wait(WAIT))
+        self.assertEqual((failed.successful(), type(failed.exception)), (False, NoNodeError))
+        with self.assertRaises(NoNodeError):
+            failed.get_nowait()
+        self.server.do("mute")
+        with self.assertRaises(KazooTimeoutError):
+            zk.get_async("/a").get(timeout=0.05)
+        with self.assertRaises(KazooTimeoutError):
+            zk.get_async("/a").get_nowait()
+        self.server.do("unmute")
+
+    def test_a_chroot_and_hosts(self) -> None:
+        with self.assertWarnsRegex(UserWarning, "No chroot path exists"):
+            zk = self.client("/app/")
+        zk.ensure_path("/")
+        zk.create("/a")
+        self.assertEqual((zk.chroot, zk.unchroot("/app/a"), zk.get_children("/")), ("/app", "/a", ["a"]))
+        self.assertEqual(self.client().get_children("/app"), ["a"])
+        with self.assertRaises(ConfigurationError):
+            zk.set_hosts("127.0.0.1:1")
+        zk.set_hosts(["127.0.0.1:1", "[::1]", "/app"])
+        self.assertEqual(zk.hosts, [("127.0.0.1", 1), ("::1", 2181)])
+
+
+class StatesTest(KazooCase):
+    def test_states_and_listeners(self) -> None:
+        zk = self.unstarted()
+        states: list[str] = []
+        once: list[str] = []
+        zk.add_listener(states.append)
+
+        def told_once(state: str) -> bool:
+            once.append(state)
+            return True
+
+        zk.add_listener(told_once)
+        zk.add_listener(mock.Mock(side_effect=[KeyError, True]))
+        self.assertEqual((zk.state, zk.client_state, zk.connected, zk.client_id), ("LOST", "CLOSED", False, None))
+        with self.assertLogs("dirwolleu.kazoo.client", logging.ERROR):
+            zk.start(WAIT)
+            within(lambda: states)
+        self.assertEqual((zk.state, zk.client_state, zk.connected), (KazooState.CONNECTED, KeeperState.CONNECTED, True))
+        self.server.do("drop")
+        within(lambda: len(states) == 3)
+        self.server.do("expire")
+        within(lambda: len(states) == 6)
+        zk.stop()
+        self.assertEqual(
+            states, ["CONNECTED", "SUSPENDED", "CONNECTED", "SUSPENDED", "LOST", "CONNECTED", "LOST"]
+        )
+        self.assertEqual((once, zk.client_state), (["CONNECTED"], "CLOSED"))
+        with self.assertRaises(ConfigurationError):
+            zk.add_listener(None)  # type: ignore[arg-type]
+
+    def test_a_client_that_is_not_started(self) -> None:
+        zk = self.unstarted()
+        for _ in range(2):
+            with self.assertRaises(ConnectionClosedError):
+                zk.get("/")
+            zk.stop()
+            zk.close()
+            zk.start(WAIT)
+            self.assertEqual(zk.get_children("/"), [])
+            with self.assertRaises(KazooException):
+                zk.close()
+            zk.stop()
+            zk.close()
+
+    def test_no_server(self) -> None:
+        zk = KazooClient("127.0.0.1:1", timeout=1.0)
+        begin = time.monotonic()
+        with self.assertRaisesRegex(KazooTimeoutError, "connection refused"):
+            zk.start(0.3)
+        self.assertLess(time.monotonic() - begin, WAIT)
+        with self.assertRaises(ConnectionClosedError):
+            zk.get("/")
+
+    def test_a_server_that_accepts_no_session_has_its_part_of_the_timeout(self) -> None:
+        def serve(peer: Peer) -> None:
+            peer.take_payload()
+            time.sleep(WAIT)
+
+        silent = self.raw_server(serve)
+        zk = KazooClient([silent.host, self.server.host, "127.0.0.1:1"], timeout=4.5, randomize_hosts=False)
+        self.addCleanup(zk.stop)
+        begin = time.monotonic()
+        zk.start(WAIT)
+        self.assertTrue(1.4 < time.monotonic() - begin < 2.9)
+
+    def test_start_async(self) -> None:
+        zk = self.unstarted()
+        event = zk.start_async()
+        self.assertTrue(event.wait(WAIT))
+        self.assertIs(zk.start_async(), event)
+
+    def test_calls_in_flight(self) -> None:
+        zk = self.client()
+        self.server.do("mute")
+        lost = zk.set_async("/", b"x")
+        within(lambda: zk._session is not None and zk._session.stats().in_flight)
+        self.server.do("drop")
+        with self.assertRaises(ConnectionLoss):
+            lost.get(timeout=WAIT)
+        within(lambda: not zk.connected)
+        waits = zk.get_async("/")  # as in kazoo, a call waits for the next connection
+        self.assertFalse(waits.wait(0.05))
+        self.server.do("unmute")
+        self.assertEqual(waits.get(timeout=WAIT)[1], zk.exists("/"))
+
+    def test_a_session_that_is_taken_up(self) -> None:
+        zk = self.client()
+        zk.create("/mine", ephemeral=True)
+        identity = zk.client_id
+        assert zk._session is not None
+        zk._session.close()  # without an end of the session
+        other = self.client(client_id=identity)
+        self.assertEqual(other.client_id, identity)
+        self.assertIsNotNone(other.exists("/mine"))
+
+    def test_restart_with_another_timeout(self) -> None:
+        zk = self.client()
+        zk.create("/mine", ephemeral=True)
+        first, zxid = zk.client_id, zk.last_zxid
+        zk._session_timeout = 8000  # as patroni sets it
+        zk.restart()
+        self.assertNotEqual(zk.client_id, first)
+        self.assertGreaterEqual(zk.last_zxid, zxid)
+        self.assertEqual((zk._granted_timeout(), zk.exists("/mine")), (8.0, None))
+
+    def test_refused_credentials(self) -> None:
+        zk = self.client()
+        with self.assertRaises(exceptions.AuthFailedError):
+            zk.add_auth("none", "x")
+        within(lambda: zk.client_state == KeeperState.AUTH_FAILED and zk.state == KazooState.LOST)
+        with self.assertRaises(exceptions.AuthFailedError):
+            zk.get("/")
+        refused = self.unstarted(auth_data=[("none", "x")])
+        with contextlib.suppress(exceptions.AuthFailedError):
+            refused.start(WAIT)  # the session is accepted first, as in kazoo
+        within(lambda: refused.client_state in (KeeperState.AUTH_FAILED, KeeperState.CLOSED))
+
+    def test_a_policy_for_connections_that_is_used_up(self) -> None:
+        zk = self.client(connection_retry={"max_tries": 2, "delay": 0.01})
+        self.server.do("down")
+        within(lambda: zk.client_state == KeeperState.CLOSED)
+        with self.assertRaises(ConnectionClosedError):
+            zk.get("/")
+        self.server.do("up")
+        zk.start(WAIT)
+        self.assertEqual(zk.get_children("/"), [])
+
+
+class KeywordsTest(KazooCase):
+    def test_what_is_not_done_is_named(self) -> None:
+        keywords: list[tuple[type[Exception], dict[str, Any]]] = [
+            (ConfigurationError, {"sasl_options": {"mechanism": "GSSAPI"}}),
+            (ConfigurationError, {"read_only": True}),
+            (ConfigurationError, {"auth_data": [("sasl", "a:b")]}),
+            (ConfigurationError, {"handler": SequentialThreadingHandler}),
+            (ConfigurationError, {"connection_retry": 7}),
+            (ConfigurationError, {"command_retry": KazooRetry(sleep_func=lambda _: None)}),
+            (TypeError, {"max_retries": 3}),
+            (TypeError, {"retry_delay": 3}),
+        ]
+        for kind, named in keywords:
+            with self.subTest(named), self.assertRaisesRegex(kind, next(iter(named))):
+                self.unstarted(**named)
+        zk = self.client(read_only=False)
+        for name in ("Queue", "Semaphore", "SetPartitioner"):
+            with self.assertRaisesRegex(AttributeError, f"no {name}"):
+                getattr(zk, name)
+        with self.assertRaisesRegex(NotImplementedError, "reconfig"):
+            zk.reconfig("", "", "")
+        with self.assertRaisesRegex(TypeError, "ignore_missing_node"):
+            DataWatch(zk, "/", ignore_missing_node=True)
+
+    def test_tls_by_files(self) -> None:
+        with mock.patch("dirwolleu.kazoo.client.tls_context") as context:
+            zk = KazooClient(use_ssl=True, ca="ca", certfile="c", keyfile="k", keyfile_password="p", verify_certs=False)
+            self.assertIs(zk._tls(), context.return_value)
+        context.assert_called_once_with(
+            ca="ca", certfile="c", keyfile="k", keyfile_password="p", verify_certs=False, check_hostname=False
+        )
+
+    def test_each_dial_goes_through_the_handler(self) -> None:
+        class Handler(SequentialThreadingHandler):
+            asked: list[Any] = []
+
+            def create_connection(self, *args: Any, **kwargs: Any) -> Any:
+                self.asked.append((args, kwargs))
+                return super().create_connection(*args, **kwargs)
+
+        zk = self.client(handler=Handler(), timeout=7.0)
+        port = int(self.server.host.rpartition(":")[2])
+        self.assertEqual(Handler.asked, [((), {"address": ("127.0.0.1", port), "timeout": 7.0})])
+        self.server.do("drop")
+        within(lambda: len(Handler.asked) == 2 and zk.connected)
+
+    def test_the_version_of_a_server(self) -> None:
+        answers = {b"envi": b"not in the whitelist", b"srvr": b"Zookeeper version: 3.8.0-1--1, built on x\nMode: standalone\n"}
+
+        def serve(peer: Peer) -> None:
+            word = peer._take(4)
+            if word in answers:
+                peer.send_bytes(answers[word])
+                return
+            peer._take(int.from_bytes(word, "big"))
+            peer.send(bytes(4) + (6000).to_bytes(4, "big") + (7).to_bytes(8, "big") + (16).to_bytes(4, "big") + bytes(17))
+            peer.take()
+
+        server = self.raw_server(serve)
+        zk = KazooClient(server.host, timeout=6.0)
+        self.addCleanup(zk.stop)
+        zk.start(WAIT)
+        self.assertEqual(zk.server_version(), (3, 8, 0))
+        answers[b"envi"] = b"Environment:\nzookeeper.version=3.4.13-2, built on x\n"
+        self.assertEqual(zk.server_version(), (3, 4, 13))
+        answers.update({b"envi": b"", b"srvr": b""})
+        with self.assertRaises(KazooException):
+            zk.server_version(retries=0)
+
+
+class InternalsTest(KazooCase):
+    """What patroni reaches for."""
+
+    def test_a_client_that_does_not_queue(self) -> None:
+        class Impatient(KazooClient):
+            def _call(self, request: Ask, async_object: AsyncResult) -> Optional[bool]:
+                if self._state == KeeperState.CONNECTING:
+                    async_object.set_exception(SessionExpiredError())
+                    return False
+                return super()._call(request, async_object)
+
+        zk = self.client(kind=Impatient)
+        self.server.do("down")
+        within(lambda: not zk.connected)
+        calls: list[Callable[[], object]] = [
+            lambda: zk.get("/"),
+            lambda: zk.create("/a/b", makepath=True),
+            lambda: zk.ensure_path("/a"),
+            lambda: zk.transaction().commit(),
+        ]
+        for call in calls:
+            with self.assertRaises(SessionExpiredError):
+                call()
+        self.server.do("up")
+        self.assertEqual(zk.retry(zk.get_children, "/"), [])
+
+    def test_a_smaller_read_timeout(self) -> None:
+        zk = self.unstarted(timeout=30.0)
+        connect = zk._connection._connect
+        connection: Any = zk._connection
+        connection._connect = lambda *words: (1000, connect(*words)[1])  # as patroni does
+        zk.start(WAIT)
+        time.sleep(1.7)
+        assert zk._session is not None
+        self.assertEqual((zk.connected, zk._session.stats().connections), (True, 1))
+        self.server.do("mute")
+        begin = time.monotonic()
+        within(lambda: not zk.connected)
+        self.assertLess(time.monotonic() - begin, 5.0)
+        self.server.do("unmute")
+        within(lambda: zk.connected)
+
+    def test_the_socket(self) -> None:
+        zk = self.client()
+        self.assertEqual(zk._connection._socket.getpeername()[1], int(self.server.host.rpartition(":")[2]))
+        identity, states = zk.client_id, list[str]()
+        zk.add_listener(states.append)
+        zk._connection._socket.close()
+        within(lambda: states == ["SUSPENDED", "CONNECTED"])
+        self.assertEqual(zk.client_id, identity)
+
+    def test_the_deadline_of_the_retry(self) -> None:
+        zk = self.client(command_retry=KazooRetry(max_tries=-1, deadline=30.0, max_delay=1))
+        zk._retry.deadline = 0.2
+        with self.assertRaises(RetryFailedError):
+            zk.retry(mock.Mock(side_effect=ConnectionLoss))
+
+
+class WatchesTest(KazooCase):
+    def setUp(self) -> None:
+        super().setUp()
+        self.zk = self.client()
+        self.events: list[WatchedEvent] = []
+
+    def is_watched(self, path: str) -> bool:
+        """Whether a function waits for a watch of this path."""
+        assert self.zk._session is not None
+        return any(key[0] == path and functions for key, functions in list(self.zk._session._engine._watchers.items()))
+
+    def test_watches_fire_once(self) -> None:
+        self.zk.create("/a")
+        self.zk.get("/a", self.events.append)
+        self.zk.exists("/a", self.events.append)
+        self.zk.get_children("/a", self.events.append)
+        self.zk.set("/a", b"x")
+        self.zk.create("/a/b")
+        self.zk.set("/a", b"y")
+        within(lambda: len(self.events) == 2)
+        self.zk.exists("/none", self.events.append)
+        self.zk.create("/none")
+        within(lambda: len(self.events) == 3)
+        self.assertEqual(
+            self.events,
+            [
+                ("CHANGED", "CONNECTED", "/a"),
+                ("CHILD", "CONNECTED", "/a"),
+                ("CREATED", "CONNECTED", "/none"),
+            ],
+        )
+
+    def test_a_watch_ends_with_its_connection(self) -> None:
+        self.zk.create("/a")
+        self.zk.get("/a", self.events.append)
+        self.server.do("drop")
+        within(lambda: self.events == [("NONE", "CONNECTING", None)])
+        within(lambda: self.zk.connected)
+        self.zk.set("/a", b"x")
+        self.zk.get("/a", self.events.append)
+        self.zk.set("/a", b"y")
+        within(lambda: len(self.events) == 2)
+        self.assertEqual(self.events[1:], [("CHANGED", "CONNECTED", "/a")])
+
+    def test_a_watch_may_call_the_client(self) -> None:
+        found: list[Any] = []
+        self.zk.create("/a")
+        self.zk.get("/a", lambda _: found.append(self.zk.get("/a")[0]))
+        self.zk.set("/a", b"x")
+        within(lambda: found == [b"x"])
+
+    def test_data_watch(self) -> None:
+        found: list[Any] = []
+        watch = self.zk.DataWatch("/a")
+
+        @watch
+        def told(data: Any, stat: Any) -> Optional[bool]:
+            found.append((data, None if stat is None else stat.version))
+            return False if data == b"end" else None
+
+        with self.assertRaises(KazooException):
+            watch(told)
+        self.zk.create("/a", b"0")
+        within(lambda: len(found) == 2)
+        self.zk.set("/a", b"1")
+        within(lambda: len(found) == 3)
+        self.server.do("down", "set /a 2", "up")
+        within(lambda: len(found) == 4)
+        self.server.do("expire")
+        within(lambda: not self.zk.connected)
+        within(lambda: self.is_watched("/a"))
+        self.server.do("set /a 3")
+        within(lambda: found[-1] == (b"3", 3))
+        self.zk.set("/a", b"end")
+        within(lambda: found[-1] == (b"end", 4))
+        self.zk.set("/a", b"more")
+        self.zk.sync("/")
+        self.assertEqual(found, [(None, None), (b"0", 0), (b"1", 1), (b"2", 2), (b"3", 3), (b"end", 4)])
+
+    def test_data_watch_with_the_event(self) -> None:
+        found: list[Any] = []
+        self.zk.create("/a")
+        self.zk.DataWatch("/a", lambda data, stat, event: found.append(event))
+        self.zk.delete("/a")
+        within(lambda: found == [None, ("DELETED", "CONNECTED", "/a")])
+
+    def test_a_function_that_fails(self) -> None:
+        with self.assertRaises(ZeroDivisionError), self.assertLogs("dirwolleu.kazoo.recipe.watchers"):
+            self.zk.DataWatch("/a", lambda data, stat: 1 // 0)
+
+    def test_no_function_is_called_with_what_is_not_good(self) -> None:
+        self.zk.create("/a", b"0")
+        marks = iter([Mark.STALE, Mark.STALE, Mark.GOOD])
+        kept = self.zk._kept
+
+        def marked(path: str) -> Optional[Kept]:
+            found = kept(path)
+            mark = next(marks)
+            return None if found is None else Kept(found.path, mark, found.last_zxid, found.stat, found.data, found.has_data)
+
+        found: list[Any] = []
+        with mock.patch.object(self.zk, "_kept", marked), mock.patch.object(self.zk, "get", wraps=self.zk.get) as get:
+            self.zk.DataWatch("/a", lambda data, stat: found.append(data))
+        self.assertEqual((found, get.call_count), ([b"0"], 3))
+
+    def test_children_watch(self) -> None:
+        found: list[Any] = []
+        self.zk.ensure_path("/a")
+        self.zk.ChildrenWatch("/a", lambda names, event: found.append((sorted(names), event and event.type)), send_event=True)
+        self.zk.create("/a/b")
+        within(lambda: len(found) == 2)
+        self.server.do("down", "create /a/c x", "up")
+        within(lambda: len(found) == 3)
+        self.server.do("down")
+        within(lambda: not self.zk.connected)
+        self.server.do("up")
+        within(lambda: self.is_watched("/a"))
+        self.zk.delete("/a/b")
+        within(lambda: len(found) == 4)
+        self.zk.delete("/a", recursive=True)
+        within(lambda: not self.zk.state_listeners)
+        self.assertEqual(found[:4], [([], None), (["b"], "CHILD"), (["b", "c"], None), (["c"], "CHILD")])
+        self.zk.ChildrenWatch("/none", lambda names: found.append(names))
+        self.assertEqual(self.zk.state_listeners, set())
+
+
+class RecipesTest(KazooCase):
+    def setUp(self) -> None:
+        super().setUp()
+        self.one, self.other = self.client(), self.client()
+
+    def in_thread(self, call: Callable[[], Any]) -> list[Any]:
+        """What a call in a thread has brought, once it has returned."""
+        outcome: list[Any] = []
+
+        def run() -> None:
+            try:
+                outcome.append(call())
+            except Exception as error:
+                outcome.append(error)
+
+        threading.Thread(target=run, daemon=True).start()
+        return outcome
+
+    def test_a_lock(self) -> None:
+        first, second = self.one.Lock("/lock", "one"), self.other.Lock("/lock", "other")
+        self.assertTrue(first.acquire())
+        self.assertEqual((first.is_acquired, first.contenders(), first.data), (True, ["one"], b"one"))
+        self.assertRegex(str(first.node), r"^[0-9a-f]{32}__lock__\d{10}$")
+        self.assertFalse(second.acquire(blocking=False))
+        with self.assertRaises(LockTimeout):
+            second.acquire(timeout=0.1)
+        self.assertEqual(first.contenders(), ["one"])
+        self.assertFalse(first.acquire(blocking=False))
+        waits = self.in_thread(second.acquire)
+        within(lambda: first.contenders() == ["one", "other"])
+        self.assertTrue(first.release())
+        self.assertFalse(first.release())
+        within(lambda: waits == [True])
+        waits = self.in_thread(first.acquire)
+        within(lambda: second.contenders() == ["other", "one"])
+        first.cancel()
+        within(lambda: waits)
+        self.assertIsInstance(waits[0], CancelledError)
+        self.assertEqual(second.contenders(), ["other"])
+        second.release()
+        with first:
+            self.assertTrue(first.is_acquired)
+
+    def test_a_lock_is_lost_with_its_session(self) -> None:
+        lock = self.one.Lock("/lock", "one")
+        lock.acquire()
+        self.server.do("drop")
+        within(lambda: not self.one.connected)
+        within(lambda: self.one.connected)
+        self.assertTrue(lock.is_acquired)
+        self.server.do("expire")
+        within(lambda: not lock.is_acquired)
+        self.assertTrue(lock.acquire())
+        self.assertEqual(lock.contenders(), ["one"])
+
+    def test_a_create_whose_answer_is_lost(self) -> None:
+        lock = self.one.Lock("/lock", "one")
+        lock.contenders()
+        create = self.one.create
+
+        def lose(*words: Any, **named: Any) -> Any:
+            create(*words, **named)
+            raise ConnectionLoss
+
+        with mock.patch.object(self.one, "create", lose):
+            self.assertTrue(lock.acquire())
+        self.assertEqual(lock.contenders(), ["one"])
+
+    def test_readers_and_writers(self) -> None:
+        readers = [self.one.ReadLock("/lock", "r1"), self.other.ReadLock("/lock", "r2")]
+        writer = self.one.WriteLock("/lock", "w")
+        self.assertTrue(all(reader.acquire() for reader in readers))
+        self.assertFalse(writer.acquire(blocking=False))
+        waits = self.in_thread(writer.acquire)
+        within(lambda: len(writer.contenders()) == 3)
+        self.assertFalse(self.other.ReadLock("/lock", "late").acquire(blocking=False))
+        for reader in readers:
+            reader.release()
+        within(lambda: waits == [True])
+        writer.release()
+
+    def test_an_election(self) -> None:
+        ran: list[str] = []
+        go_on = threading.Event()
+        elections = [self.one.Election("/election", "one"), self.other.Election("/election", "other")]
+
+        def lead() -> None:
+            ran.append("one")
+            go_on.wait(WAIT)
+
+        first = self.in_thread(lambda: elections[0].run(lead))
+        within(lambda: ran)
+        second = self.in_thread(lambda: elections[1].run(ran.append, "other"))
+        within(lambda: elections[0].contenders() == ["one", "other"])
+        elections[1].cancel()
+        within(lambda: second == [None])
+        go_on.set()
+        within(lambda: first == [None])
+        self.assertEqual(ran, ["one"])
+        with self.assertRaises(ValueError):
+            elections[0].run(None)  # type: ignore[arg-type]
+
+    def test_parties(self) -> None:
+        for make in ("Party", "ShallowParty"):
+            party, other = getattr(self.one, make)("/party", "one"), getattr(self.other, make)("/party", "other")
+            party.join()
+            party.join()
+            other.join()
+            self.assertEqual((sorted(party), len(other), party.participating), (["one", "other"], 2, True))
+            self.assertTrue(party.leave())
+            self.assertFalse(party.leave())
+            self.assertEqual(list(other), ["other"])
+            other.leave()
+
+
+class RetryTest(KazooCase):
+    def setUp(self) -> None: ...
+
+    def test_what_is_called_again(self) -> None:
+        for error, tries in (
+            (ConnectionLoss, 3),
+            (exceptions.OperationTimeoutError, 3),
+            (ForceRetryError, 3),
+            (SessionExpiredError, 3),
+            (ConnectionClosedError, 1),
+            (NoNodeError, 1),
+        ):
+            with self.subTest(error.__name__):
+                function = mock.Mock(side_effect=[error, error, "done"])
+                retry = KazooRetry(max_tries=2, delay=0.001)
+                if tries == 3:
+                    self.assertEqual(retry(function, 1, two=2), "done")
+                else:
+                    self.assertRaises(error, retry, function)
+                self.assertEqual(function.call_count, tries)
+
+    def test_where_it_ends(self) -> None:
+        for tries, retry in (
+            (2, KazooRetry(max_tries=1, delay=0.001)),
+            (1, KazooRetry(max_tries=0)),
+            (1, KazooRetry(max_tries=-1, deadline=0)),
+        ):
+            function = mock.Mock(side_effect=ConnectionLoss)
+            with self.assertRaises(RetryFailedError):
+                retry(function)
+            self.assertEqual(function.call_count, tries)
+        self.assertRaises(SessionExpiredError, KazooRetry(ignore_expire=False), mock.Mock(side_effect=SessionExpiredError))
+        self.assertRaises(InterruptedError, KazooRetry(interrupt=lambda: True), mock.Mock(side_effect=ConnectionLoss))
+
+    def test_pauses(self) -> None:
+        slept: list[float] = []
+        retry = KazooRetry(max_tries=4, delay=1, max_jitter=0, max_delay=3, sleep_func=slept.append)
+        for _ in range(2):
+            with self.assertRaises(RetryFailedError):
+                retry.copy()(mock.Mock(side_effect=ConnectionLoss))
+        self.assertEqual(slept, 2 * [1, 2, 3, 3])
+
+    def test_paths(self) -> None:
+        self.assertEqual(paths.join("/a", "b", "/c", "d"), "/c/d")
+        self.assertEqual([paths.normpath(path) for path in ("//a//b/", "/", "", "a/")], ["/a/b", "/", "", "a"])
+        self.assertEqual((paths.basename("/a/b"), paths.isabs("a"), paths.own_path("a")), ("b", False, "/a"))
+        self.assertRaises(ValueError, paths.normpath, "/a/./b")
+
+
+class DocsTest(KazooCase):
+    def setUp(self) -> None: ...
+
+    def test_prompts(self) -> None:
+        for module in (paths, security):
+            outcome = doctest.testmod(module)
+            self.assertEqual((outcome.failed, outcome.attempted > 0), (0, True))
+
+    def test_each_public_name_says_what_it_is(self) -> None:
+        for module in (client, exceptions, election, lock, party, watchers, threads, retries, states, serialization):
+            for name, found in vars(module).items():
+                if inspect.isclass(found) and found.__module__ == module.__name__ and not name.startswith("_"):
+                    parts = [part for own, part in vars(found).items() if inspect.isfunction(part) and own[0] != "_"]
+                    self.assertTrue(all(part.__doc__ for part in [found, *parts]), name)
+
+
+class InstallTest(KazooCase):
+    def setUp(self) -> None: ...
+
+    def run_program(self, lines: str, *words: str) -> str:
+        with tempfile.NamedTemporaryFile("w", suffix=".py") as program:
+            program.write(lines)
+            program.flush()
+            command = [sys.executable, *(words or ("-m", "dirwolleu.kazoo")), program.name, "word"]
+            done = subprocess.run(command, cwd=CLIENTS / "python", capture_output=True, text=True, timeout=6 * WAIT)
+        self.assertEqual(done.stderr, "")
+        return done.stdout
+
+    def test_a_program_runs_unchanged(self) -> None:
+        lines = (
+            "import sys, kazoo.client, kazoo.recipe.lock\nfrom kazoo.protocol import paths\n"
+            "try:\n    import kazoo.recipe.queue\nexcept ImportError as error:\n    print(error)\n"
+            "print(__name__, sys.argv[1:], kazoo.client.KazooClient.__module__, paths.join('a', 'b'))\n"
+        )
+        printed = self.run_program(lines)
+        self.assertEqual(
+            printed, "No module named 'kazoo.recipe.queue'\n__main__ ['word'] dirwolleu.kazoo.client a/b\n"
+        )
+
+    def test_after_an_import_of_kazoo(self) -> None:
+        lines = (
+            "import sys, types\nsys.path.insert(0, '.')\nimport dirwolleu.kazoo\nsys.modules['kazoo'] = types.ModuleType('kazoo')\n"
+            "try:\n    dirwolleu.kazoo.install()\nexcept ImportError as error:\n    print(error)\n"
+        )
+        self.assertEqual(
+            self.run_program(lines, "-B"), "kazoo was imported before dirwolleu.kazoo.install() was called\n"
+        )
+
+
+if __name__ == "__main__":
+    import unittest
+
+    unittest.main()

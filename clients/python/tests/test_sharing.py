@@ -1,0 +1,333 @@
+"""Tests of shared locks, semaphores, barriers, counters and queues, of both clients, against the partner."""
+
+from __future__ import annotations
+
+import functools
+import queue
+import threading
+import time
+import unittest
+from typing import Any, Callable
+from unittest import mock
+
+from both import AioCase, BothCase
+from support import WAIT, within
+
+from dirwolleu import ConnectionLoss, LockLostError, LockTimeout
+from dirwolleu import _requests as requests
+from dirwolleu._contending import before
+
+
+def in_thread(call: Callable[[], Any]) -> queue.Queue[Any]:
+    """The outcome of a call that a thread makes."""
+    outcome: queue.Queue[Any] = queue.Queue()
+
+    def run() -> None:
+        try:
+            outcome.put(call())
+        except BaseException as error:
+            outcome.put(error)
+
+    threading.Thread(target=run, daemon=True).start()
+    return outcome
+
+
+class SharingRules(BothCase):
+    def setUp(self) -> None:
+        super().setUp()
+        self.server, self.root = self.shared_partner(), self.own_root()
+        self.one, self.other = (self.client(self.server.host + self.root) for _ in range(2))
+        self.one.ensure_path("/")
+
+    def names_below(self, path: str) -> list[str]:
+        return sorted(self.one.get_children(path))
+
+    def test_readers_share_and_a_writer_waits_for_all_of_them(self) -> None:
+        for names in ("curator", "kazoo"):
+            with self.subTest(names):
+                self.check_sharing(functools.partial(self.recipe, names=names), f"/{names}")
+
+    def check_sharing(self, recipe: Any, path: str) -> None:
+        first = recipe("ReadLock", self.one, path, "first").acquire(WAIT)
+        second = recipe("ReadLock", self.other, path, "second").acquire(WAIT)
+        writes = in_thread(lambda: recipe("WriteLock", self.one, path, "writer").acquire(3 * WAIT))
+        within(lambda: len(self.names_below(path)) == 3)
+        with self.assertRaises(LockTimeout):
+            recipe("ReadLock", self.other, path, "late").acquire(0)
+        with self.assertRaises(LockTimeout):
+            recipe("Lock", self.other, path, "late").acquire(0)
+        first.release()
+        time.sleep(0.05)
+        self.assertTrue(writes.empty())
+        second.check()
+        second.release()
+        writer = writes.get(timeout=WAIT)
+        self.assertGreater(writer.token, second.token)
+        reads = in_thread(lambda: recipe("ReadLock", self.other, path).acquire(3 * WAIT))
+        within(lambda: len(self.names_below(path)) == 2)
+        self.assertTrue(reads.empty())
+        writer.release()
+        reads.get(timeout=WAIT).release()
+        self.assertEqual(self.names_below(path), [])
+
+    def test_names_that_others_understand(self) -> None:
+        for name, names, wanted in (
+            ("Lock", "curator", r"_c_[0-9a-f-]{36}-lock-\d{10}"),
+            ("WriteLock", "curator", r"_c_[0-9a-f-]{36}-__WRIT__\d{10}"),
+            ("ReadLock", "curator", r"_c_[0-9a-f-]{36}-__READ__\d{10}"),
+            ("Lock", "kazoo", r"[0-9a-f]{32}__lock__\d{10}"),
+            ("ReadLock", "kazoo", r"[0-9a-f]{32}__rlock__\d{10}"),
+        ):
+            with self.recipe(name, self.one, "/names", names=names) as held:
+                self.assertRegex(held.path, f"^/names/{wanted}$")
+        with self.assertRaises(ValueError):
+            self.recipe("Lock", self.one, "/names", names="others")
+
+    def test_a_lock_is_taken_again_after_the_node_of_an_earlier_session(self) -> None:
+        """A node of this contender that is left of an expired session is not one that holds."""
+        lock = self.recipe("Lock", self.one, "/locks")
+        first = in_thread(lambda: self.recipe("Lock", self.other, "/locks").acquire(3 * WAIT))
+        held = first.get(timeout=WAIT)
+        waits = in_thread(lambda: lock.acquire(3 * WAIT))
+        within(lambda: len(self.names_below("/locks")) == 2)
+        self.server.do("expire")
+        later = waits.get(timeout=3 * WAIT)
+        later.check()
+        self.assertFalse(held.is_held)
+        self.assertEqual(self.one.exists(later.path).ephemeral_owner, self.one.session_id)
+
+    def test_a_semaphore_has_no_more_than_its_leases(self) -> None:
+        taken = [self.recipe("Semaphore", self.one, "/leases", name, 2) for name in ("a", "b")]
+        first, second = (one.acquire(WAIT) for one in taken)
+        third = self.recipe("Semaphore", self.other, "/leases", "c", 2)
+        with self.assertRaises(LockTimeout):
+            third.acquire(0.2)
+        self.assertEqual(sorted(third.lease_holders()), ["a", "b"])
+        waits = in_thread(lambda: third.acquire(3 * WAIT))
+        within(lambda: self.names_below("/leases-__lock__"))
+        time.sleep(0.05)
+        self.assertTrue(waits.empty())
+        first.check()
+        first.release()
+        later = waits.get(timeout=WAIT)
+        within(lambda: not self.names_below("/leases-__lock__"))
+        self.assertEqual(sorted(third.lease_holders()), ["b", "c"])
+        self.one.delete(later.path)
+        within(lambda: not later.is_held)
+        with self.assertRaises(LockLostError):
+            later.check()
+        second.release()
+        with self.assertRaises(ValueError):
+            self.recipe("Semaphore", self.one, "/leases", max_leases=3).acquire(WAIT)
+
+    def test_a_lease_goes_with_its_session(self) -> None:
+        held = self.recipe("Semaphore", self.one, "/leases").acquire(WAIT)
+        waits = in_thread(lambda: self.recipe("Semaphore", self.other, "/leases").acquire(3 * WAIT))
+        within(lambda: self.names_below("/leases-__lock__"))
+        self.server.do("expire")
+        later = waits.get(timeout=3 * WAIT)
+        later.check()
+        self.assertFalse(held.is_held)
+        self.assertEqual(len(self.names_below("/leases")), 1)
+
+    def test_many_take_leases(self) -> None:
+        at_once, most = [0], [0]
+
+        def work(client: Any) -> None:
+            semaphore = self.recipe("Semaphore", client, "/leases", max_leases=3)
+            for _ in range(3):
+                with semaphore:
+                    at_once[0] += 1
+                    most[0] = max(most[0], at_once[0])
+                    time.sleep(0.005)
+                    at_once[0] -= 1
+
+        ends = [in_thread(functools.partial(work, client)) for client in 3 * (self.one, self.other)]
+        for end in ends:
+            self.assertIsNone(end.get(timeout=6 * WAIT))
+        self.assertIn(most[0], (1, 2, 3))
+
+    def test_a_barrier(self) -> None:
+        barrier = self.recipe("Barrier", self.one, "/barrier")
+        self.assertTrue(barrier.wait(0))
+        self.assertFalse(barrier.remove())
+        barrier.create()
+        barrier.create()
+        self.assertFalse(barrier.wait(0.05))
+        waits = in_thread(lambda: self.recipe("Barrier", self.other, "/barrier").wait())
+        time.sleep(0.05)
+        self.server.do("drop")
+        self.assertTrue(waits.empty())
+        self.assertTrue(barrier.remove())
+        self.assertTrue(waits.get(timeout=WAIT))
+
+    def test_a_double_barrier(self) -> None:
+        clients = self.one, self.other, self.one
+        barriers = [self.recipe("DoubleBarrier", client, "/step", 3) for client in clients]
+        self.assertFalse(barriers[0].enter(0.05))
+        self.assertEqual(self.names_below("/step"), [])
+        enters = [in_thread(functools.partial(barrier.enter, 3 * WAIT)) for barrier in barriers[:2]]
+        within(lambda: len(self.names_below("/step")) == 2)
+        time.sleep(0.05)
+        self.assertTrue(all(one.empty() for one in enters))
+        self.assertTrue(barriers[2].enter(WAIT))
+        self.assertEqual([one.get(timeout=WAIT) for one in enters], [True, True])
+        leaves = [in_thread(functools.partial(barrier.leave, 3 * WAIT)) for barrier in barriers[:2]]
+        within(lambda: "ready" not in self.names_below("/step"))
+        self.assertTrue(all(one.empty() for one in leaves))
+        self.assertTrue(barriers[2].leave(WAIT))
+        self.assertEqual([one.get(timeout=WAIT) for one in leaves], [True, True])
+        self.assertEqual(self.names_below("/step"), [])
+
+    def test_a_member_that_expires_comes_again(self) -> None:
+        barriers = [self.recipe("DoubleBarrier", client, "/step", 2) for client in (self.one, self.other)]
+        enters = in_thread(lambda: barriers[0].enter(3 * WAIT))
+        within(lambda: self.one.exists("/step") and len(self.names_below("/step")) == 1)
+        session = self.one.session_id
+        self.server.do("expire")
+        within(lambda: self.one.session_id != session and self.one.connected)
+        within(lambda: self.names_below("/step"))
+        self.assertTrue(barriers[1].enter(3 * WAIT))
+        self.assertTrue(enters.get(timeout=WAIT))
+
+    def test_a_counter(self) -> None:
+        counter = self.recipe("Counter", self.one, "/count")
+        self.assertEqual((counter.get(), counter.add(5), counter.add(-2)), (0, 5, 3))
+        self.assertEqual(counter.change(lambda number: number * 7), 21)
+        self.assertEqual(self.one.get("/count")[0], b"21")
+        share = self.recipe("Counter", self.one, "/share", 1.5)
+        self.assertEqual((share.add(0.25), self.one.get("/share")[0]), (1.75, b"1.75"))
+        self.one.set("/count", b"none")
+        with self.assertRaises(ValueError):
+            counter.get()
+
+    def test_many_change_a_counter(self) -> None:
+        def work(client: Any) -> None:
+            for _ in range(10):
+                self.recipe("Counter", client, "/count").add(1)
+
+        ends = [in_thread(functools.partial(work, client)) for client in 2 * (self.one, self.other)]
+        for end in ends:
+            self.assertIsNone(end.get(timeout=6 * WAIT))
+        self.assertEqual(self.recipe("Counter", self.one, "/count").get(), 40)
+
+    def lossy(self, lost: list[bool]) -> Any:
+        """Has each next request of the kind lose its answer, whether it has happened or not."""
+        ask = self.engine().ask
+
+        def asked(now: int, request: Any, waiter: Any, timeout: Any = None) -> None:
+            if not lost or request not in MADE:
+                ask(now, request, waiter, timeout)
+                return
+            if lost.pop(0):
+                ask(now, request, mock.Mock(begin=lambda: True, done=lambda: False))
+            error = ConnectionLoss()
+            error.path = request.path
+            waiter.set_exception(error)
+
+        return mock.patch.object(self.engine(), "ask", asked)
+
+    def engine(self) -> Any:
+        return getattr(self.one, "_made", self.one)._engine
+
+    def test_a_change_whose_answer_is_lost_happens_once_or_is_said_to_be_open(self) -> None:
+        counter = self.recipe("Counter", self.one, "/count")
+        counter.add(1)
+        with recorded("set"), self.lossy([False]):
+            self.assertEqual(counter.add(1), 2)
+        with recorded("set"), self.lossy([True]), self.assertRaises(ConnectionLoss) as caught:
+            counter.add(1)
+        self.assertTrue(caught.exception.may_have_happened)
+        self.assertEqual(counter.get(), 3)
+
+    def test_an_entry_whose_answer_is_lost_is_there_once(self) -> None:
+        entries = self.recipe("Queue", self.one, "/queue")
+        with recorded("create"), self.lossy([False, False]):
+            entries.put(b"one")
+        with recorded("create"), self.lossy([True]):
+            entries.put(b"two")
+        self.assertEqual((len(entries), entries.get(0), entries.get(0), entries.get(0)), (2, b"one", b"two", None))
+
+    def test_a_queue(self) -> None:
+        entries = self.recipe("Queue", self.one, "/queue")
+        self.assertIsNone(entries.get(0))
+        waits = in_thread(lambda: self.recipe("Queue", self.other, "/queue").get(3 * WAIT))
+        time.sleep(0.05)
+        self.assertTrue(waits.empty())
+        path = entries.put(b"one")
+        self.assertRegex(path, r"^/queue/entry-100-[0-9a-f]{32}-\d{10}$")
+        self.assertEqual(waits.get(timeout=WAIT), b"one")
+        for value, priority in ((b"late", 200), (b"first", 0), (b"a", 100), (b"b", 100)):
+            entries.put(value, priority)
+        self.server.do(f"create {self.root}/queue/entry-100-0000000003 kazoos")
+        self.assertEqual([entries.get(0) for _ in range(5)], [b"first", b"kazoos", b"a", b"b", b"late"])
+        with self.assertRaises(ValueError):
+            entries.put(b"", 1000)
+
+    def test_many_take_each_entry_once(self) -> None:
+        for number in range(20):
+            self.recipe("Queue", self.one, "/queue").put(b"%d" % number)
+        taken: list[Any] = []
+
+        def work(client: Any) -> None:
+            while (data := self.recipe("Queue", client, "/queue").get(0)) is not None:
+                taken.append(int(data))
+
+        ends = [in_thread(functools.partial(work, client)) for client in (self.one, self.other)]
+        for end in ends:
+            self.assertIsNone(end.get(timeout=6 * WAIT))
+        self.assertEqual(sorted(taken), list(range(20)))
+
+
+MADE: list[Any] = []
+
+
+class recorded:
+    """Within it, requests of this name that recipes make are in MADE."""
+
+    def __init__(self, name: str) -> None:
+        make = getattr(requests, name)
+
+        def made(path: str, *words: Any) -> Any:
+            request = make(path, *words)
+            if path.count("/") == 2 or name == "set":
+                MADE.append(request)
+            return request
+
+        self._patch = mock.patch.object(requests, name, made)
+
+    def __enter__(self) -> None:
+        MADE.clear()
+        self._patch.start()
+
+    def __exit__(self, *_: Any) -> None:
+        self._patch.stop()
+
+
+class ThreadsTest(SharingRules):
+    pass
+
+
+class AioTest(AioCase, SharingRules):
+    pass
+
+
+class OrderTest(unittest.TestCase):
+    def test_which_one_is_waited_for(self) -> None:
+        line = ["a-lock-0000000001", "b__rlock__0000000002", "c-__READ__0000000003", "d__lock__0000000004", "e-__READ__0000000005"]
+        line.append("f-__WRIT__0000000006")
+        for own, shares, wanted in (
+            (0, False, None), (1, True, 0), (2, True, 0), (3, False, 2), (4, True, 3), (5, False, 4),
+        ):  # fmt: skip
+            self.assertEqual(before(line[::-1], line[own], shares), None if wanted is None else line[wanted])
+        with self.assertRaises(LookupError):
+            before(line, "g-lock-0000000007", False)
+
+
+def load_tests(loader: unittest.TestLoader, *_: Any) -> unittest.TestSuite:
+    """The rules are no test by themselves."""
+    return unittest.TestSuite(loader.loadTestsFromTestCase(one) for one in (ThreadsTest, AioTest, OrderTest))
+
+
+if __name__ == "__main__":
+    unittest.main()

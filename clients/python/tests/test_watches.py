@@ -1,0 +1,391 @@
+"""Tests of DataWatch, ChildrenWatch, follow_children and fresh, of both clients."""
+
+from __future__ import annotations
+
+import asyncio
+import queue
+import struct
+import threading
+import time
+import unittest
+from typing import Any, Optional
+
+from both import AioCase, Blocking, BothCase
+from support import GET_DATA, WAIT, Peer, data_reply, notice, reply, within
+
+import dirwolleu
+from dirwolleu import KeptChildren, Mark, NoAuthError, State, aio
+
+SYNC, EXISTS = 9, 3
+
+
+class WatchRules(BothCase):
+    def watch(self, client: Any, name: str, path: str, function: Any) -> Any:
+        """A watch by the decorator of the client."""
+        own = client._made if isinstance(client, Blocking) else client
+        return self.made(lambda: getattr(own, name)(path)(function) and None)
+
+    def next_of(self, told: queue.Queue[Any]) -> Any:
+        return told.get(timeout=WAIT)
+
+    def test_data_are_told_with_each_change(self) -> None:
+        partner, told = self.partner(), queue.Queue[Any]()
+        client = self.client(partner.host)
+        self.watch(client, "DataWatch", "/a", lambda data, stat: told.put((data, stat and stat.version)))
+        self.assertEqual(self.next_of(told), (None, None))
+        partner.do("create /a one")
+        self.assertEqual(self.next_of(told), (b"one", 0))
+        partner.do("set /a two")
+        self.assertEqual(self.next_of(told), (b"two", 1))
+        partner.do("down", "set /a three", "up")
+        self.assertEqual(self.next_of(told), (b"three", 2))
+        partner.do("expire", "set /a four")
+        self.assertEqual(self.next_of(told), (b"four", 3))
+        partner.do("drop")
+        within(lambda: client.stats().connections >= 4 and client.connected)
+        partner.do("delete /a")
+        self.assertEqual(self.next_of(told), (None, None))
+
+    def test_children_are_told_with_each_change(self) -> None:
+        partner, told = self.partner(), queue.Queue[list[str]]()
+        client = self.client(partner.host)
+        self.watch(client, "ChildrenWatch", "/a", told.put)
+        self.assertEqual(self.next_of(told), [])
+        partner.do("create /a one")
+        self.assertEqual(self.next_of(told), [])
+        partner.do("create /a/b x")
+        self.assertEqual(self.next_of(told), ["b"])
+        partner.do("set /a two", "expire", "create /a/c x")
+        self.assertEqual(self.next_of(told), ["b", "c"])
+        partner.do("delete /a/b", "delete /a/c", "delete /a")
+        within(lambda: self.next_of(told) == [])
+        self.assertIsNone(client.exists("/a"))
+
+    def test_a_watch_ends(self) -> None:
+        partner, told = self.partner(), queue.Queue[Any]()
+        client = self.client(partner.host)
+
+        def once(data: Optional[bytes], _: Any) -> bool:
+            told.put(data)
+            return data is None
+
+        self.watch(client, "DataWatch", "/a", once)
+        watch = self.recipe("DataWatch", client, "/a", lambda data, stat: told.put(data))
+        self.assertEqual([self.next_of(told), self.next_of(told)], [None, None])
+        partner.do("create /a one")
+        self.assertEqual([self.next_of(told), self.next_of(told)], [b"one", b"one"])
+        partner.do("set /a two")
+        self.assertEqual(self.next_of(told), b"two")
+        watch.stop()
+        partner.do("set /a three")
+        self.assertEqual(client.get("/a")[0], b"three")
+        time.sleep(0.05)
+        self.assertTrue(told.empty())
+        with self.assertRaises(ValueError):
+            watch(told.put)
+        with self.assertRaises(ValueError):
+            self.watch(client, "DataWatch", "no-path", told.put)
+
+    def test_a_function_that_fails_is_logged_and_called_again(self) -> None:
+        partner, told = self.partner(), queue.Queue[Any]()
+        client = self.client(partner.host)
+
+        def fail(data: Optional[bytes], _: Any) -> None:
+            told.put(data)
+            raise LookupError("a fault of the program")
+
+        with self.assertLogs("dirwolleu", "ERROR") as logs:
+            self.watch(client, "DataWatch", "/a", fail)
+            self.assertIsNone(self.next_of(told))
+            partner.do("create /a one")
+            self.assertEqual(self.next_of(told), b"one")
+            within(lambda: len(logs.output) == 2)
+        self.assertIn("LookupError: a fault of the program", logs.output[0])
+
+    def test_what_is_refused_ends_a_watch_and_is_logged(self) -> None:
+        def serve(peer: Peer) -> None:
+            peer.admit()
+            while True:
+                asked = peer.take()
+                peer.send(reply(asked, code=NoAuthError.code if asked.kind == GET_DATA else 0))
+
+        client, told = self.client(self.raw_server(serve).host), queue.Queue[Any]()
+        with self.assertLogs("dirwolleu", "ERROR") as logs:
+            self.watch(client, "DataWatch", "/a", lambda *words: told.put(words))
+            within(lambda: logs.output)
+        self.assertIn("the watch of /a has ended: the node's ACL does not admit this client: /a", logs.output[0])
+        self.assertTrue(told.empty())
+
+    def test_what_is_told_is_good_and_never_older(self) -> None:
+        """A node that is changed all the time, through cuts: each call has what is good, with greater and greater zxids."""
+        partner, told, bad = self.partner(), list[int](), list[Any]()
+        client = self.client(partner.host)
+        own = getattr(client, "_made", client)
+
+        def changed(data: Optional[bytes], stat: Any) -> None:
+            kept = own.kept("/a")
+            if kept is None or kept.stat is None or kept.stat.mzxid < stat.mzxid or told[-1:] > [stat.mzxid]:
+                bad.append((kept, stat))
+            if self.module() is aio and (kept.mark is not Mark.GOOD or kept.data != data):
+                bad.append((kept, data))
+            told.append(stat.mzxid)
+
+        partner.do("create /a 0")
+        self.watch(client, "DataWatch", "/a", changed)
+        for number in range(150):
+            partner.do(f"set /a {number}")
+            if number % 50 == 25:
+                partner.do("drop")
+        last = client.retry(client._made.get if isinstance(client, Blocking) else client.get, "/a")[1].mzxid
+        within(lambda: told[-1:] == [last])
+        self.assertEqual(bad, [])
+
+    def test_an_answer_that_a_notice_overtakes_is_not_told(self) -> None:
+        is_calm = threading.Event()
+
+        def serve(peer: Peer) -> None:
+            peer.admit()
+            while True:
+                asked = peer.take()
+                if asked.kind != GET_DATA:
+                    peer.send(reply(asked))
+                elif is_calm.is_set():
+                    peer.send(data_reply(asked, b"calm"))
+                else:
+                    peer.send(data_reply(asked, b"overtaken"), notice("/a"))
+
+        client, told = self.client(self.raw_server(serve).host), queue.Queue[Any]()
+        self.watch(client, "DataWatch", "/a", lambda data, _: told.put(data))
+        time.sleep(0.2)
+        is_calm.set()
+        self.assertEqual(self.next_of(told), b"calm")
+
+    def test_a_watch_may_begin_before_its_client_and_outlives_a_stop(self) -> None:
+        partner, told = self.partner(), queue.Queue[Any]()
+        client = self.made(lambda: self.module().Client(partner.host, 6.0))
+        self.addCleanup(client.close)
+        self.addCleanup(client.stop)
+        self.watch(client, "DataWatch", "/a", lambda data, _: told.put(data))
+        client.start(WAIT)
+        self.assertIsNone(self.next_of(told))
+        client.stop()
+        partner.do("create /a one")
+        client.start(WAIT)
+        self.assertEqual(self.next_of(told), b"one")
+
+    def test_a_stop_within_a_read_does_not_end_a_watch(self) -> None:
+        reads = list[bytes]()
+
+        def serve(peer: Peer) -> None:
+            peer.admit()
+            while True:
+                asked = peer.take()
+                if asked.kind != GET_DATA:
+                    peer.send(reply(asked))
+                elif len(reads) != 1:
+                    peer.send(data_reply(asked, reads and b"two" or b"one"), *([] if reads else [notice("/a")]))
+                if asked.kind == GET_DATA:
+                    reads.append(b"")
+
+        client, told = self.client(self.raw_server(serve).host, 1.5), queue.Queue[Any]()
+        with self.assertLogs("dirwolleu") as logs:
+            self.watch(client, "DataWatch", "/a", lambda data, _: told.put(data))
+            within(lambda: len(reads) == 2)
+            client.stop()
+            client.start(WAIT)
+            within(lambda: self.next_of(told) == b"two")
+        self.assertNotIn("ERROR", [record.levelname for record in logs.records])
+
+
+class FreshRules(BothCase):
+    def test_what_is_good_after_it_has_each_write_that_was_answered(self) -> None:
+        partner = self.partner()
+        one, other = self.client(partner.host), self.client(partner.host)
+        one.create("/a", b"0")
+        for quorum in (False, True):
+            for number in range(20):
+                one.get("/a", watch=True)
+                written = other.set("/a", b"%d" % number)
+                seen = one.fresh(quorum=quorum, timeout=WAIT)
+                self.assertGreaterEqual(seen, written.mzxid)
+                self.assertGreaterEqual(one.last_zxid, written.mzxid)
+                self.assertIs(one.kept("/a").mark, Mark.STALE)
+
+    def test_it_asks_no_more_than_it_needs(self) -> None:
+        partner = self.partner()
+        client = self.client(partner.host)
+        client.exists("/")
+        before = client.stats().answered
+        client.fresh()
+        self.assertEqual(client.stats().answered - before, 1)  # sync alone: its zxid was seen already
+        self.assertEqual(partner_asks(client, True) - 1, 1)  # the transaction, and a look at its zxid
+
+    def test_it_waits_for_a_zxid_of_the_core(self) -> None:
+        """The answer to sync has a greater zxid than any before: the core is to see it, with the notices before it."""
+        asked_for = list[int]()
+
+        def serve(peer: Peer) -> None:
+            peer.admit()
+            while True:
+                asked = peer.take()
+                asked_for.append(asked.kind)
+                if asked.kind == SYNC:
+                    peer.send(reply(asked, struct.pack(">i", 1) + b"/", zxid=9))
+                elif asked.kind == GET_DATA:
+                    peer.send(data_reply(asked, b"old", zxid=5))
+                elif asked.kind == EXISTS:
+                    peer.send(notice("/a"), reply(asked, code=-101, zxid=9))
+                else:
+                    peer.send(reply(asked))
+
+        client = self.client(self.raw_server(serve).host)
+        client.get("/a", watch=True)
+        self.assertEqual((client.fresh(), client.last_zxid), (9, 9))
+        self.assertEqual((client.kept("/a").mark, client.kept("/a").data), (Mark.STALE, b"old"))
+        self.assertEqual(asked_for, [GET_DATA, SYNC, EXISTS])
+
+    def test_a_root_that_is_not_there(self) -> None:
+        client = self.client(self.partner().host + "/none")
+        client.fresh(quorum=True)
+        client.fresh()
+
+
+def partner_asks(client: Any, quorum: bool) -> int:
+    """How many calls `fresh` makes."""
+    before: int = client.stats().answered
+    client.fresh(quorum=quorum)
+    return int(client.stats().answered) - before
+
+
+class ThreadsWatchTest(WatchRules):
+    pass
+
+
+class AioWatchTest(AioCase, WatchRules):
+    pass
+
+
+class ThreadsFreshTest(FreshRules):
+    pass
+
+
+class AioFreshTest(AioCase, FreshRules):
+    pass
+
+
+class FollowChildrenTest(BothCase):
+    def test_names_and_absence_are_told(self) -> None:
+        partner, told = self.partner(), queue.Queue[KeptChildren]()
+        client = self.client(partner.host)
+        collect(client, told)
+        self.check(partner, told)
+        client.stop()
+
+    def test_names_and_absence_are_told_in_asyncio(self) -> None:
+        partner, told = self.partner(), queue.Queue[KeptChildren]()
+
+        async def run() -> None:
+            async with aio.Client(partner.host) as client:
+                async def collect() -> None:
+                    async for kept in client.follow_children("/a"):
+                        told.put(kept)
+
+                following = asyncio.ensure_future(collect())
+                await asyncio.get_running_loop().run_in_executor(None, self.check, partner, told)
+                following.cancel()
+
+        asyncio.run(run())
+
+    def check(self, partner: Any, told: queue.Queue[KeptChildren]) -> None:
+        kept = told.get(timeout=WAIT)
+        self.assertEqual((kept.exists, kept.names, kept.mark), (False, (), Mark.GOOD))
+        partner.do("create /a x")
+        kept = told.get(timeout=WAIT)
+        self.assertEqual((kept.exists, kept.names), (True, ()))
+        partner.do("create /a/b x")
+        self.assertEqual(told.get(timeout=WAIT).names, ("b",))
+        partner.do("set /a y", "create /a/c x")
+        self.assertEqual(told.get(timeout=WAIT).names, ("b", "c"))
+        partner.do("down", "delete /a/b", "up")
+        self.assertEqual(told.get(timeout=WAIT).names, ("c",))
+        partner.do("expire", "delete /a/c", "delete /a")
+        within(lambda: not told.get(timeout=WAIT).exists)
+
+
+def collect(client: dirwolleu.Client, told: queue.Queue[KeptChildren]) -> None:
+    def run() -> None:
+        for kept in client.follow_children("/a"):
+            told.put(kept)
+
+    threading.Thread(target=run, daemon=True).start()
+
+
+class FutureTest(BothCase):
+    """Calls of more than one request, as futures."""
+
+    def test_plans_are_futures(self) -> None:
+        client = self.client(self.partner().host)
+        self.assertEqual(client.create_async("/a/b/c", b"x", makepath=True).result(WAIT), "/a/b/c")
+        client.ensure_path_async("/a/d").result(WAIT)
+        self.assertEqual(client.create2_async("/e").result(WAIT).stat, client.exists("/e"))
+        client.add_auth_async("digest", "bob:secret").result(WAIT)
+        client.delete_async("/a", recursive=True).result(WAIT)
+        self.assertEqual(client.fresh_async().result(WAIT), client.last_zxid)
+        with self.assertRaises(dirwolleu.NoNodeError):
+            client.create_async("/x/y").result(WAIT)
+        self.assertEqual(client.get_children("/"), ["e"])
+
+    def test_a_plan_whose_client_stops_ends(self) -> None:
+        partner = self.partner()
+        client = self.client(partner.host)
+        partner.do("mute")
+        future = client.ensure_path_async("/a/b")
+        client.stop()
+        with self.assertRaises(dirwolleu.ConnectionClosedError):
+            future.result(WAIT)
+        with self.assertRaises(dirwolleu.ConnectionClosedError):
+            client.ensure_path_async("/a").result(WAIT)
+
+    def test_calls_of_asyncio_are_handed_in_at_once(self) -> None:
+        partner = self.partner()
+
+        async def run() -> None:
+            async with aio.Client(partner.host) as client:
+                futures: list[asyncio.Future[Any]] = [client.create_async("/a", b"x"), client.get_async("/a")]
+                self.assertEqual([await one for one in futures], ["/a", (b"x", await client.exists("/a"))])
+                await client.create_async("/b/c", makepath=True)
+                self.assertEqual(sorted(await client.get_children_async("/")), ["a", "b"])
+                await asyncio.gather(client.delete_async("/b", recursive=True), client.set_async("/a", b"y"))
+                self.assertEqual(await client.sync_async("/a"), "/a")
+                self.assertEqual((await client.exists_async("/b"), (await client.get("/a"))[0]), (None, b"y"))
+
+        asyncio.run(run())
+
+
+class StateTest(BothCase):
+    def test_a_callback_is_not_held_up_by_a_registration(self) -> None:
+        """While there is no connection, the thread of the callbacks goes on."""
+        partner, told = self.partner(), queue.Queue[Any]()
+        client = self.client(partner.host, 20.0)
+        with dirwolleu.Registration(client, "/one", b"x") as registration:
+            self.assertTrue(registration.wait(WAIT))
+            client.add_listener(told.put)
+            partner.do("down", "delete /one")
+            self.assertIs(told.get(timeout=WAIT), State.SUSPENDED)
+            began = time.monotonic()
+            client._tell(told.put, "called")
+            self.assertEqual(told.get(timeout=WAIT), "called")
+            self.assertLess(time.monotonic() - began, 2.0)
+            partner.do("up")
+            within(lambda: client.connected and client.retry(client.exists, "/one"))
+            self.assertTrue(registration.wait(WAIT))
+
+
+def load_tests(loader: unittest.TestLoader, *_: Any) -> unittest.TestSuite:
+    """The rules are no test by themselves."""
+    tests = ThreadsWatchTest, AioWatchTest, ThreadsFreshTest, AioFreshTest, FollowChildrenTest, FutureTest, StateTest
+    return unittest.TestSuite(loader.loadTestsFromTestCase(one) for one in tests)
+
+
+if __name__ == "__main__":
+    unittest.main()

@@ -1,0 +1,53 @@
+//! Whether a session stands first in a directory: for locks and elections.
+
+/// How contenders are named: a name counts where it ends in ten digits, as that of a sequential node does, right after a marker.
+#[derive(Clone, Copy, Debug, PartialEq, Eq)]
+pub struct Markers<'a> {
+    /// That of the session's name.
+    pub own: &'a str,
+    /// Those of the names of rivals, for which it waits.
+    pub against: &'a [&'a str],
+}
+
+/// A session's node in a directory, and the names that were listed there.
+#[derive(Clone, Copy, Debug, PartialEq, Eq)]
+pub struct Contender<'a> {
+    /// The path of the directory.
+    pub directory: &'a str,
+    /// The name of its node there.
+    pub name: &'a str,
+    /// The names that a [`get_children`](crate::Client::get_children) of the directory has brought, asked after that node was made.
+    pub names: &'a [String],
+    /// The zxid of that reply.
+    pub listed: i64,
+    /// How contenders are named.
+    pub markers: Markers<'a>,
+}
+
+/// Whether a session comes first in a directory.
+#[derive(Clone, Debug, PartialEq, Eq, Hash)]
+pub enum Standing {
+    /// First, by this token: the zxid of the transaction that made its node.
+    First {
+        /// The token. Whoever the lock protects refuses a smaller one than it has seen.
+        token: i64,
+    },
+    /// After others: the last rival before it has this name. Watch that node alone, and list again when it is gone.
+    After {
+        /// The name.
+        rival: String,
+    },
+    /// Neither is shown: read the session's node with a watch, or list again.
+    Unsure,
+}
+
+/// Texts, each after its length in four bytes.
+pub(crate) fn spelled<'a>(texts: impl Iterator<Item = &'a str>) -> Vec<u8> {
+    let mut bytes = Vec::new();
+    for text in texts {
+        let length = u32::try_from(text.len()).unwrap_or(u32::MAX);
+        bytes.extend(length.to_be_bytes());
+        bytes.extend(text.as_bytes());
+    }
+    bytes
+}

@@ -1,0 +1,82 @@
+//! All nodes at and below a path, of one moment, and what is still to be read before they are known.
+
+use crate::jute::Reader;
+use crate::node::{DataStat, Side};
+
+/// A node of a [`Subtree`].
+#[derive(Clone, Debug, PartialEq, Eq)]
+pub struct SubtreeNode {
+    /// Its path.
+    pub path: String,
+    /// The data: none where they are null, which is another thing than no bytes.
+    pub data: Option<Vec<u8>>,
+    /// What is known of it.
+    pub stat: DataStat,
+    /// The zxid of the transaction that changed the set of its children last.
+    pub pzxid: i64,
+}
+
+/// All nodes at and below a path, as the servers' history has them at one zxid.
+#[derive(Clone, Debug, PartialEq, Eq)]
+pub struct Subtree {
+    /// That zxid.
+    pub zxid: i64,
+    /// The nodes, each after its parent: that of the path first, and no other node was there.
+    pub nodes: Vec<SubtreeNode>,
+}
+
+/// A read, with a watch, that is lacking before there is a subtree.
+#[derive(Clone, Debug, PartialEq, Eq, Hash)]
+pub struct Lacking {
+    /// The path to read.
+    pub path: String,
+    /// The data, for [`get_data`](crate::Client::get_data), or the children, for [`get_children`](crate::Client::get_children).
+    pub side: Side,
+}
+
+/// All that a reader finds, one after the other.
+fn all<T>(spelled: &[u8], mut read: impl FnMut(&mut Reader<'_>) -> Option<T>) -> Vec<T> {
+    let mut reader = Reader::new(spelled);
+    let mut found = Vec::new();
+    while !reader.is_empty() {
+        found.push(read(&mut reader).expect("the library spells whole records"));
+    }
+    found
+}
+
+fn node(reader: &mut Reader<'_>) -> Option<SubtreeNode> {
+    let path = reader.text()?;
+    let data = match usize::try_from(reader.int()?) {
+        Ok(length) => Some(reader.bytes(length)?),
+        Err(_) => None,
+    };
+    Some(SubtreeNode {
+        path,
+        data,
+        stat: DataStat {
+            czxid: reader.long()?,
+            mzxid: reader.long()?,
+            ctime: reader.long()?,
+            mtime: reader.long()?,
+            version: reader.int()?,
+            ephemeral_owner: reader.long()?,
+            data_length: reader.int()?,
+        },
+        pzxid: reader.long()?,
+    })
+}
+
+/// The nodes that the library has spelled.
+pub(crate) fn nodes_in(spelled: &[u8]) -> Vec<SubtreeNode> {
+    all(spelled, node)
+}
+
+/// The reads that the library has spelled.
+pub(crate) fn lacking_in(spelled: &[u8]) -> Vec<Lacking> {
+    all(spelled, |reader| {
+        Some(Lacking {
+            path: reader.text()?,
+            side: Side::try_from(reader.int()?).ok()?,
+        })
+    })
+}

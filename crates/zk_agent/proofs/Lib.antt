@@ -1,0 +1,3 @@
+pub mod Deadlines
+pub mod Moves
+pub mod Saying

@@ -1,0 +1,19 @@
+use Rattle.std.proofs.Common.{refl}
+use Rattle.zk_agent.specs.Agents.{trail_of, Addressed}
+use Rattle.zk_agent.proofs.Moves.{ok_after, one}
+use Rattle.zk_agent.proofs.agent.Agent.set_addresses.Goals as goal
+
+pub returns-clause-comes : goal.returns-clause-comes
+returns-clause-comes g c =
+    let old = trail_of c.args.self.now c.args.actions.now.items in
+    let between = record old { dialler = c.set_addresses.new.self } in
+    ok_after c.hear.result old between (trail_of c.hear.new.self c.hear.new.actions.items) (one (Addressed c.args.count) old between (
+      record {
+        order = c.in_ok-set_addresses.ensures.order;
+        each = c.in_ok-set_addresses.ensures.each;
+        first = c.in_ok-set_addresses.ensures.first;
+        phase = c.in_ok-set_addresses.ensures.phase;
+        backoff = c.in_ok-set_addresses.ensures.backoff;
+      },
+      refl,
+    )) c.hear.ensures.comes

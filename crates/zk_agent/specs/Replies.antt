@@ -1,0 +1,27 @@
+-- What outputs say of a connection.
+use Rattle.std.specs.Prelude.{ℤ, pos, negsuc, ◌==◌, ◌||◌, ◌&&◌, not, Bool, true, false, List}
+use Rattle.std.specs.List.{list_any}
+use Rattle.zk_conversation.specs.Results.{Refused}
+use Rattle.zk_turns.specs.Turns.{Output, Answer, Replied, ends_connection}
+
+abbrev pub is_reply : Output → Bool
+is_reply (Answer ticket (Replied zxid result)) = true
+is_reply _ = false
+
+-- Whether a server says with this code that the session is not its own: it has expired (-112), or is at another server (-118). negsuc n is
+-- -(n + 1).
+abbrev pub loses_session : (code : ℤ) → Bool
+loses_session (pos n) = false
+loses_session (negsuc n) = (n == 111) || (n == 117)
+
+abbrev pub is_lost : Output → Bool
+is_lost (Answer ticket (Replied zxid (Refused code))) = loses_session code
+is_lost _ = false
+
+-- whether the connection is over with an output
+abbrev pub is_over : Output → Bool
+is_over output = ends_connection output || is_lost output
+
+-- A reply ends a row of failures, except where one says that the session is not the server's own.
+abbrev pub ends_row : List Output → Bool
+ends_row given = list_any is_reply given && not (list_any is_lost given)

@@ -1,0 +1,124 @@
+//! What comes out of an agent.
+
+ghost use Rattle.std.specs.Prelude.{◌≡◌, ◌++◌, ◌∷◌, [], map, OnOk};
+ghost use Rattle.std.specs.List.{filter_map};
+ghost use Rattle.zk_client.specs.Views.{output_view, said};
+ghost use Rattle.zk_agent.specs.Agents.{action_view, due_told, news_told, output_told, told_by};
+
+use std::alloc::{AllocError, Allocator, Global};
+use std::collections::VecDeque;
+use zk_client::{Event, Fault, Output, Side, State};
+use zk_dialler::Due;
+use zk_follow::{News, Refusal};
+
+/// What an agent asks of its program, and what it tells it.
+#[derive(Drop)]
+pub enum Action<A: Allocator = Global> {
+    /// Connect to the address at this place of the program's list. After this many milliseconds the attempt will be given up.
+    Dial {
+        place: usize,
+        within_ms: u64,
+    },
+    /// Close the connection, or give the attempt up. What was not yet sent on it is forgotten.
+    HangUp,
+    /// Write all of these bytes, which are one frame.
+    Send(Vec<u8, A>),
+    /// What was known of a side of the path has ended.
+    Report {
+        path: String<A>,
+        side: Side,
+        event: Event,
+    },
+    /// The state of the session is another one.
+    State(State),
+    /// The connection is given up, for this reason.
+    GivenUp(Fault),
+    /// Another session begins: the one before has expired, with its ephemeral nodes.
+    Renewed,
+    /// What is kept of the subject is good: look it up in the client. It was not good, or its path was reported since that was told last.
+    Shown {
+        ticket: u64,
+    },
+    /// A read of the subject was refused, and not for the reason that was told last. It is read again after a second.
+    Refused {
+        ticket: u64,
+        why: Refusal,
+    },
+}
+
+/// Adds one.
+pub(crate) fn push<A: Allocator>(
+    actions: &mut Vec<Action<A>, A>,
+    action: Action<A>,
+) -> Result<(), AllocError>
+    ensures { OnOk result (told_by actions.new.items ≡ told_by actions.old.items ++ action_view action ∷ []) }
+{
+    actions.push(action).map_err(AllocError::from)
+}
+
+/// Adds what a program is told of what the client says: nothing of the answers to the reads of subjects.
+fn push_output<A: Allocator>(
+    output: Output<A>,
+    actions: &mut Vec<Action<A>, A>,
+) -> Result<(), AllocError>
+    ensures { OnOk result (told_by actions.new.items ≡ told_by actions.old.items ++ filter_map output_told (output_view output ∷ [])) }
+{
+    match output {
+        Output::Send(bytes) => push(actions, Action::Send(bytes)),
+        Output::Answer { .. } => Ok(()),
+        Output::Report { path, side, event } => push(actions, Action::Report { path, side, event }),
+        Output::State(state) => push(actions, Action::State(state)),
+        Output::Drop(fault) => push(actions, Action::GivenUp(fault)),
+    }
+}
+
+/// Adds what a program is told of what the client says, in order.
+pub(crate) fn push_outputs<A: Allocator>(
+    outputs: Vec<Output<A>, A>,
+    actions: &mut Vec<Action<A>, A>,
+) -> Result<(), AllocError>
+    ensures { OnOk result (told_by actions.new.items ≡ told_by actions.old.items ++ filter_map output_told (said outputs.items)) }
+{
+    let mut left = VecDeque::from_vec(outputs);
+    while let Some(output) = left.pop_front() {
+        push_output(output, actions)?;
+    }
+    Ok(())
+}
+
+/// What a program is told of a subject.
+fn action_about<A: Allocator>(ticket: u64, news: News) -> Action<A>
+    ensures { action_view result ≡ news_told (ticket, news) }
+{
+    match news {
+        News::Shown => Action::Shown { ticket },
+        News::Refused(why) => Action::Refused { ticket, why },
+    }
+}
+
+/// Adds what a program is told of subjects, in order.
+pub(crate) fn push_news<A: Allocator>(
+    news: &[(u64, News)],
+    actions: &mut Vec<Action<A>, A>,
+) -> Result<(), AllocError>
+    ensures { OnOk result (told_by actions.new.items ≡ told_by actions.old.items ++ map news_told news.now) }
+{
+    for one in news {
+        push(actions, action_about(one.0, one.1))?;
+    }
+    Ok(())
+}
+
+/// Adds what a program is asked to do about the connection.
+pub(crate) fn push_due<A: Allocator>(
+    due: Option<Due>,
+    actions: &mut Vec<Action<A>, A>,
+) -> Result<(), AllocError>
+    ensures { OnOk result (told_by actions.new.items ≡ told_by actions.old.items ++ due_told due) }
+{
+    match due {
+        Some(Due::Dial { place, within_ms }) => push(actions, Action::Dial { place, within_ms }),
+        Some(Due::GiveUp) => push(actions, Action::HangUp),
+        None => Ok(()),
+    }
+}

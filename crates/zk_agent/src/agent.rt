@@ -1,0 +1,274 @@
+//! The agent.
+
+ghost use Rattle.std.specs.Prelude.{◌≡◌, ◌<ℤ◌, pos};
+
+use crate::action::{Action, push, push_due};
+use crate::input::{Input, heard_moment};
+use crate::moments::first_of_three;
+use std::alloc::{AllocError, Allocator, Global};
+use zk_client::{Client, Path, Side, State};
+use zk_dialler::Dialler;
+use zk_follow::{Follower, Stop};
+
+/// What an agent begins with.
+#[derive(Clone, Copy)]
+pub struct Settings {
+    /// The timeout that each later session asks for, in milliseconds, at least 1. A server may grant another one.
+    pub timeout_ms: i32,
+    /// How many addresses the program's list has.
+    pub addresses: usize,
+    /// What the order of addresses and the pauses are random by: another number in each program.
+    pub seed: u64,
+}
+
+/// A session's agent. Moments are milliseconds of one clock; one below an earlier one counts as the earlier one.
+#[derive(Drop)]
+pub struct Agent<A: Allocator + Copy = Global> {
+    pub(crate) alloc: A,
+    timeout_ms: i32,
+    pub(crate) dialler: Dialler<A>,
+    pub(crate) follower: Follower<A>,
+    latest: u64,
+    heard_at: Option<u64>,
+    ghost asks: { pos 0 <ℤ timeout_ms },
+}
+
+impl<A: Allocator + Copy> Agent<A> {
+    ghost use Rattle.std.specs.Prelude.{◌≡◌, ◌≤◌, ◌<◌, ◌<ℤ◌, ◌≤ℤ◌, ◌^◌, ◌++◌, ◌∷◌, ℕ, true, map, max, length, pos, unsigned_abs, [], None, IfOk, IfSome, OnOk, All};
+    ghost use Rattle.zk_turns.specs.View.{view_at};
+    ghost use Rattle.zk_session.specs.declared.states.State.TheVariants.{Expired};
+    ghost use Rattle.zk_client.specs.Clients.{renewed_start, view_of};
+    ghost use Rattle.zk_dialler.specs.Backoffs.{row_ended};
+    ghost use Rattle.zk_dialler.specs.Dialling.{is_open};
+    ghost use Rattle.zk_follow.specs.Following.{due_again, IsFollowed};
+    ghost use Rattle.zk_agent.specs.Agents.{heard_after, told_by, trail_of, Begins, Comes, HangsUp, NothingAt};
+
+    /// Of a client that has no connection: a new one, or one that takes up a saved session. The first step asks for a connection. An error
+    /// means that memory ran out.
+    pub fn new(alloc: A, client: Client<A>, settings: Settings) -> Result<Agent<A>, AllocError>
+        requires { pos 0 <ℤ settings.timeout_ms }
+        ensures client { IfOk result (λ agent. view_of agent.follower.client ≡ view_of client) }
+        ensures subjects { IfOk result (λ agent. agent.follower.subjects.items ≡ []) }
+        ensures latest { IfOk result (λ agent. agent.latest ≡ 0) }
+        ensures heard { IfOk result (λ agent. agent.heard_at ≡ None) }
+    {
+        Ok(Agent {
+            alloc,
+            timeout_ms: settings.timeout_ms,
+            dialler: Dialler::new(alloc, settings.addresses, settings.seed)?,
+            follower: Follower::new(alloc, client),
+            latest: 0,
+            heard_at: None,
+        })
+    }
+
+    /// The timeout of the session, in milliseconds.
+    pub(crate) fn timeout_ms(&self) -> u32
+        ensures { result ≡ (view_of self.now.follower.client).saved.session.timeout }
+    {
+        self.follower.client().timeout_ms()
+    }
+
+    /// Where the client stands.
+    pub(crate) fn state(&self) -> State
+        ensures { result ≡ (view_of self.now.follower.client).standing.state }
+    {
+        self.follower.client().state()
+    }
+
+    /// The client: what is kept of paths, the state, and what another session can be resumed from.
+    pub fn client(&self) -> &Client<A>
+        ensures { view_of result.now ≡ view_of self.now.follower.client }
+    {
+        self.follower.client()
+    }
+
+    /// The moment at which the server was heard last, on any connection, and none before it was. What is kept and good was so on the
+    /// server at some moment from then on, or was reported after it.
+    pub fn heard_at(&self) -> Option<u64>
+        ensures { result ≡ self.now.heard_at }
+    {
+        self.heard_at
+    }
+
+    /// The first moment at which something is due: at the latest then a step is to be made, by [`Input::Moment`] if nothing else happens. It
+    /// may be past; there is none where nothing will be due.
+    pub fn deadline(&self) -> Option<u64>
+        ensures before { IfSome result (λ first. (moment : ℕ) → moment < 2 ^ 64 → moment < first → NothingAt self.now moment) }
+        ensures due { IfSome result (λ first. ¬ (NothingAt self.now first)) }
+        ensures never { result ≡ None → (moment : ℕ) → moment < 2 ^ 64 → NothingAt self.now moment }
+    {
+        let due = self.follower.client().deadline();
+        let attempt = self.dialler.deadline();
+        let again = self.follower.deadline();
+        first_of_three(due, attempt, again)
+    }
+
+    /// Takes what has happened, noticed at this moment, and gives what is to be done and what there is to tell, in order.
+    ///
+    /// An error means that memory ran out. The agent is of no use then: begin with another one, from what was saved.
+    pub fn step(&mut self, now: u64, input: Input<A>) -> Result<Vec<Action<A>, A>, Stop>
+        ensures comes { IfOk result (λ actions. Comes (trail_of self.old []) (trail_of self.new actions.items)) }
+        ensures followed { OnOk result (All (IsFollowed self.new.latest (view_of self.new.follower.client)) self.new.follower.subjects.items) }
+        ensures latest { OnOk result (self.new.latest ≡ max self.old.latest now) }
+        ensures heard { OnOk result (self.new.heard_at ≡ heard_after (is_open self.old.dialler.phase) (max self.old.latest now) input self.old.heard_at) }
+    {
+        let now = self.latest.max(now);
+        let heard_at = heard_moment(self.dialler.is_open(), now, &input, self.heard_at);
+        let mut actions = Vec::new(self.alloc);
+        self.take(now, input, &mut actions)?;
+        self.renew(&mut actions)?;
+        self.dial(now, &mut actions)?;
+        self.latest = now;
+        self.heard_at = heard_at;
+        Ok(actions)
+    }
+
+    /// Takes what has happened.
+    fn take(
+        &mut self,
+        now: u64,
+        input: Input<A>,
+        actions: &mut Vec<Action<A>, A>,
+    ) -> Result<(), Stop>
+        ensures comes { OnOk result (Comes (trail_of self.old actions.old.items) (trail_of self.new actions.new.items)) }
+        ensures followed { OnOk result (All (IsFollowed now (view_of self.new.follower.client)) self.new.follower.subjects.items) }
+    {
+        match input {
+            Input::Opened => self.open(now, actions),
+            Input::Failed | Input::Cut => self.end(now, actions),
+            Input::Bytes(bytes) => self.bytes(now, bytes, actions),
+            Input::Moment => self.hear(now, zk_client::Input::Now(now), actions),
+            Input::Addresses(count) => self.set_addresses(now, count, actions),
+            Input::Follow { ticket, side, path } => self.follow(now, ticket, side, path, actions),
+            Input::Unfollow { ticket } => self.unfollow(now, ticket, actions),
+        }
+    }
+
+    /// The connection that was asked for is there, or another one, which is hung up.
+    fn open(&mut self, now: u64, actions: &mut Vec<Action<A>, A>) -> Result<(), Stop>
+        ensures comes { OnOk result (Comes (trail_of self.old actions.old.items) (trail_of self.new actions.new.items)) }
+        ensures followed { OnOk result (All (IsFollowed now (view_of self.new.follower.client)) self.new.follower.subjects.items) }
+    {
+        let timeout_ms = self.timeout_ms();
+        if self.dialler.open(timeout_ms, now) {
+            return self.hear(now, zk_client::Input::Opened, actions);
+        }
+        push(actions, Action::HangUp)?;
+        self.end(now, actions)
+    }
+
+    /// The attempt has failed, or the connection is over.
+    fn end(&mut self, now: u64, actions: &mut Vec<Action<A>, A>) -> Result<(), Stop>
+        ensures comes { OnOk result (Comes (trail_of self.old actions.old.items) (trail_of self.new actions.new.items)) }
+        ensures followed { OnOk result (All (IsFollowed now (view_of self.new.follower.client)) self.new.follower.subjects.items) }
+    {
+        let timeout_ms = self.timeout_ms();
+        self.dialler.end(timeout_ms, now);
+        self.hear(now, zk_client::Input::Cut, actions)
+    }
+
+    /// Bytes came. They are of no connection where there is none.
+    fn bytes(
+        &mut self,
+        now: u64,
+        bytes: Vec<u8, A>,
+        actions: &mut Vec<Action<A>, A>,
+    ) -> Result<(), Stop>
+        ensures comes { OnOk result (Comes (trail_of self.old actions.old.items) (trail_of self.new actions.new.items)) }
+        ensures followed { OnOk result (All (IsFollowed now (view_of self.new.follower.client)) self.new.follower.subjects.items) }
+    {
+        if self.dialler.is_open() {
+            return self.hear(now, zk_client::Input::Bytes(bytes), actions);
+        }
+        self.hear(now, zk_client::Input::Now(now), actions)
+    }
+
+    /// Another list of addresses.
+    fn set_addresses(
+        &mut self,
+        now: u64,
+        count: usize,
+        actions: &mut Vec<Action<A>, A>,
+    ) -> Result<(), Stop>
+        ensures comes { OnOk result (Comes (trail_of self.old actions.old.items) (trail_of self.new actions.new.items)) }
+        ensures followed { OnOk result (All (IsFollowed now (view_of self.new.follower.client)) self.new.follower.subjects.items) }
+    {
+        self.dialler.set_addresses(self.alloc, count)?;
+        self.hear(now, zk_client::Input::Now(now), actions)
+    }
+
+    /// A subject is followed.
+    fn follow(
+        &mut self,
+        now: u64,
+        ticket: u64,
+        side: Side,
+        path: Path<A>,
+        actions: &mut Vec<Action<A>, A>,
+    ) -> Result<(), Stop>
+        ensures comes { OnOk result (Comes (trail_of self.old actions.old.items) (trail_of self.new actions.new.items)) }
+        ensures followed { OnOk result (All (IsFollowed now (view_of self.new.follower.client)) self.new.follower.subjects.items) }
+    {
+        self.follower.follow(ticket, side, path)?;
+        self.hear(now, zk_client::Input::Now(now), actions)
+    }
+
+    /// A subject is followed no more.
+    fn unfollow(
+        &mut self,
+        now: u64,
+        ticket: u64,
+        actions: &mut Vec<Action<A>, A>,
+    ) -> Result<(), Stop>
+        ensures comes { OnOk result (Comes (trail_of self.old actions.old.items) (trail_of self.new actions.new.items)) }
+        ensures followed { OnOk result (All (IsFollowed now (view_of self.new.follower.client)) self.new.follower.subjects.items) }
+    {
+        self.follower.unfollow(ticket);
+        self.hear(now, zk_client::Input::Now(now), actions)
+    }
+
+    /// Another session begins.
+    fn begin(&mut self, actions: &mut Vec<Action<A>, A>) -> Result<(), Stop>
+        ensures view { OnOk result (view_of self.new.follower.client ≡ view_at (renewed_start self.old.timeout_ms (view_of self.old.follower.client)) []) }
+        ensures subjects { OnOk result (self.new.follower.subjects.items ≡ map due_again self.old.follower.subjects.items) }
+        ensures dialler { OnOk result (self.new.dialler ≡ record self.old.dialler { backoff = row_ended self.old.dialler.backoff }) }
+        ensures told { OnOk result (told_by actions.new.items ≡ told_by actions.old.items ++ Begins ∷ []) }
+        ensures followed { OnOk result ((now : ℕ) → All (IsFollowed now (view_of self.new.follower.client)) self.new.follower.subjects.items) }
+    {
+        self.follower.renew(self.timeout_ms)?;
+        self.dialler.answered();
+        match push(actions, Action::Renewed) {
+            Ok(()) => Ok(()),
+            Err(_) => Err(Stop::Memory),
+        }
+    }
+
+    /// Whether the session has expired.
+    fn is_expired(&self) -> bool
+        ensures { result ≡ true → (view_of self.now.follower.client).standing.state ≡ Expired }
+    {
+        matches!(self.state(), State::Expired)
+    }
+
+    /// After an expiry another session begins.
+    fn renew(&mut self, actions: &mut Vec<Action<A>, A>) -> Result<(), Stop>
+        ensures comes { OnOk result (Comes (trail_of self.old actions.old.items) (trail_of self.new actions.new.items)) }
+        ensures followed { (now : ℕ) → All (IsFollowed now (view_of self.old.follower.client)) self.old.follower.subjects.items → OnOk result (All (IsFollowed now (view_of self.new.follower.client)) self.new.follower.subjects.items) }
+    {
+        if self.is_expired() {
+            return self.begin(actions);
+        }
+        Ok(())
+    }
+
+    /// Asks for a connection, or gives an attempt up, where its moment has come.
+    fn dial(&mut self, now: u64, actions: &mut Vec<Action<A>, A>) -> Result<(), AllocError>
+        ensures comes { OnOk result (Comes (trail_of self.old actions.old.items) (trail_of self.new actions.new.items)) }
+        ensures follower { self.new.follower ≡ self.old.follower }
+    {
+        let timeout_ms = self.timeout_ms();
+        let due = self.dialler.due(timeout_ms, now);
+        push_due(due, actions)
+    }
+}

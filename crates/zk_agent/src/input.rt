@@ -1,0 +1,50 @@
+//! What goes into an agent.
+
+ghost use Rattle.std.specs.Prelude.{◌≡◌};
+ghost use Rattle.zk_agent.specs.Agents.{heard_after};
+
+use std::alloc::{Allocator, Global};
+use zk_client::{Path, Side};
+
+/// What happens to a session.
+#[derive(Drop)]
+pub enum Input<A: Allocator + Copy = Global> {
+    /// The connection that was asked for is there. One that was not, as where the attempt was given up before, is hung up, and so is the
+    /// one that is there then.
+    Opened,
+    /// The connection that was asked for could not be made.
+    Failed,
+    /// What the connection brings.
+    Bytes(Vec<u8, A>),
+    /// The connection is over: the server closed it, or a read or a write failed.
+    Cut,
+    /// Nothing but the moment.
+    Moment,
+    /// The list of addresses is another one, of this many: they are dialled in a new order. A connection that is there stays.
+    Addresses(usize),
+    /// This subject is followed: the data of the node, or the names of its children. No other subject has or had the ticket.
+    Follow {
+        ticket: u64,
+        side: Side,
+        path: Path<A>,
+    },
+    /// The subject of this ticket is followed no more.
+    Unfollow {
+        ticket: u64,
+    },
+}
+
+/// When the server was heard last, once this has come.
+pub(crate) fn heard_moment<A: Allocator + Copy>(
+    is_open: bool,
+    now: u64,
+    input: &Input<A>,
+    was: Option<u64>,
+) -> Option<u64>
+    ensures { result ≡ heard_after is_open now input.now was }
+{
+    match input {
+        Input::Bytes(_) if is_open => Some(now),
+        _ => was,
+    }
+}

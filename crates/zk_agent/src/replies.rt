@@ -1,0 +1,102 @@
+//! What outputs say of a connection.
+
+ghost use Rattle.std.specs.Prelude.{◌≡◌};
+ghost use Rattle.std.specs.List.{list_any};
+ghost use Rattle.zk_records.specs.Codes.{code_number};
+ghost use Rattle.zk_client.specs.Views.{output_view, said};
+ghost use Rattle.zk_agent.specs.Replies.{ends_row, is_lost, is_over, is_reply, loses_session};
+
+use std::alloc::Allocator;
+use zk_client::{CallResult, Code, Outcome, Output};
+
+/// Whether an output is the reply to a call.
+fn is_reply<A: Allocator>(output: &Output<A>) -> bool
+    ensures { result ≡ is_reply (output_view output.now) }
+{
+    matches!(
+        output,
+        Output::Answer {
+            outcome: Outcome::Replied { .. },
+            ..
+        }
+    )
+}
+
+/// Whether a server says with this code that the session is not its own: it has expired, or is at another server.
+fn loses_session(code: Code) -> bool
+    ensures { result ≡ loses_session (code_number code) }
+{
+    matches!(code.number(), -112 | -118)
+}
+
+/// Whether an output is a reply that says so.
+fn is_lost<A: Allocator>(output: &Output<A>) -> bool
+    ensures { result ≡ is_lost (output_view output.now) }
+{
+    match output {
+        Output::Answer {
+            outcome: Outcome::Replied {
+                result: CallResult::Code(code),
+                ..
+            },
+            ..
+        } => loses_session(*code),
+        _ => false,
+    }
+}
+
+/// Whether the connection is over with an output.
+fn is_over<A: Allocator>(output: &Output<A>) -> bool
+    ensures { result ≡ is_over (output_view output.now) }
+{
+    output.ends_connection() || is_lost(output)
+}
+
+/// Whether one of these is the reply to a call.
+fn is_any_reply<A: Allocator>(outputs: &[Output<A>]) -> bool
+    ensures { result ≡ list_any (λ output. is_reply (output_view output)) outputs.now }
+{
+    outputs.iter().any(|output| is_reply(output))
+}
+
+/// Whether one of these is a reply that says that the session is not the server's own.
+fn is_any_lost<A: Allocator>(outputs: &[Output<A>]) -> bool
+    ensures { result ≡ list_any (λ output. is_lost (output_view output)) outputs.now }
+{
+    outputs.iter().any(|output| is_lost(output))
+}
+
+/// Whether the connection is over with one of these.
+fn is_any_over<A: Allocator>(outputs: &[Output<A>]) -> bool
+    ensures { result ≡ list_any (λ output. is_over (output_view output)) outputs.now }
+{
+    outputs.iter().any(|output| is_over(output))
+}
+
+/// Whether the client says that a call had its reply.
+fn has_reply<A: Allocator>(outputs: &[Output<A>]) -> bool
+    ensures { result ≡ list_any is_reply (said outputs.now) }
+{
+    is_any_reply(outputs)
+}
+
+/// Whether the client says that the session is not the server's own.
+pub(crate) fn has_lost<A: Allocator>(outputs: &[Output<A>]) -> bool
+    ensures { result ≡ list_any is_lost (said outputs.now) }
+{
+    is_any_lost(outputs)
+}
+
+/// Whether the connection is over, by what the client says.
+pub(crate) fn has_end<A: Allocator>(outputs: &[Output<A>]) -> bool
+    ensures { result ≡ list_any is_over (said outputs.now) }
+{
+    is_any_over(outputs)
+}
+
+/// Whether a row of failures ends with what the client says.
+pub(crate) fn ends_row<A: Allocator>(outputs: &[Output<A>]) -> bool
+    ensures { result ≡ ends_row (said outputs.now) }
+{
+    has_reply(outputs) && !has_lost(outputs)
+}

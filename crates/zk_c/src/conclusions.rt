@@ -1,0 +1,131 @@
+//! What follows from several answers together.
+
+ghost use Rattle.std.specs.Prelude.{◌≡◌, Some, None, negsuc};
+ghost use Rattle.zk_client.specs.Clients.{view_of};
+ghost use Rattle.zk_conclusions.specs.Lacks.{HasNoPath};
+ghost use Rattle.zk_conclusions.specs.Subtrees.{HasMoreNodes, IsWholeBelow};
+ghost use Rattle.zk_device.specs.declared.device.Device.{Device};
+ghost use Rattle.zk_device.specs.Kept.{WritesText};
+ghost use Rattle.zk_device.specs.Refused.{RefusesNodes};
+ghost use Rattle.zk_device.specs.Subtrees.{IsLackingText, IsSubtreeText};
+ghost use Rattle.zk_c.specs.Kept.{FindsText};
+ghost use Rattle.zk_c.specs.Stood.{FindsStanding, TellsStands};
+
+use crate::handle::DwClient;
+use crate::taking::{CLOSED, NONE, WAITS, take};
+use std::alloc::Global;
+use zk_device::{Contender, Refusal, Stands};
+
+/// Copies all nodes at and below a path, of which there may be at most `most`, each after its parent, as many bytes of them as there is
+/// room for, and writes how many there are.
+#[unsafe(no_mangle)]
+pub extern "C" fn dw_subtree(
+    alloc: Global,
+    handle: &mut DwClient,
+    path: &[u8],
+    most: usize,
+    out: &mut [u8],
+    count: &mut usize,
+) -> i32
+    ensures closed { handle.old.slot.held ≡ None → result ≡ negsuc 2 }
+    ensures finds { (d : Device) → handle.old.slot.held ≡ Some d → FindsText (RefusesNodes (¬ (IsWholeBelow (view_of d.client).cache path.now)) (HasMoreNodes (view_of d.client).cache path.now most) path.now) (WritesText (IsSubtreeText (view_of d.client) path.now most)) result out.old out.new count.new }
+    ensures same { handle.new.slot.held ≡ handle.old.slot.held }
+{
+    *count = 0;
+    let Some(device) = take(alloc, handle) else {
+        return CLOSED;
+    };
+    let found = device.subtree(alloc, path, most, out);
+    *handle = DwClient::of(device);
+    match found {
+        Ok(length) => {
+            *count = length;
+            0
+        }
+        Err(refusal) => refusal.code(),
+    }
+}
+
+/// Copies the reads that are lacking before there is a subtree of a path with at most `most` nodes, as many bytes of them as there is
+/// room for, and writes how many there are.
+#[unsafe(no_mangle)]
+pub extern "C" fn dw_lacking(
+    alloc: Global,
+    handle: &mut DwClient,
+    path: &[u8],
+    most: usize,
+    out: &mut [u8],
+    count: &mut usize,
+) -> i32
+    ensures closed { handle.old.slot.held ≡ None → result ≡ negsuc 2 }
+    ensures finds { (d : Device) → handle.old.slot.held ≡ Some d → FindsText (RefusesNodes (HasNoPath (view_of d.client).cache path.now) (HasMoreNodes (view_of d.client).cache path.now most) path.now) (WritesText (IsLackingText (view_of d.client).cache path.now most)) result out.old out.new count.new }
+    ensures same { handle.new.slot.held ≡ handle.old.slot.held }
+{
+    *count = 0;
+    let Some(device) = take(alloc, handle) else {
+        return CLOSED;
+    };
+    let found = device.lacking(alloc, path, most, out);
+    *handle = DwClient::of(device);
+    match found {
+        Ok(length) => {
+            *count = length;
+            0
+        }
+        Err(refusal) => refusal.code(),
+    }
+}
+
+// Writes where a session stands, or that nothing is told, and answers the number of it.
+fn write_stands(stands: Result<Stands, Refusal>, token: &mut i64, count: &mut usize) -> i32
+    ensures { TellsStands stands result token.new count.new }
+{
+    (*token, *count) = (0, 0);
+    match stands {
+        Ok(Stands::First(first)) => {
+            *token = first;
+            0
+        }
+        Ok(Stands::After(length)) => {
+            *count = length;
+            WAITS
+        }
+        Ok(Stands::Unsure) => NONE,
+        Err(refusal) => refusal.code(),
+    }
+}
+
+/// Tells whether the session comes first in a directory by its node of this name, by the names of a listing that was answered at a zxid,
+/// and by markers, that of its name first: writes its token where it stands first, and else copies the name of the last rival before it.
+#[unsafe(no_mangle)]
+pub extern "C" fn dw_standing(
+    alloc: Global,
+    handle: &mut DwClient,
+    directory: &[u8],
+    name: &[u8],
+    names: &[u8],
+    listed: i64,
+    markers: &[u8],
+    token: &mut i64,
+    out: &mut [u8],
+    count: &mut usize,
+) -> i32
+    ensures closed { handle.old.slot.held ≡ None → result ≡ negsuc 2 }
+    ensures stands { (d : Device) → handle.old.slot.held ≡ Some d → FindsStanding (view_of d.client) directory.now name.now names.now listed markers.now result token.new out.old out.new count.new }
+    ensures same { handle.new.slot.held ≡ handle.old.slot.held }
+{
+    (*token, *count) = (0, 0);
+    let Some(device) = take(alloc, handle) else {
+        return CLOSED;
+    };
+    let contender = Contender {
+        directory,
+        name,
+        names,
+        listed,
+        markers,
+    };
+    let stands = device.standing(alloc, &contender, out);
+    *handle = DwClient::of(device);
+    write_stands(stands, token, count)
+}

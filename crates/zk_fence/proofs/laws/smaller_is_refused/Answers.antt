@@ -1,0 +1,5 @@
+use Rattle.zk_fence.proofs.Fencing.{smaller_is_refused}
+use Rattle.zk_fence.proofs.laws.smaller_is_refused.Goals as goal
+
+pub returns : goal.returns
+returns c = smaller_is_refused

@@ -1,0 +1,14 @@
+use Rattle.std.proofs.Common.{◌==◌, not, sym, subst}
+use Rattle.std.specs.Prelude.{All}
+use Rattle.std.proofs.lemmas.List.Elements.{All-filter}
+use Rattle.zk_client.specs.Clients.{view_of}
+use Rattle.zk_follow.specs.Following.{IsCounted}
+use Rattle.zk_follow.proofs.follower.Follower.unfollow.Goals as goal
+
+pub invariant_of-self : goal.invariant_of-self
+invariant_of-self g c =
+    let view = view_of c.args.self.now.client in
+    record {
+      counted = subst (All (IsCounted view)) (sym c.remove.ensures)
+          (All-filter (λ subject. not (subject.ticket == c.args.ticket)) (IsCounted view) c.args.self.now.subjects.items c.args.self.now.counted);
+    }

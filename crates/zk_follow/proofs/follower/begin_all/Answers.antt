@@ -1,0 +1,15 @@
+use Rattle.std.proofs.Common.{◌<◌, ◌∙◌, ap, arith, get_or, length, set}
+use Rattle.std.proofs.lemmas.List.{get_or_default}
+use Rattle.std.proofs.lemmas.List.Edits.{map_over_more}
+use Rattle.zk_follow.specs.Following.{due_again}
+use Rattle.zk_follow.proofs.follower.begin_all.Goals as goal
+
+pub loop-subject-preserved : goal.loop-subject-preserved
+loop-subject-preserved g c =
+    let index = c.loop-subject.subject-index in
+    let subjects = c.loop-subject.subjects in
+    let item = get_or subjects index c.subject-item.result in
+    let within : index < length c.args.subjects.now = omega (arith, c.loop-subject-test.true) in
+    let fits : index < length subjects = omega (arith, c.loop-subject-test.true, c.loop-subject.auto.subjects) in
+    ap (set subjects index) c.begin.ensures
+    ∙ map_over_more due_again c.args.subjects.now subjects index item within c.loop-subject.invariant (get_or_default subjects index c.subject-item.result item fits)

@@ -1,0 +1,13 @@
+use Rattle.std.proofs.Common.{◌≡◌, ◌++◌, drop, map, take}
+use Rattle.std.specs.List.{flat_map}
+use Rattle.zk_client.specs.Clients.{view_of}
+use Rattle.zk_client.specs.Views.{said}
+use Rattle.zk_follow.specs.Following.{news_in, told_of}
+use Rattle.zk_follow.proofs.news.tell_all.Given as goal
+
+-- those before were told of, and those after it are as they were
+abbrev pub invariant-loop-subject : goal.invariant-loop-subject
+invariant-loop-subject g l = record {
+  subjects : l.subjects ≡ map (told_of (view_of l.client)) (take l.subject-index l.fn.subjects) ++ drop l.subject-index l.fn.subjects;
+  all : l.all.items ≡ l.fn.all.items ++ flat_map (news_in (view_of l.client) (said l.outputs)) (take l.subject-index l.fn.subjects);
+}

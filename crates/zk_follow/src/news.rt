@@ -1,0 +1,169 @@
+//! What there is to tell of a subject.
+
+ghost use Rattle.std.specs.Prelude.{◌≡◌, ◌++◌, map, OnOk};
+ghost use Rattle.std.specs.List.{flat_map, list_any};
+ghost use Rattle.zk_client.specs.Clients.{view_of};
+ghost use Rattle.zk_client.specs.Views.{output_view, said};
+ghost use Rattle.zk_follow.specs.Following.{is_report_of, is_reported, is_same, news_about, news_in, news_list, told_after, told_of, was_refused, was_shown};
+
+use crate::kept::is_shown;
+use crate::progress::{Progress, Refusal};
+use crate::subject::Subject;
+use std::alloc::{AllocError, Allocator};
+use zk_client::{Client, Output, Path};
+
+/// What there is to tell of a subject.
+#[derive(Clone, Copy)]
+pub enum News {
+    /// What is kept of it is good. It was not, or its path was reported since that was told last.
+    Shown,
+    /// Its read was refused, and not for the reason that was told last.
+    Refused(Refusal),
+}
+
+/// Whether two reasons are one.
+fn is_same(why: Refusal, other: Refusal) -> bool
+    ensures { result ≡ is_same why other }
+{
+    match (why, other) {
+        (Refusal::Code(code), Refusal::Code(other)) => code == other,
+        (Refusal::TooManyWatches, Refusal::TooManyWatches) => true,
+        (Refusal::TooLarge, Refusal::TooLarge) => true,
+        (Refusal::SessionClosed, Refusal::SessionClosed) => true,
+        _ => false,
+    }
+}
+
+/// Whether it was told last that what is kept is good.
+fn was_shown(told: Option<News>) -> bool
+    ensures { result ≡ was_shown told }
+{
+    matches!(told, Some(News::Shown))
+}
+
+/// Whether this reason was told last.
+fn was_refused(why: Refusal, told: Option<News>) -> bool
+    ensures { result ≡ was_refused why told }
+{
+    match told {
+        Some(News::Refused(other)) => is_same(why, other),
+        _ => false,
+    }
+}
+
+/// What there is to tell.
+fn news_about(
+    is_good: bool,
+    is_reported: bool,
+    progress: Progress,
+    told: Option<News>,
+) -> Option<News>
+    ensures { result ≡ news_about is_good is_reported progress told }
+{
+    if is_good {
+        if was_shown(told) && !is_reported {
+            return None;
+        }
+        return Some(News::Shown);
+    }
+    match progress {
+        Progress::Refused { why, .. } => {
+            if was_refused(why, told) {
+                return None;
+            }
+            Some(News::Refused(why))
+        }
+        _ => None,
+    }
+}
+
+/// What was told last, after that.
+fn told_after(is_good: bool, progress: Progress, told: Option<News>) -> Option<News>
+    ensures { result ≡ told_after is_good progress told }
+{
+    if is_good {
+        return Some(News::Shown);
+    }
+    match progress {
+        Progress::Refused { why, .. } => Some(News::Refused(why)),
+        _ => {
+            if was_shown(told) {
+                return None;
+            }
+            told
+        }
+    }
+}
+
+/// Whether an output is a report about a path.
+fn is_report_of<A: Allocator>(path: &Path<A>, output: &Output<A>) -> bool
+    ensures { result ≡ is_report_of path.now (output_view output.now) }
+{
+    match output {
+        Output::Report { path: at, .. } => at.as_str() == path.as_str(),
+        _ => false,
+    }
+}
+
+/// Whether one of the outputs is a report about a path.
+fn is_any_report<A: Allocator>(path: &Path<A>, outputs: &[Output<A>]) -> bool
+    ensures { result ≡ list_any (λ output. is_report_of path.now (output_view output)) outputs.now }
+{
+    outputs.iter().any(|output| is_report_of(path, output))
+}
+
+/// Whether the client has reported a path.
+fn is_reported<A: Allocator>(path: &Path<A>, outputs: &[Output<A>]) -> bool
+    ensures { result ≡ is_reported path.now (said outputs.now) }
+{
+    is_any_report(path, outputs)
+}
+
+/// Adds what there is to tell, if there is something, with the ticket of the subject.
+fn add_news<A: Allocator>(
+    all: &mut Vec<(u64, News), A>,
+    ticket: u64,
+    news: Option<News>,
+) -> Result<(), AllocError>
+    ensures { OnOk result (all.new.items ≡ all.old.items ++ news_list ticket news) }
+{
+    if let Some(news) = news {
+        all.push((ticket, news))?;
+    }
+    Ok(())
+}
+
+impl<A: Allocator + Copy> Subject<A> {
+    /// Adds what there is to tell of the subject, with its ticket. It counts as told from then on.
+    fn tell(
+        &mut self,
+        client: &Client<A>,
+        outputs: &[Output<A>],
+        all: &mut Vec<(u64, News), A>,
+    ) -> Result<(), AllocError>
+        ensures news { OnOk result (all.new.items ≡ all.old.items ++ news_in (view_of client.now) (said outputs.now) self.old) }
+        ensures told { self.new ≡ told_of (view_of client.now) self.old }
+    {
+        let is_good = is_shown(client, self.side, &self.path);
+        let is_reported = is_reported(&self.path, outputs);
+        let news = news_about(is_good, is_reported, self.progress, self.told);
+        self.told = told_after(is_good, self.progress, self.told);
+        add_news(all, self.ticket, news)
+    }
+}
+
+/// Adds what there is to tell of each, with its ticket, in order. These outputs were made since the call before this one.
+pub(crate) fn tell_all<A: Allocator + Copy>(
+    subjects: &mut [Subject<A>],
+    client: &Client<A>,
+    outputs: &[Output<A>],
+    all: &mut Vec<(u64, News), A>,
+) -> Result<(), AllocError>
+    ensures news { OnOk result (all.new.items ≡ all.old.items ++ flat_map (news_in (view_of client.now) (said outputs.now)) subjects.old) }
+    ensures told { OnOk result (subjects.new ≡ map (told_of (view_of client.now)) subjects.old) }
+{
+    for subject in subjects.iter_mut() {
+        subject.tell(client, outputs, all)?;
+    }
+    Ok(())
+}
