@@ -46,12 +46,16 @@ TTL, LOOP_WAIT, RETRY_TIMEOUT = 10, 2, 3
 """What patroni is told, in seconds."""
 TICK, SYNC_LIMIT = 0.5, 20
 """The tick of the servers, by which the end of a session is rounded up, in seconds, and their `syncLimit` in ticks."""
-LATEST = TTL + 2 * TICK + LOOP_WAIT
-"""When the leader's key has to have its next holder at the latest, in seconds after the old one was ended: ZooKeeper ends
-the session of the old one at its ttl, which it rounds up, and patroni looks again in `loop_wait` at the latest.
+LATEST_END = TTL + 2 * TICK + 1
+"""When ZooKeeper has to have ended the session of the old leader at the latest, in seconds after it was hit: it counts the
+ttl in whole ticks.
 
 Servers of ZooKeeper that have lost their leader serve nobody until they have elected another one, and that one counts the
 timeouts of all sessions from then on. So it is in seconds after they serve again, where that is later.
+"""
+LATEST_LOOK = LOOP_WAIT + 0.5 + 1
+"""How much later the other node has to have the leader's key at the latest: patroni looks again half a second after
+`loop_wait` where no watch has woken it.
 """
 PATIENCE = 180.0
 PORTS = (20000, 32000)
@@ -400,7 +404,7 @@ class Found(NamedTuple):
     """Since when there is a leader of the servers: 0 where there was one all the time."""
 
     def is_late(self) -> bool:
-        return self.keyed > LATEST + self.served
+        return self.gone > self.served + LATEST_END or self.keyed > self.gone + LATEST_LOOK
 
     def __str__(self) -> str:
         led = f" (ZooKeeper serves after {self.served:.1f} s)" if self.served else ""
