@@ -10,7 +10,7 @@
 
 #include <sys/epoll.h>
 
-enum { MOST_EVENTS = 1024, LONGEST_WAIT_MS = 180000 };
+enum { MOST_EVENTS = 1024, MOST_DIALS = 100 /* at once: a server's queue of connections has room for 50 */, LONGEST_WAIT_MS = 300000 };
 
 /* A session, what it follows, and what the loop was told of it. */
 struct seat {
@@ -21,7 +21,7 @@ struct seat {
 };
 
 static struct seat *seats;
-static size_t seat_count, connected, seen;
+static size_t seat_count, opened, connected, seen;
 static const char *wanted = "0";
 static int loop;
 
@@ -75,7 +75,7 @@ static short told_by(uint32_t events)
 static uint64_t serve_due(void)
 {
     uint64_t now_ms = dws_now_ms(), first = UINT64_MAX;
-    for (size_t i = 0; i < seat_count; i++) {
+    for (size_t i = 0; i < opened; i++) {
         if (seats[i].due_ms <= now_ms) {
             serve(&seats[i], 0);
         }
@@ -115,16 +115,29 @@ static void wait_for(const size_t *counted, size_t count, const char *what)
     }
 }
 
-static void open_all(const char *server)
+/* Opens as many sessions as may dial now. */
+static void open_some(const char *server)
 {
     static dws_options options;
     options.timeout_ms = TIMEOUT_MS;
     options.told = note;
-    for (size_t i = 0; i < seat_count; i++) {
-        seats[i].asked.fd = -1;
-        seats[i].session = dws_open(server, &options, NULL, 0);
-        if (seats[i].session == NULL) {
+    for (; opened < seat_count && opened - connected < MOST_DIALS; opened++) {
+        seats[opened].asked.fd = -1;
+        seats[opened].session = dws_open(server, &options, NULL, 0);
+        if (seats[opened].session == NULL) {
             fail("a session");
+        }
+    }
+}
+
+static void open_all(const char *server)
+{
+    uint64_t until_ms = dws_now_ms() + LONGEST_WAIT_MS;
+    while (connected < seat_count) {
+        open_some(server);
+        turn(until_ms);
+        if (dws_now_ms() > until_ms) {
+            fail("not all are connected");
         }
     }
 }
@@ -167,7 +180,6 @@ int main(int argc, char **argv)
     }
     struct mark since = mark();
     open_all(argv[1]);
-    wait_for(&connected, seat_count, "not all are connected");
     tell_part("connect", since);
     since = mark();
     follow_all();

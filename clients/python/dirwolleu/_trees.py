@@ -101,6 +101,7 @@ class Tree(_Grown):
         with client.tree("/config") as tree:
             for snapshot in tree.snapshots():
                 print(len(snapshot), "nodes at zxid", snapshot.zxid)
+                tree.close()
     """
 
     def __init__(self, client: _Client, path: str, most: int) -> None:
@@ -148,9 +149,10 @@ class _AsyncClient(Protocol):
 class AsyncTree(_Grown):
     """`dirwolleu.Tree` for asyncio: what `client.tree` of `dirwolleu.aio` gives.
 
-    async with client.tree("/config") as tree:
-        async for snapshot in tree.snapshots():
-            print(len(snapshot), "nodes at zxid", snapshot.zxid)
+        async with client.tree("/config") as tree:
+            async for snapshot in tree.snapshots():
+                print(len(snapshot), "nodes at zxid", snapshot.zxid)
+                tree.close()
     """
 
     def __init__(self, client: _AsyncClient, path: str, most: int, event: Callable[[], Any]) -> None:

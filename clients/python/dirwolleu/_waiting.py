@@ -185,7 +185,9 @@ class Task:
         """There is news. Any thread may say so."""
         self._is_news = True
         if not self._is_told:
-            self._is_told = self._client._tell(self._wake, None)
+            self._is_told = True  # before it is told: the other thread may take it at once
+            if not self._client._tell(self._wake, None):
+                self._is_told = False
 
     def clear(self) -> None:
         self._is_news = False
@@ -203,6 +205,7 @@ class Task:
     def _wake(self, _: object) -> None:
         self._is_told = False
         if self._waits and self._is_news:
+            self._is_news = False
             self._go_on((self._number, None, None))
 
     def _go_on(self, came: tuple[int, Any, Optional[BaseException]]) -> None:

@@ -60,8 +60,9 @@ class Lock(BaseLock[Client, Held]):
 
     The contenders are ephemeral nodes below the path, in the order of their numbers, and each watches the one before it.
     A create whose answer was lost is settled, so that no contender is left which nobody waits for. Whose locks at the
-    same path contend with it is said by `names`: with `"curator"` those of Curator's `InterProcessMutex`, and of kazoo's
-    `Lock(.., extra_lock_patterns=["-lock-"])`; with `"kazoo"` those of kazoo's plain `Lock`.
+    same path contend with it is said by `names`: with `"curator"` those of Curator's `InterProcessMutex`, or of kazoo's
+    `Lock(.., extra_lock_patterns=["-lock-"])`; with `"kazoo"` those of kazoo's plain `Lock`. Curator does not see the
+    nodes of kazoo's locks, so those two do not exclude each other at one path.
 
     A program that was paused, or whose packets are late, can still believe that it holds when another one does. So work
     in small steps, `check` before each, and hand the `token` on. `on_lost` is called once, in the thread of the

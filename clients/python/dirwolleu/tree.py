@@ -43,8 +43,9 @@ class TreeSnapshot(Mapping[str, TreeNode]):
     Each node is after its parent. None is left out: a path at or below the root that is not in it had no node at that zxid. That
     is what the proved core says; that this class shows it is tested.
 
-        port = snapshot["/config/port"].data
-        names = snapshot.children("/config")
+        with client.tree("/config") as tree:
+            snapshot = tree.wait(timeout=10)
+        print(snapshot["/config"].data, snapshot.children("/config"))
     """
 
     __slots__ = ("_children", "_nodes", "root", "zxid")
@@ -78,10 +79,7 @@ class TreeSnapshot(Mapping[str, TreeNode]):
         return tuple(self._children.get(path, ()))
 
     def changed_since(self, earlier: Optional[Mapping[str, TreeNode]]) -> TreeChange:
-        """What differs from an earlier snapshot: all of it is new where that is None.
-
-            for path in snapshot.changed_since(earlier).changed: print(snapshot[path].data)
-        """
+        """What differs from an earlier snapshot: all of it is new where that is None."""
         old = {} if earlier is None else earlier
         return TreeChange(
             tuple(path for path in self if path not in old),

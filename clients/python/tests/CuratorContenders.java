@@ -40,11 +40,16 @@ public final class CuratorContenders {
         for (int number = 0; number < count; number++) {
             ends.add(pool.submit(() -> contenders.contend()));
         }
-        for (Future<Void> end : ends) {
-            end.get();
+        try {
+            for (Future<Void> end : ends) {
+                end.get();
+            }
+            System.out.println("done");
+            System.exit(0);
+        } catch (Exception failed) {
+            failed.printStackTrace();
+            System.exit(1);
         }
-        System.out.println("done");
-        System.exit(0);
     }
 
     private Void contend() throws Exception {

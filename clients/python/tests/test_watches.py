@@ -8,13 +8,16 @@ import struct
 import threading
 import time
 import unittest
-from typing import Any, Optional
+from typing import Any, Callable, Optional
 
 from both import AioCase, Blocking, BothCase
 from support import GET_DATA, WAIT, Peer, data_reply, notice, reply, within
 
 import dirwolleu
 from dirwolleu import KeptChildren, Mark, NoAuthError, State, aio
+from dirwolleu import _requests as requests
+from dirwolleu._steps import Ask, Call, Steps, Wait
+from dirwolleu._waiting import Task
 
 SYNC, EXISTS = 9, 3
 
@@ -320,6 +323,52 @@ def collect(client: dirwolleu.Client, told: queue.Queue[KeptChildren]) -> None:
     threading.Thread(target=run, daemon=True).start()
 
 
+class AtOnce:
+    """A client whose thread of the callbacks is as fast as can be: what it is told it has done before `_tell` returns."""
+
+    def _tell(self, function: Callable[[Any], object], argument: Any) -> bool:
+        function(argument)
+        return True
+
+    def _later(self, seconds: float, function: Callable[[], object]) -> None:
+        function()
+
+    def _hand_in(self, request: Any, waiter: Any, timeout: Optional[float] = None) -> None:
+        waiter.set_result(request)
+
+
+class TaskTest(unittest.TestCase):
+    def test_no_news_is_lost_where_the_other_thread_is_faster(self) -> None:
+        woken = [0]
+
+        def steps(task: Task) -> Steps[None]:
+            while True:
+                yield Wait(None)
+                woken[0] += 1
+
+        task = Task(AtOnce(), steps, lambda *_: None)
+        task.start()
+        begun = woken[0]
+        for number in range(1, 4):
+            task.set()
+            self.assertEqual(woken[0], begun + number)
+
+    def test_steps_are_done_up_to_their_result_or_error(self) -> None:
+        ends: list[Any] = []
+        request = requests.exists("/", None)
+
+        def steps(fails: bool) -> Steps[Any]:
+            found = [(yield request), (yield Ask(request, 1.0)), (yield Call(lambda: 7)), (yield Wait(0.0))]
+            if fails:
+                raise LookupError
+            return found
+
+        for fails in (False, True):
+            Task(AtOnce(), lambda _, fails=fails: steps(fails), lambda *end: ends.append(end)).start()  # type: ignore[misc]
+        self.assertEqual(ends[0], ([request, request, 7, None], None))
+        self.assertIsInstance(ends[1][1], LookupError)
+
+
 class FutureTest(BothCase):
     """Calls of more than one request, as futures."""
 
@@ -383,7 +432,7 @@ class StateTest(BothCase):
 
 def load_tests(loader: unittest.TestLoader, *_: Any) -> unittest.TestSuite:
     """The rules are no test by themselves."""
-    tests = ThreadsWatchTest, AioWatchTest, ThreadsFreshTest, AioFreshTest, FollowChildrenTest, FutureTest, StateTest
+    tests = ThreadsWatchTest, AioWatchTest, ThreadsFreshTest, AioFreshTest, FollowChildrenTest, FutureTest, StateTest, TaskTest
     return unittest.TestSuite(loader.loadTestsFromTestCase(one) for one in tests)
 
 

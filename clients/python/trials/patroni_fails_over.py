@@ -1,4 +1,4 @@
-"""patroni_fails_over.py [--rounds N] [--keep FOLDER]: patroni over dirwolleu.kazoo loses its leader again and again.
+"""patroni_fails_over.py [--rounds N] [--over kazoo]: patroni over dirwolleu.kazoo loses its leader again and again.
 
 Two nodes of patroni with PostgreSQL 15, three servers of ZooKeeper, and a program that writes without end. Each round ends
 the leader in one of four ways, in turn:
@@ -10,8 +10,9 @@ the leader in one of four ways, in turn:
 
 It passes where each round has a new holder of the leader's key in time, no moment had two nodes that take writes, and
 each write that was answered is there at the end (patroni runs with synchronous_mode). It wants the packages zookeeper,
-default-jre-headless, patroni, postgresql-15, python3-kazoo and python3-psycopg2. kazoo itself is the one that looks on.
-Nodes run as the user postgres where this is run by root. All that it starts is on 127.0.0.1, and ends with it.
+default-jre-headless, patroni, postgresql-15, python3-kazoo and python3-psycopg2. kazoo itself is the one that looks on;
+with `--over kazoo` patroni runs over it too, to tell what is whose. Nodes run as the user postgres where this is run by
+root. All that it starts is on 127.0.0.1, and ends with it.
 """
 
 from __future__ import annotations
@@ -38,18 +39,23 @@ from typing import Any, Callable, NamedTuple, Optional
 
 import psycopg2  # type: ignore[import]
 from kazoo.client import KazooClient  # type: ignore[import]
-from kazoo.exceptions import KazooException  # type: ignore[import]
+from kazoo.exceptions import KazooException, NoNodeError  # type: ignore[import]
 from kazoo.handlers.threading import KazooTimeoutError  # type: ignore[import]
 
 TTL, LOOP_WAIT, RETRY_TIMEOUT = 10, 2, 3
 """What patroni is told, in seconds."""
 TICK, SYNC_LIMIT = 0.5, 20
 """The tick of the servers, by which the end of a session is rounded up, in seconds, and their `syncLimit` in ticks."""
-LATEST = TTL + 2 * TICK + 1
-"""When the leader's key has to have its next holder at the latest, in seconds after the old one was ended.
+LATEST_END = TTL + 2 * TICK + 1
+"""When ZooKeeper has to have ended the session of the old leader at the latest, in seconds after it was hit: it counts the
+ttl in whole ticks.
 
 Servers of ZooKeeper that have lost their leader serve nobody until they have elected another one, and that one counts the
 timeouts of all sessions from then on. So it is in seconds after they serve again, where that is later.
+"""
+LATEST_LOOK = LOOP_WAIT + 0.5 + 1
+"""How much later the other node has to have the leader's key at the latest: patroni looks again half a second after
+`loop_wait` where no watch has woken it.
 """
 PATIENCE = 180.0
 PORTS = (20000, 32000)
@@ -388,6 +394,8 @@ class Found(NamedTuple):
     """What a round has brought, in seconds from the end of the leader."""
 
     kind: str
+    gone: float
+    """When its key is gone: ZooKeeper has ended its session."""
     keyed: float
     """When its key has another holder."""
     answered: float
@@ -396,25 +404,25 @@ class Found(NamedTuple):
     """Since when there is a leader of the servers: 0 where there was one all the time."""
 
     def is_late(self) -> bool:
-        return self.keyed > LATEST + self.served
+        return self.gone > self.served + LATEST_END or self.keyed > self.gone + LATEST_LOOK
 
     def __str__(self) -> str:
         led = f" (ZooKeeper serves after {self.served:.1f} s)" if self.served else ""
         late = ", LATE" if self.is_late() else ""
-        return f"{self.kind}{led}: a new leader after {self.keyed:.1f} s, a write after {self.answered:.1f} s{late}"
+        ended = f"the old one is gone after {self.gone:.1f} s"
+        return f"{self.kind}{led}: {ended}, a new leader after {self.keyed:.1f} s, a write after {self.answered:.1f} s{late}"
 
 
 class Trial:
     """The servers, the nodes, and those that look on."""
 
-    def __init__(self, folder: pathlib.Path, stack: contextlib.ExitStack) -> None:
+    def __init__(self, folder: pathlib.Path, program: list[str], stack: contextlib.ExitStack) -> None:
         ports = [free_ports(3) for _ in range(3)]
         self.servers: list[Server] = []
         for number in range(3):
             self.servers.append(Server(folder, number, ports))
             stack.callback(self.servers[-1].kill)
         self.doors = Doors([server.port for server in self.servers])
-        program = [sys.executable, "-m", "dirwolleu.kazoo", "/usr/bin/patroni"]
         self.nodes = [Node(folder, number, self.doors.ports[number], program) for number in (0, 1)]
         for node in self.nodes:
             stack.callback(node.kill)
@@ -426,11 +434,17 @@ class Trial:
         self.eye = 0
         self.lookout, self.writer = Lookout(self.nodes), Writer(self.nodes)
 
-    def text_of(self, name: str) -> str:
-        """What a node of the cluster holds, as a server that is not hit has it: nothing where none answers."""
-        with contextlib.suppress(KazooException, KazooTimeoutError):
+    def text_of(self, name: str) -> Optional[str]:
+        """What a node of the cluster holds, as a server that is not hit has it: nothing where there is none.
+
+        None where the server does not answer.
+        """
+        try:
             return str(self.eyes[self.eye].get_async(f"/service/trial/{name}").get(timeout=1.0)[0].decode())
-        return ""
+        except NoNodeError:
+            return ""
+        except (KazooException, KazooTimeoutError):
+            return None
 
     def leader(self) -> Optional[int]:
         name = self.text_of("leader")
@@ -490,6 +504,8 @@ class Trial:
         else:
             self.nodes[leader].kill()
         service = Service([server for number, server in enumerate(self.servers) if number != hit or "server" not in kind])
+        within("the old leader is gone", lambda: self.text_of("leader") not in (None, self.nodes[leader].name))
+        gone = time.monotonic() - begin
         within("the other node has the leader's key", lambda: self.leader() == other)
         keyed = time.monotonic() - begin
         served = max(service.end() - begin, 0)
@@ -498,7 +514,7 @@ class Trial:
         within("a write is answered", lambda: self.writer.has_written_since(now))
         answered = time.monotonic() - begin
         self.mend(kind, leader, hit)
-        return Found(kind, keyed, answered, served)
+        return Found(kind, gone, keyed, answered, served)
 
     def mend(self, kind: str, leader: int, hit: int) -> None:
         if kind == "server killed":
@@ -533,12 +549,12 @@ def give_package(folder: pathlib.Path) -> None:
     os.environ["PYTHONPATH"] = str(package)
 
 
-def run(folder: pathlib.Path, rounds: int) -> bool:
+def run(folder: pathlib.Path, rounds: int, program: list[str]) -> bool:
     """Whether all went well."""
     give_package(folder)
     stack = contextlib.ExitStack()
     try:
-        trial = Trial(folder, stack)
+        trial = Trial(folder, program, stack)
         trial.begin()
         say("two nodes, three servers, and a program that writes")
         found = []
@@ -569,6 +585,7 @@ def tell(found: list[Found], trial: Trial, lost: list[int]) -> bool:
 def main() -> None:
     parser = argparse.ArgumentParser(description=__doc__, formatter_class=argparse.RawDescriptionHelpFormatter)
     parser.add_argument("--rounds", type=int, default=20)
+    parser.add_argument("--over", choices=["dirwolleu", "kazoo"], default="dirwolleu")
     parser.add_argument("--keep", metavar="FOLDER", help="where logs are put, which else are gone at the end")
     words = parser.parse_args()
     logging.getLogger("kazoo").setLevel(logging.CRITICAL)
@@ -577,7 +594,8 @@ def main() -> None:
     folder.chmod(0o755)
     passed = False
     try:
-        passed = run(folder, words.rounds)
+        beneath = ["-m", "dirwolleu.kazoo"] if words.over == "dirwolleu" else []
+        passed = run(folder, words.rounds, [sys.executable, *beneath, "/usr/bin/patroni"])
     except TrialFailed as failure:
         say(f"failed: {failure}")
     finally:

@@ -373,7 +373,7 @@ impl Client {
         let rival = whole(|room| {
             let found = self.handle.standing(contender, &names, &markers, room)?;
             (code, token) = (found.0, found.1);
-            Ok(found.2)
+            Ok::<_, Fault>(found.2)
         })?;
         Ok(match code {
             result::OK => Standing::First { token },

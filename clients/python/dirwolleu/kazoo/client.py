@@ -483,10 +483,9 @@ class KazooClient:
         """Tells each function that waits for a watch that the connection is over. As in kazoo, it is called no more."""
         session = self._session
         told = WatchedEvent(EventType.NONE, self._state, None)
-        functions = {} if session is None else {watcher.function: None for watcher in session.drop_watchers()}
-        for function in functions:
-            if isinstance(function, Told):
-                self._dispatch(function.function, told)
+        for watcher in () if session is None else session.drop_watchers():
+            if isinstance(watcher.function, Told):
+                self._dispatch(watcher.function.function, told)
 
     def _dispatch(self, function: Callable[[Any], object], event: WatchedEvent) -> None:
         self.handler.dispatch_callback(Callback("watch", function, (event,)))
