@@ -208,7 +208,8 @@ class RealServerTest(unittest.TestCase):
         works += [functools.partial(self.contend_in_thread, one, path, names, shares) for one in clients]
         works += [functools.partial(self.contend_in_asyncio, path, names, shares)]
         if KAZOO is not None and not (shares and curators):
-            works += [functools.partial(self.contend_as_kazoo, path, kazoos, named, shares) for _ in range(6)]
+            # kazoo's ReadLock waits for writers that came after it too, which wait for it: it is left out
+            works += [functools.partial(self.contend_as_kazoo, path, kazoos, named, False) for _ in range(6)]
         if curators and CURATOR:
             works.append(functools.partial(self.contend_as_curator, path, kind, curators))
         self.assertEqual([error for error in in_threads(works) if error is not None], [])
