@@ -427,7 +427,10 @@ class Trial:
         for node in self.nodes:
             stack.callback(node.kill)
         within("three servers serve", lambda: all(server.serves() for server in self.servers))
-        self.eyes = [KazooClient(f"127.0.0.1:{server.port}", timeout=20) for server in self.servers]
+        again = {"max_tries": -1, "max_delay": 0.5}  # else kazoo's pauses double without a bound
+        self.eyes = [
+            KazooClient(f"127.0.0.1:{server.port}", timeout=20, connection_retry=again) for server in self.servers
+        ]
         for eye in self.eyes:
             stack.callback(eye.stop)
             eye.start(30)
