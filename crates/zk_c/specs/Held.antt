@@ -20,6 +20,12 @@ pub record IsClosed (code : ℤ) (held : Option Device) : Type 0 where
   pub told : code ≡ negsuc 2
   pub empty : held ≡ None
 
+-- A handle held nothing, as -3 says: the room is as it was, and the count is 0.
+pub record LeavesRoom (code : ℤ) (room written : List ℕ) (count : ℕ) : Type 0 where
+  pub told : code ≡ negsuc 2
+  pub unwritten : written ≡ room
+  pub none : count ≡ 0
+
 -- A client is made: 0 where the handle holds one that has begun so, and any other number where it holds nothing, for a reason
 -- that this number has.
 abbrev pub Makes : (Refuses : ℤ → Type 0) → Start → ℤ → Option Device → Type 0

@@ -1,4 +1,5 @@
 pub mod Held
 pub mod Kept
+pub mod Lives
 pub mod Owned
 pub mod Stood

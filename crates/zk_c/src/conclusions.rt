@@ -1,6 +1,6 @@
 //! What follows from several answers together.
 
-ghost use Rattle.std.specs.Prelude.{◌≡◌, Some, None, negsuc};
+ghost use Rattle.std.specs.Prelude.{◌≡◌, Some, None, pos};
 ghost use Rattle.zk_client.specs.Clients.{view_of};
 ghost use Rattle.zk_conclusions.specs.Lacks.{HasNoPath};
 ghost use Rattle.zk_conclusions.specs.Subtrees.{HasMoreNodes, IsWholeBelow};
@@ -8,6 +8,7 @@ ghost use Rattle.zk_device.specs.declared.device.Device.{Device};
 ghost use Rattle.zk_device.specs.Kept.{WritesText};
 ghost use Rattle.zk_device.specs.Refused.{RefusesNodes};
 ghost use Rattle.zk_device.specs.Subtrees.{IsLackingText, IsSubtreeText};
+ghost use Rattle.zk_c.specs.Held.{LeavesRoom};
 ghost use Rattle.zk_c.specs.Kept.{FindsText};
 ghost use Rattle.zk_c.specs.Stood.{FindsStanding, TellsStands};
 
@@ -27,7 +28,7 @@ pub extern "C" fn dw_subtree(
     out: &mut [u8],
     count: &mut usize,
 ) -> i32
-    ensures closed { handle.old.slot.held ≡ None → result ≡ negsuc 2 }
+    ensures closed { handle.old.slot.held ≡ None → LeavesRoom result out.old out.new count.new }
     ensures finds { (d : Device) → handle.old.slot.held ≡ Some d → FindsText (RefusesNodes (¬ (IsWholeBelow (view_of d.client).cache path.now)) (HasMoreNodes (view_of d.client).cache path.now most) path.now) (WritesText (IsSubtreeText (view_of d.client) path.now most)) result out.old out.new count.new }
     ensures same { handle.new.slot.held ≡ handle.old.slot.held }
 {
@@ -57,7 +58,7 @@ pub extern "C" fn dw_lacking(
     out: &mut [u8],
     count: &mut usize,
 ) -> i32
-    ensures closed { handle.old.slot.held ≡ None → result ≡ negsuc 2 }
+    ensures closed { handle.old.slot.held ≡ None → LeavesRoom result out.old out.new count.new }
     ensures finds { (d : Device) → handle.old.slot.held ≡ Some d → FindsText (RefusesNodes (HasNoPath (view_of d.client).cache path.now) (HasMoreNodes (view_of d.client).cache path.now most) path.now) (WritesText (IsLackingText (view_of d.client).cache path.now most)) result out.old out.new count.new }
     ensures same { handle.new.slot.held ≡ handle.old.slot.held }
 {
@@ -110,7 +111,7 @@ pub extern "C" fn dw_standing(
     out: &mut [u8],
     count: &mut usize,
 ) -> i32
-    ensures closed { handle.old.slot.held ≡ None → result ≡ negsuc 2 }
+    ensures closed { handle.old.slot.held ≡ None → LeavesRoom result out.old out.new count.new × (token.new ≡ pos 0) }
     ensures stands { (d : Device) → handle.old.slot.held ≡ Some d → FindsStanding (view_of d.client) directory.now name.now names.now listed markers.now result token.new out.old out.new count.new }
     ensures same { handle.new.slot.held ≡ handle.old.slot.held }
 {

@@ -5,7 +5,7 @@ ghost use Rattle.zk_client.specs.Clients.{view_of};
 ghost use Rattle.zk_device.specs.declared.device.Device.{Device};
 ghost use Rattle.zk_device.specs.Kept.{WritesName, WritesNames};
 ghost use Rattle.zk_device.specs.Refused.{RefusesPath};
-ghost use Rattle.zk_c.specs.Held.{Forgets, Holds, IsClosed};
+ghost use Rattle.zk_c.specs.Held.{Forgets, Holds, IsClosed, LeavesRoom};
 ghost use Rattle.zk_c.specs.Kept.{FindsData, FindsNames, FindsText};
 
 use crate::handle::DwClient;
@@ -22,7 +22,7 @@ pub extern "C" fn dw_peek_data(
     kept: &mut KeptData,
     out: &mut [u8],
 ) -> i32
-    ensures closed { handle.old.slot.held ≡ None → result ≡ negsuc 2 }
+    ensures closed { handle.old.slot.held ≡ None → (result ≡ negsuc 2) × (kept.new ≡ kept.old) × (out.new ≡ out.old) }
     ensures finds { (d : Device) → handle.old.slot.held ≡ Some d → FindsData (RefusesPath path.now) ((view_of d.client).cache.nodes path.now) result kept.old kept.new out.old out.new }
     ensures same { handle.new.slot.held ≡ handle.old.slot.held }
 {
@@ -48,7 +48,7 @@ pub extern "C" fn dw_peek_children(
     path: &[u8],
     kept: &mut KeptNames,
 ) -> i32
-    ensures closed { handle.old.slot.held ≡ None → result ≡ negsuc 2 }
+    ensures closed { handle.old.slot.held ≡ None → (result ≡ negsuc 2) × (kept.new ≡ kept.old) }
     ensures finds { (d : Device) → handle.old.slot.held ≡ Some d → FindsNames (RefusesPath path.now) ((view_of d.client).cache.children path.now) result kept.old kept.new }
     ensures same { handle.new.slot.held ≡ handle.old.slot.held }
 {
@@ -77,7 +77,7 @@ pub extern "C" fn dw_peek_name(
     out: &mut [u8],
     count: &mut usize,
 ) -> i32
-    ensures closed { handle.old.slot.held ≡ None → result ≡ negsuc 2 }
+    ensures closed { handle.old.slot.held ≡ None → LeavesRoom result out.old out.new count.new }
     ensures finds { (d : Device) → handle.old.slot.held ≡ Some d → FindsText (RefusesPath path.now) (WritesName index ((view_of d.client).cache.children path.now)) result out.old out.new count.new }
     ensures same { handle.new.slot.held ≡ handle.old.slot.held }
 {
@@ -106,7 +106,7 @@ pub extern "C" fn dw_peek_names(
     out: &mut [u8],
     count: &mut usize,
 ) -> i32
-    ensures closed { handle.old.slot.held ≡ None → result ≡ negsuc 2 }
+    ensures closed { handle.old.slot.held ≡ None → LeavesRoom result out.old out.new count.new }
     ensures finds { (d : Device) → handle.old.slot.held ≡ Some d → FindsText (RefusesPath path.now) (WritesNames ((view_of d.client).cache.children path.now)) result out.old out.new count.new }
     ensures same { handle.new.slot.held ≡ handle.old.slot.held }
 {

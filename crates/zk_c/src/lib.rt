@@ -6,6 +6,7 @@ mod calls;
 mod conclusions;
 mod handle;
 mod kept;
+mod laws;
 mod making;
 mod outputs;
 mod parts;

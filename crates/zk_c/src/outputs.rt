@@ -1,12 +1,12 @@
 //! What a client said at its last step.
 
-ghost use Rattle.std.specs.Prelude.{◌≡◌, ◌++◌, Some, None, drop, length, negsuc, take};
+ghost use Rattle.std.specs.Prelude.{◌≡◌, ◌++◌, Some, None, drop, length, take};
 ghost use Rattle.zk_device.specs.declared.device.Device.{Device};
 ghost use Rattle.zk_device.specs.Kept.{WritesText};
 ghost use Rattle.zk_device.specs.Outputs.{told_name, told_names, told_text, told_words};
 ghost use Rattle.zk_device.specs.Refused.{RefusesMemory};
 ghost use Rattle.zk_device.specs.Texts.{AreTexts};
-ghost use Rattle.zk_c.specs.Held.{Holds, Tells, Writes};
+ghost use Rattle.zk_c.specs.Held.{Holds, IsClosed, LeavesRoom, Tells, Writes};
 ghost use Rattle.zk_c.specs.Kept.{FindsText};
 
 use crate::handle::DwClient;
@@ -17,7 +17,7 @@ use zk_device::{Flat, Refusal, copy_into};
 /// Writes the next output of the last step, as numbers. The one before is over. 1 says that there is none.
 #[unsafe(no_mangle)]
 pub extern "C" fn dw_next(alloc: Global, handle: &mut DwClient, out: &mut Flat) -> i32
-    ensures closed { handle.old.slot.held ≡ None → result ≡ negsuc 2 }
+    ensures closed { handle.old.slot.held ≡ None → IsClosed result handle.new.slot.held × (out.new ≡ out.old) }
     ensures next { (d : Device) → handle.old.slot.held ≡ Some d → Holds handle.new.slot.held (Tells d out.old result out.new) }
 {
     let Some(mut device) = take(alloc, handle) else {
@@ -43,7 +43,7 @@ pub extern "C" fn dw_copy(
     from: usize,
     out: &mut [u8],
 ) -> usize
-    ensures closed { handle.old.slot.held ≡ None → result ≡ 0 }
+    ensures closed { handle.old.slot.held ≡ None → (result ≡ 0) × (out.new ≡ out.old) }
     ensures count { (d : Device) → handle.old.slot.held ≡ Some d → result ≡ length (drop from (told_text d.said.items d.read)) }
     ensures copied { (d : Device) → handle.old.slot.held ≡ Some d → out.new ≡ take (length out.old) (drop from (told_text d.said.items d.read)) ++ drop (length (drop from (told_text d.said.items d.read))) out.old }
     ensures same { handle.new.slot.held ≡ handle.old.slot.held }
@@ -65,7 +65,7 @@ pub extern "C" fn dw_name(
     index: usize,
     out: &mut [u8],
 ) -> usize
-    ensures closed { handle.old.slot.held ≡ None → result ≡ 0 }
+    ensures closed { handle.old.slot.held ≡ None → (result ≡ 0) × (out.new ≡ out.old) }
     ensures count { (d : Device) → handle.old.slot.held ≡ Some d → result ≡ length (told_name index d.said.items d.read) }
     ensures copied { (d : Device) → handle.old.slot.held ≡ Some d → out.new ≡ take (length out.old) (told_name index d.said.items d.read) ++ drop (length (told_name index d.said.items d.read)) out.old }
     ensures same { handle.new.slot.held ≡ handle.old.slot.held }
@@ -87,7 +87,7 @@ pub extern "C" fn dw_names(
     out: &mut [u8],
     count: &mut usize,
 ) -> i32
-    ensures closed { handle.old.slot.held ≡ None → result ≡ negsuc 2 }
+    ensures closed { handle.old.slot.held ≡ None → LeavesRoom result out.old out.new count.new }
     ensures names { (d : Device) → handle.old.slot.held ≡ Some d → FindsText RefusesMemory (WritesText (AreTexts (told_names d.said.items d.read))) result out.old out.new count.new }
     ensures same { handle.new.slot.held ≡ handle.old.slot.held }
 {
@@ -114,7 +114,7 @@ pub extern "C" fn dw_words(
     out: &mut [u8],
     count: &mut usize,
 ) -> i32
-    ensures closed { handle.old.slot.held ≡ None → result ≡ negsuc 2 }
+    ensures closed { handle.old.slot.held ≡ None → LeavesRoom result out.old out.new count.new }
     ensures words { (d : Device) → handle.old.slot.held ≡ Some d → Writes (told_words d.said.items d.read) result out.old out.new count.new }
     ensures same { handle.new.slot.held ≡ handle.old.slot.held }
 {

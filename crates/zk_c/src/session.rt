@@ -8,7 +8,7 @@ ghost use Rattle.zk_client.specs.declared.saved_fault.SavedFault.TheVariants as 
 ghost use Rattle.zk_device.specs.declared.device.Device.{Device};
 ghost use Rattle.zk_device.specs.Refused.{RefusesTimeout};
 ghost use Rattle.zk_device.specs.Sessions.{FirstDue, Renews, put_of, put_start, state_number};
-ghost use Rattle.zk_c.specs.Held.{Holds, IsClosed, Makes, Writes};
+ghost use Rattle.zk_c.specs.Held.{Holds, IsClosed, LeavesRoom, Makes, Writes};
 
 use crate::handle::DwClient;
 use crate::making::hold;
@@ -25,6 +25,7 @@ pub extern "C" fn dw_resume(
     saved: &[u8],
 ) -> i32
     ensures makes { (put : PutAway) → bytes_read saved.now ≡ Ok put → Makes (RefusesTimeout timeout_ms) (put_start timeout_ms put) result handle.new.slot.held }
+    ensures broken { (fault : SavedFault) → bytes_read saved.now ≡ Err fault → (result ≢ pos 0) × (handle.new.slot.held ≡ None) }
     ensures unread { (fault : SavedFault) → bytes_read saved.now ≡ Err fault → fault ≢ saved_faults.Memory → pos 0 <ℤ timeout_ms → result ≡ negsuc 7 }
 {
     *handle = DwClient::closed(alloc);
@@ -92,6 +93,7 @@ pub extern "C" fn dw_timeout_ms(alloc: Global, handle: &mut DwClient) -> i64
 #[unsafe(no_mangle)]
 pub extern "C" fn dw_deadline(alloc: Global, handle: &mut DwClient, first_ms: &mut u64) -> i32
     ensures closed { handle.old.slot.held ≡ None → result ≡ negsuc 2 }
+    ensures unwritten { result ≢ pos 0 → first_ms.new ≡ 0 }
     ensures first { (d : Device) → handle.old.slot.held ≡ Some d → FirstDue (view_of d.client) result first_ms.new }
     ensures same { handle.new.slot.held ≡ handle.old.slot.held }
 {
@@ -118,7 +120,7 @@ pub extern "C" fn dw_saved(
     out: &mut [u8],
     count: &mut usize,
 ) -> i32
-    ensures closed { handle.old.slot.held ≡ None → result ≡ negsuc 2 }
+    ensures closed { handle.old.slot.held ≡ None → LeavesRoom result out.old out.new count.new }
     ensures saved { (d : Device) → handle.old.slot.held ≡ Some d → Writes (saved_bytes (put_of (view_of d.client).saved)) result out.old out.new count.new }
     ensures same { handle.new.slot.held ≡ handle.old.slot.held }
 {

@@ -5,3 +5,4 @@ pub mod Answering
 pub mod Telling
 pub mod Leading
 pub mod Holding
+pub mod Missed

@@ -1,3 +1,4 @@
+pub mod Missed
 pub mod Next
 pub mod Told
 pub mod Leads

@@ -22,6 +22,7 @@ ghost use Rattle.zk_laws.specs.ServerSteps.{ServerStep, Stage, Waiting, Serving,
 ghost use Rattle.zk_laws.specs.Headline.{IsQuietAt};
 ghost use Rattle.zk_laws.specs.Parsed.{IsCutInto};
 ghost use Rattle.zk_receptive.specs.Leads.{IsBehind, awaited};
+ghost use Rattle.zk_receptive.specs.Missed.{ChangesAreReported, NamesAreReported};
 ghost use Rattle.zk_receptive.specs.Next.{headed, notice_payload, IsTellable, stat_value, end_of, Reaches, Awaits, CanTake, IsSendable, zxid_of};
 ghost use Rattle.zk_records.specs.Layouts.{get_data_response, get_children2_response};
 ghost use Rattle.zk_records.specs.Response.{Response, ResponseFits, EndsPayload, response_spelling};
@@ -299,4 +300,12 @@ pub fn servers_hold()
     ensures last_zxid { (h : History) (place : ℕ) (earlier : List Transaction) (last : Transaction) → held h place ≡ earlier ++ last ∷ [] → zxid_held h place ≡ last.zxid }
     ensures last_tree { (h : History) (place : ℕ) (earlier : List Transaction) (last : Transaction) → held h place ≡ earlier ++ last ∷ []
         → tree_held h place ≡ apply_all last.zxid last.time last.changes (after earlier h.first) }
+{}
+
+/// No change is missed. Where all is quiet, an answer that is kept and is not what there is to see in the server's tree is stale: it was good
+/// when a notice ended that, this was reported, and nothing else was reported of that side of the path since.
+#[tactic(auto, using(crate::proofs::Missed::changes, crate::proofs::Missed::names))]
+pub fn no_change_is_missed()
+    ensures nodes { ChangesAreReported }
+    ensures children { NamesAreReported }
 {}
