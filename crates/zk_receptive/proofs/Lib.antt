@@ -6,3 +6,4 @@ pub mod Telling
 pub mod Leading
 pub mod Holding
 pub mod Missed
+pub mod Quiet

@@ -215,11 +215,11 @@ module _ {A : Type 0} (side : Side) (path : Text) (leaves : Question → Result 
   none_since (x ∷ since) notice before answer ended was stays other among =
       elim (among_split (Report path side other) (reports_by x (since ++ notice ∷ before)) (reports_since since (notice ∷ before)) among) [
         | inl here ↦ (
-          let is = (stale_is (since ++ notice ∷ before) answer).1 (record { since = since; notice = notice; before = before; whole = refl; ended = ended; was_good = was; stays = stays.1 }) in
-          let not_good : is_good side path (since ++ notice ∷ before) ≡ false = sym (marks (since ++ notice ∷ before)) ∙ ap is_marked_good is in
-          let is_so : true ≡ false = sym (reported_by path side other x (since ++ notice ∷ before) here) ∙ not_good in
-          absurd cc
-        )
+            let is = (stale_is (since ++ notice ∷ before) answer).1 (record { since = since; notice = notice; before = before; whole = refl; ended = ended; was_good = was; stays = stays.1 }) in
+            let not_good : is_good side path (since ++ notice ∷ before) ≡ false = sym (marks (since ++ notice ∷ before)) ∙ ap is_marked_good is in
+            let is_so : true ≡ false = sym (reported_by path side other x (since ++ notice ∷ before) here) ∙ not_good in
+            absurd cc
+            )
         | inr later ↦ none_since since notice before answer ended was stays.1 other later
       ]
 

@@ -1,9 +1,11 @@
 -- What became of an answer that the servers have changed since.
-use Rattle.std.specs.Prelude.{◌≡◌, ℕ, List, ◌∷◌, ◌++◌, Option, Some}
+use Rattle.std.specs.Prelude.{◌≡◌, ◌<◌, ◌^◌, ℕ, zero, suc, ℤ, true, List, [], ◌∷◌, ◌++◌, length, Option, Some}
 use Rattle.zk_cache.specs.declared.held.Kept.{Kept}
 use Rattle.zk_cache.specs.Kept.{Answer, Names}
+use Rattle.zk_frames.specs.Frame.{frame}
 use Rattle.zk_laws.specs.Headline.{IsQuietAt, tree_of}
-use Rattle.zk_laws.specs.Served.{Entry, IsServing, items_in}
+use Rattle.zk_laws.specs.Messages.{Request}
+use Rattle.zk_laws.specs.Served.{Entry, IsServing, items_in, wire_of}
 use Rattle.zk_laws.specs.Server.{Fits, FitsNames}
 use Rattle.zk_nodes.specs.History.{History, IsHistory, view as to_see}
 use Rattle.zk_nodes.specs.Path.{Text, path_of}
@@ -11,8 +13,11 @@ use Rattle.zk_nodes.specs.declared.side.Side.{Side}
 use Rattle.zk_nodes.specs.declared.side.Side.TheVariants.{Data, Child}
 use Rattle.zk_records.specs.declared.event.Event.{Event}
 use Rattle.zk_rules.specs.Rules.{IsStaleSince}
+use Rattle.zk_serving.specs.Shown.{Shown, Open, Processes}
+use Rattle.zk_serving.specs.Steps.{Step}
+use Rattle.zk_serving.specs.Wires.{StandsFirst, WasServed, is_up}
 use Rattle.zk_turns.specs.Meaning.{Among}
-use Rattle.zk_turns.specs.Past.{Happening, Past, Took, Notifies, Word, kept_data, kept_names, word_data, word_child}
+use Rattle.zk_turns.specs.Past.{Happening, Past, is_talking, Took, Notifies, Word, kept_data, kept_names, word_data, word_child}
 use Rattle.zk_turns.specs.Reported.{reports_in, reports_of}
 use Rattle.zk_turns.specs.Rule.{Stands}
 use Rattle.zk_turns.specs.Sent.{outputs_of}
@@ -42,3 +47,32 @@ abbrev pub NamesAreReported : Type 0
 NamesAreReported = (h : History) (start : Start) (entries : List Entry) (view : View) → IsHistory h → IsServing h start entries → Stands start (items_in entries) view → IsQuietAt h start entries
     → (path : Text) (kept : Kept Names) → view.cache.children path ≡ Some kept → ¬ (FitsNames kept.answer (to_see Child (tree_of h entries) (path_of path)))
     → IsReportedOnce Child path (word_child path) (kept_names path) (past_of start (items_in entries)) (outputs_of (items_in entries)) kept.answer
+
+-- ---- such a place is reached
+
+-- The bytes are the frames of this many payloads.
+abbrev pub AreFrames : ℕ → List ℕ → Type 0
+AreFrames zero bytes = bytes ≡ []
+AreFrames (suc count) bytes = (payload : List ℕ) × (rest : List ℕ) × (length payload < 2 ^ 31) × (bytes ≡ frame payload ++ rest) × AreFrames count rest
+
+-- All is quiet at the end of a schedule of a client with this view, whose server holds the tree of the one that is shown.
+pub record IsQuietPlace (view : View) (shown : Shown) : Type 0 where
+  pub start : Start
+  pub entries : List Entry
+  pub stands : Stands start (items_in entries) view
+  pub serving : IsServing shown.history start entries
+  pub quiet : IsQuietAt shown.history start entries
+  pub place : (wire_of shown.history entries).server ≡ shown.server
+
+-- The requests that wait are so many frames, and each that a server in memory processes is one of them. Where none is left, and the client has
+-- received all bytes and holds no half frame, all is quiet.
+abbrev pub RequestsAreFrames : Type 0
+RequestsAreFrames = (view : View) (shown : Shown) → WasServed view shown → is_up view ≡ true → shown.phase ≡ Open → (count : ℕ) × AreFrames count shown.requests
+
+abbrev pub OneIsLess : Type 0
+OneIsLess = (count : ℕ) (request : Request) (xid : ℤ) (payload rest : List ℕ) (steps : List Step) (old new : Shown) → AreFrames (suc count) old.requests
+    → StandsFirst request xid payload rest old.requests → Processes request xid payload steps old new → new.phase ≡ Open → AreFrames count new.requests
+
+abbrev pub QuietAtLast : Type 0
+QuietAtLast = (view : View) (shown : Shown) → WasServed view shown → is_up view ≡ true → is_talking view.standing.state ≡ true → shown.phase ≡ Open
+    → AreFrames 0 shown.requests → shown.output ≡ [] → view.held ≡ [] → IsQuietPlace view shown

@@ -22,7 +22,7 @@ ghost use Rattle.zk_laws.specs.ServerSteps.{ServerStep, Stage, Waiting, Serving,
 ghost use Rattle.zk_laws.specs.Headline.{IsQuietAt};
 ghost use Rattle.zk_laws.specs.Parsed.{IsCutInto};
 ghost use Rattle.zk_receptive.specs.Leads.{IsBehind, awaited};
-ghost use Rattle.zk_receptive.specs.Missed.{ChangesAreReported, NamesAreReported};
+ghost use Rattle.zk_receptive.specs.Missed.{ChangesAreReported, NamesAreReported, OneIsLess, QuietAtLast, RequestsAreFrames};
 ghost use Rattle.zk_receptive.specs.Next.{headed, notice_payload, IsTellable, stat_value, end_of, Reaches, Awaits, CanTake, IsSendable, zxid_of};
 ghost use Rattle.zk_records.specs.Layouts.{get_data_response, get_children2_response};
 ghost use Rattle.zk_records.specs.Response.{Response, ResponseFits, EndsPayload, response_spelling};
@@ -308,4 +308,13 @@ pub fn servers_hold()
 pub fn no_change_is_missed()
     ensures nodes { ChangesAreReported }
     ensures children { NamesAreReported }
+{}
+
+/// Servers in memory reach such a place in as many steps as requests wait. These are so many frames (`count`), each that is processed is one
+/// of them (`less`), and where none is left and the client has received all bytes, all is quiet (`quiet`).
+#[tactic(auto, using(crate::proofs::Quiet::quiet_at_last))]
+pub fn quiet_is_reached()
+    ensures count { RequestsAreFrames }
+    ensures less { OneIsLess }
+    ensures quiet { QuietAtLast }
 {}
