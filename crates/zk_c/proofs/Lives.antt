@@ -1,10 +1,10 @@
 -- The whole life of a handle, use by use.
-use Rattle.std.proofs.Common.{◌≡◌, ◌++◌, ℕ, zero, suc, ℤ, pos, negsuc, List, [], ◌∷◌, Option, Some, None, refl, sym, ap, subst, ◌∙◌}
-use Rattle.std.specs.Prelude.{Result, Ok, Err, IsSome, IfSome, unsigned_abs, ◌⊎◌}
-use Rattle.zk_turns.specs.Turns.{Input, Now, Item, Turned, Halts, Output, Start, new_start}
+use Rattle.std.proofs.Common.{◌≡◌, ℕ, zero, suc, ℤ, pos, negsuc, List, [], ◌∷◌, Option, Some, None, inl, inr, refl, sym, ap, subst, ◌∙◌}
+use Rattle.std.specs.Prelude.{Result, Ok, Err, IfSome, unsigned_abs}
+use Rattle.zk_turns.specs.Turns.{Input, Now, Item, Turn, Turned, Halts, Output, Start, new_start}
 use Rattle.zk_turns.specs.Turns as turns
 use Rattle.zk_turns.specs.View.{View, view_at}
-use Rattle.zk_turns.specs.Rule.{Rule, RuleAt, Stands, HaltsAs, HaltsAt, forgotten}
+use Rattle.zk_turns.specs.Rule.{Stands, HaltsAt, forgotten}
 use Rattle.zk_turns.proofs.Stepped.{one_turn, halt_stands}
 use Rattle.zk_client.specs.Clients.{renewed_start, view_of}
 use Rattle.zk_client.specs.SavedSessions.{PutAway, bytes_read}
@@ -106,7 +106,7 @@ module _ (Earlier : Past_of) where
       (s.0, Halts ∷ s.1, (s.1, s.2, inl refl), halt_stands s.0 s.1 (view_of old.client) (view_of device.client) s.3 at_once)
   halted_by moment old device stood (inr later) =
       let s = stood old refl in
-      let turn = record { input = Now moment; outputs = later.0 } in (
+      let turn : Turn = record { input = Now moment; outputs = later.0 } in (
         s.0,
         Halts ∷ Turned turn ∷ s.1,
         (s.1, s.2, inr (later.0, refl)),
@@ -131,7 +131,7 @@ module _ (Earlier : Past_of) where
   ticks moment (pos zero) (Some old) after stood does device is =
       let s = stood old refl in
       let told = in_held (step.Ticks moment old (pos zero)) device after does is in
-      let turn = record { input = Now moment; outputs = said device.said.items } in
+      let turn : Turn = record { input = Now moment; outputs = said device.said.items } in
       (s.0, Turned turn ∷ s.1, (s.1, s.2, (device, is, refl)), one_turn s.0 s.1 (view_of old.client) (view_of device.client) turn s.3 told.rule)
   ticks moment (negsuc zero) (Some old) after stood does device is =
       halted_by moment old device stood (in_held (step.Ticks moment old (negsuc zero)) device after does is).halts
@@ -167,7 +167,7 @@ module _ (Earlier : Past_of) where
 
 stands : (uses : List Used) → IsLife uses → StandsIn (Came uses) (held_after uses)
 stands [] lived device is = absurd (let e : None ≡ Some device = is in cc)
-stands (used ∷ earlier) lived = one (Came earlier) used.use_of (held_after earlier) used.held (stands earlier lived.1) lived.0
+stands (used ∷ earlier) lived device is = one (Came earlier) used.use_of (held_after earlier) used.held (stands earlier lived.1) lived.0 device is
 
 pub holds_for_life : HoldsForLife
 holds_for_life uses device lived is =

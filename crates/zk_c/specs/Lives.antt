@@ -1,5 +1,5 @@
 -- The whole life of a handle: the functions that were called on it, with the numbers that they answered, and what its client has come through.
-use Rattle.std.specs.Prelude.{◌≡◌, ⊤, ◌⊎◌, ℕ, zero, suc, ℤ, pos, negsuc, List, [], ◌∷◌, ◌++◌, Option, Some, None, Ok, Err, unsigned_abs}
+use Rattle.std.specs.Prelude.{◌≡◌, ⊤, ◌⊎◌, ℕ, zero, ℤ, pos, negsuc, List, [], ◌∷◌, ◌++◌, Option, Some, None, Ok, Err, unsigned_abs}
 use Rattle.zk_conversation.specs.Calls as call
 use Rattle.zk_turns.specs.Turns.{Input, Now, Bytes, Item, Turned, Halts, Output, Start, new_start}
 use Rattle.zk_turns.specs.Turns as turns

@@ -1,6 +1,6 @@
 //! What a device shows of its session, the session put away and taken up, and a new one after it.
 
-ghost use Rattle.std.specs.Prelude.{◌≡◌, ◌≢◌, ◌<ℤ◌, pos, IfOk, IsOk, MatchResult, OnOk, Ok, Err};
+ghost use Rattle.std.specs.Prelude.{◌≡◌, ◌≢◌, ◌<ℤ◌, pos, IfOk, MatchResult, OnOk, Ok, Err};
 ghost use Rattle.zk_client.specs.Clients.{view_of};
 ghost use Rattle.zk_client.specs.SavedSessions.{PutAway, bytes_read, saved_bytes};
 ghost use Rattle.zk_client.specs.declared.saved_fault.SavedFault.{SavedFault};
@@ -19,7 +19,6 @@ use zk_client::{Client, SavedFault, SavedSession, State};
 fn read_saved(alloc: Global, saved: &[u8]) -> Result<SavedSession<Global>, Refusal>
     ensures found { (put : PutAway) → bytes_read saved.now ≡ Ok put → MatchResult result (λ session. session ≡ put) (λ refusal. refusal ≡ refusals.Memory) }
     ensures unread { (fault : SavedFault) → bytes_read saved.now ≡ Err fault → fault ≢ saved_faults.Memory → result ≡ Err refusals.NotSaved }
-    ensures read { OnOk result (IsOk (bytes_read saved.now)) }
 {
     match SavedSession::from_bytes(alloc, saved) {
         Ok(session) => Ok(session),
@@ -34,7 +33,6 @@ impl Device {
     pub fn resume(alloc: Global, timeout_ms: i32, saved: &[u8]) -> Result<Device, Refusal>
         ensures begins { (put : PutAway) → bytes_read saved.now ≡ Ok put → Begins (RefusesTimeout timeout_ms) (put_start timeout_ms put) result }
         ensures accepted { OnOk result (pos 0 <ℤ timeout_ms) }
-        ensures read { OnOk result (IsOk (bytes_read saved.now)) }
         ensures unread { (fault : SavedFault) → bytes_read saved.now ≡ Err fault → fault ≢ saved_faults.Memory → pos 0 <ℤ timeout_ms → result ≡ Err refusals.NotSaved }
     {
         if timeout_ms <= 0 {
