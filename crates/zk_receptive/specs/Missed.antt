@@ -64,7 +64,7 @@ pub record IsQuietPlace (view : View) (shown : Shown) : Type 0 where
   pub quiet : IsQuietAt shown.history start entries
   pub place : (wire_of shown.history entries).server ≡ shown.server
 
--- The requests that wait are so many frames, and each that a server in memory processes is one of them. Where none is left, and the client has
+-- The requests that wait are a number of frames, and each that a server in memory processes is one of them. Where none is left, and the client has
 -- received all bytes and holds no half frame, all is quiet.
 abbrev pub RequestsAreFrames : Type 0
 RequestsAreFrames = (view : View) (shown : Shown) → WasServed view shown → is_up view ≡ true → shown.phase ≡ Open → (count : ℕ) × AreFrames count shown.requests

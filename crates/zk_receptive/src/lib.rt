@@ -310,8 +310,8 @@ pub fn no_change_is_missed()
     ensures children { NamesAreReported }
 {}
 
-/// Servers in memory reach such a place in as many steps as requests wait. These are so many frames (`count`), each that is processed is one
-/// of them (`less`), and where none is left and the client has received all bytes, all is quiet (`quiet`).
+/// Servers in memory reach such a place in as many steps as requests wait. These are a number of frames (`count`), each that is
+/// processed is one of them (`less`), and where none is left and the client has received all bytes, all is quiet (`quiet`).
 #[tactic(auto, using(crate::proofs::Quiet::quiet_at_last))]
 pub fn quiet_is_reached()
     ensures count { RequestsAreFrames }
