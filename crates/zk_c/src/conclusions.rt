@@ -1,6 +1,6 @@
 //! What follows from several answers together.
 
-ghost use Rattle.std.specs.Prelude.{◌≡◌, Some, None, negsuc};
+ghost use Rattle.std.specs.Prelude.{◌≡◌, Some, None, negsuc, pos};
 ghost use Rattle.zk_client.specs.Clients.{view_of};
 ghost use Rattle.zk_conclusions.specs.Lacks.{HasNoPath};
 ghost use Rattle.zk_conclusions.specs.Subtrees.{HasMoreNodes, IsWholeBelow};
@@ -88,7 +88,7 @@ pub extern "C" fn dw_snapshot(
     out: &mut [u8],
     count: &mut usize,
 ) -> i32
-    ensures closed { handle.old.slot.held ≡ None → result ≡ negsuc 2 }
+    ensures closed { handle.old.slot.held ≡ None → (result ≡ negsuc 2) × (out.new ≡ out.old) × (count.new ≡ 0) }
     ensures finds { (d : Device) → handle.old.slot.held ≡ Some d → FindsText (RefusesSnapshot (view_of d.client).cache nodes.now parents.now) (WritesText (IsSnapshotText (view_of d.client) nodes.now parents.now)) result out.old out.new count.new }
     ensures same { handle.new.slot.held ≡ handle.old.slot.held }
 {
@@ -172,7 +172,7 @@ pub extern "C" fn dw_holder(
     path: &[u8],
     token: &mut i64,
 ) -> i32
-    ensures closed { handle.old.slot.held ≡ None → result ≡ negsuc 2 }
+    ensures closed { handle.old.slot.held ≡ None → (result ≡ negsuc 2) × (token.new ≡ pos 0) }
     ensures finds { (d : Device) → handle.old.slot.held ≡ Some d → FindsHolder (view_of d.client) directory.now prefix.now path.now result token.new }
     ensures same { handle.new.slot.held ≡ handle.old.slot.held }
 {
