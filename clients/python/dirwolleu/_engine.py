@@ -224,7 +224,7 @@ class Engine:
         self.refused: Optional[AuthFailedError] = None
         """Why credentials were refused on the last connection, if they were."""
         self._process: Optional[int] = None
-        self.is_running = False
+        self.is_running = self.is_left = False
         self.state = State.LOST
 
     # The life of a client.
@@ -249,7 +249,7 @@ class Engine:
 
         Nobody is told, since the threads that wait still are those that end with the program.
         """
-        self.is_running = False
+        self.is_left, self.is_running = True, False
         self._listening = Listeners()
         self._lane = Lane()
         self._handed.clear()
