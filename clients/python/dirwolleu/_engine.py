@@ -473,6 +473,20 @@ class Engine:
                 tree.advance(now)
             self._send_line(now)
 
+    def standing(self, directory: str, name: str, listing: library.Listing, markers: Iterable[str]) -> library.Standing:
+        """Whether the session comes first in a directory by its node of this name, and else whom it waits for, by a listing that
+        was answered after the node was made. That is the core's verdict: see `Machine.standing`.
+        """
+        stands = self._look(lambda machine: machine.standing(directory, name, *listing, markers))
+        return stands or library.Standing(None, None)
+
+    def token_of(self, path: str) -> Optional[int]:
+        """The zxid at which a node of this session was made, where that it is there is kept and good."""
+        kept = self.kept(path)
+        if kept is None or kept.mark is not Mark.GOOD or kept.stat is None:
+            return None
+        return kept.stat.czxid if kept.stat.ephemeral_owner == self.session_id() != 0 else None
+
     def forget_stale(self) -> None:
         self._look(Machine.forget)
 
