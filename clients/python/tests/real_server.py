@@ -358,6 +358,9 @@ class RealServerTest(unittest.TestCase):
         with self.assertRaises(dirwolleu.LockLostError):
             held.check()
         self.assertGreater(later.token, held.token)
+        stat = self.other.exists(later.path)
+        assert stat is not None
+        self.assertEqual((stat.czxid, stat.ephemeral_owner), (later.token, self.other.session_id))
         later.release()
         held.release()
 
