@@ -1,5 +1,5 @@
 pub mod Ordered
 pub mod Parents
-pub mod Paths
+pub mod ReadTexts
 pub mod Refusing
 pub mod Spelled

@@ -1,8 +1,15 @@
 -- Parents that are written one after the other.
-use Rattle.std.proofs.Common.{◌≡◌, ◌++◌, ◌∙◌, ℕ, suc, List, [], ◌∷◌, drop, ap, append-nil, append_assoc, refl, subst, sym}
+use Rattle.std.proofs.Common.{◌≡◌, ◌++◌, ◌∙◌, ◌+◌, ◌<◌, ℕ, suc, List, [], ◌∷◌, drop, get_or, length, ap, append-nil, append_assoc, arith, refl, subst, sym}
+use Rattle.std.proofs.Math.Seq.{drop-cons}
 use Rattle.zk_nodes.specs.Path.{Text}
 use Rattle.zk_turns.specs.View.{Cache}
 use Rattle.zk_device.specs.Snapshots.{AreParents, IsParent}
+
+-- what is left of a list, after its next element
+pub next_left : {X : Type 0} (xs : List X) (i : ℕ) (x : X) → i < length xs → x ≡ get_or xs i x → drop i xs ≡ x ∷ drop (i + 1) xs
+next_left xs i x low e =
+    let one : suc i ≡ i + 1 = omega arith in
+    drop-cons xs i x low ∙ ap (λ y. y ∷ drop (suc i) xs) (sym e) ∙ ap (λ (n : ℕ). x ∷ drop n xs) one
 
 -- what spells those that are left makes up the whole with this text
 abbrev pub Written : Cache → (left paths : List Text) → List ℕ → Type 0

@@ -28,10 +28,10 @@ pub(crate) fn check_paths(alloc: Global, spelled: &[u8]) -> Result<(), Refusal>
     let mut at = Cursor::new(spelled);
     let mut are_paths = true;
     while !at.rest().is_empty() {
-        let Some(text) = next_text(alloc, &mut at) else {
-            return Err(Refusal::NotTexts);
-        };
-        are_paths = is_path(alloc, text) && are_paths;
+        match next_text(alloc, &mut at) {
+            Some(text) => are_paths = is_path(alloc, text) && are_paths,
+            None => return Err(Refusal::NotTexts),
+        }
     }
     if are_paths {
         Ok(())

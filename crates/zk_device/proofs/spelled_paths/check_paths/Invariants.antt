@@ -1,6 +1,6 @@
 use Rattle.std.proofs.Common.{length}
 use Rattle.zk_jute.specs.Cursor.{bytes_left}
-use Rattle.zk_device.proofs.Paths.{Read}
+use Rattle.zk_device.proofs.ReadTexts.{Read}
 use Rattle.zk_device.proofs.spelled_paths.check_paths.Given as goal
 
 -- what was read and what is left make up the whole
