@@ -362,6 +362,8 @@ host = sys.argv[1]
 
 
 class ProgramTest(ClientCase):
+    is_long = True
+
     def run_program(self, text: str, host: str) -> tuple[str, str]:
         """What a program prints and says besides. It ends with status 0, in time."""
         command = [sys.executable, "-c", PROGRAM + text, host]
