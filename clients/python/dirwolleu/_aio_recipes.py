@@ -1,4 +1,4 @@
-"""The recipes of `dirwolleu.recipes` as coroutines. They are tested, and not proved."""
+"""The recipes of `dirwolleu.recipes` as coroutines. A lock is held where the proved core says so; the rest is tested."""
 
 from __future__ import annotations
 

@@ -1,13 +1,15 @@
 """How a contender takes a lock: what it asks, one step after the other, for both kinds of clients.
 
-Contenders are ephemeral nodes with a number, below the path of the lock. The one with the least number holds, and each
-other one watches the one before it; those that share a lock wait for those before them that do not. A node's name has a
-tag of its own, so that a create whose answer was lost is found again. The names are those of Curator or of kazoo, and
-both are understood.
+Contenders are ephemeral nodes with a number, below the path of the lock. The proved core says which one comes first, and
+which one another waits for: what is here asks, watches and waits. The core takes a listing that was answered after the
+node was made, and what is kept and good of the node itself. Those that share a lock wait for those before them that do
+not. A node's name has a tag of its own, so that a create whose answer was lost is found again. The names are those of
+Curator or of kazoo, and both are understood.
 """
 
 from __future__ import annotations
 
+import functools
 import logging
 import re
 import time
@@ -19,11 +21,12 @@ from dirwolleu import _plans as plans
 from dirwolleu import _requests as requests
 from dirwolleu._clock import moment
 from dirwolleu._engine import Engine, News
+from dirwolleu._library import Listing, Standing
 from dirwolleu._plans import Plan
 from dirwolleu._retry import is_passing
 from dirwolleu._steps import Result, Steps, TimeIsOver, Wait, bounded, until_of
 from dirwolleu.exceptions import LockLostError, LockTimeout, NoNodeError, SessionExpiredError, ZookeeperError
-from dirwolleu.types import Mark, State
+from dirwolleu.types import State
 
 if TYPE_CHECKING:
     from dirwolleu._shown import Shown
@@ -33,8 +36,8 @@ logger = logging.getLogger("dirwolleu.connection")
 BETWEEN_TRIES = 0.1
 """How long a recipe waits before it asks again what a connection has lost, in seconds."""
 
-_CONTENDER = re.compile(r"(-lock-|__lock__|-__WRIT__|__rlock__|-__READ__)(-?\d{10})$")
-_SHARING = ("__rlock__", "-__READ__")
+_EXCLUSIVE, _SHARED = ("-lock-", "__lock__", "-__WRIT__"), ("__rlock__", "-__READ__")
+_CONTENDER = re.compile(rf"(?:{'|'.join(_EXCLUSIVE + _SHARED)})(-?\d{{10}})$")
 
 
 class Kind(NamedTuple):
@@ -44,12 +47,20 @@ class Kind(NamedTuple):
     kazoos: str
     shares: bool = False
 
-    def tag(self, names: str) -> str:
-        """The beginning of a name that no other node has. Raises `ValueError` where nobody has such names."""
+    def marker(self, names: str) -> str:
+        """What stands before the number. Raises `ValueError` where nobody has such names."""
         if names not in ("curator", "kazoo"):
             raise ValueError(f"names are those of curator or of kazoo, and not of {names}")
-        own = uuid.uuid4()
-        return f"_c_{own}{self.curators}" if names == "curator" else f"{own.hex}{self.kazoos}"
+        return self.curators if names == "curator" else self.kazoos
+
+    def tag(self, names: str) -> str:
+        """The beginning of a name that no other node has."""
+        own, marker = uuid.uuid4(), self.marker(names)
+        return f"_c_{own}{marker}" if names == "curator" else f"{own.hex}{marker}"
+
+    def markers(self, names: str) -> tuple[str, ...]:
+        """What the core is to know of names: its own marker, and those of the contenders that it can't hold beside."""
+        return (self.marker(names), *_EXCLUSIVE, *(() if self.shares else _SHARED))
 
 
 EXCLUSIVE = Kind("-lock-", "__lock__")
@@ -57,52 +68,47 @@ WRITING = Kind("-__WRIT__", "__lock__")
 READING = Kind("-__READ__", "__rlock__", shares=True)
 
 
-class _Place(NamedTuple):
-    number: int
-    name: str
-    shares: bool
-
-
-def _places(names: list[str]) -> list[_Place]:
-    found = ((_CONTENDER.search(name), name) for name in names)
-    return sorted(_Place(int(match[2]), name, match[1] in _SHARING) for match, name in found if match)
-
-
 def in_line(names: list[str]) -> list[str]:
-    """The names of contenders, that which is first in front.
+    """The names of contenders, that with the least number in front. It is for people: who holds is the core's verdict.
 
     >>> in_line(["b-lock-0000000010", "a__lock__0000000009", "other"])
     ['a__lock__0000000009', 'b-lock-0000000010']
     """
-    return [place.name for place in _places(names)]
+    found = ((_CONTENDER.search(name), name) for name in names)
+    return [name for _, name in sorted((int(match[1]), name) for match, name in found if match)]
 
 
-def before(names: list[str], own: str, shares: bool) -> Optional[str]:
-    """Which contender is waited for: the last one before this one that it can't hold the lock with, if there is one.
+class Claim(NamedTuple):
+    """What the core is shown of a contender: its node, and a listing that was answered after the node was made."""
 
-    >>> before(["a-lock-0000000001", "b-__READ__0000000002", "c-__READ__0000000003"], "c-__READ__0000000003", True)
-    'a-lock-0000000001'
+    directory: str
+    name: str
+    listing: Listing
+    markers: tuple[str, ...]
 
-    Raises `LookupError` where this one is not there.
-    """
-    last = None
-    for place in _places(names):
-        if place.name == own:
-            return last
-        if not (shares and place.shares):
-            last = place.name
-    raise LookupError(own)
+    def standing(self, engine: Engine) -> Standing:
+        """The core's verdict, now: first, by a token; or after a rival; or neither is shown."""
+        return engine.standing(*self)
+
+    def token(self, engine: Engine) -> Optional[int]:
+        """The token, where the core shows now that the contender stands first."""
+        return self.standing(engine).token
+
+
+class Taken(NamedTuple):
+    """What was taken: the path of the node, its token, and what tells the token again for as long as it is shown."""
+
+    path: str
+    token: int
+    shown: Callable[[], Optional[int]]
 
 
 class Holding:
     """A lock that is held, as far as that is shown."""
 
-    def __init__(self, engine: Engine, path: str, token: int, keeps_while_suspended: bool) -> None:
+    def __init__(self, engine: Engine, taken: Taken, keeps_while_suspended: bool) -> None:
         self._engine = engine
-        self.path = path
-        """The path of the node that holds."""
-        self.token = token
-        """The zxid at which the node was made: each later holder's is greater."""
+        self.path, self.token, self._shown = taken
         self._keeps = keeps_while_suspended
         self._session = engine.session_id()
         self._connections = engine.contact.admissions
@@ -127,10 +133,7 @@ class Holding:
             return "the connection was lost"
         if engine.session_id() != self._session or engine.state is State.LOST:
             return "the session is over"
-        kept = engine.kept(self.path)
-        if kept is None or kept.mark is not Mark.GOOD or kept.stat is None or kept.stat.czxid != self.token:
-            return "the node of the lock is not known to be there"
-        return ""
+        return "" if self._shown() == self.token else "the node of the lock is not known to be there"
 
 
 def let_pass(error: ZookeeperError) -> None:
@@ -147,17 +150,25 @@ class Contender:
         self._kind, self._names = kind, names
         self._may_be_there = False
 
-    def take(self, on_told: Callable[[Any], object]) -> Steps[tuple[str, int]]:
-        """Waits until this contender holds, and answers its path and its token. Where it ends before, it leaves none."""
+    def take(self, on_told: Callable[[Any], object]) -> Steps[Taken]:
+        """Waits until this contender holds. Where it ends before, it leaves none. `on_told` is called when the node's watch
+        fires.
+        """
+
+        def told(event: Any) -> None:
+            self._news.set()
+            on_told(event)
+
         while True:
             tag = self._kind.tag(self._names)
             path: Optional[str] = None
             self._may_be_there = False
             try:
                 path = yield from self._enter(tag)
-                token = yield from self._wait_for_turn(path, on_told)
-                if token is not None:
-                    return path, token
+                _check_number(path, tag)
+                taken = yield from self._wait_for_turn(path, told)
+                if taken is not None:
+                    return taken
             except SessionExpiredError:
                 pass  # the node is gone with its session
             except GeneratorExit:
@@ -198,26 +209,41 @@ class Contender:
                 let_pass(error)
             yield Wait(BETWEEN_TRIES)
 
-    def _wait_for_turn(self, path: str, on_told: Callable[[Any], object]) -> Steps[Optional[int]]:
-        """Waits until no one is before the node, and answers its token: None where the node is gone."""
-        own = path.rpartition("/")[2]
+    def _wait_for_turn(self, path: str, told: Callable[[Any], object]) -> Steps[Optional[Taken]]:
+        """Waits until the core shows that the node stands first: None where the node is gone, or is not of this session."""
+        name, markers = path.rpartition("/")[2], self._kind.markers(self._names)
         while True:
             self._news.clear()
             try:
-                other = before((yield requests.get_children(self._path, None)), own, self._kind.shares)
-                if other is None:
-                    stat = yield requests.exists(path, on_told)
-                    is_ours = stat is not None and stat.ephemeral_owner == self._engine.session_id()
-                    return int(stat.czxid) if is_ours else None
-                yield requests.get(plans.child_of(self._path, other), lambda _: self._news.set())
-                yield Wait(None)
-            except LookupError:
-                return None
+                if not (yield from self._is_kept(path, told)):
+                    return None
+                listing: Listing = yield requests.listing(self._path)
+                claim = Claim(self._path, name, listing, markers)
+                token, rival = claim.standing(self._engine)
+                if token is not None:
+                    return Taken(path, token, functools.partial(claim.token, self._engine))
+                if rival is not None:
+                    yield requests.get(plans.child_of(self._path, rival), self._hear)
+                yield Wait(None if rival is not None else BETWEEN_TRIES)
             except NoNodeError:
-                pass  # the one before it has gone
+                pass  # the rival has gone
             except ZookeeperError as error:
                 let_pass(error)
                 yield Wait(BETWEEN_TRIES)
+
+    def _hear(self, _: Any) -> None:
+        """There is news: a watch has fired."""
+        self._news.set()
+
+    def _is_kept(self, path: str, told: Callable[[Any], object]) -> Plan[bool]:
+        """Reads the node with a watch, unless it is kept and good. Answers whether it is there and of this session."""
+        if self._engine.token_of(path) is not None:
+            return True
+        try:
+            _, stat = yield requests.get(path, told)
+        except NoNodeError:
+            return False
+        return bool(stat.ephemeral_owner == self._engine.session_id())
 
     def _leave(self, tag: str, path: Optional[str]) -> Steps[None]:
         """Deletes the node, whether its path is known or not."""
@@ -234,6 +260,14 @@ class Contender:
                 if isinstance(error, SessionExpiredError) or not is_passing(error):
                     return
             yield Wait(BETWEEN_TRIES)
+
+
+def _check_number(path: str, tag: str) -> None:
+    """Raises an error where the node's number is none that the core takes: those of the directory are used up."""
+    if not re.fullmatch(r"[0-9]{10}", path.rpartition("/")[2][len(tag) :]):
+        error = ZookeeperError("the numbers of nodes below it are used up", "take another path")
+        error.path = plans.parent_of(path)
+        raise error
 
 
 def patiently(engine: Engine, plan: Callable[[], Steps[Result]]) -> Steps[Result]:
@@ -316,7 +350,8 @@ class BaseHeld(Generic[AnyClient]):
         return not self._is_released and not self._holding.why_lost()
 
     def check(self, within: Optional[float] = None) -> None:
-        """Raises `LockLostError` from the step on at which it is not shown that it is held. It asks no server.
+        """Raises `LockLostError` from the step on at which it is not shown that it is held. It asks no server: it asks the core
+        whether its node still comes first, by the same token.
 
         With `within` also where what the client knows may be older than this many seconds.
         """
@@ -341,7 +376,7 @@ class BaseHeld(Generic[AnyClient]):
 
 
 AnyHeld = TypeVar("AnyHeld", bound="BaseHeld[Any]")
-Take = Callable[[Callable[[Any], object]], Steps[tuple[str, int]]]
+Take = Callable[[Callable[[Any], object]], Steps[Taken]]
 
 
 class BaseTaker(Generic[AnyClient, AnyHeld]):
@@ -385,10 +420,10 @@ class BaseTaker(Generic[AnyClient, AnyHeld]):
         take = self._taken_by(news)
         with engine.news(news.set):
             try:
-                path, token = yield from bounded(take(lambda _: _look_at(told)), until_of(timeout))
+                taken = yield from bounded(take(lambda _: _look_at(told)), until_of(timeout))
             except TimeIsOver:
                 raise LockTimeout(f"{self._path} was not taken in time") from None
-        held = self._held(Holding(engine, path, token, self._keeps))
+        held = self._held(Holding(engine, taken, self._keeps))
         told.append(held)
         self._client.add_listener(held._look)
         self._client._tell(held._look, None)  # what was told before is not told again

@@ -19,7 +19,7 @@ from dirwolleu import _library as library
 from dirwolleu._frames import Frames, Kind, is_ping
 from dirwolleu._jute import Malformed
 from dirwolleu._lane import Lane, LaneRequest, Reply
-from dirwolleu._library import Answer, Closed, Drop, Found, Halted, Machine, Output, Report, Send
+from dirwolleu._library import Answer, Closed, Drop, Found, Halted, KeptData, KeptNames, Machine, Output, Report, Send
 from dirwolleu._growing import Growing
 from dirwolleu._listening import Listeners, Listening
 from dirwolleu._requests import Request, Watcher
@@ -127,6 +127,14 @@ class _Asked:
             self.fail(error)
 
 
+def _kept(path: str, found: KeptData, last_zxid: int) -> Kept:
+    return Kept(path, Mark(found.mark), last_zxid, found.stat, found.data, found.kind == library.FULL)
+
+
+def _kept_children(path: str, found: KeptNames, last_zxid: int) -> KeptChildren:
+    return KeptChildren(path, Mark(found.mark), last_zxid, found.names, found.pzxid)
+
+
 def _is_auth(asked: _Asked) -> bool:
     return isinstance(asked.request, LaneRequest) and asked.request.operation is lane.Operation.AUTH
 
@@ -224,7 +232,7 @@ class Engine:
         self.refused: Optional[AuthFailedError] = None
         """Why credentials were refused on the last connection, if they were."""
         self._process: Optional[int] = None
-        self.is_running = False
+        self.is_running = self.is_left = False
         self.state = State.LOST
 
     # The life of a client.
@@ -249,7 +257,7 @@ class Engine:
 
         Nobody is told, since the threads that wait still are those that end with the program.
         """
-        self.is_running = False
+        self.is_left, self.is_running = True, False
         self._listening = Listeners()
         self._lane = Lane()
         self._handed.clear()
@@ -402,22 +410,18 @@ class Engine:
         looked = self._look(lambda machine: machine.peek_data(path))
         if looked is None or looked[0].kind == library.NOTHING:
             return None
-        found, last_zxid = looked
-        return Kept(path, Mark(found.mark), last_zxid, found.stat, found.data, found.kind == library.FULL)
+        return _kept(path, *looked)
 
     def snapshot(self, nodes: tuple[str, ...], parents: tuple[str, ...]) -> Optional[Snapshot]:
-        """What is kept of nodes and of the names below parents, where all of it is good at one zxid."""
-        while True:
-            kept, names = [self.kept(path) for path in nodes], [self.kept_children(path) for path in parents]
-            if any(one is None or one.mark is not Mark.GOOD for one in [*kept, *names]):
-                return None
-            zxids = {one.last_zxid for one in [*kept, *names] if one is not None} or {self.last_zxid()}
-            if len(zxids) == 1:  # else a step lay between two look-ups
-                return Snapshot(
-                    zxids.pop(),
-                    {one.path: one for one in kept if one is not None},
-                    {one.path: one for one in names if one is not None},
-                )
+        """What is kept of nodes and of the names below parents, where the core shows that all of it is of one moment."""
+        found, zxid = self._look(lambda machine: machine.snapshot(nodes, parents)) or (None, 0)
+        if found is None:
+            return None
+        return Snapshot(
+            zxid,
+            {path: _kept(path, one, zxid) for path, one in zip(nodes, found.nodes)},
+            {path: _kept_children(path, one, zxid) for path, one in zip(parents, found.children)},
+        )
 
     def settled(self, path: str) -> Optional[Kept]:
         """What is kept of a path, where it is good and whole: its data, or that there is no node."""
@@ -428,8 +432,7 @@ class Engine:
         looked = self._look(lambda machine: machine.peek_children(path))
         if looked is None or looked[0].mark == 0:
             return None
-        found, last_zxid = looked
-        return KeptChildren(path, Mark(found.mark), last_zxid, found.names, found.pzxid)
+        return _kept_children(path, *looked)
 
     def settled_children(self, path: str) -> Optional[KeptChildren]:
         """What is kept of the children of a path, where it is good: their names, or that there is no node."""
@@ -472,6 +475,20 @@ class Engine:
             for tree in list(self._trees):
                 tree.advance(now)
             self._send_line(now)
+
+    def standing(self, directory: str, name: str, listing: library.Listing, markers: Iterable[str]) -> library.Standing:
+        """Whether the session comes first in a directory by its node of this name, and else whom it waits for, by a listing that
+        was answered after the node was made. That is the core's verdict: see `Machine.standing`.
+        """
+        stands = self._look(lambda machine: machine.standing(directory, name, *listing, markers))
+        return stands or library.Standing(None, None)
+
+    def token_of(self, path: str) -> Optional[int]:
+        """The zxid at which a node of this session was made, where that it is there is kept and good."""
+        kept = self.kept(path)
+        if kept is None or kept.mark is not Mark.GOOD or kept.stat is None:
+            return None
+        return kept.stat.czxid if kept.stat.ephemeral_owner == self.session_id() != 0 else None
 
     def forget_stale(self) -> None:
         self._look(Machine.forget)

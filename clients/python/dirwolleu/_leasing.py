@@ -20,6 +20,7 @@ from dirwolleu._contending import (
     BaseTaker,
     Contender,
     Take,
+    Taken,
     identifiers,
     let_pass,
     names_of,
@@ -54,16 +55,16 @@ class Lessee:
         self._engine, self._path, self._data, self._most, self._news = engine, path, data, most, news
         self._may_be_there = False
 
-    def take(self, on_told: Callable[[Any], object]) -> Steps[tuple[str, int]]:
-        """Waits until there is a lease, and answers its path and the zxid at which it was made."""
+    def take(self, on_told: Callable[[Any], object]) -> Steps[Taken]:
+        """Waits until there is a lease. Its token is the zxid at which it was made."""
         while True:
             try:
                 yield from self._agree()
                 lock = Contender(
                     self._engine, f"{self._path}-__lock__", self._data, EXCLUSIVE, "kazoo", self._news
                 )
-                lock_path, _ = yield from lock.take(lambda _: self._news.set())
-                found = yield from self._within(lock_path, on_told)
+                taken = yield from lock.take(lambda _: self._news.set())
+                found = yield from self._within(taken.path, on_told)
                 if found is not None:
                     return found
             except SessionExpiredError:
@@ -92,7 +93,7 @@ class Lessee:
         except NodeExistsError:
             pass
 
-    def _within(self, lock_path: str, on_told: Callable[[Any], object]) -> Steps[Optional[tuple[str, int]]]:
+    def _within(self, lock_path: str, on_told: Callable[[Any], object]) -> Steps[Optional[Taken]]:
         """Takes a lease within the lock, and releases that. None where the lock was lost."""
         lease = plans.child_of(self._path, uuid.uuid4().hex)
         self._may_be_there = False
@@ -108,7 +109,7 @@ class Lessee:
 
     def _wait_for_room(
         self, lock_path: str, lease: str, on_told: Callable[[Any], object]
-    ) -> Steps[Optional[tuple[str, int]]]:
+    ) -> Steps[Optional[Taken]]:
         while True:
             self._news.clear()
             try:
@@ -116,15 +117,19 @@ class Lessee:
                 if self._may_be_there or len(names) < self._most:
                     if not (yield from self._make(lock_path, lease)):
                         return None
-                    stat = yield requests.exists(lease, on_told)
-                    is_ours = stat is not None and stat.ephemeral_owner == self._engine.session_id()
-                    return (lease, int(stat.czxid)) if is_ours else None
+                    return (yield from self._taken(lease, on_told))
                 yield Wait(None)
             except NoNodeError:
                 return None
             except ZookeeperError as error:
                 let_pass(error)
                 yield Wait(BETWEEN_TRIES)
+
+    def _taken(self, lease: str, on_told: Callable[[Any], object]) -> Plan[Optional[Taken]]:
+        """Reads the lease with a watch: None where it is gone, or is not of this session."""
+        _, stat = yield requests.get(lease, on_told)
+        is_ours = stat.ephemeral_owner == self._engine.session_id()
+        return Taken(lease, int(stat.czxid), lambda: self._engine.token_of(lease)) if is_ours else None
 
     def _make(self, lock_path: str, lease: str) -> Plan[bool]:
         """Makes the lease while the lock is held, and tells whether it is there. It may be asked again."""

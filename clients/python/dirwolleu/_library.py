@@ -310,7 +310,7 @@ class Send(NamedTuple):
 
 
 class Answer(NamedTuple):
-    """The answer to a call. `lack` is 0 for a reply, and else 1 to 7, for K1 to K7."""
+    """The answer to a call. `lack` is 0 for a reply, which has a zxid, and else 1 to 7, for K1 to K7."""
 
     ticket: int
     lack: int
@@ -319,6 +319,7 @@ class Answer(NamedTuple):
     stat: Optional[Stat]
     text: Optional[bytes]
     names: list[str]
+    zxid: int = 0
 
 
 class Report(NamedTuple):
@@ -383,6 +384,18 @@ class Standing(NamedTuple):
 
     token: Optional[int]
     rival: Optional[str]
+
+
+class Listing(NamedTuple):
+    """The names of a node's children, one after the other, each after its length in four bytes, and the zxid of the answer
+    that told them."""
+
+    names: bytes
+    zxid: int
+
+    @classmethod
+    def of(cls, names: Iterable[str], zxid: int) -> Listing:
+        return cls(_spelled(names), zxid)
 
 
 class KeptAtOnce(NamedTuple):
@@ -695,11 +708,15 @@ class Machine:
         except NotWhole:
             return None
 
-    def standing(self, directory: str, name: str, names: Iterable[str], listed: int, markers: Iterable[str]) -> Standing:
+    def standing(
+        self, directory: str, name: str, names: Union[bytes, Iterable[str]], listed: int, markers: Iterable[str]
+    ) -> Standing:
         """Where the session stands by its node of this name in a directory, by the names of a listing, which needs no watch,
-        and the zxid of that answer. The first marker is that of its name, the others are those of its rivals."""
+        and the zxid of that answer. The names may be those of a `Listing`, as it spells them. The first marker is that of its
+        name, the others are those of its rivals."""
         spelled, own, room = self._root.spell(directory), name.encode(), _Room()
-        listing, kinds, token, count = _spelled(names), _spelled(markers), c_int64(), c_size_t()
+        listing = names if isinstance(names, bytes) else _spelled(names)
+        kinds, token, count = _spelled(markers), c_int64(), c_size_t()
         contender = (spelled, len(spelled), own, len(own), listing, len(listing), listed, kinds, len(kinds))
         is_whole = False
         while not is_whole:
@@ -814,6 +831,7 @@ class Machine:
             Stat._make(_fields_of_stat(output.stat)) if output.has_stat else None,
             text,
             list(_texts_in(self._names())) if output.names else [],
+            output.zxid if output.detail == REPLIED else 0,
         )
 
     def _text(self) -> bytes:

@@ -6,7 +6,7 @@ from dataclasses import dataclass
 from typing import Any, Callable, Generic, NamedTuple, Optional, TypeVar
 
 from dirwolleu import _library as library
-from dirwolleu._library import Answer, Machine, Output
+from dirwolleu._library import Answer, Listing, Machine, Output
 from dirwolleu._paths import parent
 from dirwolleu.exceptions import (
     ConnectionClosedError,
@@ -124,6 +124,23 @@ def get_children(path: str, watch: Watch) -> Request[list[str]]:
         path,
         is_repeatable=True,
         watcher=_watcher(path, library.CHILDREN_SIDE, watch),
+        node=path,
+    )
+
+
+class _Listing(Request[Listing]):
+    """Reads the names of a node's children, with the zxid of the answer."""
+
+    def result(self, answer: Answer) -> Any:
+        return Listing.of(super().result(answer), answer.zxid)
+
+
+def listing(path: str) -> Request[Listing]:
+    """The names of a node's children as the core takes them, which decides by them who stands first. It leaves no watch."""
+    return _Listing(
+        lambda machine, now, ticket: machine.get_children(now, ticket, path, False),
+        path,
+        is_repeatable=True,
         node=path,
     )
 

@@ -158,9 +158,9 @@ class Shown:
     def snapshot(self, nodes: Iterable[str] = (), parents: Iterable[str] = ()) -> Optional[Snapshot]:
         """What is kept of several nodes, and of the names below several parents, of one moment. It asks no server.
 
-        None where some of it is not kept, or not good: read that, with a watch. Answers that are all good at one zxid are
-        those of one tree, the servers' at that zxid: that is proved, whatever was told between the reads. Of a node that
-        is not there, its absence is kept by `exists`.
+        The proved core makes it: all of it is what the servers' history has at its zxid, whatever was told between the reads.
+        None where some of it is not kept, or not good: read that, with a watch. Of a node that is not there, its absence is
+        kept by `exists`.
 
             found = client.snapshot(nodes=["/host", "/port"], parents=["/workers"])
             if found is not None:

@@ -22,9 +22,10 @@ class Loop(threading.Thread):
         super().__init__(name="dirwolleu", daemon=True)
         self._driver = driver
         self._loop = asyncio.new_event_loop()
+        self._turns = [None]
 
     def run(self) -> None:
-        if self._loop.is_closed():  # it was stopped before it began
+        if not self._is_first():  # it was stopped before it began
             return
         try:
             self._loop.run_until_complete(self._driver.run())
@@ -40,11 +41,18 @@ class Loop(threading.Thread):
         self._soon(lambda: self._loop.call_later(seconds, function))
 
     def stop(self, end: Callable[[], None], longest: float = LONGEST_END) -> None:
-        """Does what ends the engine, and ends. Where the thread has ended already, `end` is not called."""
-        if self.ident is None:
+        """Does what ends the engine, and ends. Where the thread has ended already, or not begun, `end` is not called."""
+        if self._is_first():
             return self._loop.close()
         self._soon(lambda: self._driver.stop(end))
-        self.join(longest)
+        if self.ident is not None:
+            self.join(longest)
+
+    def _is_first(self) -> bool:
+        """Whether this is the first call: the thread itself and whoever stops it may come here at one time."""
+        with contextlib.suppress(IndexError):
+            return self._turns.pop() is None
+        return False
 
     def _soon(self, call: Callable[[], object]) -> None:
         with contextlib.suppress(RuntimeError):  # the loop is closed

@@ -6,6 +6,7 @@ import atexit
 import concurrent.futures
 import contextlib
 import logging
+import threading
 import time
 import weakref
 from collections.abc import Generator, Sequence
@@ -460,9 +461,15 @@ class Client(Shown):
             self._hand_in(request, waiter, timeout)
             result: Result = waiter.result(patience)
             return result
-        except BaseException:
+        except BaseException as error:
             waiter.cancel()
+            if isinstance(error, ConnectionClosedError) and self._ends_with_program():
+                threading.Event().wait()
             raise
+
+    def _ends_with_program(self) -> bool:
+        """Whether the program ends, and this thread with it: then it has nothing to say."""
+        return self._engine.is_left and threading.current_thread() is not threading.main_thread()
 
     def _send(self, request: AnyRequest[Any]) -> Future:
         future = Future(self._tell)

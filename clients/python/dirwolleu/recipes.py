@@ -1,6 +1,6 @@
 """Recipes over a client with threads: locks, a semaphore, an election, a registration, barriers, a counter, a queue.
 
-They are tested, and not proved. `dirwolleu.aio` has the same as coroutines.
+A lock is held where the proved core says so; the rest is tested. `dirwolleu.aio` has the same as coroutines.
 """
 
 from __future__ import annotations
@@ -58,7 +58,12 @@ class Held(BaseHeld[Client]):
 class Lock(BaseLock[Client, Held]):
     """An exclusive lock: one of those that take it at a path holds it at a time, at each zxid.
 
-    The contenders are ephemeral nodes below the path, in the order of their numbers, and each watches the one before it.
+    The contenders are ephemeral nodes below the path, in the order of their numbers. The proved core says which one holds,
+    and with which token: it shows that no other one was before its node at the zxid of a listing, and that the node is
+    there at the last seen zxid. It also says whom each other one waits for, and that one alone is watched. What is proved
+    is so where all contenders at the path are made as these are, and by fewer than 2,147,483,648 creates; the steps around
+    it, which ask, watch and wait, are tested.
+
     A create whose answer was lost is settled, so that no contender is left which nobody waits for. Whose locks at the
     same path contend with it is said by `names`: with `"curator"` those of Curator's `InterProcessMutex`, or of kazoo's
     `Lock(.., extra_lock_patterns=["-lock-"])`; with `"kazoo"` those of kazoo's plain `Lock`. Curator does not see the
@@ -82,7 +87,7 @@ class Lock(BaseLock[Client, Held]):
         Raises `LockTimeout` after `timeout` seconds, and leaves no contender then; a timeout of 0 tries once. Where a
         contender may be left and there is no connection, it is looked for first, for twice the timeout of the session at
         most. Lost connections and expired sessions are lived through. Raises `ConnectionClosedError` where the client is
-        stopped.
+        stopped, and a `ZookeeperError` that says so where the numbers of nodes at the path are used up.
         """
         news = News()
         return self._client._drive(self._taking(news, timeout), news)
@@ -134,9 +139,12 @@ class Semaphore(BaseSemaphore[Client, Held]):
     """A lock that `max_leases` hold at a time, at each zxid, by the nodes of kazoo's `Semaphore`.
 
     The node of the path says how many they are at most. Leases are ephemeral nodes below it, and whoever takes one holds
-    the lock at `PATH-__lock__` meanwhile: a transaction makes the lease only while that lock is held. What is said of
-    `check`, `on_lost` and `keeps_while_suspended` at `Lock` holds here too. The token of a lease is the zxid at which it
-    was made; it is of no use to fence, since others hold beside it.
+    the lock at `PATH-__lock__` meanwhile: a transaction makes the lease only while that lock is held. The proved core says
+    which one holds that lock. It has nothing to say of several first ones: the number of leases is tested alone. That the
+    node of a lease is there while `check` is quiet is a good answer of the core.
+
+    What is said of `check`, `on_lost` and `keeps_while_suspended` at `Lock` holds here too. The token of a lease is the
+    zxid at which it was made; it is of no use to fence, since others hold beside it.
 
         semaphore = dirwolleu.Semaphore(client, "/downloads", max_leases=3)
         with semaphore as held:

@@ -4,6 +4,7 @@ from __future__ import annotations
 
 import asyncio
 import inspect
+import queue
 import threading
 from typing import Any, Callable
 
@@ -13,6 +14,20 @@ import dirwolleu
 from dirwolleu import aio
 
 LONGEST = 6 * WAIT
+
+
+def in_thread(call: Callable[[], Any]) -> queue.Queue[Any]:
+    """The outcome of a call that a thread makes."""
+    outcome: queue.Queue[Any] = queue.Queue()
+
+    def run() -> None:
+        try:
+            outcome.put(call())
+        except BaseException as error:
+            outcome.put(error)
+
+    threading.Thread(target=run, daemon=True).start()
+    return outcome
 
 
 class Blocking:

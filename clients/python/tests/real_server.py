@@ -47,6 +47,8 @@ from dirwolleu import (  # noqa: E402
 HOST = "127.0.0.1:2181"
 WAIT = 30.0
 ROUNDS = 10
+SNAPSHOTS = int(os.environ.get("DIRWOLLEU_SNAPSHOTS", "500"))
+"""How many transactions are written beside snapshots."""
 CURATOR = os.environ.get("DIRWOLLEU_CURATOR", "")
 """The jars of Curator, with those that it needs. Without them its locks are left out."""
 TOKENS: list[int] = []
@@ -338,6 +340,32 @@ class RealServerTest(unittest.TestCase):
             self.assertGreaterEqual(kept.last_zxid, written.mzxid)
             self.assertIs(kept.mark, Mark.STALE)
 
+    def test_snapshots_beside_a_writer_of_three_nodes(self) -> None:
+        """Each transaction gives all three the same number: no snapshot has two."""
+        paths, shown, is_over = ("/a", "/b", "/c"), list[int](), threading.Event()
+        for path in paths:
+            self.one.create(path, b"0")
+
+        def write() -> None:
+            for number in range(1, SNAPSHOTS):
+                with self.other.transaction() as transaction:
+                    for path in paths:
+                        transaction.set_data(path, b"%d" % number)
+            is_over.set()
+
+        def look() -> None:
+            while not is_over.is_set():
+                for read in [self.one.get_async(path, watch=True) for path in paths]:
+                    read.result(WAIT)
+                while (found := self.one.snapshot(paths)) is not None and not is_over.is_set():
+                    (data,) = {one.data for one in found.nodes.values()}
+                    if not shown or shown[-1] != int(data or b""):
+                        shown.append(int(data or b""))
+
+        self.assertEqual(in_threads([write, look]), [None, None])
+        self.assertEqual(shown, sorted(set(shown)))
+        self.assertGreater(len(shown), SNAPSHOTS // 20)
+
     def test_watches(self) -> None:
         told: queue.Queue[Any] = queue.Queue()
         self.one.DataWatch("/a", lambda data, stat: told.put(data))
@@ -358,6 +386,9 @@ class RealServerTest(unittest.TestCase):
         with self.assertRaises(dirwolleu.LockLostError):
             held.check()
         self.assertGreater(later.token, held.token)
+        stat = self.other.exists(later.path)
+        assert stat is not None
+        self.assertEqual((stat.czxid, stat.ephemeral_owner), (later.token, self.other.session_id))
         later.release()
         held.release()
 

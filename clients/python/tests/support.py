@@ -3,6 +3,7 @@
 from __future__ import annotations
 
 import contextlib
+import json
 import pathlib
 import socket
 import struct
@@ -20,32 +21,46 @@ WAIT = 10.0
 """The longest that a test waits for one thing, in seconds."""
 
 
+def _begin_making() -> socket.socket:
+    """Begins what makes partners, and gives the socket for what is wished of it. It ends with the last process that has the socket."""
+    ours, its = socket.socketpair(socket.AF_UNIX, socket.SOCK_SEQPACKET)
+    with its:
+        command = [sys.executable, "-I", str(pathlib.Path(__file__).with_name("partners.py")), str(its.fileno())]
+        MAKING.append(subprocess.Popen(command, pass_fds=[its.fileno()], stdin=subprocess.DEVNULL, start_new_session=True))
+    return ours
+
+
+MAKING: list[subprocess.Popen[bytes]] = []
+WISHES = _begin_making()
+
+
 class Partner:
     """A server in memory, in a process of its own."""
 
     def __init__(self, *options: str, port: int = 0) -> None:
-        command = [sys.executable, str(CLIENTS / "partner" / "partner.py"), "--port", str(port), *options]
-        self._process = subprocess.Popen(command, stdin=subprocess.PIPE, stdout=subprocess.PIPE, text=True)
-        self.port = int(self._line().split()[1])
+        self._commands, its = socket.socketpair()
+        with its:
+            socket.send_fds(WISHES, [json.dumps(["--port", str(port), *options]).encode()], [its.fileno()])
+        self._commands.settimeout(6 * WAIT)
+        self._answers = self._commands.makefile()
+        self.port = int(self._answers.readline().split()[1])
         self.host = f"127.0.0.1:{self.port}"
-
-    def _line(self) -> str:
-        assert self._process.stdout is not None
-        return self._process.stdout.readline().strip()
 
     def do(self, *commands: str) -> None:
         """Hands in commands, each of which has to be done."""
-        assert self._process.stdin is not None
         for command in commands:
-            self._process.stdin.write(command + "\n")
-            self._process.stdin.flush()
-            answer = self._line()
+            self._commands.sendall(f"{command}\n".encode())
+            answer = self._answers.readline().strip()
             if answer != "done":
                 raise AssertionError(f"{command}: {answer}")
 
     def stop(self) -> None:
-        """Ends the process. What it held is lost."""
-        self._process.communicate(timeout=WAIT)
+        """Ends the process, unless it has ended. What it held is lost."""
+        if self._answers.closed:
+            return
+        with self._commands, self._answers:
+            self._commands.shutdown(socket.SHUT_WR)
+            self._answers.read()
 
 
 class Asked(NamedTuple):
@@ -174,6 +189,9 @@ def within(condition: Callable[[], Any], seconds: float = WAIT) -> Any:
 
 class PartnerCase(unittest.TestCase):
     """A test that has partners."""
+
+    is_long = False
+    """Whether the tests of the class take long: then each of them has a process, where these are run side by side."""
 
     _shared: Partner
 

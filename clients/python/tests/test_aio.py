@@ -41,6 +41,8 @@ async def within(condition: Callable[[], Any]) -> None:
 
 
 class AioTest(unittest.IsolatedAsyncioTestCase, PartnerCase):
+    is_long = True
+
     async def asyncSetUp(self) -> None:
         asyncio.get_running_loop().slow_callback_duration = WAIT  # a partner that starts holds the loop up
 
@@ -200,15 +202,19 @@ class AioTest(unittest.IsolatedAsyncioTestCase, PartnerCase):
         self.assertIsNotNone(await other.exists("/a"))
 
     async def test_hostile_servers(self) -> None:
-        for seed in range(4):
+        async def work(partner: Partner) -> None:
+            client = await self.client(partner, timeout=1.5)
+            for _ in range(4):
+                try:
+                    await asyncio.wait_for(client.get("/a", watch=True), WAIT)
+                except ZookeeperError:
+                    pass
+            await client.close()
+
+        works = [work(self.partner("--hostile", str(seed))) for seed in range(4)]
+        for seed, failed in enumerate(await asyncio.gather(*works, return_exceptions=True)):
             with self.subTest(seed=seed):
-                client = await self.client(self.partner("--hostile", str(seed)), timeout=1.5)
-                for _ in range(4):
-                    try:
-                        await asyncio.wait_for(client.get("/a", watch=True), WAIT)
-                    except ZookeeperError:
-                        pass
-                await client.close()
+                self.assertIsNone(failed)
 
     async def test_where_no_server_is_start_says_so(self) -> None:
         partner = self.partner()

@@ -77,7 +77,7 @@ class TimeoutTest(ClientCase):
         client = self.client(self.partner().host)
         for _ in range(1500):
             client.exists("/a", timeout=1000.0)
-        self.assertLessEqual(len(client._engine._timed), 1100)
+        within(lambda: len(client._engine._timed) <= 1100)
 
     def test_asyncio(self) -> None:
         partner = self.partner()
@@ -362,6 +362,8 @@ host = sys.argv[1]
 
 
 class ProgramTest(ClientCase):
+    is_long = True
+
     def run_program(self, text: str, host: str) -> tuple[str, str]:
         """What a program prints and says besides. It ends with status 0, in time."""
         command = [sys.executable, "-c", PROGRAM + text, host]

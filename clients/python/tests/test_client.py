@@ -2,6 +2,7 @@
 
 from __future__ import annotations
 
+import functools
 import queue
 import struct
 import threading
@@ -47,8 +48,8 @@ class InThread:
         except BaseException as error:
             self._outcome.put((None, error))
 
-    def result(self) -> Any:
-        value, error = self._outcome.get(timeout=WAIT)
+    def result(self, timeout: float = WAIT) -> Any:
+        value, error = self._outcome.get(timeout=timeout)
         if error is not None:
             raise error
         return value
@@ -361,6 +362,8 @@ class FollowTest(ClientCase):
 
 
 class SessionTest(ClientCase):
+    is_long = True
+
     def test_states_are_told(self) -> None:
         partner = self.partner()
         client = Client(partner.host)
@@ -490,17 +493,20 @@ class SessionTest(ClientCase):
         self.assertEqual(client.get("/a")[0], b"two")
 
     def test_hostile_servers(self) -> None:
-        for seed in range(6):
+        def work(host: str) -> None:
+            client = Client(host, 1.2)
+            self.addCleanup(client.close)
+            client.start(WAIT)
+            for _ in range(4):
+                try:
+                    InThread(lambda: client.get("/a", watch=True)).result()
+                except ZookeeperError:
+                    pass
+
+        hosts = [self.partner("--hostile", str(seed)).host for seed in range(6)]
+        for seed, end in enumerate([InThread(functools.partial(work, host)) for host in hosts]):
             with self.subTest(seed=seed):
-                partner = self.partner("--hostile", str(seed))
-                client = Client(partner.host, 1.2)
-                client.start(WAIT)
-                for _ in range(4):
-                    try:
-                        InThread(lambda: client.get("/a", watch=True)).result()
-                    except ZookeeperError:
-                        pass
-                client.close()
+                end.result(6 * WAIT)
 
     def test_a_client_begins_and_ends(self) -> None:
         partner = self.partner()

@@ -75,6 +75,8 @@ class PausesTest(PartnerCase):
 
 
 class DialTest(PartnerCase):
+    is_long = True
+
     def client(self, host: str, timeout: float, is_awaited: bool = True) -> Client:
         client = Client(host, timeout)
         self.addCleanup(client.close)

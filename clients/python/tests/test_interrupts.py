@@ -1,7 +1,7 @@
 """Tests of the blocking client under signals, forks and callbacks that do not end.
 
 `python3 test_interrupts.py --calls 100000` makes this many calls that may be interrupted; without it, as many are made as
-fit into 20 seconds.
+fit into 8 seconds.
 """
 
 from __future__ import annotations
@@ -38,7 +38,7 @@ from dirwolleu import (
     WatchedEvent,
 )
 
-INTERRUPTED_CALLS, LONGEST = 100_000, 20.0
+INTERRUPTED_CALLS, LONGEST = 100_000, 8.0
 
 
 class ClientCase(PartnerCase):
@@ -73,6 +73,8 @@ class ClientCase(PartnerCase):
 
 
 class SignalTest(ClientCase):
+    is_long = True
+
     def test_calls_that_are_interrupted_leave_the_client_as_it_is(self) -> None:
         client = self.client(self.partner().host)
         client.create("/a", b"0")

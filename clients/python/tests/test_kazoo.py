@@ -17,6 +17,7 @@ from unittest import mock
 
 from support import CLIENTS, WAIT, Partner, PartnerCase, Peer, within
 
+from dirwolleu._library import Standing
 from dirwolleu.kazoo import client, exceptions, security
 from dirwolleu.kazoo import retry as retries
 from dirwolleu.kazoo._session import Ask
@@ -636,6 +637,24 @@ class RecipesTest(KazooCase):
         within(lambda: not lock.is_acquired)
         self.assertTrue(lock.acquire())
         self.assertEqual(lock.contenders(), ["one"])
+
+    def test_a_lock_is_held_where_the_core_says_so(self) -> None:
+        nobody = mock.patch("dirwolleu.kazoo._session.Session.standing", lambda *_: Standing(None, None))
+        with nobody:
+            lock = self.one.Lock("/lock", "one")
+            self.assertFalse(lock.acquire(blocking=False))
+            with self.assertRaises(LockTimeout):
+                lock.acquire(timeout=0.15)
+            for named in ({"ephemeral": False}, {"blocking": False, "ephemeral": False}):
+                self.assertTrue(lock.acquire(**named))  # of this the core knows nothing
+                lock.release()
+            self.assertTrue(self.one.Lock("/lock", "one", ["-l.ck-"]).acquire())
+        self.assertFalse(lock.acquire(blocking=False))
+        curators = "/lock/_c_6fbbe9d5-8b1c-4b8a-a8a7-f9c1a1b0f3e5-lock-0000000000"
+        self.one.delete("/lock", recursive=True)
+        self.one.create(curators, makepath=True)
+        self.assertTrue(self.one.Lock("/lock", "one").acquire(blocking=False))
+        self.assertFalse(self.other.Lock("/lock", "other", ["-lock-"]).acquire(blocking=False))
 
     def test_a_create_whose_answer_is_lost(self) -> None:
         lock = self.one.Lock("/lock", "one")

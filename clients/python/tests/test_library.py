@@ -149,7 +149,7 @@ class MachineTest(unittest.TestCase):
         machine = connected()
         request = struct.pack(">ii", 1, 4) + buffer(b"/a") + b"\1"
         self.assertEqual(machine.get_data(200, 7, "/a", True), [Send(frame(request))])
-        answer = Answer(7, 0, library.DATA, 0, STAT, b"hello", [])
+        answer = Answer(7, 0, library.DATA, 0, STAT, b"hello", [], 9)
         self.assertEqual(machine.received(300, reply(1, 9, 0, buffer(b"hello") + STAT_BYTES)), [answer])
         stat = DataStat(2, 5, 1000, 2000, 3, 0, 5)
         self.assertEqual(machine.peek_data("/a"), ((library.FULL, 1, stat, b"hello"), 9))
@@ -165,7 +165,7 @@ class MachineTest(unittest.TestCase):
         names = struct.pack(">i", 2) + buffer("ö".encode()) + buffer(b"a")
         came = reply(1, 9, 0, names + STAT_BYTES)
         outputs = [output for byte in came for output in machine.received(300, bytes([byte]))]
-        self.assertEqual(outputs, [Answer(8, 0, library.NAMES, 0, STAT, None, ["ö", "a"])])
+        self.assertEqual(outputs, [Answer(8, 0, library.NAMES, 0, STAT, None, ["ö", "a"], 9)])
         self.assertEqual(machine.peek_children("/"), ((1, ("a", "ö"), STAT.pzxid), 9))
 
     def test_null_data_are_not_empty_data(self) -> None:
@@ -176,23 +176,23 @@ class MachineTest(unittest.TestCase):
         set_data = struct.pack(">ii", 2, 5) + buffer(b"/a") + buffer(b"") + struct.pack(">i", 4)
         self.assertEqual(machine.set_data(200, 2, "/a", b"", 4), [Send(frame(set_data))])
         created = machine.received(300, reply(1, 9, 0, buffer(b"/a")))
-        self.assertEqual(created, [Answer(1, 0, library.CREATED, 0, None, b"/a", [])])
+        self.assertEqual(created, [Answer(1, 0, library.CREATED, 0, None, b"/a", [], 9)])
         machine.received(300, reply(2, 10, -103))
         machine.get_data(400, 3, "/a", True)
         answer = machine.received(500, reply(3, 11, 0, struct.pack(">i", -1) + STAT_BYTES))
-        self.assertEqual(answer, [Answer(3, 0, library.DATA, 0, STAT, None, [])])
+        self.assertEqual(answer, [Answer(3, 0, library.DATA, 0, STAT, None, [], 11)])
         self.assertIsNone(machine.peek_data("/a")[0].data)
 
     def test_what_is_longer_than_the_room_comes_whole(self) -> None:
         machine, data, name = connected(), bytes(100_000), "n" * 5000
         machine.get_data(200, 1, "/a", True)
         answer = machine.received(300, reply(1, 9, 0, buffer(data) + STAT_BYTES))
-        self.assertEqual(answer, [Answer(1, 0, library.DATA, 0, STAT, data, [])])
+        self.assertEqual(answer, [Answer(1, 0, library.DATA, 0, STAT, data, [], 9)])
         self.assertEqual(machine.peek_data("/a")[0].data, data)
         other = connected()
         other.get_children(200, 1, "/a", True)
         listed = other.received(300, reply(1, 9, 0, struct.pack(">i", 1) + buffer(name.encode()) + STAT_BYTES))
-        self.assertEqual(listed, [Answer(1, 0, library.NAMES, 0, STAT, None, [name])])
+        self.assertEqual(listed, [Answer(1, 0, library.NAMES, 0, STAT, None, [name], 9)])
         self.assertEqual(other.peek_children("/a")[0].names, (name,))
 
     def test_names_of_each_length_are_kept_in_byte_order(self) -> None:
@@ -286,6 +286,8 @@ class MachineTest(unittest.TestCase):
         self.assertEqual(machine.standing("/l", own, names, 90, markers), (88, None))
         self.assertEqual(machine.standing("/l", own, names, 87, markers), (None, None))
         self.assertEqual(machine.standing("/l", other, names, 90, markers), (None, own))
+        listing = library.Listing.of(names, 90)
+        self.assertEqual(machine.standing("/l", own, *listing, markers), (88, None))
         with self.assertRaises(ValueError):
             machine.standing("/l", own, names, 90, [])
         with self.assertRaises(ValueError):

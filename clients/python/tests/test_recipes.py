@@ -11,6 +11,7 @@ import unittest
 from typing import Any, Callable, Optional
 from unittest import mock
 
+from both import in_thread
 from support import WAIT, PartnerCase, within
 
 import dirwolleu
@@ -40,19 +41,6 @@ class RecipeCase(PartnerCase):
         client.start(WAIT)
         return client
 
-    def in_thread(self, call: Callable[[], Any]) -> queue.Queue[Any]:
-        """The outcome of a call that a thread makes."""
-        outcome: queue.Queue[Any] = queue.Queue()
-
-        def run() -> None:
-            try:
-                outcome.put(call())
-            except BaseException as error:
-                outcome.put(error)
-
-        threading.Thread(target=run, daemon=True).start()
-        return outcome
-
 
 class LockTest(RecipeCase):
     def setUp(self) -> None:
@@ -69,7 +57,7 @@ class LockTest(RecipeCase):
             self.assertTrue(held.is_held)
             with self.assertRaises(LockTimeout):
                 second.acquire(0)
-            waits = self.in_thread(lambda: second.acquire(3 * WAIT))
+            waits = in_thread(lambda: second.acquire(3 * WAIT))
             within(lambda: first.contenders() == ["one", "other"])
             self.assertTrue(waits.empty())
         self.assertFalse(held.is_held)
@@ -96,7 +84,7 @@ class LockTest(RecipeCase):
     def test_one_of_kazoo_that_is_first_is_waited_for(self) -> None:
         kazoos = f"{self.root}/locks/b5a4__lock__0000000000"
         self.server.do(f"create {self.root}/locks", f"create {self.root}/locks/other", f"create {kazoos} k")
-        waits = self.in_thread(lambda: Lock(self.one, "/locks", "one").acquire(3 * WAIT))
+        waits = in_thread(lambda: Lock(self.one, "/locks", "one").acquire(3 * WAIT))
         within(lambda: Lock(self.other, "/locks").contenders() == ["k", "one"])
         time.sleep(0.1)
         self.assertTrue(waits.empty())
@@ -107,9 +95,9 @@ class LockTest(RecipeCase):
         clients = self.one, self.other, self.client(self.host)
         first, second, third = (Lock(client, "/locks") for client in clients)
         held = first.acquire(WAIT)
-        waits = self.in_thread(lambda: second.acquire(3 * WAIT))
+        waits = in_thread(lambda: second.acquire(3 * WAIT))
         within(lambda: len(first.contenders()) == 2)
-        last = self.in_thread(lambda: third.acquire(3 * WAIT))
+        last = in_thread(lambda: third.acquire(3 * WAIT))
         within(lambda: len(first.contenders()) == 3)
         answered = third._client.stats().answered
         within(lambda: third._client.stats().in_flight == 0)
@@ -205,7 +193,7 @@ class LockTest(RecipeCase):
                 helds.put(held)
                 may_end.wait(WAIT)
 
-        end = self.in_thread(work)
+        end = in_thread(work)
         first = helds.get(timeout=WAIT)
         with lock as second:
             may_end.set()
@@ -260,7 +248,7 @@ class LockTest(RecipeCase):
 
     def test_an_expiry_is_waited_through(self) -> None:
         held = Lock(self.one, "/locks", "one", on_lost=lambda held: held.release()).acquire(WAIT)
-        waits = self.in_thread(lambda: Lock(self.other, "/locks", "other").acquire(3 * WAIT))
+        waits = in_thread(lambda: Lock(self.other, "/locks", "other").acquire(3 * WAIT))
         within(lambda: len(Lock(self.one, "/locks").contenders()) == 2)
         session = self.other.session_id
         self.server.do("expire")
@@ -272,7 +260,7 @@ class LockTest(RecipeCase):
 
     def test_a_client_that_is_stopped_waits_no_longer(self) -> None:
         with Lock(self.one, "/locks", "one"):
-            waits = self.in_thread(lambda: Lock(self.other, "/locks", "other").acquire())
+            waits = in_thread(lambda: Lock(self.other, "/locks", "other").acquire())
             within(lambda: len(Lock(self.one, "/locks").contenders()) == 2)
             self.other.stop()
             self.assertIsInstance(waits.get(timeout=WAIT), ConnectionClosedError)
@@ -290,7 +278,7 @@ class LockTest(RecipeCase):
                     time.sleep(0.001)
                     holders[0] -= 1
 
-        ends = [self.in_thread(functools.partial(work, client)) for client in 3 * (self.one, self.other)]
+        ends = [in_thread(functools.partial(work, client)) for client in 3 * (self.one, self.other)]
         for end in ends:
             self.assertIsNone(end.get(timeout=6 * WAIT))
         self.assertEqual((most[0], tokens), (1, sorted(tokens)))
@@ -309,10 +297,10 @@ class ElectionTest(RecipeCase):
             may_end.wait(WAIT)
             return held.token
 
-        first = self.in_thread(lambda: Election(one, "/leader", "one").run(lead))
+        first = in_thread(lambda: Election(one, "/leader", "one").run(lead))
         self.assertEqual(leads.get(timeout=WAIT), "one")
         election = Election(other, "/leader", "other")
-        second = self.in_thread(lambda: election.run(lambda held: held.token))
+        second = in_thread(lambda: election.run(lambda held: held.token))
         within(lambda: election.contenders() == ["one", "other"])
         may_end.set()
         self.assertLess(first.get(timeout=WAIT), second.get(timeout=WAIT))

@@ -3,33 +3,18 @@
 from __future__ import annotations
 
 import functools
-import queue
-import threading
 import time
 import unittest
-from typing import Any, Callable
+from typing import Any
 from unittest import mock
 
-from both import AioCase, BothCase
+from both import AioCase, BothCase, in_thread
 from support import WAIT, within
 
 from dirwolleu import ConnectionLoss, LockLostError, LockTimeout
 from dirwolleu import _requests as requests
-from dirwolleu._contending import before
-
-
-def in_thread(call: Callable[[], Any]) -> queue.Queue[Any]:
-    """The outcome of a call that a thread makes."""
-    outcome: queue.Queue[Any] = queue.Queue()
-
-    def run() -> None:
-        try:
-            outcome.put(call())
-        except BaseException as error:
-            outcome.put(error)
-
-    threading.Thread(target=run, daemon=True).start()
-    return outcome
+from dirwolleu._contending import EXCLUSIVE, READING, WRITING
+from dirwolleu._library import Machine
 
 
 class SharingRules(BothCase):
@@ -314,14 +299,15 @@ class AioTest(AioCase, SharingRules):
 
 class OrderTest(unittest.TestCase):
     def test_which_one_is_waited_for(self) -> None:
+        """By the core, with the markers of each kind: names of kazoo and of Curator are in one line, and those that share wait for
+        those alone that do not."""
         line = ["a-lock-0000000001", "b__rlock__0000000002", "c-__READ__0000000003", "d__lock__0000000004", "e-__READ__0000000005"]
         line.append("f-__WRIT__0000000006")
-        for own, shares, wanted in (
-            (0, False, None), (1, True, 0), (2, True, 0), (3, False, 2), (4, True, 3), (5, False, 4),
-        ):  # fmt: skip
-            self.assertEqual(before(line[::-1], line[own], shares), None if wanted is None else line[wanted])
-        with self.assertRaises(LookupError):
-            before(line, "g-lock-0000000007", False)
+        kinds = (EXCLUSIVE, "curator"), (READING, "kazoo"), (READING, "curator"), (EXCLUSIVE, "kazoo"), (READING, "curator"), (WRITING, "curator")
+        listing = [*line[::-1], "g-lock--000000001", "other", "latch-0000000000"]
+        for own, (kind, names), wanted in zip(line, kinds, (None, 0, 0, 2, 3, 4)):
+            found = Machine(6000).standing("/locks", own, listing, 9, kind.markers(names))
+            self.assertEqual(found, (None, None if wanted is None else line[wanted]))
 
 
 def load_tests(loader: unittest.TestLoader, *_: Any) -> unittest.TestSuite:

@@ -21,6 +21,8 @@ from dirwolleu.__main__ import EPILOG, _status_of, main
 
 
 class ShellTest(PartnerCase):
+    is_long = True
+
     def begin(self, partner: Partner, *words: str) -> subprocess.Popen[str]:
         environment = {**os.environ, "PYTHONPATH": str(CLIENTS / "python"), "DIRWOLLEU_HOSTS": partner.host}
         command = [sys.executable, "-m", "dirwolleu", *words]

@@ -3,6 +3,7 @@
 from __future__ import annotations
 
 import asyncio
+import threading
 import unittest
 from typing import Callable, Optional
 
@@ -153,6 +154,51 @@ class MomentTest(PartnerCase):
             within(lambda: client.snapshot(nodes=["/t/a"]) is None)
             self.assertIsNotNone(client.snapshot(nodes=["/none"], parents=["/t"]))
             self.assertEqual(client.snapshot(), dirwolleu.Snapshot(client.last_zxid, {}, {}))
+            with self.assertRaisesRegex(ValueError, "^t is no path"):
+                client.snapshot(nodes=["/none", "t"], parents=["/t"])
+        self.assertIsNone(client.snapshot(nodes=["/none"]))
+
+    def test_what_each_path_has(self) -> None:
+        """It is what a look-up of that path alone has."""
+        server = self.partner()
+        server.do(*MADE)
+        with dirwolleu.Client(f"{server.host}/t", 5.0) as client:
+            client.get("/a", watch=True)
+            client.exists("/b", watch=True)
+            client.exists("/none", watch=True)
+            for parent in ("/", "/a"):
+                client.get_children(parent, watch=True)
+            client.create("/ö", None)
+            client.get("/ö", watch=True)
+            client.get_children("/", watch=True)
+            found = client.snapshot((path for path in ("/ö", "/b", "/none", "/a")), iter(["/a", "/"]))
+            assert found is not None
+            self.assertEqual(dict(found.nodes), {path: client.kept(path) for path in ("/ö", "/b", "/none", "/a")})
+            self.assertEqual(dict(found.children), {path: client.kept_children(path) for path in ("/a", "/")})
+            self.assertEqual([one.has_data for one in found.nodes.values()], [True, False, False, True])
+            self.assertEqual(found.children["/"].names, ("a", "b", "ö"))
+
+    def test_a_transaction_is_in_it_whole_or_not_at_all(self) -> None:
+        server, paths = self.partner(), ["/a", "/b", "/c"]
+        server.do(*(f"create {path} 0" for path in paths))
+        shown = list[int]()
+        with dirwolleu.Client(server.host, 5.0) as client, dirwolleu.Client(server.host, 5.0) as writer:
+            for number in range(30):
+                transaction = writer.transaction()
+                for path in paths:
+                    transaction.set_data(path, b"%d" % number)
+                for read in [client.get_async(path, watch=True) for path in paths]:
+                    read.result(WAIT)
+                written = threading.Thread(target=transaction.commit)
+                written.start()
+                while written.is_alive():
+                    found = client.snapshot(paths)
+                    if found is not None:
+                        (data,) = {one.data for one in found.nodes.values()}
+                        shown.append(int(data or b""))
+                written.join()
+        self.assertEqual(shown, sorted(shown))
+        self.assertGreater(len(shown), 10)
 
 
 class AsyncTest(PartnerCase):

@@ -14,7 +14,7 @@ import ssl
 import struct
 import threading
 import time
-from collections.abc import Iterable
+from collections.abc import Iterable, Sequence
 from dataclasses import dataclass
 from typing import TYPE_CHECKING, Any, Callable, NamedTuple, Optional
 
@@ -23,6 +23,7 @@ from dirwolleu._clock import moment
 from dirwolleu._driver import Driver, Link
 from dirwolleu._engine import Contact, Credential, Engine, Tell, _Asked
 from dirwolleu._hosts import Place, Servers
+from dirwolleu._library import Listing, Standing
 from dirwolleu._pauses import LONGEST_PAUSE, Pauses
 from dirwolleu._plans import AnyRequest
 from dirwolleu._requests import Watcher
@@ -373,6 +374,18 @@ class Session(Client):
     def identity(self) -> Identity:
         """What the session is known by."""
         return identity_of(self._engine.saved())
+
+    def token_of(self, path: str) -> Optional[int]:
+        """The zxid at which a node of this session was made, where that it is there is kept and good."""
+        return self._engine.token_of(path)
+
+    def standing(self, directory: str, name: str, listing: Listing, markers: Sequence[str]) -> Standing:
+        """Whether the session comes first in a directory by its node of this name, and else whom it waits for."""
+        return self._engine.standing(directory, name, listing, markers)
+
+    def used(self) -> None:
+        """Counts that a lock is done with its node, so that what it has left is forgotten from time to time."""
+        self._engine.used()
 
     def no_server(self, timeout: Optional[float]) -> str:
         """That no server was found in this time, and what became of the last attempt, in words."""

@@ -20,7 +20,7 @@ from dirwolleu import exceptions as own
 from dirwolleu._engine import Credential
 from dirwolleu._hosts import Hosts, Servers, hosts_of
 from dirwolleu._lane import Created
-from dirwolleu._library import Answer
+from dirwolleu._library import Answer, Listing, Standing
 from dirwolleu._plans import AnyRequest, Plan
 from dirwolleu._requests import Request
 from dirwolleu._root import Root
@@ -541,6 +541,28 @@ class KazooClient:
     def _kept_children(self, path: str) -> Optional[KeptChildren]:
         """What is kept of the children of a node."""
         return None if self._session is None else self._session.kept_children(own_path(path))
+
+    # What locks ask.
+
+    def _is_owned(self, path: str) -> bool:
+        """Whether a node of this session is kept and good."""
+        return self._session is not None and self._session.token_of(own_path(path)) is not None
+
+    def _look(self, path: str) -> Optional[ZnodeStat]:
+        """What is known of a node, which is kept from then on, or None where there is none."""
+        found: Optional[ZnodeStat] = self._send(requests.exists(checked_path(path), True), _stat).get()
+        return found
+
+    def _standing(self, path: str, name: str, markers: Sequence[str]) -> Standing:
+        """Whether the session comes first in a directory by its node of this name, and else whom it waits for. It lists it now."""
+        listing: Listing = self._send(requests.listing(checked_path(path))).get()
+        session = self._session
+        return Standing(None, None) if session is None else session.standing(own_path(path), name, listing, markers)
+
+    def _used(self) -> None:
+        """Counts that a lock is done with its node."""
+        if self._session is not None:
+            self._session.used()
 
     # Calls.
 

@@ -1,7 +1,8 @@
 """Locks, by kazoo's names of nodes (kazoo.recipe.lock).
 
-Contenders are ephemeral nodes with a number. Each watches the one before it that excludes it, so that a release wakes
-one of them. A create whose answer was lost is found again by its own prefix, after a `sync`.
+Contenders are ephemeral nodes with a number. The proved core says which one stands first, and whom each other one waits
+for: it watches that one, so that a release wakes one of them. A create whose answer was lost is found again by its own
+prefix, after a `sync`.
 """
 
 from __future__ import annotations
@@ -22,13 +23,19 @@ from dirwolleu.kazoo.retry import ForceRetryError, KazooRetry, RetryFailedError
 if TYPE_CHECKING:
     from dirwolleu.kazoo.client import KazooClient
 
+BETWEEN_LOOKS = 0.1
+"""How long a contender waits before it asks again, where it is not shown who stands before it, in seconds."""
+
+_PLAIN = re.compile(r"[\w-]+")
+
 
 class Lock:
     """An exclusive lock: of those that contend at a path, one holds at a time.
 
     It is not reentrant. `extra_lock_patterns` are parts of the names of other clients' contenders, such as `-lock-` for
-    Curator's. A program that was paused may believe that it holds when another one does: see `dirwolleu.Lock`, which has
-    a token against that.
+    Curator's. It is taken where the proved core shows that it stands first; where a pattern is a regular expression, and
+    where a node outlives its session, by the order of names, as in kazoo. A program that was paused may believe that it
+    holds when another one does: see `dirwolleu.Lock`, which has a token against that.
 
         lock = client.Lock("/locks/job", "host-1")
         with lock:
@@ -110,8 +117,8 @@ class Lock:
             self.wake_event.clear()
             if self.cancelled:
                 raise CancelledError()
-            before = self._get_predecessor(node)
-            if before is None:
+            is_first, before = self._stands(node)
+            if is_first:
                 self._is_held, self._session = True, session if ephemeral else None
                 return True
             if not blocking:
@@ -127,13 +134,45 @@ class Lock:
             node = made.rpartition("/")[2]
         return node
 
-    def _wait_for(self, node: str, until: Optional[float]) -> None:
-        """Waits until another contender's node is gone, or the connection is."""
-        try:
-            self.client.get(join(self.path, node), self._told)
-        except NoNodeError:
-            return
-        if not self.wake_event.wait(None if until is None else max(until - time.monotonic(), 0)):
+    def _stands(self, node: str) -> tuple[bool, Optional[str]]:
+        """Whether the contender stands first, and else whom it waits for, where that is known."""
+        markers = self._markers(node)
+        if markers is None or not self._is_ephemeral(node):
+            before = self._get_predecessor(node)
+            return before is None, before
+        token, rival = self.client._standing(self.path, node, markers)
+        return token is not None, rival
+
+    def _markers(self, node: str) -> Optional[list[str]]:
+        """What the core is to know of names: that of the node's own, and those of the contenders that exclude it. None where
+        these are not all plain parts of names.
+        """
+        own = [pattern for pattern in (self._NODE_NAME, *self._excluding) if re.search(rf"{pattern}\d{{10}}$", node)]
+        is_plain = all(_PLAIN.fullmatch(pattern) for pattern in self._excluding)
+        return [own[0], *self._excluding] if own and is_plain else None
+
+    def _is_ephemeral(self, node: str) -> bool:
+        """Reads the node of this contender with a watch, unless it is kept and good, and tells whether it goes with the session.
+        """
+        path = join(self.path, node)
+        if self.client._is_owned(path):
+            return True
+        stat = self.client._look(path)
+        if stat is None or stat.ephemeralOwner not in (0, self.client._session_number()):
+            raise ForceRetryError()  # its session has expired
+        return bool(stat.ephemeralOwner)
+
+    def _wait_for(self, node: Optional[str], until: Optional[float]) -> None:
+        """Waits until another contender's node is gone, or the connection is; for a moment where it is not known which."""
+        if node is not None:
+            try:
+                self.client.get(join(self.path, node), self._told)
+            except NoNodeError:
+                return
+        left = None if until is None else max(until - time.monotonic(), 0)
+        if node is None and left != 0:
+            self.wake_event.wait(BETWEEN_LOOKS if left is None else min(BETWEEN_LOOKS, left))
+        elif not self.wake_event.wait(left):
             raise LockTimeout(f"Failed to acquire lock on {self.path} in time")
 
     def _told(self, _: WatchedEvent) -> None:
@@ -184,6 +223,7 @@ class Lock:
         except NoNodeError:
             pass
         self._is_held, self.node, self._session = False, None, None
+        self.client._used()
         return True
 
     def contenders(self) -> list[str]:

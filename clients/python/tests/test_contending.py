@@ -1,0 +1,211 @@
+"""Tests of how a contender takes a lock by the verdict of the core, of both clients, against the partner."""
+
+from __future__ import annotations
+
+import contextlib
+import functools
+import time
+import unittest
+from collections.abc import Iterator
+from typing import Any, Callable, Optional
+from unittest import mock
+
+from both import AioCase, BothCase, in_thread
+from support import WAIT, within
+
+import dirwolleu
+from dirwolleu import LockLostError, LockTimeout, ZookeeperError
+from dirwolleu import _requests as requests
+from dirwolleu._contending import _check_number
+from dirwolleu._library import Listing, Standing
+
+Asked = Callable[[Any, Any], Any]
+"""Is told of a request and who waits for its answer, and says who is to wait in its place."""
+
+
+class Altered:
+    """What waits for an answer, and hands on another one."""
+
+    def __init__(self, waiter: Any, alter: Callable[[Any], Any]) -> None:
+        self._waiter, self._alter = waiter, alter
+
+    def __getattr__(self, name: str) -> Any:
+        return getattr(self._waiter, name)
+
+    def set_result(self, result: Any) -> None:
+        self._waiter.set_result(self._alter(result))
+
+
+class ContendingRules(BothCase):
+    def setUp(self) -> None:
+        super().setUp()
+        self.server, self.root = self.shared_partner(), self.own_root()
+        self.one, self.other = (self.client(self.server.host + self.root) for _ in range(2))
+        self.one.ensure_path("/")
+
+    def engine(self, client: Any) -> Any:
+        return getattr(client, "_made", client)._engine
+
+    def names(self) -> list[str]:
+        return sorted(self.one.get_children("/locks"))
+
+    def taking(self, name: str, client: Any, **named: Any) -> Any:
+        """The outcome of a lock that a thread takes."""
+        return in_thread(lambda: self.recipe(name, client, "/locks", **named).acquire(3 * WAIT))
+
+    @contextlib.contextmanager
+    def asked(self, client: Any, told: Asked) -> Iterator[None]:
+        engine = self.engine(client)
+        ask = engine.ask
+
+        def asks(now: int, request: Any, waiter: Any, timeout: Optional[float] = None) -> None:
+            ask(now, request, told(request, waiter), timeout)
+
+        with mock.patch.object(engine, "ask", asks):
+            yield
+
+    def test_a_listing_that_is_older_than_the_node_is_not_believed(self) -> None:
+        for wrong in (lambda zxid: 0, lambda zxid: zxid + 1000):
+            seen: list[Any] = []
+
+            def told(request: Any, waiter: Any, wrong: Any = wrong, seen: Any = seen) -> Any:
+                if not isinstance(request, requests._Listing):
+                    return waiter
+                seen.append(request)
+                first = len(seen) == 1
+                return Altered(waiter, lambda got: got._replace(zxid=wrong(got.zxid)) if first else got)
+
+            with self.asked(self.one, told):
+                held = self.recipe("Lock", self.one, "/locks").acquire(WAIT)
+            self.assertEqual(len(seen), 2)
+            held.check()
+            held.release()
+
+    def test_nobody_holds_unless_the_core_says_so(self) -> None:
+        with mock.patch.object(self.engine(self.one), "standing", lambda *_: Standing(None, None)):
+            with self.assertRaises(LockTimeout):
+                self.recipe("Lock", self.one, "/locks").acquire(0.15)
+        self.assertEqual(self.names(), [])
+
+    def test_a_check_asks_the_core_again(self) -> None:
+        held, engine = self.recipe("Lock", self.one, "/locks").acquire(WAIT), self.engine(self.one)
+        standing, asked = engine.standing, list[Any]()
+
+        def stands(*words: Any) -> Standing:
+            asked.append(words)
+            found: Standing = standing(*words)
+            return found
+
+        with mock.patch.object(engine, "standing", stands):
+            held.check()
+        ((directory, name, listing, markers),) = asked
+        self.assertEqual((directory, f"/locks/{name}", type(listing), markers[0]), ("/locks", held.path, Listing, "-lock-"))
+        with mock.patch.object(engine, "standing", lambda *_: Standing(held.token + 1, None)):
+            with self.assertRaisesRegex(LockLostError, "not known to be there"):
+                held.check()
+        self.assertFalse(held.is_held)
+        held.release()
+
+    def test_a_rival_that_goes_between_the_listing_and_the_watch(self) -> None:
+        rival = f"{self.root}/locks/b5a4-lock-0000000000"
+        self.server.do(f"create {self.root}/locks", f"create {rival}")
+        gone = []
+
+        def told(request: Any, waiter: Any) -> Any:
+            if request.path == "/locks/b5a4-lock-0000000000":
+                self.server.do(f"delete {rival}")
+                gone.append(request)
+            return waiter
+
+        with self.asked(self.one, told):
+            held = self.recipe("Lock", self.one, "/locks").acquire(WAIT)
+        held.check()
+        self.assertEqual(len(gone), 1)
+
+    def test_a_session_that_is_lost_in_line(self) -> None:
+        first = self.recipe("Lock", self.one, "/locks").acquire(WAIT)
+        waits = self.taking("Lock", self.other)
+        within(lambda: len(self.names()) == 2)
+        before = set(self.names())
+        thief = dirwolleu.Client(self.server.host, saved=self.other.saved_session)
+        self.addCleanup(thief.close)
+        thief.start(WAIT)  # takes the session over
+        thief.stop()  # and ends it
+        within(lambda: len(set(self.names()) - before) == 1)
+        self.assertTrue(waits.empty())
+        first.release()
+        later = waits.get(timeout=WAIT)
+        later.check()
+        self.assertEqual(self.one.exists(later.path).ephemeral_owner, self.other.session_id)
+        self.assertGreater(later.token, first.token)
+
+    def test_a_node_that_is_deleted_in_line_is_made_again(self) -> None:
+        first = self.recipe("Lock", self.one, "/locks").acquire(WAIT)
+        waits = self.taking("Lock", self.other)
+        within(lambda: len(self.names()) == 2)
+        (own,) = {f"/locks/{name}" for name in self.names()} - {first.path}
+        within(lambda: self.engine(self.other).token_of(own))
+        self.one.delete(own)
+        within(lambda: len(self.names()) == 2)
+        self.assertTrue(waits.empty())
+        first.release()
+        self.assertNotEqual(waits.get(timeout=WAIT).path, own)
+
+    def test_those_that_share_and_those_that_do_not_are_in_one_line(self) -> None:
+        """Nodes as those of Curator and of kazoo, before each of ours."""
+        line = "a-__READ__0000000000", "b__rlock__0000000001", "c__lock__0000000002", "other"
+        self.server.do(f"create {self.root}/locks", *(f"create {self.root}/locks/{name}" for name in line))
+        reads = [self.taking("ReadLock", self.one, names=names) for names in ("curator", "kazoo")]
+        within(lambda: len(self.names()) == 6)
+        writes = self.taking("WriteLock", self.other)
+        within(lambda: len(self.names()) == 7)
+        self.server.do(f"delete {self.root}/locks/a-__READ__0000000000")
+        time.sleep(0.05)
+        self.assertTrue(all(one.empty() for one in (*reads, writes)))
+        self.server.do(f"delete {self.root}/locks/c__lock__0000000002")
+        helds = [one.get(timeout=WAIT) for one in reads]
+        self.assertTrue(writes.empty())
+        self.server.do(f"delete {self.root}/locks/b__rlock__0000000001")
+        for held in helds:
+            held.check()
+            time.sleep(0.02)
+            self.assertTrue(writes.empty())
+            held.release()
+        writes.get(timeout=WAIT).check()
+
+    def test_data_that_are_set_in_line_end_no_wait(self) -> None:
+        """The node is read again: it is its place in line that counts."""
+        first = self.recipe("Lock", self.one, "/locks").acquire(WAIT)
+        waits = self.taking("Lock", self.other)
+        within(lambda: len(self.names()) == 2)
+        (own,) = {f"/locks/{name}" for name in self.names()} - {first.path}
+        self.one.set(own, b"set")
+        first.release()
+        self.assertEqual(waits.get(timeout=WAIT).path, own)
+
+
+class ThreadsTest(ContendingRules):
+    pass
+
+
+class AioTest(AioCase, ContendingRules):
+    pass
+
+
+class NumberTest(unittest.TestCase):
+    def test_numbers_that_are_used_up_are_told(self) -> None:
+        """After 2,147,483,647 the servers go on with -2147483648."""
+        check = functools.partial(_check_number, tag="t-lock-")
+        check("/locks/t-lock-2147483647")
+        with self.assertRaises(ZookeeperError) as caught:
+            check("/locks/t-lock--2147483648")
+        self.assertEqual(str(caught.exception), "the numbers of nodes below it are used up: /locks; take another path")
+
+
+def load_tests(loader: unittest.TestLoader, *_: Any) -> unittest.TestSuite:
+    """The rules are no test by themselves."""
+    return unittest.TestSuite(loader.loadTestsFromTestCase(one) for one in (ThreadsTest, AioTest, NumberTest))
+
+
+if __name__ == "__main__":
+    unittest.main()
