@@ -1,0 +1,62 @@
+-- Moves of a driver, one after the other.
+use Rattle.std.proofs.Common.{◌≡◌, ◌++◌, List, [], ◌∷◌, refl, sym, subst}
+use Rattle.std.specs.Prelude.{Result, Ok, Err, OnOk}
+use Rattle.std.specs.List.{FoldsTo}
+use Rattle.zk_client.specs.Clients.{view_of}
+use Rattle.zk_agent.specs.Agents.{IsLed}
+use Rattle.zk_agent.specs.declared.input.Input.{Input}
+use Rattle.zk_driver.specs.Driving.{ChannelView, Course, AreFollowed, Does, Goes, Hands, Meets, Move, Written, Noted}
+
+-- ---- what lasts
+
+followed_by : {A : Type 0} (move : Move A) (old new : Course A) → Does old move new → AreFollowed old.agent → AreFollowed new.agent
+followed_by {A} Written old new does followed = subst (λ (c : Course A). AreFollowed c.agent) (sym does.1) followed
+followed_by (Noted now input) old new does followed = does.2.followed
+
+led_by : {A : Type 0} (move : Move A) (old new : Course A) → Does old move new → IsLed (view_of old.agent.follower.client) → IsLed (view_of new.agent.follower.client)
+led_by {A} Written old new does led = subst (λ (c : Course A). IsLed (view_of c.agent.follower.client)) (sym does.1) led
+led_by (Noted now input) old new does led = does.2.comes.led led
+
+followed_through : {A : Type 0} (moves : List (Move A)) (old new : Course A) → FoldsTo Does old moves new → AreFollowed old.agent → AreFollowed new.agent
+followed_through {A} [] old new same followed = subst (λ (c : Course A). AreFollowed c.agent) same followed
+followed_through (move ∷ moves) old new does followed = followed_through moves does.0 new does.2 (followed_by move old does.0 does.1 followed)
+
+led_through : {A : Type 0} (moves : List (Move A)) (old new : Course A) → FoldsTo Does old moves new → IsLed (view_of old.agent.follower.client) → IsLed (view_of new.agent.follower.client)
+led_through {A} [] old new same led = subst (λ (c : Course A). IsLed (view_of c.agent.follower.client)) same led
+led_through (move ∷ moves) old new does led = led_through moves does.0 new does.2 (led_by move old does.0 does.1 led)
+
+-- ---- moves
+
+does_on : {A : Type 0} (moves more : List (Move A)) (old between new : Course A) → FoldsTo Does old moves between → FoldsTo Does between more new → FoldsTo Does old (moves ++ more) new
+does_on {A} [] more old between new same rest = subst (λ (c : Course A). FoldsTo Does c more new) (sym same) rest
+does_on (move ∷ moves) more old between new does rest = (does.0, does.1, does_on moves more does.0 between new does.2 rest)
+
+come : {A : Type 0} (moves : List (Move A)) (old new : Course A) → FoldsTo Does old moves new → Goes old new
+come moves old new does = record { moves = moves; does = does; followed = followed_through moves old new does; led = led_through moves old new does }
+
+-- nothing happened
+pub same : {A : Type 0} (old new : Course A) → old ≡ new → Goes old new
+same old new is = come [] old new is
+
+-- what comes first, and what comes after it
+pub after : {A : Type 0} (old between new : Course A) → Goes old between → Goes between new → Goes old new
+after old between new first rest = come (first.moves ++ rest.moves) old new (does_on first.moves rest.moves old between new first.does rest.does)
+
+pub ok_after : {A X E : Type 0} (result : Result X E) (old between new : Course A) → Goes old between → OnOk result (Goes between new) → OnOk result (Goes old new)
+ok_after (Ok x) old between new first rest = after old between new first rest
+ok_after (Err e) old between new first rest = tt
+
+-- the connection is written to
+pub written : {A : Type 0} (old new : Course A) → Does old Written new → Goes old new
+written old new writes = come (Written ∷ []) old new (new, writes, refl)
+
+-- something happened, and the agent was handed it
+pub noted : {A X E : Type 0} (result : Result X E) (input : Input A) (old new : Course A) (between : ChannelView) → Meets old.channel input between
+    → OnOk result (Hands input (record old { channel = between }) new) → OnOk result (Goes old new)
+noted (Ok x) input old new between meets hands =
+    come (Noted hands.now input ∷ Written ∷ []) old new (hands.between, (between, meets, hands.takes), (new, hands.writes, refl))
+noted (Err e) input old new between meets hands = tt
+
+pub noted_so : {A : Type 0} (input : Input A) (old new : Course A) (between : ChannelView) → Meets old.channel input between → Hands input (record old { channel = between }) new → Goes old new
+noted_so input old new between meets hands =
+    come (Noted hands.now input ∷ Written ∷ []) old new (hands.between, (between, meets, hands.takes), (new, hands.writes, refl))

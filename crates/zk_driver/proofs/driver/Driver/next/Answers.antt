@@ -1,0 +1,54 @@
+use Rattle.std.proofs.Common.{◌≡◌, None, Option, sym, subst}
+use Rattle.zk_agent.specs.Agents.{told_by}
+use Rattle.zk_agent.specs.declared.action.Action.{Action}
+use Rattle.zk_driver.specs.Driving.{course_of, Course, Extends}
+use Rattle.zk_driver.proofs.Carrying.{always_err, extends_on}
+use Rattle.zk_driver.proofs.Going.{after, same}
+use Rattle.zk_driver.proofs.driver.Driver.next.Goals as goal
+
+pub loop-preserved : goal.loop-preserved
+loop-preserved g c =
+    let old = course_of c.args.self.now.engine None in
+    let so_far = course_of c.loop.self.engine None in
+    let here = course_of c.pop.new.self None in
+    let new = course_of c.round.new.self.engine None in
+    let there : here ≡ so_far = subst (λ (r : Option (Action g.row.A.Denot)). course_of c.pop.new.self r ≡ so_far) c.in_default.is c.pop.ensures.same in
+    record {
+      goes = after old so_far new c.loop.invariant.goes (after so_far here new (same so_far here (sym there)) c.in_ok-round.ensures.goes);
+      kept = extends_on old.told so_far.told new.told c.loop.invariant.kept (subst (λ (c : Course g.row.A.Denot). Extends c.told new.told) there c.round.ensures.kept);
+    }
+
+pub returns-then-branch-clause-goes : goal.returns-then-branch-clause-goes
+returns-then-branch-clause-goes g c =
+    let old = course_of c.args.self.now.engine None in
+    let so_far = course_of c.loop.self.engine None in
+    let here = course_of c.pop.new.self None in
+    let told = course_of c.round.new.self.engine None in
+    let new = course_of c.pop-then-branch.new.self c.pop-then-branch.result in
+    let there : here ≡ so_far = subst (λ (r : Option (Action g.row.A.Denot)). course_of c.pop.new.self r ≡ so_far) c.in_default.is c.pop.ensures.same in
+    after old told new (after old so_far told c.loop.invariant.goes (after so_far here told (same so_far here (sym there)) c.in_ok-round.ensures.goes))
+    (same told new (sym c.pop-then-branch.ensures.same))
+
+pub returns-clause-goes : goal.returns-clause-goes
+returns-clause-goes g c =
+    let old = course_of c.args.self.now.engine None in
+    let so_far = course_of c.loop.self.engine None in
+    let told = course_of c.settle.new.self None in
+    let new = course_of c.pop-2.new.self c.pop-2.result in
+    after old told new (after old so_far told c.loop.invariant.goes c.in_ok-settle.ensures.goes) (same told new (sym c.pop-2.ensures.same))
+
+pub returns-in_err-round-clause-kept : goal.returns-in_err-round-clause-kept
+returns-in_err-round-clause-kept g c =
+    let old = told_by c.args.self.now.engine.waiting.items in
+    let so_far = course_of c.loop.self.engine None in
+    let new = told_by c.round.new.self.engine.waiting.items in
+    let there : course_of c.pop.new.self None ≡ so_far = subst (λ (r : Option (Action g.row.A.Denot)). course_of c.pop.new.self r ≡ so_far) c.in_default.is c.pop.ensures.same in
+    always_err (Extends old new) c.from_residual.result
+    (extends_on old so_far.told new c.loop.invariant.kept (subst (λ (c : Course g.row.A.Denot). Extends c.told new) there c.round.ensures.kept))
+
+pub returns-in_err-settle-clause-kept : goal.returns-in_err-settle-clause-kept
+returns-in_err-settle-clause-kept g c =
+    let old = told_by c.args.self.now.engine.waiting.items in
+    let so_far = told_by c.loop.self.engine.waiting.items in
+    let new = told_by c.settle.new.self.waiting.items in
+    always_err (Extends old new) c.from_residual-in_err-settle.result (extends_on old so_far new c.loop.invariant.kept c.settle.ensures.kept)

@@ -1,0 +1,11 @@
+use Rattle.std.proofs.Common.{None}
+use Rattle.zk_agent.specs.Agents.{told_by}
+use Rattle.zk_driver.specs.Driving.{course_of, Extends, Goes}
+use Rattle.zk_driver.proofs.driver.Driver.next.Given as goal
+
+-- the moves so far, and what waits
+abbrev pub invariant-loop : goal.invariant-loop
+invariant-loop g l = record {
+  goes : Goes (course_of l.fn.self.engine None) (course_of l.self.engine None);
+  kept : Extends (told_by l.fn.self.engine.waiting.items) (told_by l.self.engine.waiting.items);
+}

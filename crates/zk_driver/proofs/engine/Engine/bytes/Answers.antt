@@ -1,0 +1,23 @@
+use Rattle.std.proofs.Common.{None, refl}
+use Rattle.zk_agent.specs.Agents.{told_by}
+use Rattle.zk_agent.specs.declared.input.Input.TheVariants as happens
+use Rattle.zk_driver.specs.Driving.{channel_view, course_of}
+use Rattle.zk_driver.proofs.Carrying.{extends_on}
+use Rattle.zk_driver.proofs.Going.{ok_after, noted_so}
+use Rattle.zk_driver.proofs.engine.Engine.bytes.Goals as goal
+
+pub returns-then-told-now-clause-goes : goal.returns-then-told-now-clause-goes
+returns-then-told-now-clause-goes g c =
+    noted_so (happens.Bytes c.args.bytes) (course_of c.args.self.now None) (course_of c.hand.new.self None) (channel_view c.args.self.now.channel) (c.requires.none, c.requires.open, refl)
+    c.in_ok-told.ensures.hands
+
+pub returns-clause-goes : goal.returns-clause-goes
+returns-clause-goes g c =
+    let old = course_of c.args.self.now None in
+    let between = course_of c.hand.new.self None in
+    ok_after c.catch_up.result old between (course_of c.catch_up.new.self None)
+    (noted_so (happens.Bytes c.args.bytes) old between (channel_view c.args.self.now.channel) (c.requires.none, c.requires.open, refl) c.in_ok-told.ensures.hands) c.catch_up.ensures.goes
+
+pub returns-clause-kept : goal.returns-clause-kept
+returns-clause-kept g c =
+    extends_on (told_by c.args.self.now.waiting.items) (told_by c.hand.new.self.waiting.items) (told_by c.catch_up.new.self.waiting.items) c.hand.ensures.kept c.catch_up.ensures.kept

@@ -1,0 +1,20 @@
+use Rattle.std.proofs.Common.{refl}
+use Rattle.zk_agent.specs.Agents.{told_by}
+use Rattle.zk_driver.specs.Driving.{channel_view}
+use Rattle.zk_driver.proofs.engine.Engine.hand.Goals as goal
+
+pub returns-clause-hands : goal.returns-clause-hands
+returns-clause-hands g c = record {
+  now = c.args.now;
+  between = record { agent = c.step.new.self; channel = channel_view c.carry_all.new.channel; told = told_by c.carry_all.new.waiting.items };
+  takes = record {
+    actions = c.in-Ok.actions.items;
+    comes = c.in-Ok.ensures.comes;
+    followed = c.in-Ok.ensures.followed;
+    latest = c.in-Ok.ensures.latest;
+    heard = c.in-Ok.ensures.heard;
+    channel = c.in-Ok-carry_all.ensures.channel;
+    told = c.in-Ok-carry_all.ensures.waiting;
+  };
+  writes = (c.flush.ensures, refl);
+}

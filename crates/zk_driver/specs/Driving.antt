@@ -1,0 +1,119 @@
+-- How far a driver has come: what its agent was handed, what was carried out, and what was passed on.
+use Rattle.std.specs.Prelude.{◌≡◌, ℕ, Bool, true, false, List, [], ◌∷◌, ◌++◌, fold, max, Option, Some, None, is_some, All}
+use Rattle.std.specs.List.{filter, FoldsTo}
+use Rattle.zk_turns.specs.Turns.{Send}
+use Rattle.zk_client.specs.Clients.{view_of}
+use Rattle.zk_dialler.specs.Dialling.{is_open}
+use Rattle.zk_follow.specs.Following.{IsFollowed}
+use Rattle.zk_agent.specs.declared.action.Action.{Action}
+use Rattle.zk_agent.specs.declared.agent.Agent.{Agent}
+use Rattle.zk_agent.specs.declared.input.Input.{Input}
+use Rattle.zk_agent.specs.declared.input.Input.TheVariants as happens
+use Rattle.zk_agent.specs.Agents.{Told, Says, Dials, HangsUp, action_view, heard_after, told_by, trail_of, Comes, IsLed}
+use Rattle.zk_link.specs.Frames.{IsLeftOf}
+use Rattle.zk_driver.specs.declared.channel.Attempt.{Attempt}
+use Rattle.zk_driver.specs.declared.channel.Channel.{Channel}
+use Rattle.zk_driver.specs.declared.engine.Engine.{Engine}
+
+-- ---- the connection
+
+-- Whether there is one, the address that is to be dialled, and what is left to be written.
+pub record ChannelView : Type 0 where
+  pub is_open : Bool
+  pub attempt : Option Attempt
+  pub unsent : List ℕ
+
+abbrev pub channel_view : {A S : Type 0} → Channel A S → ChannelView
+channel_view channel = record { is_open = is_some channel.stream; attempt = channel.attempt; unsent = channel.unsent.items }
+
+abbrev pub opened : ChannelView
+opened = record { is_open = true; attempt = None; unsent = [] }
+
+abbrev pub closed : ChannelView
+closed = record { is_open = false; attempt = None; unsent = [] }
+
+-- What a driver does itself: it dials, hangs up and sends. All else is for the program.
+abbrev pub is_passed : Told → Bool
+is_passed (Dials place within) = false
+is_passed HangsUp = false
+is_passed (Says (Send bytes)) = false
+is_passed _ = true
+
+-- what it makes of a connection: an address is to be dialled, the connection is over, or bytes are to be written after the others
+abbrev pub carried : ChannelView → Told → ChannelView
+carried channel (Dials place within) = record channel { attempt = Some (record { place = place; within_ms = within }) }
+carried channel HangsUp = closed
+carried channel (Says (Send bytes)) = record channel { unsent = channel.unsent ++ bytes }
+carried channel _ = channel
+
+-- Some of what is left may be written, the first bytes first.
+pub record Writes (old new : ChannelView) : Type 0 where
+  pub is_open : new.is_open ≡ old.is_open
+  pub attempt : new.attempt ≡ old.attempt
+  pub unsent : IsLeftOf old.unsent new.unsent
+
+-- ---- how far it has come
+
+-- The agent, the connection, and what the program is told: what was passed on, and after it what waits for that.
+pub record Course (A : Type 0) : Type 0 where
+  pub agent : Agent A
+  pub channel : ChannelView
+  pub told : List Told
+
+abbrev pub passed_by : {A : Type 0} → Option (Action A) → List Told
+passed_by None = []
+passed_by (Some action) = action_view action ∷ []
+
+-- What waited still waits, before what came to it.
+abbrev pub Extends : (old new : List Told) → Type 0
+Extends old new = (more : List Told) × (new ≡ old ++ more)
+
+abbrev pub course_of : {A S : Type 0} → Engine A S → Option (Action A) → Course A
+course_of engine passed = record { agent = engine.agent; channel = channel_view engine.channel; told = passed_by passed ++ told_by engine.waiting.items }
+
+-- each subject is followed, at the latest moment
+abbrev pub AreFollowed : {A : Type 0} → Agent A → Type 0
+AreFollowed agent = All (IsFollowed agent.latest (view_of agent.follower.client)) agent.follower.subjects.items
+
+-- The agent takes an input that was noticed at a moment. What it says is carried out, or put after what the program is told, each in its order.
+pub record Takes {A : Type 0} (now : ℕ) (input : Input A) (old new : Course A) : Type 0 where
+  pub actions : List (Action A)
+  pub comes : Comes (trail_of old.agent []) (trail_of new.agent actions)
+  pub followed : AreFollowed new.agent
+  pub latest : new.agent.latest ≡ max old.agent.latest now
+  pub heard : new.agent.heard_at ≡ heard_after (is_open old.agent.dialler.phase) (max old.agent.latest now) input old.agent.heard_at
+  pub channel : new.channel ≡ fold carried old.channel (told_by actions)
+  pub told : new.told ≡ old.told ++ filter is_passed (told_by actions)
+
+-- What may happen on a connection, and the connection with it. An address that is to be dialled is dialled before anything else is noted, and
+-- that it could not be is noted too. Bytes come, and the end does, where a connection is.
+abbrev pub Meets : {A : Type 0} → ChannelView → Input A → ChannelView → Type 0
+Meets old happens.Opened new = (is_some old.attempt ≡ true) × (new ≡ opened)
+Meets old happens.Failed new = (is_some old.attempt ≡ true) × (new ≡ closed)
+Meets old (happens.Bytes bytes) new = (old.attempt ≡ None) × (old.is_open ≡ true) × (new ≡ old)
+Meets old happens.Cut new = (old.attempt ≡ None) × (old.is_open ≡ true) × (new ≡ closed)
+Meets old happens.Moment new = (old.attempt ≡ None) × (new ≡ old)
+Meets old _ new = ⊥
+
+pub data Move (A : Type 0) : Type 0 where
+  Written : Move A
+  Noted : (now : ℕ) → Input A → Move A
+
+-- What each move does.
+abbrev pub Does : {A : Type 0} → Course A → Move A → Course A → Type 0
+Does old Written new = Writes old.channel new.channel × (new ≡ record old { channel = new.channel })
+Does {A} old (Noted now input) new = (between : ChannelView) × Meets old.channel input between × Takes now input (record old { channel = between }) new
+
+-- Moves, the oldest first. A client that was led stands where it was led.
+pub record Goes {A : Type 0} (old new : Course A) : Type 0 where
+  pub moves : List (Move A)
+  pub does : FoldsTo Does old moves new
+  pub followed : AreFollowed old.agent → AreFollowed new.agent
+  pub led : IsLed (view_of old.agent.follower.client) → IsLed (view_of new.agent.follower.client)
+
+-- The program hands the agent an input, at the moment at which it does.
+pub record Hands {A : Type 0} (input : Input A) (old new : Course A) : Type 0 where
+  pub now : ℕ
+  pub between : Course A
+  pub takes : Takes now input old between
+  pub writes : Does between Written new

@@ -1,0 +1,85 @@
+//! What a connection brings.
+
+ghost use Rattle.std.specs.Prelude.{◌≡◌, IfOk};
+ghost use Rattle.zk_driver.specs.Reads.{is_late, reading_of, Gives};
+
+use std::alloc::{AllocError, Allocator};
+use std::io::{self, ErrorKind};
+use zk_link::{Brought, Stream};
+
+/// The most bytes that one read is asked for.
+const PIECE: usize = 65_536;
+
+/// What a read has brought.
+#[derive(Clone, Copy)]
+pub(crate) enum Reading {
+    /// This many bytes, at least one.
+    Bytes(usize),
+    /// None in time, or the read was interrupted.
+    Nothing,
+    /// None any more: the connection has ended, or it has failed.
+    End,
+}
+
+/// Makes room for a piece, where there is none yet.
+pub(crate) fn make_room<A: Allocator>(room: &mut Vec<u8, A>) -> Result<(), AllocError> {
+    if room.is_empty() {
+        return room.resize(PIECE, 0);
+    }
+    Ok(())
+}
+
+/// Whether a read or a write that failed so may succeed later: it took too long, or it was interrupted.
+pub(crate) fn is_late(kind: ErrorKind) -> bool
+    ensures { result ≡ is_late kind }
+{
+    matches!(
+        kind,
+        ErrorKind::WouldBlock | ErrorKind::TimedOut | ErrorKind::Interrupted
+    )
+}
+
+/// What a read has brought, by its result.
+fn reading_of(read: io::Result<usize>) -> Reading
+    ensures { result ≡ reading_of read }
+{
+    match read {
+        Ok(0) => Reading::End,
+        Ok(count) => Reading::Bytes(count),
+        Err(fault) if is_late(fault.kind()) => Reading::Nothing,
+        Err(_) => Reading::End,
+    }
+}
+
+/// What one read of a connection brings.
+fn read_once<A: Allocator, S: Stream>(
+    alloc: A,
+    stream: &mut S,
+    room: &mut Vec<u8, A>,
+) -> Result<Brought<A>, AllocError>
+    ensures { IfOk result (λ brought. Gives (S.remaining stream.old) (S.remaining stream.new) brought) }
+{
+    match reading_of(stream.read(room.as_mut_slice())) {
+        Reading::Bytes(count) => {
+            let bytes = Vec::from_slice(alloc, &room[..count])?;
+            Ok(Brought::Piece(bytes))
+        }
+        Reading::Nothing => Ok(Brought::Nothing),
+        Reading::End => Ok(Brought::End),
+    }
+}
+
+/// What a connection brings within `ms` milliseconds, at least 1. It ends where it has no more bytes, and where it fails.
+pub(crate) fn bring<A: Allocator, S: Stream>(
+    alloc: A,
+    stream: &mut S,
+    room: &mut Vec<u8, A>,
+    ms: u64,
+) -> Result<Brought<A>, AllocError>
+    ensures { IfOk result (λ brought. (before : S) × Gives (S.remaining before) (S.remaining stream.new) brought) }
+{
+    if stream.wait_at_most(ms).is_err() {
+        return Ok(Brought::End);
+    }
+    read_once(alloc, stream, room)
+}

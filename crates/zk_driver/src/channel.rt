@@ -1,0 +1,110 @@
+//! What a driver has of a connection.
+
+ghost use Rattle.std.specs.Prelude.{◌≡◌, ◌++◌, None, Some, IfOk, OnOk, is_some};
+ghost use Rattle.zk_driver.specs.Driving.{channel_view, closed, opened, Writes};
+ghost use Rattle.zk_driver.specs.Reads.{Gives};
+
+use crate::bring::{bring, make_room};
+use crate::send::send;
+use std::alloc::{AllocError, Allocator};
+use zk_link::{Brought, Stream};
+
+/// How long a read may wait, in milliseconds, while bytes are left to be written.
+const PRESSED_WAIT: u64 = 10;
+
+/// An address that is to be dialled: its place in the program's list, and how long that may take, in milliseconds.
+#[derive(Clone, Copy)]
+pub(crate) struct Attempt {
+    pub(crate) place: usize,
+    pub(crate) within_ms: u64,
+}
+
+/// The connection, if there is one; the address that is to be dialled, if one is; and what is left to be written.
+#[derive(Drop)]
+pub(crate) struct Channel<A: Allocator, S: Drop> {
+    pub(crate) stream: Option<S>,
+    pub(crate) attempt: Option<Attempt>,
+    unsent: Vec<u8, A>,
+    room: Vec<u8, A>,
+}
+
+impl<A: Allocator + Copy, S: Stream> Channel<A, S> {
+    /// No connection, and none is asked for.
+    pub(crate) fn new(alloc: A) -> Channel<A, S>
+        ensures { channel_view result ≡ closed }
+    {
+        Channel {
+            stream: None,
+            attempt: None,
+            unsent: Vec::new(alloc),
+            room: Vec::new(alloc),
+        }
+    }
+
+    /// Whether there is a connection.
+    pub(crate) fn is_open(&self) -> bool
+        ensures { result ≡ is_some self.now.stream }
+    {
+        self.stream.is_some()
+    }
+
+    /// An address is to be dialled.
+    pub(crate) fn ask(&mut self, attempt: Attempt)
+        ensures { channel_view self.new ≡ record (channel_view self.old) { attempt = Some attempt } }
+    {
+        self.attempt = Some(attempt);
+    }
+
+    /// A connection begins.
+    pub(crate) fn hold(&mut self, stream: S)
+        ensures { channel_view self.new ≡ opened }
+    {
+        self.close();
+        self.stream = Some(stream);
+    }
+
+    /// The connection is over, and what is left to be written is forgotten. Nothing is to be dialled.
+    pub(crate) fn close(&mut self)
+        ensures { channel_view self.new ≡ closed }
+    {
+        self.attempt = None;
+        self.unsent.clear();
+        self.stream = None;
+    }
+
+    /// These bytes are to be written, after what is left.
+    pub(crate) fn queue(&mut self, bytes: &[u8]) -> Result<(), AllocError>
+        ensures { OnOk result (channel_view self.new ≡ record (channel_view self.old) { unsent = self.old.unsent.items ++ bytes.now }) }
+    {
+        self.unsent.extend_from_slice(bytes)
+    }
+
+    /// Writes what is left, as much as the connection takes for now. Whether the connection has not failed.
+    pub(crate) fn flush(&mut self) -> bool
+        ensures { Writes (channel_view self.old) (channel_view self.new) }
+    {
+        match &mut self.stream {
+            Some(stream) => send(stream, &mut self.unsent),
+            None => true,
+        }
+    }
+
+    /// Writes what is left, and reads once: for `ms` milliseconds, at least 1, or for 10 at most while bytes are left.
+    pub(crate) fn exchange(&mut self, alloc: A, ms: u64) -> Result<Brought<A>, AllocError>
+        ensures { Writes (channel_view self.old) (channel_view self.new) }
+    {
+        make_room(&mut self.room)?;
+        let Some(stream) = &mut self.stream else {
+            return Ok(Brought::End);
+        };
+        if !send(stream, &mut self.unsent) {
+            return Ok(Brought::End);
+        }
+        let wait = if self.unsent.is_empty() {
+            ms
+        } else {
+            ms.min(PRESSED_WAIT)
+        };
+        bring(alloc, stream, &mut self.room, wait.max(1))
+    }
+}

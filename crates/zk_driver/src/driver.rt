@@ -1,0 +1,230 @@
+//! The driver.
+
+ghost use Rattle.std.specs.Prelude.{◌≡◌, ◌≤◌, ◌<ℤ◌, [], None, is_some, length, pos, true, unsigned_abs, IfNone, IfOk, OnErr, OnOk};
+ghost use Rattle.zk_turns.specs.Turns.{new_start};
+ghost use Rattle.zk_turns.specs.View.{view_at};
+ghost use Rattle.zk_client.specs.Clients.{view_of};
+ghost use Rattle.zk_agent.specs.Agents.{told_by};
+ghost use Rattle.zk_agent.specs.declared.input.Input.TheVariants as happens;
+ghost use Rattle.zk_driver.specs.Driving.{channel_view, closed, course_of, AreFollowed, Extends, Goes, Hands};
+
+use crate::channel::Attempt;
+use crate::engine::Engine;
+use std::alloc::{AllocError, Allocator};
+use zk_agent::{Action, Agent, Input, Settings};
+use zk_client::{Client, Path, Side};
+use zk_link::{Clock, Dial, Stop};
+
+/// An agent, and what carries out what it says.
+#[derive(Drop)]
+pub struct Driver<'a, A: Allocator + Copy, D: Dial + Drop, C: Clock + Drop> {
+    alloc: A,
+    engine: Engine<A, D::Stream>,
+    dial: D,
+    clock: C,
+    addresses: &'a [&'a str],
+    latest: u64,
+}
+
+impl<'a, A: Allocator + Copy, D: Dial + Drop, C: Clock + Drop> Driver<'a, A, D, C> {
+    /// Of an agent that has no connection, with the addresses of whose number it was told. Nothing is dialled before the first
+    /// [`next`](Driver::next).
+    pub fn new(
+        alloc: A,
+        agent: Agent<A>,
+        dial: D,
+        clock: C,
+        addresses: &'a [&'a str],
+    ) -> Driver<'a, A, D, C>
+        ensures agent { result.engine.agent ≡ agent }
+        ensures channel { channel_view result.engine.channel ≡ closed }
+        ensures waiting { result.engine.waiting.items ≡ [] }
+    {
+        Driver {
+            alloc,
+            engine: Engine::new(alloc, agent),
+            dial,
+            clock,
+            addresses,
+            latest: 0,
+        }
+    }
+
+    /// Of a new session, which asks for this timeout in milliseconds, with these addresses. Their order and the pauses are random by the
+    /// clock's moment. An error means that memory ran out.
+    pub fn begin(
+        alloc: A,
+        timeout_ms: i32,
+        dial: D,
+        mut clock: C,
+        addresses: &'a [&'a str],
+    ) -> Result<Driver<'a, A, D, C>, AllocError>
+        requires { pos 0 <ℤ timeout_ms }
+        ensures client { IfOk result (λ driver. view_of driver.engine.agent.follower.client ≡ view_at (new_start (unsigned_abs timeout_ms)) []) }
+        ensures followed { IfOk result (λ driver. AreFollowed driver.engine.agent) }
+        ensures channel { IfOk result (λ driver. channel_view driver.engine.channel ≡ closed) }
+        ensures waiting { IfOk result (λ driver. driver.engine.waiting.items ≡ []) }
+    {
+        let settings = Settings {
+            timeout_ms,
+            addresses: addresses.len(),
+            seed: clock.now(),
+        };
+        let agent = Agent::new(alloc, Client::new(alloc, timeout_ms), settings)?;
+        Ok(Driver::new(alloc, agent, dial, clock, addresses))
+    }
+
+    /// The client: what is kept of paths, the state, and what another session can be resumed from.
+    pub fn client(&self) -> &Client<A>
+        ensures { view_of result.now ≡ view_of self.now.engine.agent.follower.client }
+    {
+        self.engine.agent.client()
+    }
+
+    /// The moment at which the server was heard last, on any connection, and none before it was.
+    pub fn heard_at(&self) -> Option<u64>
+        ensures { result ≡ self.now.engine.agent.heard_at }
+    {
+        self.engine.agent.heard_at()
+    }
+
+    /// The clock's moment, in milliseconds; the latest that was told where the clock has gone back.
+    pub fn now(&mut self) -> u64
+        ensures engine { self.new.engine ≡ self.old.engine }
+        ensures latest { self.new.latest ≡ result }
+        ensures on { self.old.latest ≤ result }
+    {
+        self.latest = self.latest.max(self.clock.now());
+        self.latest
+    }
+
+    /// Follows a subject: the data of the node, or the names of its children. No other subject has or had the ticket.
+    pub fn follow(&mut self, ticket: u64, side: Side, path: Path<A>) -> Result<(), Stop>
+        ensures hands { OnOk result (Hands (happens.Follow ticket side path) (course_of self.old.engine None) (course_of self.new.engine None)) }
+        ensures kept { Extends (told_by self.old.engine.waiting.items) (told_by self.new.engine.waiting.items) }
+    {
+        self.hand(Input::Follow { ticket, side, path })
+    }
+
+    /// Follows the subject of this ticket no more.
+    pub fn unfollow(&mut self, ticket: u64) -> Result<(), Stop>
+        ensures hands { OnOk result (Hands (happens.Unfollow ticket) (course_of self.old.engine None) (course_of self.new.engine None)) }
+        ensures kept { Extends (told_by self.old.engine.waiting.items) (told_by self.new.engine.waiting.items) }
+    {
+        self.hand(Input::Unfollow { ticket })
+    }
+
+    /// Goes on with another list of addresses. A connection that is there stays.
+    pub fn set_addresses(&mut self, addresses: &'a [&'a str]) -> Result<(), Stop>
+        ensures hands { OnOk result (Hands (happens.Addresses (length addresses.now)) (course_of self.old.engine None) (course_of self.new.engine None)) }
+        ensures kept { Extends (told_by self.old.engine.waiting.items) (told_by self.new.engine.waiting.items) }
+    {
+        self.addresses = addresses;
+        self.hand(Input::Addresses(addresses.len()))
+    }
+
+    /// Hands in what the program asks for, at the clock's moment.
+    fn hand(&mut self, input: Input<A>) -> Result<(), Stop>
+        ensures hands { OnOk result (Hands input (course_of self.old.engine None) (course_of self.new.engine None)) }
+        ensures kept { Extends (told_by self.old.engine.waiting.items) (told_by self.new.engine.waiting.items) }
+    {
+        let now = self.now();
+        self.engine.hand(now, input)?;
+        Ok(())
+    }
+
+    /// The next action for the program, and none at this moment of the clock. Until then it does what the agent asks for, and tells it what
+    /// happens: it waits for bytes, or for what is due. A connection that ends or fails, and one that could not be made, are no errors: the
+    /// agent is told.
+    ///
+    /// No read waits past the moment, except for 1 millisecond, and a write waits for room for 16 milliseconds at most. An attempt to connect
+    /// has the time that the agent gives it: a third of the timeout, and a second at least.
+    ///
+    /// An error says that memory ran out. What was noted by then is given by further calls, and the session goes on no further: begin with
+    /// another driver, from what was saved.
+    pub fn next(&mut self, until: u64) -> Result<Option<Action<A>>, Stop>
+        ensures goes { IfOk result (λ passed. Goes (course_of self.old.engine None) (course_of self.new.engine passed)) }
+        ensures come { IfOk result (λ passed. IfNone passed (until ≤ self.new.engine.agent.latest)) }
+        ensures none { IfOk result (λ passed. IfNone passed (self.new.engine.waiting.items ≡ [])) }
+        ensures kept { OnErr result (Extends (told_by self.old.engine.waiting.items) (told_by self.new.engine.waiting.items)) }
+    {
+        for _ in 0..u64::MAX {
+            if let Some(action) = self.engine.pop() {
+                return Ok(Some(action));
+            }
+            if until <= self.round(until)? {
+                return Ok(self.engine.pop());
+            }
+        }
+        self.engine.settle(until)?;
+        Ok(self.engine.pop())
+    }
+
+    /// Dials, where an address is to be dialled, and else waits until this moment at most. The answer is the moment that was told.
+    fn round(&mut self, until: u64) -> Result<u64, Stop>
+        ensures goes { OnOk result (Goes (course_of self.old.engine None) (course_of self.new.engine None)) }
+        ensures told { IfOk result (λ moment. moment ≤ self.new.engine.agent.latest) }
+        ensures kept { Extends (told_by self.old.engine.waiting.items) (told_by self.new.engine.waiting.items) }
+    {
+        match self.engine.channel.attempt {
+            Some(attempt) => self.attempt(attempt),
+            None => self.wait(until),
+        }
+    }
+
+    /// A connection to the address at a place of the list, and none where none is made in time, or the list is shorter.
+    fn dial(&mut self, attempt: Attempt) -> Option<D::Stream>
+        ensures engine { self.new.engine ≡ self.old.engine }
+        ensures latest { self.new.latest ≡ self.old.latest }
+    {
+        let address = self.addresses.get(attempt.place)?;
+        self.dial.dial(address, attempt.within_ms.max(1)).ok()
+    }
+
+    /// Dials an address, and tells the agent what came of it.
+    fn attempt(&mut self, attempt: Attempt) -> Result<u64, Stop>
+        requires { is_some self.old.engine.channel.attempt ≡ true }
+        ensures goes { OnOk result (Goes (course_of self.old.engine None) (course_of self.new.engine None)) }
+        ensures told { IfOk result (λ moment. moment ≤ self.new.engine.agent.latest) }
+        ensures kept { Extends (told_by self.old.engine.waiting.items) (told_by self.new.engine.waiting.items) }
+    {
+        let stream = self.dial(attempt);
+        let now = self.now();
+        match stream {
+            Some(stream) => self.engine.open(now, stream),
+            None => self.engine.fail(now),
+        }
+    }
+
+    /// Listens where there is a connection, and else waits.
+    fn wait(&mut self, until: u64) -> Result<u64, Stop>
+        requires { self.old.engine.channel.attempt ≡ None }
+        ensures goes { OnOk result (Goes (course_of self.old.engine None) (course_of self.new.engine None)) }
+        ensures told { IfOk result (λ moment. moment ≤ self.new.engine.agent.latest) }
+        ensures kept { Extends (told_by self.old.engine.waiting.items) (told_by self.new.engine.waiting.items) }
+    {
+        let now = self.now();
+        let ms = self.engine.wait_ms(now, until);
+        if self.engine.channel.is_open() {
+            return self.listen(ms);
+        }
+        self.clock.pause(ms);
+        let now = self.now();
+        self.engine.tell(now)
+    }
+
+    /// Writes what is left, and tells the agent what the connection brings within `ms` milliseconds, or that it brings nothing.
+    fn listen(&mut self, ms: u64) -> Result<u64, Stop>
+        requires none { self.old.engine.channel.attempt ≡ None }
+        requires open { is_some self.old.engine.channel.stream ≡ true }
+        ensures goes { OnOk result (Goes (course_of self.old.engine None) (course_of self.new.engine None)) }
+        ensures told { IfOk result (λ moment. moment ≤ self.new.engine.agent.latest) }
+        ensures kept { Extends (told_by self.old.engine.waiting.items) (told_by self.new.engine.waiting.items) }
+    {
+        let Ok(brought) = self.engine.channel.exchange(self.alloc, ms) else {
+            return Err(Stop::Memory);
+        };
+        let now = self.now();
+        self.engine.take(now, brought)
+    }
+}

@@ -1,0 +1,251 @@
+//! An agent with the connection that it has, and what its program is told.
+
+ghost use Rattle.std.specs.Prelude.{◌≡◌, ◌≤◌, ◌<◌, ◌+◌, ◌++◌, ◌∷◌, [], ℕ, None, fold, is_some, true, IfNone, IfOk, OnOk};
+ghost use Rattle.std.specs.List.{filter};
+ghost use Rattle.zk_agent.specs.Agents.{action_view, told_by, NothingAt};
+ghost use Rattle.zk_driver.specs.Driving.{carried, channel_view, closed, course_of, is_passed, Extends, Goes, Hands};
+
+use crate::channel::{Attempt, Channel};
+use crate::wait::wait_between;
+use std::alloc::{AllocError, Allocator};
+use std::collections::VecDeque;
+use zk_agent::{Action, Agent, Input};
+use zk_link::{Brought, Stop, Stream};
+
+/// An agent, the connection that it has, and the actions that its program is to be given, in order.
+#[derive(Drop)]
+pub(crate) struct Engine<A: Allocator + Copy, S: Drop> {
+    pub(crate) agent: Agent<A>,
+    pub(crate) channel: Channel<A, S>,
+    pub(crate) waiting: VecDeque<Action<A>, A>,
+}
+
+/// Why an agent stops.
+fn stop_of(stop: zk_follow::Stop) -> Stop {
+    match stop {
+        zk_follow::Stop::Halted => Stop::Halted,
+        zk_follow::Stop::Memory => Stop::Memory,
+    }
+}
+
+/// An action waits for the program, after those that do.
+fn keep<A: Allocator>(
+    action: Action<A>,
+    waiting: &mut VecDeque<Action<A>, A>,
+) -> Result<(), AllocError>
+    ensures waiting { OnOk result (told_by waiting.new.items ≡ told_by waiting.old.items ++ action_view action ∷ []) }
+    ensures kept { Extends (told_by waiting.old.items) (told_by waiting.new.items) }
+{
+    waiting.push_back(action).map_err(AllocError::from)
+}
+
+/// Does what an action asks for about the connection; any other waits for the program.
+fn carry<A: Allocator + Copy, S: Stream>(
+    action: Action<A>,
+    channel: &mut Channel<A, S>,
+    waiting: &mut VecDeque<Action<A>, A>,
+) -> Result<(), AllocError>
+    ensures channel { OnOk result (channel_view channel.new ≡ carried (channel_view channel.old) (action_view action)) }
+    ensures waiting { OnOk result (told_by waiting.new.items ≡ told_by waiting.old.items ++ filter is_passed (action_view action ∷ [])) }
+    ensures kept { Extends (told_by waiting.old.items) (told_by waiting.new.items) }
+{
+    match action {
+        Action::Dial { place, within_ms } => {
+            channel.ask(Attempt { place, within_ms });
+            Ok(())
+        }
+        Action::HangUp => {
+            channel.close();
+            Ok(())
+        }
+        Action::Send(bytes) => channel.queue(bytes.as_slice()),
+        passed => keep(passed, waiting),
+    }
+}
+
+/// Does what actions ask for about the connection, in order; the others wait for the program.
+fn carry_all<A: Allocator + Copy, S: Stream>(
+    actions: Vec<Action<A>, A>,
+    channel: &mut Channel<A, S>,
+    waiting: &mut VecDeque<Action<A>, A>,
+) -> Result<(), AllocError>
+    ensures channel { OnOk result (channel_view channel.new ≡ fold carried (channel_view channel.old) (told_by actions.items)) }
+    ensures waiting { OnOk result (told_by waiting.new.items ≡ told_by waiting.old.items ++ filter is_passed (told_by actions.items)) }
+    ensures kept { Extends (told_by waiting.old.items) (told_by waiting.new.items) }
+{
+    let mut left = VecDeque::from_vec(actions);
+    while let Some(action) = left.pop_front() {
+        carry(action, channel, waiting)?;
+    }
+    Ok(())
+}
+
+impl<A: Allocator + Copy, S: Stream> Engine<A, S> {
+    /// Of an agent that has no connection. Nothing waits for the program.
+    pub(crate) fn new(alloc: A, agent: Agent<A>) -> Engine<A, S>
+        ensures agent { result.agent ≡ agent }
+        ensures channel { channel_view result.channel ≡ closed }
+        ensures waiting { result.waiting.items ≡ [] }
+    {
+        Engine {
+            agent,
+            channel: Channel::new(alloc),
+            waiting: VecDeque::new(alloc),
+        }
+    }
+
+    /// Hands the agent an input that was noticed at this moment, and does what it says. The answer is the moment.
+    pub(crate) fn hand(&mut self, now: u64, input: Input<A>) -> Result<u64, Stop>
+        ensures hands { OnOk result (Hands input (course_of self.old None) (course_of self.new None)) }
+        ensures told { IfOk result (λ moment. moment ≤ self.new.agent.latest) }
+        ensures noted { OnOk result (now ≤ self.new.agent.latest) }
+        ensures kept { Extends (told_by self.old.waiting.items) (told_by self.new.waiting.items) }
+    {
+        let actions = match self.agent.step(now, input) {
+            Ok(actions) => actions,
+            Err(stop) => return Err(stop_of(stop)),
+        };
+        let Ok(()) = carry_all(actions, &mut self.channel, &mut self.waiting) else {
+            return Err(Stop::Memory);
+        };
+        self.channel.flush();
+        Ok(now)
+    }
+
+    /// The connection that was asked for is there.
+    pub(crate) fn open(&mut self, now: u64, stream: S) -> Result<u64, Stop>
+        requires { is_some self.old.channel.attempt ≡ true }
+        ensures goes { OnOk result (Goes (course_of self.old None) (course_of self.new None)) }
+        ensures told { IfOk result (λ moment. moment ≤ self.new.agent.latest) }
+        ensures kept { Extends (told_by self.old.waiting.items) (told_by self.new.waiting.items) }
+    {
+        self.channel.hold(stream);
+        self.hand(now, Input::Opened)
+    }
+
+    /// The connection that was asked for could not be made.
+    pub(crate) fn fail(&mut self, now: u64) -> Result<u64, Stop>
+        requires { is_some self.old.channel.attempt ≡ true }
+        ensures goes { OnOk result (Goes (course_of self.old None) (course_of self.new None)) }
+        ensures told { IfOk result (λ moment. moment ≤ self.new.agent.latest) }
+        ensures noted { OnOk result (now ≤ self.new.agent.latest) }
+        ensures kept { Extends (told_by self.old.waiting.items) (told_by self.new.waiting.items) }
+    {
+        self.channel.close();
+        self.hand(now, Input::Failed)
+    }
+
+    /// The connection is over.
+    fn cut(&mut self, now: u64) -> Result<u64, Stop>
+        requires none { self.old.channel.attempt ≡ None }
+        requires open { is_some self.old.channel.stream ≡ true }
+        ensures goes { OnOk result (Goes (course_of self.old None) (course_of self.new None)) }
+        ensures told { IfOk result (λ moment. moment ≤ self.new.agent.latest) }
+        ensures kept { Extends (told_by self.old.waiting.items) (told_by self.new.waiting.items) }
+    {
+        self.channel.close();
+        self.hand(now, Input::Cut)
+    }
+
+    /// Nothing has come but a moment.
+    pub(crate) fn tell(&mut self, now: u64) -> Result<u64, Stop>
+        requires { self.old.channel.attempt ≡ None }
+        ensures goes { OnOk result (Goes (course_of self.old None) (course_of self.new None)) }
+        ensures told { IfOk result (λ moment. moment ≤ self.new.agent.latest) }
+        ensures noted { OnOk result (now ≤ self.new.agent.latest) }
+        ensures kept { Extends (told_by self.old.waiting.items) (told_by self.new.waiting.items) }
+    {
+        self.hand(now, Input::Moment)
+    }
+
+    /// How many milliseconds may be waited from one moment to another: an hour at most, and until something is due; none where either is
+    /// past.
+    pub(crate) fn wait_ms(&self, now: u64, until: u64) -> u64
+        ensures most { result ≤ 3600000 }
+        ensures end { 0 < result → now + result ≤ until }
+        ensures quiet { 0 < result → (moment : ℕ) → moment < now + result → NothingAt self.now.agent moment }
+    {
+        match self.agent.deadline() {
+            Some(first) => wait_between(now, until.min(first)),
+            None => wait_between(now, until),
+        }
+    }
+
+    /// The moment that is told with bytes which are read at this one: this one, and where something was due before it, the last moment
+    /// before that. The program was stopped then, or was away: when the bytes came is not known, and a server that has sent something is
+    /// not silent.
+    fn moment_of_bytes(&self, now: u64) -> u64
+        ensures most { result ≤ now }
+        ensures quiet { 0 < result → NothingAt self.now.agent result }
+        ensures last { 0 < result → result < now → ¬ (NothingAt self.now.agent (result + 1)) }
+    {
+        match self.agent.deadline() {
+            Some(first) => now.min(first.saturating_sub(1)),
+            None => now,
+        }
+    }
+
+    /// Bytes came, with the moment of bytes. Where that is before this one, this one is told after it.
+    fn bytes(&mut self, now: u64, bytes: Vec<u8, A>) -> Result<u64, Stop>
+        requires none { self.old.channel.attempt ≡ None }
+        requires open { is_some self.old.channel.stream ≡ true }
+        ensures goes { OnOk result (Goes (course_of self.old None) (course_of self.new None)) }
+        ensures told { IfOk result (λ moment. moment ≤ self.new.agent.latest) }
+        ensures kept { Extends (told_by self.old.waiting.items) (told_by self.new.waiting.items) }
+    {
+        let moment = self.moment_of_bytes(now);
+        let told = self.hand(moment, Input::Bytes(bytes))?;
+        if told == now {
+            return Ok(told);
+        }
+        self.catch_up(now, told)
+    }
+
+    /// Tells a moment after another one, where nothing is to be dialled.
+    fn catch_up(&mut self, now: u64, told: u64) -> Result<u64, Stop>
+        requires { told ≤ self.old.agent.latest }
+        ensures goes { OnOk result (Goes (course_of self.old None) (course_of self.new None)) }
+        ensures told { IfOk result (λ moment. moment ≤ self.new.agent.latest) }
+        ensures kept { Extends (told_by self.old.waiting.items) (told_by self.new.waiting.items) }
+    {
+        if self.channel.attempt.is_none() {
+            return self.tell(now);
+        }
+        Ok(told)
+    }
+
+    /// What a read has brought, or that it brought nothing, is noticed at this moment.
+    pub(crate) fn take(&mut self, now: u64, brought: Brought<A>) -> Result<u64, Stop>
+        requires none { self.old.channel.attempt ≡ None }
+        requires open { is_some self.old.channel.stream ≡ true }
+        ensures goes { OnOk result (Goes (course_of self.old None) (course_of self.new None)) }
+        ensures told { IfOk result (λ moment. moment ≤ self.new.agent.latest) }
+        ensures kept { Extends (told_by self.old.waiting.items) (told_by self.new.waiting.items) }
+    {
+        match brought {
+            Brought::Piece(bytes) => self.bytes(now, bytes),
+            Brought::Nothing => self.tell(now),
+            Brought::End => self.cut(now),
+        }
+    }
+
+    /// A moment is told, whatever is to be dialled: an attempt that was not made by then counts as one that has failed.
+    pub(crate) fn settle(&mut self, now: u64) -> Result<u64, Stop>
+        ensures goes { OnOk result (Goes (course_of self.old None) (course_of self.new None)) }
+        ensures told { OnOk result (now ≤ self.new.agent.latest) }
+        ensures kept { Extends (told_by self.old.waiting.items) (told_by self.new.waiting.items) }
+    {
+        match self.channel.attempt {
+            Some(_) => self.fail(now),
+            None => self.tell(now),
+        }
+    }
+
+    /// The next action for the program.
+    pub(crate) fn pop(&mut self) -> Option<Action<A>>
+        ensures same { course_of self.new result ≡ course_of self.old None }
+        ensures none { IfNone result (self.new.waiting.items ≡ []) }
+    {
+        self.waiting.pop_front()
+    }
+}

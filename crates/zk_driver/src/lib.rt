@@ -1,0 +1,18 @@
+//! An agent over a dial, a clock and a connection: a session for a program that decides nothing of it.
+//!
+//! A [`Driver`] has an agent of `zk_agent`, and does what that says: it dials, hangs up, writes and reads, waits for bytes or for the agent's
+//! deadline, and tells the agent what has happened, with the clock's moment. What else the agent says, [`Driver::next`] gives to the
+//! program, one action after the other.
+#![tactic(auto)]
+
+mod bring;
+mod channel;
+mod driver;
+mod engine;
+mod send;
+mod wait;
+
+pub use driver::Driver;
+pub use zk_agent::{Action, Agent, Settings};
+pub use zk_follow::Refusal;
+pub use zk_link::Stop;
