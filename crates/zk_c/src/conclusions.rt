@@ -1,6 +1,6 @@
 //! What follows from several answers together.
 
-ghost use Rattle.std.specs.Prelude.{◌≡◌, Some, None, pos};
+ghost use Rattle.std.specs.Prelude.{◌≡◌, Some, None, pos, negsuc};
 ghost use Rattle.zk_client.specs.Clients.{view_of};
 ghost use Rattle.zk_conclusions.specs.Lacks.{HasNoPath};
 ghost use Rattle.zk_conclusions.specs.Subtrees.{HasMoreNodes, IsWholeBelow};
@@ -16,7 +16,7 @@ ghost use Rattle.zk_c.specs.Stood.{FindsHolder, FindsStanding, TellsStands};
 use crate::handle::DwClient;
 use crate::taking::{CLOSED, NONE, WAITS, take};
 use std::alloc::Global;
-use zk_device::{Contender, Refusal, Stands};
+use zk_device::{Contender, Refusal, Stands, holder, lacking, snapshot, standing, subtree};
 
 /// Copies all nodes at and below a path, of which there may be at most `most`, each after its parent, as many bytes of them as there is
 /// room for, and writes how many there are.
@@ -37,7 +37,7 @@ pub extern "C" fn dw_subtree(
     let Some(device) = take(alloc, handle) else {
         return CLOSED;
     };
-    let found = device.subtree(alloc, path, most, out);
+    let found = subtree(alloc, &device.client, path, most, out);
     *handle = DwClient::of(device);
     match found {
         Ok(length) => {
@@ -67,7 +67,7 @@ pub extern "C" fn dw_lacking(
     let Some(device) = take(alloc, handle) else {
         return CLOSED;
     };
-    let found = device.lacking(alloc, path, most, out);
+    let found = lacking(alloc, &device.client, path, most, out);
     *handle = DwClient::of(device);
     match found {
         Ok(length) => {
@@ -89,7 +89,7 @@ pub extern "C" fn dw_snapshot(
     out: &mut [u8],
     count: &mut usize,
 ) -> i32
-    ensures closed { handle.old.slot.held ≡ None → result ≡ negsuc 2 }
+    ensures closed { handle.old.slot.held ≡ None → LeavesRoom result out.old out.new count.new }
     ensures finds { (d : Device) → handle.old.slot.held ≡ Some d → FindsText (RefusesSnapshot (view_of d.client).cache nodes.now parents.now) (WritesText (IsSnapshotText (view_of d.client) nodes.now parents.now)) result out.old out.new count.new }
     ensures same { handle.new.slot.held ≡ handle.old.slot.held }
 {
@@ -97,7 +97,7 @@ pub extern "C" fn dw_snapshot(
     let Some(device) = take(alloc, handle) else {
         return CLOSED;
     };
-    let found = device.snapshot(alloc, nodes, parents, out);
+    let found = snapshot(alloc, &device.client, nodes, parents, out);
     *handle = DwClient::of(device);
     match found {
         Ok(length) => {
@@ -157,7 +157,7 @@ pub extern "C" fn dw_standing(
         listed,
         markers,
     };
-    let stands = device.standing(alloc, &contender, out);
+    let stands = standing(alloc, &device.client, &contender, out);
     *handle = DwClient::of(device);
     write_stands(stands, token, count)
 }
@@ -173,7 +173,7 @@ pub extern "C" fn dw_holder(
     path: &[u8],
     token: &mut i64,
 ) -> i32
-    ensures closed { handle.old.slot.held ≡ None → result ≡ negsuc 2 }
+    ensures closed { handle.old.slot.held ≡ None → (result ≡ negsuc 2) × (token.new ≡ pos 0) }
     ensures finds { (d : Device) → handle.old.slot.held ≡ Some d → FindsHolder (view_of d.client) directory.now prefix.now path.now result token.new }
     ensures same { handle.new.slot.held ≡ handle.old.slot.held }
 {
@@ -181,7 +181,7 @@ pub extern "C" fn dw_holder(
     let Some(device) = take(alloc, handle) else {
         return CLOSED;
     };
-    let found = device.holder(alloc, directory, prefix, path);
+    let found = holder(alloc, &device.client, directory, prefix, path);
     *handle = DwClient::of(device);
     match found {
         Ok(Some(shown)) => {
