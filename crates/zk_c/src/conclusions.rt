@@ -16,7 +16,7 @@ ghost use Rattle.zk_c.specs.Stood.{FindsHolder, FindsStanding, TellsStands};
 use crate::handle::DwClient;
 use crate::taking::{CLOSED, NONE, WAITS, take};
 use std::alloc::Global;
-use zk_device::{Contender, Refusal, Stands};
+use zk_device::{Contender, Refusal, Stands, holder, lacking, snapshot, standing, subtree};
 
 /// Copies all nodes at and below a path, of which there may be at most `most`, each after its parent, as many bytes of them as there is
 /// room for, and writes how many there are.
@@ -37,7 +37,7 @@ pub extern "C" fn dw_subtree(
     let Some(device) = take(alloc, handle) else {
         return CLOSED;
     };
-    let found = device.subtree(alloc, path, most, out);
+    let found = subtree(alloc, &device.client, path, most, out);
     *handle = DwClient::of(device);
     match found {
         Ok(length) => {
@@ -67,7 +67,7 @@ pub extern "C" fn dw_lacking(
     let Some(device) = take(alloc, handle) else {
         return CLOSED;
     };
-    let found = device.lacking(alloc, path, most, out);
+    let found = lacking(alloc, &device.client, path, most, out);
     *handle = DwClient::of(device);
     match found {
         Ok(length) => {
@@ -97,7 +97,7 @@ pub extern "C" fn dw_snapshot(
     let Some(device) = take(alloc, handle) else {
         return CLOSED;
     };
-    let found = device.snapshot(alloc, nodes, parents, out);
+    let found = snapshot(alloc, &device.client, nodes, parents, out);
     *handle = DwClient::of(device);
     match found {
         Ok(length) => {
@@ -157,7 +157,7 @@ pub extern "C" fn dw_standing(
         listed,
         markers,
     };
-    let stands = device.standing(alloc, &contender, out);
+    let stands = standing(alloc, &device.client, &contender, out);
     *handle = DwClient::of(device);
     write_stands(stands, token, count)
 }
@@ -181,7 +181,7 @@ pub extern "C" fn dw_holder(
     let Some(device) = take(alloc, handle) else {
         return CLOSED;
     };
-    let found = device.holder(alloc, directory, prefix, path);
+    let found = holder(alloc, &device.client, directory, prefix, path);
     *handle = DwClient::of(device);
     match found {
         Ok(Some(shown)) => {

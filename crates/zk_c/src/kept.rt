@@ -11,7 +11,9 @@ ghost use Rattle.zk_c.specs.Kept.{FindsData, FindsNames, FindsText};
 use crate::handle::DwClient;
 use crate::taking::{CLOSED, take};
 use std::alloc::Global;
-use zk_device::{KeptData, KeptNames};
+use zk_device::{
+    KeptData, KeptNames, forget_stale, peek_children, peek_data, peek_name, peek_names,
+};
 
 /// Tells what is kept about the data of a path, and copies the data, as much of them as there is room for.
 #[unsafe(no_mangle)]
@@ -29,7 +31,7 @@ pub extern "C" fn dw_peek_data(
     let Some(device) = take(alloc, handle) else {
         return CLOSED;
     };
-    let found = device.peek_data(alloc, path, out);
+    let found = peek_data(alloc, &device.client, path, out);
     *handle = DwClient::of(device);
     match found {
         Ok(found) => {
@@ -55,7 +57,7 @@ pub extern "C" fn dw_peek_children(
     let Some(device) = take(alloc, handle) else {
         return CLOSED;
     };
-    let found = device.peek_children(alloc, path);
+    let found = peek_children(alloc, &device.client, path);
     *handle = DwClient::of(device);
     match found {
         Ok(found) => {
@@ -85,7 +87,7 @@ pub extern "C" fn dw_peek_name(
     let Some(device) = take(alloc, handle) else {
         return CLOSED;
     };
-    let found = device.peek_name(alloc, path, index, out);
+    let found = peek_name(alloc, &device.client, path, index, out);
     *handle = DwClient::of(device);
     match found {
         Ok(found) => {
@@ -114,7 +116,7 @@ pub extern "C" fn dw_peek_names(
     let Some(device) = take(alloc, handle) else {
         return CLOSED;
     };
-    let found = device.peek_names(alloc, path, out);
+    let found = peek_names(alloc, &device.client, path, out);
     *handle = DwClient::of(device);
     match found {
         Ok(length) => {
@@ -134,7 +136,7 @@ pub extern "C" fn dw_forget(alloc: Global, handle: &mut DwClient) -> i32
     let Some(mut device) = take(alloc, handle) else {
         return CLOSED;
     };
-    device.forget_stale();
+    forget_stale(&mut device.client);
     *handle = DwClient::of(device);
     0
 }

@@ -14,7 +14,7 @@ use crate::handle::DwClient;
 use crate::making::hold;
 use crate::taking::{CLOSED, NONE, drive, take};
 use std::alloc::Global;
-use zk_device::{Device, Refusal, copy_into};
+use zk_device::{Device, Refusal, copy_into, saved, state};
 
 /// Makes a client that takes up the session of these bytes. What the handle held is freed first.
 #[unsafe(no_mangle)]
@@ -54,7 +54,7 @@ pub extern "C" fn dw_state(alloc: Global, handle: &mut DwClient) -> i32
     let Some(device) = take(alloc, handle) else {
         return CLOSED;
     };
-    let state = device.state();
+    let state = state(&device.client);
     *handle = DwClient::of(device);
     state
 }
@@ -128,7 +128,7 @@ pub extern "C" fn dw_saved(
     let Some(device) = take(alloc, handle) else {
         return CLOSED;
     };
-    let saved = device.saved(alloc);
+    let saved = saved(alloc, &device.client);
     *handle = DwClient::of(device);
     match saved {
         Ok(bytes) => {

@@ -14,7 +14,8 @@ use std::alloc::Global;
 use zk_client::{Client, Input, Output};
 
 /// A client, what it said at its last step, and how much of that was read. Its methods stand by what they are about: calls in
-/// `calls`, what was said in `outputs`, what is kept in `kept`, the session in `sessions`, and here what comes from a connection.
+/// `calls`, what was said in `outputs`, another session in `sessions`, and here what comes from a connection. What is kept is looked up by
+/// functions over the client, as [`peek_data`](crate::peek_data).
 #[derive(Drop)]
 pub struct Device {
     pub client: Client<Global>,

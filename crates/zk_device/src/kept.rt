@@ -13,11 +13,10 @@ ghost use Rattle.zk_device.specs.Refused.{RefusesPath};
 ghost use Rattle.zk_turns.specs.Rule.{forgotten};
 
 use crate::copying::copy_into;
-use crate::device::Device;
 use crate::paths::path_of;
 use crate::refusal::Refusal;
 use std::alloc::{AllocError, Global};
-use zk_client::{DataAnswer, DataStat, Mark, Names};
+use zk_client::{Client, DataAnswer, DataStat, Mark, Names};
 use zk_jute::Record;
 
 /// What is kept of the fields of a node that change only where a data watch fires.
@@ -207,71 +206,76 @@ pub(crate) fn names_text(
     }
 }
 
-impl Device {
-    /// What is kept about the data of a path. The data are copied, as much of them as there is room for. A refusal is `NotText`,
-    /// else `NotPath`, else `Memory`.
-    pub fn peek_data(
-        &self,
-        alloc: Global,
-        path: &[u8],
-        room: &mut [u8],
-    ) -> Result<KeptData, Refusal>
-        ensures found { IfOk result (λ flat. flat ≡ data_flat ((view_of self.now.client).cache.nodes path.now)) }
-        ensures copied { OnOk result (room.new ≡ take (length room.old) (data_text ((view_of self.now.client).cache.nodes path.now)) ++ drop (length (data_text ((view_of self.now.client).cache.nodes path.now))) room.old) }
-        ensures refused { IfErr result (λ refusal. RefusesPath path.now (refusal_code refusal)) }
-        ensures same { OnErr result (room.new ≡ room.old) }
-    {
-        let path = path_of(alloc, path)?;
-        let kept = self.client.peek_data(&path);
-        copy_into(data_text(kept), room);
-        Ok(data_flat(kept))
-    }
+/// What is kept about the data of a path. The data are copied, as much of them as there is room for. A refusal is `NotText`,
+/// else `NotPath`, else `Memory`.
+pub fn peek_data(
+    alloc: Global,
+    client: &Client<Global>,
+    path: &[u8],
+    room: &mut [u8],
+) -> Result<KeptData, Refusal>
+    ensures found { IfOk result (λ flat. flat ≡ data_flat ((view_of client.now).cache.nodes path.now)) }
+    ensures copied { OnOk result (room.new ≡ take (length room.old) (data_text ((view_of client.now).cache.nodes path.now)) ++ drop (length (data_text ((view_of client.now).cache.nodes path.now))) room.old) }
+    ensures refused { IfErr result (λ refusal. RefusesPath path.now (refusal_code refusal)) }
+    ensures same { OnErr result (room.new ≡ room.old) }
+{
+    let path = path_of(alloc, path)?;
+    let kept = client.peek_data(&path);
+    copy_into(data_text(kept), room);
+    Ok(data_flat(kept))
+}
 
-    /// What is kept about the children of a path. A refusal is as of [`peek_data`](Device::peek_data).
-    pub fn peek_children(&self, alloc: Global, path: &[u8]) -> Result<KeptNames, Refusal>
-        ensures found { IfOk result (TellsNames ((view_of self.now.client).cache.children path.now)) }
-        ensures refused { IfErr result (λ refusal. RefusesPath path.now (refusal_code refusal)) }
-    {
-        let path = path_of(alloc, path)?;
-        Ok(names_flat(self.client.peek_children(&path)))
-    }
+/// What is kept about the children of a path. A refusal is as of [`peek_data`].
+pub fn peek_children(
+    alloc: Global,
+    client: &Client<Global>,
+    path: &[u8],
+) -> Result<KeptNames, Refusal>
+    ensures found { IfOk result (TellsNames ((view_of client.now).cache.children path.now)) }
+    ensures refused { IfErr result (λ refusal. RefusesPath path.now (refusal_code refusal)) }
+{
+    let path = path_of(alloc, path)?;
+    Ok(names_flat(client.peek_children(&path)))
+}
 
-    /// Copies the name of this index, in byte order, of those that are kept of a path, as much of it as there is room for, and
-    /// tells how many bytes it has. A refusal is as of [`peek_data`](Device::peek_data).
-    pub fn peek_name(
-        &self,
-        alloc: Global,
-        path: &[u8],
-        index: usize,
-        room: &mut [u8],
-    ) -> Result<usize, Refusal>
-        ensures written { IfOk result (WritesName index ((view_of self.now.client).cache.children path.now) room.old room.new) }
-        ensures refused { IfErr result (λ refusal. RefusesPath path.now (refusal_code refusal)) }
-        ensures same { OnErr result (room.new ≡ room.old) }
-    {
-        let path = path_of(alloc, path)?;
-        let kept = self.client.peek_children(&path);
-        Ok(copy_into(name_at(kept, index), room))
-    }
+/// Copies the name of this index, in byte order, of those that are kept of a path, as much of it as there is room for, and
+/// tells how many bytes it has. A refusal is as of [`peek_data`].
+pub fn peek_name(
+    alloc: Global,
+    client: &Client<Global>,
+    path: &[u8],
+    index: usize,
+    room: &mut [u8],
+) -> Result<usize, Refusal>
+    ensures written { IfOk result (WritesName index ((view_of client.now).cache.children path.now) room.old room.new) }
+    ensures refused { IfErr result (λ refusal. RefusesPath path.now (refusal_code refusal)) }
+    ensures same { OnErr result (room.new ≡ room.old) }
+{
+    let path = path_of(alloc, path)?;
+    let kept = client.peek_children(&path);
+    Ok(copy_into(name_at(kept, index), room))
+}
 
-    /// Copies all names that are kept of a path, in byte order and each after its length in four bytes, as many bytes of them as
-    /// there is room for, and tells how many there are. A refusal is as of [`peek_data`](Device::peek_data).
-    pub fn peek_names(&self, alloc: Global, path: &[u8], room: &mut [u8]) -> Result<usize, Refusal>
-        ensures written { IfOk result (WritesNames ((view_of self.now.client).cache.children path.now) room.old room.new) }
-        ensures refused { IfErr result (λ refusal. RefusesPath path.now (refusal_code refusal)) }
-        ensures same { OnErr result (room.new ≡ room.old) }
-    {
-        let path = path_of(alloc, path)?;
-        let text = names_text(alloc, self.client.peek_children(&path))?;
-        Ok(copy_into(text.as_slice(), room))
-    }
+/// Copies all names that are kept of a path, in byte order and each after its length in four bytes, as many bytes of them as
+/// there is room for, and tells how many there are. A refusal is as of [`peek_data`].
+pub fn peek_names(
+    alloc: Global,
+    client: &Client<Global>,
+    path: &[u8],
+    room: &mut [u8],
+) -> Result<usize, Refusal>
+    ensures written { IfOk result (WritesNames ((view_of client.now).cache.children path.now) room.old room.new) }
+    ensures refused { IfErr result (λ refusal. RefusesPath path.now (refusal_code refusal)) }
+    ensures same { OnErr result (room.new ≡ room.old) }
+{
+    let path = path_of(alloc, path)?;
+    let text = names_text(alloc, client.peek_children(&path))?;
+    Ok(copy_into(text.as_slice(), room))
+}
 
-    /// Takes the stale answers out.
-    pub fn forget_stale(&mut self)
-        ensures view { view_of self.new.client ≡ record (view_of self.old.client) { cache = forgotten (view_of self.old.client).cache } }
-        ensures said { self.new.said ≡ self.old.said }
-        ensures read { self.new.read ≡ self.old.read }
-    {
-        self.client.forget_stale();
-    }
+/// Takes the stale answers out.
+pub fn forget_stale(client: &mut Client<Global>)
+    ensures { view_of client.new ≡ record (view_of client.old) { cache = forgotten (view_of client.old).cache } }
+{
+    client.forget_stale();
 }

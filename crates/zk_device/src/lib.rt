@@ -1,5 +1,5 @@
 //! A client of the global heap with what it said at its last step, for callers that have no types of Rattle: texts and bytes go in,
-//! and numbers come out. Each step has the rule of the client for its contract.
+//! and numbers come out. Each step has the rule of the client for its contract. What is kept is looked up in the client.
 #![tactic(auto)]
 
 mod calls;
@@ -21,7 +21,14 @@ mod texts;
 pub use copying::copy_into;
 pub use device::Device;
 pub use flat::{Flat, FlatStat};
-pub use kept::{FlatDataStat, KeptData, KeptNames};
+pub use holders::holder;
+pub use kept::{
+    FlatDataStat, KeptData, KeptNames, forget_stale, peek_children, peek_data, peek_name,
+    peek_names,
+};
 pub use paths::path_of;
 pub use refusal::{Refusal, code_of};
-pub use standings::{Contender, Stands};
+pub use sessions::{saved, state};
+pub use snapshots::snapshot;
+pub use standings::{Contender, Stands, standing};
+pub use subtrees::{lacking, subtree};

@@ -62,29 +62,28 @@ impl Device {
         *self = Device::of(alloc, client);
         Ok(())
     }
+}
 
-    /// The bytes from which the session can be taken up. An error says that memory ran out.
-    pub fn saved(&self, alloc: Global) -> Result<Vec<u8, Global>, AllocError>
-        ensures { IfOk result (λ bytes. bytes.items ≡ saved_bytes (put_of (view_of self.now.client).saved)) }
-    {
-        let told = self.client.saved();
-        let Ok(session) = SavedSession::new(alloc, told.session, told.password, told.last_zxid)
-        else {
-            return Err(AllocError);
-        };
-        session.to_bytes(alloc)
-    }
+/// The bytes from which the session can be taken up. An error says that memory ran out.
+pub fn saved(alloc: Global, client: &Client<Global>) -> Result<Vec<u8, Global>, AllocError>
+    ensures { IfOk result (λ bytes. bytes.items ≡ saved_bytes (put_of (view_of client.now).saved)) }
+{
+    let told = client.saved();
+    let Ok(session) = SavedSession::new(alloc, told.session, told.password, told.last_zxid) else {
+        return Err(AllocError);
+    };
+    session.to_bytes(alloc)
+}
 
-    /// The number of the state: 0 idle, 1 connecting, 2 connected, 3 expired, 4 closed.
-    pub fn state(&self) -> i32
-        ensures { result ≡ pos (state_number (view_of self.now.client).standing.state) }
-    {
-        match self.client.state() {
-            State::Idle => 0,
-            State::Connecting => 1,
-            State::Connected => 2,
-            State::Expired => 3,
-            State::Closed => 4,
-        }
+/// The number of the state: 0 idle, 1 connecting, 2 connected, 3 expired, 4 closed.
+pub fn state(client: &Client<Global>) -> i32
+    ensures { result ≡ pos (state_number (view_of client.now).standing.state) }
+{
+    match client.state() {
+        State::Idle => 0,
+        State::Connecting => 1,
+        State::Connected => 2,
+        State::Expired => 3,
+        State::Closed => 4,
     }
 }

@@ -10,7 +10,6 @@ ghost use Rattle.zk_device.specs.Snapshots.{AreParents, IsParent, IsSnapshotOf, 
 ghost use Rattle.zk_device.specs.Subtrees.{AreRecords};
 
 use crate::copying::copy_into;
-use crate::device::Device;
 use crate::kept::{data_flat, names_text};
 use crate::refusal::Refusal;
 use crate::spelled_paths::{check_paths, collected_paths};
@@ -157,22 +156,20 @@ fn snapshot_text(
     Ok(text)
 }
 
-impl Device {
-    /// Copies what is kept of the nodes of the first paths, and of the names below the second ones, where all of it is good, as much of it
-    /// as there is room for, and tells how many bytes there are. The paths of each follow one another, each after its length. A refusal is
-    /// `NotTexts` or `NotPath`, else `Memory` or `NotWhole`.
-    pub fn snapshot(
-        &self,
-        alloc: Global,
-        nodes: &[u8],
-        parents: &[u8],
-        room: &mut [u8],
-    ) -> Result<usize, Refusal>
-        ensures written { IfOk result (WritesText (IsSnapshotText (view_of self.now.client) nodes.now parents.now) room.old room.new) }
-        ensures refused { IfErr result (λ refusal. RefusesSnapshot (view_of self.now.client).cache nodes.now parents.now (refusal_code refusal)) }
-        ensures same { OnErr result (room.new ≡ room.old) }
-    {
-        let text = snapshot_text(alloc, &self.client, nodes, parents)?;
-        Ok(copy_into(text.as_slice(), room))
-    }
+/// Copies what is kept of the nodes of the first paths, and of the names below the second ones, where all of it is good, as much of it
+/// as there is room for, and tells how many bytes there are. The paths of each follow one another, each after its length. A refusal is
+/// `NotTexts` or `NotPath`, else `Memory` or `NotWhole`.
+pub fn snapshot(
+    alloc: Global,
+    client: &Client<Global>,
+    nodes: &[u8],
+    parents: &[u8],
+    room: &mut [u8],
+) -> Result<usize, Refusal>
+    ensures written { IfOk result (WritesText (IsSnapshotText (view_of client.now) nodes.now parents.now) room.old room.new) }
+    ensures refused { IfErr result (λ refusal. RefusesSnapshot (view_of client.now).cache nodes.now parents.now (refusal_code refusal)) }
+    ensures same { OnErr result (room.new ≡ room.old) }
+{
+    let text = snapshot_text(alloc, client, nodes, parents)?;
+    Ok(copy_into(text.as_slice(), room))
 }

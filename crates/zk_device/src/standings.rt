@@ -9,7 +9,6 @@ ghost use Rattle.zk_device.specs.Codes.{refusal_code};
 ghost use Rattle.zk_device.specs.Standings.{AreNoMarkers, RefusesStanding, StandsBy, Stood};
 
 use crate::copying::copy_into;
-use crate::device::Device;
 use crate::paths::{child_of, path_of, text_of};
 use crate::refusal::Refusal;
 use crate::texts::{lent_texts, owned_texts};
@@ -106,22 +105,20 @@ fn stands_among(
     Ok(stands)
 }
 
-impl Device {
-    /// Where the session stands by its node of this name in a directory: first, with the token, or after a rival, whose name is copied, as
-    /// much of it as there is room for. A refusal is as of [`peek_data`](Device::peek_data), of the directory and of the name, else
-    /// `NotTexts`.
-    pub fn standing(
-        &self,
-        alloc: Global,
-        contender: &Contender<'_>,
-        room: &mut [u8],
-    ) -> Result<Stands, Refusal>
-        ensures stood { IfOk result (λ stands. Stood (view_of self.now.client) contender.now.directory.now contender.now.name.now contender.now.names.now contender.now.listed contender.now.markers.now stands room.old room.new) }
-        ensures refused { IfErr result (λ refusal. RefusesStanding contender.now.directory.now contender.now.name.now contender.now.names.now contender.now.markers.now (refusal_code refusal)) }
-        ensures same { OnErr result (room.new ≡ room.old) }
-    {
-        let directory = path_of(alloc, contender.directory)?;
-        let name = text_of(contender.name)?;
-        stands_among(alloc, &self.client, &directory, name, contender, room)
-    }
+/// Where the session stands by its node of this name in a directory: first, with the token, or after a rival, whose name is copied, as
+/// much of it as there is room for. A refusal is as of [`peek_data`](crate::peek_data), of the directory and of the name, else
+/// `NotTexts`.
+pub fn standing(
+    alloc: Global,
+    client: &Client<Global>,
+    contender: &Contender<'_>,
+    room: &mut [u8],
+) -> Result<Stands, Refusal>
+    ensures stood { IfOk result (λ stands. Stood (view_of client.now) contender.now.directory.now contender.now.name.now contender.now.names.now contender.now.listed contender.now.markers.now stands room.old room.new) }
+    ensures refused { IfErr result (λ refusal. RefusesStanding contender.now.directory.now contender.now.name.now contender.now.names.now contender.now.markers.now (refusal_code refusal)) }
+    ensures same { OnErr result (room.new ≡ room.old) }
+{
+    let directory = path_of(alloc, contender.directory)?;
+    let name = text_of(contender.name)?;
+    stands_among(alloc, client, &directory, name, contender, room)
 }

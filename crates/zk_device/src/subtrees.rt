@@ -13,7 +13,6 @@ ghost use Rattle.zk_device.specs.Refused.{RefusesNodes};
 ghost use Rattle.zk_device.specs.Subtrees.{AreNodes, AreReads, IsLackingText, IsSubtreeText, bytes_in, node_kept, node_layout, node_value, pzxid_in, read_layout, read_value, stat_in};
 
 use crate::copying::copy_into;
-use crate::device::Device;
 use crate::paths::path_of;
 use crate::refusal::Refusal;
 use std::alloc::{AllocError, Global};
@@ -173,40 +172,38 @@ fn lacking_text(
     Ok(text)
 }
 
-impl Device {
-    /// Copies all nodes at and below a path, at most `most`, as much of them as there is room for, and tells how many bytes there are.
-    /// A refusal is as of [`peek_data`](Device::peek_data), else `NotWhole` or `TooMany`.
-    pub fn subtree(
-        &self,
-        alloc: Global,
-        path: &[u8],
-        most: usize,
-        room: &mut [u8],
-    ) -> Result<usize, Refusal>
-        ensures written { IfOk result (WritesText (IsSubtreeText (view_of self.now.client) path.now most) room.old room.new) }
-        ensures refused { IfErr result (λ refusal. RefusesNodes (¬ (IsWholeBelow (view_of self.now.client).cache path.now)) (HasMoreNodes (view_of self.now.client).cache path.now most) path.now (refusal_code refusal)) }
-        ensures same { OnErr result (room.new ≡ room.old) }
-    {
-        let path = path_of(alloc, path)?;
-        let text = subtree_text(alloc, &self.client, &path, most)?;
-        Ok(copy_into(text.as_slice(), room))
-    }
+/// Copies all nodes at and below a path, at most `most`, as much of them as there is room for, and tells how many bytes there are.
+/// A refusal is as of [`peek_data`](crate::peek_data), else `NotWhole` or `TooMany`.
+pub fn subtree(
+    alloc: Global,
+    client: &Client<Global>,
+    path: &[u8],
+    most: usize,
+    room: &mut [u8],
+) -> Result<usize, Refusal>
+    ensures written { IfOk result (WritesText (IsSubtreeText (view_of client.now) path.now most) room.old room.new) }
+    ensures refused { IfErr result (λ refusal. RefusesNodes (¬ (IsWholeBelow (view_of client.now).cache path.now)) (HasMoreNodes (view_of client.now).cache path.now most) path.now (refusal_code refusal)) }
+    ensures same { OnErr result (room.new ≡ room.old) }
+{
+    let path = path_of(alloc, path)?;
+    let text = subtree_text(alloc, client, &path, most)?;
+    Ok(copy_into(text.as_slice(), room))
+}
 
-    /// Copies the reads that are lacking at and below a path before there is a subtree of at most `most` nodes, in the same way. A
-    /// refusal is as of [`peek_data`](Device::peek_data), else `NotWhole`, where no read helps, or `TooMany`.
-    pub fn lacking(
-        &self,
-        alloc: Global,
-        path: &[u8],
-        most: usize,
-        room: &mut [u8],
-    ) -> Result<usize, Refusal>
-        ensures written { IfOk result (WritesText (IsLackingText (view_of self.now.client).cache path.now most) room.old room.new) }
-        ensures refused { IfErr result (λ refusal. RefusesNodes (HasNoPath (view_of self.now.client).cache path.now) (HasMoreNodes (view_of self.now.client).cache path.now most) path.now (refusal_code refusal)) }
-        ensures same { OnErr result (room.new ≡ room.old) }
-    {
-        let path = path_of(alloc, path)?;
-        let text = lacking_text(alloc, &self.client, &path, most)?;
-        Ok(copy_into(text.as_slice(), room))
-    }
+/// Copies the reads that are lacking at and below a path before there is a subtree of at most `most` nodes, in the same way. A
+/// refusal is as of [`peek_data`](crate::peek_data), else `NotWhole`, where no read helps, or `TooMany`.
+pub fn lacking(
+    alloc: Global,
+    client: &Client<Global>,
+    path: &[u8],
+    most: usize,
+    room: &mut [u8],
+) -> Result<usize, Refusal>
+    ensures written { IfOk result (WritesText (IsLackingText (view_of client.now).cache path.now most) room.old room.new) }
+    ensures refused { IfErr result (λ refusal. RefusesNodes (HasNoPath (view_of client.now).cache path.now) (HasMoreNodes (view_of client.now).cache path.now most) path.now (refusal_code refusal)) }
+    ensures same { OnErr result (room.new ≡ room.old) }
+{
+    let path = path_of(alloc, path)?;
+    let text = lacking_text(alloc, client, &path, most)?;
+    Ok(copy_into(text.as_slice(), room))
 }

@@ -7,7 +7,7 @@ use crate::devices::told::{
 use anyhow::Result;
 use std::alloc::Global;
 use zk_bench::{Bench, History};
-use zk_device::{Device, Refusal, code_of};
+use zk_device::{Device, Refusal, code_of, forget_stale, saved};
 
 /// The timeout to ask for, in milliseconds.
 const TIMEOUT_MS: i32 = 9_000;
@@ -32,7 +32,7 @@ struct Session {
 
 /// A device that was put away, and taken up again.
 fn again(alloc: Global, device: &Device) -> Result<Device, Refusal> {
-    let saved = device.saved(alloc)?;
+    let saved = saved(alloc, &device.client)?;
     Device::resume(alloc, TIMEOUT_MS, saved.as_slice())
 }
 
@@ -54,7 +54,7 @@ impl Session {
                 Ok(())
             }
             Event::Forgets => {
-                self.device.forget_stale();
+                forget_stale(&mut self.device.client);
                 Ok(())
             }
             event => self.ask(event),

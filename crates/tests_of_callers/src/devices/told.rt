@@ -3,7 +3,10 @@
 use anyhow::Result;
 use std::alloc::Global;
 use std::fmt::Write;
-use zk_device::{Contender, Device, Flat, Refusal, Stands};
+use zk_device::{
+    Contender, Device, Flat, Refusal, Stands, holder, lacking, peek_children, peek_data,
+    peek_names, snapshot, standing, subtree,
+};
 
 /// More outputs than one step has.
 const OUTPUTS: usize = 100;
@@ -88,7 +91,7 @@ pub fn tell(alloc: Global, device: &mut Device, told: &mut String) -> Result<Vec
 /// Tells the names that are kept of a path, as the bytes that spell them.
 fn tell_names(alloc: Global, device: &Device, path: &str, told: &mut String) -> Result<()> {
     let mut room = [0; ROOM];
-    match device.peek_names(alloc, path.as_bytes(), &mut room) {
+    match peek_names(alloc, &device.client, path.as_bytes(), &mut room) {
         Ok(0) | Err(_) => Ok(()),
         Ok(count) => Ok(writeln!(told, "  {:?}", &room[..count.min(ROOM)])?),
     }
@@ -97,7 +100,7 @@ fn tell_names(alloc: Global, device: &Device, path: &str, told: &mut String) -> 
 /// Tells what is kept of a path: of its data the kind, the mark, and the bytes; of its names the mark, how many, and the bytes.
 pub fn tell_kept(alloc: Global, device: &Device, path: &str, told: &mut String) -> Result<()> {
     let mut room = [0; ROOM];
-    if let Ok(kept) = device.peek_data(alloc, path.as_bytes(), &mut room) {
+    if let Ok(kept) = peek_data(alloc, &device.client, path.as_bytes(), &mut room) {
         writeln!(
             told,
             "data {} {} null {}",
@@ -107,7 +110,7 @@ pub fn tell_kept(alloc: Global, device: &Device, path: &str, told: &mut String) 
             tell_text(alloc, &room[..kept.length.min(ROOM)], told)?;
         }
     }
-    if let Ok(kept) = device.peek_children(alloc, path.as_bytes()) {
+    if let Ok(kept) = peek_children(alloc, &device.client, path.as_bytes()) {
         writeln!(
             told,
             "names {} {} pzxid {}",
@@ -140,9 +143,9 @@ pub fn tell_collected(
     told: &mut String,
 ) -> Result<()> {
     let mut room = [0; ROOM];
-    let nodes = device.subtree(alloc, path.as_bytes(), most, &mut room);
+    let nodes = subtree(alloc, &device.client, path.as_bytes(), most, &mut room);
     tell_copied("nodes", nodes, &room, told)?;
-    let lacking = device.lacking(alloc, path.as_bytes(), most, &mut room);
+    let lacking = lacking(alloc, &device.client, path.as_bytes(), most, &mut room);
     tell_copied("lacking", lacking, &room, told)
 }
 
@@ -173,7 +176,7 @@ pub fn tell_standing(
         listed,
         markers: b"\0\0\0\x05lock-\0\0\0\x05lock-",
     };
-    match device.standing(alloc, &contender, &mut room) {
+    match standing(alloc, &device.client, &contender, &mut room) {
         Ok(Stands::First(token)) => writeln!(told, "first {token}")?,
         Ok(Stands::After(count)) => tell_text(alloc, &room[..count.min(ROOM)], told)?,
         Ok(Stands::Unsure) => writeln!(told, "unsure")?,
@@ -191,7 +194,7 @@ pub fn tell_shown(
     told: &mut String,
 ) -> Result<()> {
     let mut room = [0; ROOM];
-    let shown = device.snapshot(alloc, nodes, parents, &mut room);
+    let shown = snapshot(alloc, &device.client, nodes, parents, &mut room);
     tell_copied("shown", shown, &room, told)
 }
 
@@ -204,7 +207,13 @@ pub fn tell_holder(
     path: &str,
     told: &mut String,
 ) -> Result<()> {
-    match device.holder(alloc, directory.as_bytes(), prefix, path.as_bytes()) {
+    match holder(
+        alloc,
+        &device.client,
+        directory.as_bytes(),
+        prefix,
+        path.as_bytes(),
+    ) {
         Ok(Some(token)) => writeln!(told, "holds {token}")?,
         Ok(None) => writeln!(told, "holds not")?,
         Err(refusal) => writeln!(told, "holder {}", refusal.code())?,
