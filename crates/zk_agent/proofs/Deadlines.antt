@@ -1,5 +1,5 @@
 -- The first of several moments.
-use Rattle.std.proofs.Common.{◌≡◌, ◌≤◌, ◌<◌, ◌^◌, ℕ, Bool, true, false, ◌||◌, Option, Some, None, refl, sym, ap, subst, ◌∙◌, arith}
+use Rattle.std.proofs.Common.{◌≡◌, ◌<◌, ◌^◌, ℕ, Bool, true, false, ◌||◌, Option, Some, None, refl, sym, ap, subst, ◌∙◌, arith}
 use Rattle.std.specs.Prelude.{nat_le, min, IfSome}
 use Rattle.std.proofs.lemmas.Bool.Decides.{nat_tests}
 use Rattle.zk_dialler.specs.Dialling.{has_come}
@@ -34,32 +34,40 @@ not_yet now first before = grind (arith, nat_tests)
 at_itself : (moment : ℕ) → nat_le moment moment ≡ true
 at_itself moment = grind (arith, nat_tests)
 
--- of three moments
-module _ (first : ℕ) (due attempt again : Option ℕ) (is : Some first ≡ first_of (first_of due attempt) again) where
-  pub none_came : (now : ℕ) → now < first → (has_come now due ≡ false) × ((has_come now attempt ≡ false) × (has_come now again ≡ false))
+-- of four moments
+module _ (first : ℕ) (due attempt again limit : Option ℕ) (is : Some first ≡ first_of (first_of (first_of due attempt) again) limit) where
+  abbrev two : Option ℕ
+  two = first_of due attempt
+
+  abbrev three : Option ℕ
+  three = first_of two again
+
+  pub none_came : (now : ℕ) → now < first → (has_come now due ≡ false) × ((has_come now attempt ≡ false) × ((has_come now again ≡ false) × (has_come now limit ≡ false)))
   none_came now before =
-      let all : (has_come now (first_of due attempt) || has_come now again) ≡ false =
-      sym (one_came now (first_of due attempt) again) ∙ ap (has_come now) (sym is) ∙ not_yet now first before in
-      let two : (has_come now due || has_come now attempt) ≡ false =
-      sym (one_came now due attempt) ∙ first_false (has_come now (first_of due attempt)) (has_come now again) all in (
-        first_false (has_come now due) (has_come now attempt) two,
-        (second_false (has_come now due) (has_come now attempt) two, second_false (has_come now (first_of due attempt)) (has_come now again) all),
+      let all : (has_come now three || has_come now limit) ≡ false = sym (one_came now three limit) ∙ ap (has_come now) (sym is) ∙ not_yet now first before in
+      let of_three : (has_come now two || has_come now again) ≡ false = sym (one_came now two again) ∙ first_false (has_come now three) (has_come now limit) all in
+      let of_two : (has_come now due || has_come now attempt) ≡ false = sym (one_came now due attempt) ∙ first_false (has_come now two) (has_come now again) of_three in (
+        first_false (has_come now due) (has_come now attempt) of_two,
+        (
+          second_false (has_come now due) (has_come now attempt) of_two,
+          (second_false (has_come now two) (has_come now again) of_three, second_false (has_come now three) (has_come now limit) all),
+        ),
       )
 
+  came : (moment other : Option ℕ) → has_come first other ≡ false → has_come first moment ≡ has_come first (first_of moment other)
+  came moment other not_other = or_false (has_come first moment) ∙ ap (λ b. has_come first moment || b) (sym not_other) ∙ sym (one_came first moment other)
+
   -- where the others have not come, the first is the one that is due
-  pub is_first : (has_come first attempt ≡ false) → (has_come first again ≡ false) → due ≡ Some first
-  is_first attempt_not again_not = by due refl
+  pub is_first : (has_come first attempt ≡ false) → (has_come first again ≡ false) → (has_come first limit ≡ false) → due ≡ Some first
+  is_first attempt_not again_not limit_not = by due refl
     where
-      came : has_come first due ≡ true
-      came =
-          or_false (has_come first due) ∙ ap (λ b. has_come first due || b) (sym attempt_not) ∙ sym (one_came first due attempt)
-          ∙ or_false (has_come first (first_of due attempt)) ∙ ap (λ b. has_come first (first_of due attempt) || b) (sym again_not)
-          ∙ sym (one_came first (first_of due attempt) again) ∙ ap (has_come first) (sym is) ∙ at_itself first
+      due_came : has_come first due ≡ true
+      due_came = came due attempt attempt_not ∙ came two again again_not ∙ came three limit limit_not ∙ ap (has_come first) (sym is) ∙ at_itself first
 
       by : (d : Option ℕ) → due ≡ d → due ≡ Some first
-      by None e = absurd (let f : false ≡ true = ap (has_come first) (sym e) ∙ came in cc)
+      by None e = absurd (let f : false ≡ true = ap (has_come first) (sym e) ∙ due_came in cc)
       by (Some moment) e =
-          let past : nat_le moment first ≡ true = ap (has_come first) (sym e) ∙ came in
+          let past : nat_le moment first ≡ true = ap (has_come first) (sym e) ∙ due_came in
           let not_before : moment < first → ⊥ = λ before.
           let none : has_come moment due ≡ false = (none_came moment before).0 in
           let some : has_come moment due ≡ true = ap (has_come moment) e ∙ at_itself moment in
@@ -78,15 +86,17 @@ quiet_by P (Some first) before never moment fits not_come = let early : moment <
 pub loud_by : (P : ℕ → Type 0) (due : Option ℕ) (first : ℕ) → due ≡ Some first → IfSome due (λ first. ¬ (P first)) → ¬ (P first)
 loud_by P due first is loud = subst (λ d. IfSome d (λ first. ¬ (P first))) is loud
 
-pub none_left : (due attempt again : Option ℕ) → None ≡ first_of (first_of due attempt) again → (due ≡ None) × ((attempt ≡ None) × (again ≡ None))
-none_left None None None is = (refl, (refl, refl))
-none_left None None (Some c) is = absurd cc
-none_left None (Some b) None is = absurd cc
-none_left None (Some b) (Some c) is = absurd cc
-none_left (Some a) None None is = absurd cc
-none_left (Some a) None (Some c) is = absurd cc
-none_left (Some a) (Some b) None is = absurd cc
-none_left (Some a) (Some b) (Some c) is = absurd cc
+neither : (moment other : Option ℕ) → None ≡ first_of moment other → (moment ≡ None) × (other ≡ None)
+neither None None is = (refl, refl)
+neither None (Some b) is = absurd cc
+neither (Some a) None is = absurd cc
+neither (Some a) (Some b) is = absurd cc
+
+pub none_left : (due attempt again limit : Option ℕ) → None ≡ first_of (first_of (first_of due attempt) again) limit → (due ≡ None) × ((attempt ≡ None) × ((again ≡ None) × (limit ≡ None)))
+none_left due attempt again limit is =
+    let last = neither (first_of (first_of due attempt) again) limit is in
+    let third = neither (first_of due attempt) again (sym last.0) in
+    let two = neither due attempt (sym third.0) in (two.0, (two.1, (third.1, last.1)))
 
 pub if_some : (moment : Option ℕ) (P : ℕ → Type 0) → ((first : ℕ) → moment ≡ Some first → P first) → IfSome moment P
 if_some None P to = tt

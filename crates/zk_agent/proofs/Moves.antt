@@ -1,10 +1,13 @@
 -- Moves, one after the other.
-use Rattle.std.proofs.Common.{◌≡◌, ◌++◌, append_assoc, ℕ, ℤ, Bool, true, false, List, [], ◌∷◌, Option, map, refl, sym, ap, subst, ◌∙◌}
+use Rattle.std.proofs.Common.{◌≡◌, ◌++◌, ℕ, ℤ, Bool, true, false, List, [], ◌∷◌, Option, map, refl, sym, ap, subst, ◌∙◌}
 use Rattle.std.specs.Prelude.{Result, Ok, Err, OnOk, All}
-use Rattle.std.proofs.lemmas.List.Elements.{All-map}
-use Rattle.std.specs.List.{filter_map, flat_map, list_any, FoldsTo}
+use Rattle.std.specs.List.{filter, FoldsTo}
+use Rattle.std.proofs.lemmas.List.{append-nil}
+use Rattle.std.proofs.lemmas.List.Elements.{All-map, filter-append}
+use Rattle.zk_conversation.specs.Calls.{Call}
 use Rattle.zk_session.specs.declared.states.State.TheVariants.{Expired}
-use Rattle.zk_turns.specs.Turns.{Start, Item, Turned, Turn, Output, Input, Now}
+use Rattle.zk_turns.specs.Turns.{Start, Item, Turned, Turn, Input, Now}
+use Rattle.zk_turns.specs.Turns as turns
 use Rattle.zk_turns.specs.View.{View, view_at}
 use Rattle.zk_turns.specs.Rule.{Rule, Stands}
 use Rattle.zk_turns.proofs.Stepped.{one_turn}
@@ -16,9 +19,13 @@ use Rattle.zk_dialler.specs.Backoffs.{row_ended}
 use Rattle.zk_dialler.specs.Dialling.{is_open, AttemptEnds, DialsWell, Ends, Opens}
 use Rattle.zk_dialler.specs.declared.dialler.Due.{Due}
 use Rattle.zk_follow.specs.declared.subject.Subject.{Subject}
-use Rattle.zk_follow.specs.Following.{due_again, news_in, told_of, IsFollowed, Steps}
-use Rattle.zk_agent.specs.Agents.{Told, Begins, Trail, due_told, Move, Hears, Renews, Follows, Unfollows, Opened, Ended, HungUp, Addressed, Decides, Does, IsLed, Comes, HearsSo, MayHear, RenewsSo, LetsGo, news_told, noted, output_told, row_after}
-use Rattle.zk_agent.specs.Replies.{is_over}
+use Rattle.zk_follow.specs.Following.{due_again, told_of, IsFollowed}
+use Rattle.zk_line.specs.declared.entry.Entry.{Entry}
+use Rattle.zk_line.specs.declared.entry.Ending.TheVariants as ending
+use Rattle.zk_agent.specs.declared.replies.Heard.{Heard}
+use Rattle.zk_agent.specs.Agents.{Trail, AsksSo, Move, Hears, Renews, Follows, Unfollows, Asks, GivesUp, Opened, Ended, HungUp, Addressed, Decides, Does, IsLed, Comes, HearsSo, MayHear, MayTake, LetsGo, TakesSo, is_ask, noted, row_after}
+use Rattle.zk_agent.specs.Calls.{endings, handed}
+use Rattle.zk_agent.specs.Telling.{Told, Begins, due_told}
 
 -- ---- the client stands where it was led
 
@@ -32,10 +39,12 @@ led_on (turn ∷ turns) old new chain start items stands =
 
 led_by : {A : Type 0} (move : Move) (old new : Trail A) → Does old move new → IsLed old.view → IsLed new.view
 led_by (Hears now input) old new does led =
-    led_on (record { input = Now now; outputs = does.steps.first } ∷ record { input = input; outputs = does.steps.second } ∷ does.steps.calls) old.view new.view does.steps.chain led.0 led.1 led.2
+    led_on (record { input = Now now; outputs = does.takes.steps.first } ∷ record { input = input; outputs = does.takes.steps.second } ∷ does.takes.steps.calls) old.view new.view does.takes.steps.chain led.0 led.1 led.2
 led_by (Renews timeout) old new does led = subst IsLed (sym does.view) (renewed_start timeout old.view, [], fresh (renewed_start timeout old.view))
 led_by {A} (Follows ticket side path) old new does led = subst IsLed (sym (ap (λ (t : Trail A). t.view) does)) led
 led_by {A} (Unfollows ticket) old new does led = subst IsLed (sym (ap (λ (t : Trail A). t.view) does)) led
+led_by {A} (Asks ticket asked until) old new does led = subst IsLed (sym (ap (λ (t : Trail A). t.view) does.last)) led
+led_by {A} (GivesUp now) old new does led = subst IsLed (sym (ap (λ (t : Trail A). t.view) does)) led
 led_by {A} (Opened now) old new does led = subst IsLed (sym (ap (λ (t : Trail A). t.view) does.1)) led
 led_by {A} (Ended now) old new does led = subst IsLed (sym (ap (λ (t : Trail A). t.view) does.1)) led
 led_by {A} HungUp old new does led = subst IsLed (sym (ap (λ (t : Trail A). t.view) does)) led
@@ -52,74 +61,117 @@ does_on : {A : Type 0} (moves more : List Move) (old between new : Trail A) → 
 does_on [] more old between new same rest = rw same rest
 does_on (move ∷ moves) more old between new does rest = (does.0, does.1, does_on moves more does.0 between new does.2 rest)
 
-come : {A : Type 0} (moves : List Move) (old new : Trail A) → FoldsTo Does old moves new → Comes old new
-come moves old new does = record { moves = moves; does = does; led = led_through moves old new does }
+come : {A : Type 0} (asked moves : List Move) (old new : Trail A) → FoldsTo Does old moves new → filter is_ask moves ≡ asked → Comes asked old new
+come asked moves old new does asks = record { moves = moves; does = does; asks = asks; led = led_through moves old new does }
 
 -- nothing came
-pub nothing : {A : Type 0} (here : Trail A) → Comes here here
-nothing here = come [] here here refl
+pub nothing : {A : Type 0} (here : Trail A) → Comes [] here here
+nothing here = come [] [] here here refl refl
 
-pub one : {A : Type 0} (move : Move) (old new : Trail A) → Does old move new → Comes old new
-one move old new does = come (move ∷ []) old new (new, does, refl)
+pub one : {A : Type 0} (move : Move) (old new : Trail A) → filter is_ask (move ∷ []) ≡ [] → Does old move new → Comes [] old new
+one move old new none does = come [] (move ∷ []) old new (new, does, refl) none
 
 -- what comes first, and what comes after it
-pub after : {A : Type 0} (old between new : Trail A) → Comes old between → Comes between new → Comes old new
-after old between new first rest = come (first.moves ++ rest.moves) old new (does_on first.moves rest.moves old between new first.does rest.does)
+pub after : {A : Type 0} (asked more : List Move) (old between new : Trail A) → Comes asked old between → Comes more between new → Comes (asked ++ more) old new
+after asked more old between new first rest =
+    come (asked ++ more) (first.moves ++ rest.moves) old new (does_on first.moves rest.moves old between new first.does rest.does)
+    (filter-append is_ask first.moves rest.moves ∙ ap (λ ms. ms ++ filter is_ask rest.moves) first.asks ∙ ap (λ ms. asked ++ ms) rest.asks)
 
-pub ok_after : {A X E : Type 0} (result : Result X E) (old between new : Trail A) → Comes old between → OnOk result (Comes between new) → OnOk result (Comes old new)
-ok_after (Ok x) old between new first rest = after old between new first rest
+-- what comes after it asks nothing
+pub then_none : {A : Type 0} (asked : List Move) (old between new : Trail A) → Comes asked old between → Comes [] between new → Comes asked old new
+then_none asked old between new first rest = subst (λ ms. Comes ms old new) (append-nil asked) (after asked [] old between new first rest)
+
+pub ok_after : {A X E : Type 0} (result : Result X E) (old between new : Trail A) → Comes [] old between → OnOk result (Comes [] between new) → OnOk result (Comes [] old new)
+ok_after (Ok x) old between new first rest = after [] [] old between new first rest
 ok_after (Err e) old between new first rest = tt
+
+pub ok_then : {A X E : Type 0} (result : Result X E) (asked : List Move) (old between new : Trail A) → Comes asked old between → OnOk result (Comes [] between new) → OnOk result (Comes asked old new)
+ok_then (Ok x) asked old between new first rest = then_none asked old between new first rest
+ok_then (Err e) asked old between new first rest = tt
+
+-- five parts, the first of which alone asks
+pub in_turn : {A : Type 0} (asked : List Move) (first second third fourth fifth last : Trail A) → Comes asked first second → Comes [] second third → Comes [] third fourth → Comes [] fourth fifth
+    → Comes [] fifth last → Comes asked first last
+in_turn asked first second third fourth fifth last a b c d e =
+    then_none asked first fifth last (then_none asked first fourth fifth (then_none asked first third fourth (then_none asked first second third a b) c) d) e
+
+pub asks : {A : Type 0} (ticket : ℕ) (asked : Call) (until : Option ℕ) (old new : Trail A) → AsksSo ticket asked until old new → Comes (Asks ticket asked until ∷ []) old new
+asks ticket asked until old new does = come (Asks ticket asked until ∷ []) (Asks ticket asked until ∷ []) old new (new, does, refl) refl
 
 -- ---- single moves
 
-abbrev trail : {A : Type 0} → View → List (Subject A) → Dialler A → List Told → Trail A
-trail view subjects dialler told = record { view = view; subjects = subjects; dialler = dialler; told = told }
+abbrev trail : {A : Type 0} → View → List (Subject A) → List (Entry A) → Dialler A → List Told → Trail A
+trail view subjects line dialler told = record { view = view; subjects = subjects; line = line; dialler = dialler; told = told }
 
-pub trail_eq : {A : Type 0} (old new : Trail A) → new.view ≡ old.view → new.subjects ≡ old.subjects → new.dialler ≡ old.dialler → new.told ≡ old.told → new ≡ old
-trail_eq old new v s d t =
-    ap (λ x. trail x new.subjects new.dialler new.told) v ∙ ap (λ x. trail old.view x new.dialler new.told) s
-    ∙ ap (λ x. trail old.view old.subjects x new.told) d ∙ ap (λ x. trail old.view old.subjects old.dialler x) t
+pub trail_eq : {A : Type 0} (old new : Trail A) → new.view ≡ old.view → new.subjects ≡ old.subjects → new.line ≡ old.line → new.dialler ≡ old.dialler → new.told ≡ old.told → new ≡ old
+trail_eq old new v s l d t =
+    ap (λ x. trail x new.subjects new.line new.dialler new.told) v ∙ ap (λ x. trail old.view x new.line new.dialler new.told) s
+    ∙ ap (λ x. trail old.view old.subjects x new.dialler new.told) l ∙ ap (λ x. trail old.view old.subjects old.line x new.told) d
+    ∙ ap (λ x. trail old.view old.subjects old.line old.dialler x) t
 
 pub opened : {A : Type 0} (old new : Trail A) (timeout now : ℕ) (ours : Bool) → timeout ≡ old.view.saved.session.timeout → ours ≡ true → Opens timeout now old.dialler new.dialler ours
-    → new ≡ record old { dialler = new.dialler } → Comes old new
+    → new ≡ record old { dialler = new.dialler } → Comes [] old new
 opened old new timeout now ours is asked opens rest =
-    one (Opened now) old new (subst (λ t. Opens t now old.dialler new.dialler true) is (subst (Opens timeout now old.dialler new.dialler) asked opens), rest)
+    one (Opened now) old new refl (subst (λ t. Opens t now old.dialler new.dialler true) is (subst (Opens timeout now old.dialler new.dialler) asked opens), rest)
 
 pub ended : {A : Type 0} (old new : Trail A) (timeout now : ℕ) → timeout ≡ old.view.saved.session.timeout → Ends timeout now old.dialler new.dialler → new ≡ record old { dialler = new.dialler }
-    → Comes old new
-ended old new timeout now is ends rest = one (Ended now) old new (subst (λ t. Ends t now old.dialler new.dialler) is ends, rest)
+    → Comes [] old new
+ended old new timeout now is ends rest = one (Ended now) old new refl (subst (λ t. Ends t now old.dialler new.dialler) is ends, rest)
 
 pub decided : {A : Type 0} (old new : Trail A) (timeout now : ℕ) (due : Option Due) → timeout ≡ old.view.saved.session.timeout → DialsWell timeout now old.dialler new.dialler due
-    → new ≡ record old { dialler = new.dialler; told = old.told ++ due_told due } → Comes old new
-decided old new timeout now due is dials rest = one (Decides now due) old new (subst (λ t. DialsWell t now old.dialler new.dialler due) is dials, rest)
+    → new ≡ record old { dialler = new.dialler; told = old.told ++ due_told due } → Comes [] old new
+decided old new timeout now due is dials rest = one (Decides now due) old new refl (subst (λ t. DialsWell t now old.dialler new.dialler due) is dials, rest)
 
 pub renewed : {A X E : Type 0} (result : Result X E) (old new : Trail A) (timeout : ℤ) → old.view.standing.state ≡ Expired → OnOk result (new.view ≡ view_at (renewed_start timeout old.view) [])
     → OnOk result (new.subjects ≡ map due_again old.subjects) → OnOk result (new.dialler ≡ record old.dialler { backoff = row_ended old.dialler.backoff })
-    → OnOk result (new.told ≡ old.told ++ Begins ∷ []) → OnOk result (Comes old new)
-renewed (Ok x) old new timeout expired v s d t = one (Renews timeout) old new (record { expired = expired; view = v; subjects = s; dialler = d; told = t })
-renewed (Err e) old new timeout expired v s d t = tt
+    → OnOk result (new.line ≡ []) → OnOk result (new.told ≡ (old.told ++ endings ending.Expired old.line) ++ Begins ∷ []) → OnOk result (Comes [] old new)
+renewed (Ok x) old new timeout expired v s d l t =
+    one (Renews timeout) old new refl (record { expired = expired; view = v; subjects = s; dialler = d; line = l; told = t })
+renewed (Err e) old new timeout expired v s d l t = tt
 
 -- ---- the client hears
 
-pub hears : {A : Type 0} (now : ℕ) (input : Input) (old new : Trail A) (given : List Output) (view : View) (stepped : List (Subject A)) (row mid : Dialler A) (told : List Told) (over : Bool)
-    → MayHear input (is_open old.dialler.phase) → Steps now old.view input old.subjects view given stepped → new.view ≡ view → new.subjects ≡ map (told_of view) stepped
-    → row ≡ row_after given old.dialler → mid ≡ noted view.saved.session.timeout now view.standing.state row
-    → told ≡ (old.told ++ filter_map output_told given) ++ map news_told (flat_map (news_in view given) stepped) → over ≡ list_any is_over given
-    → LetsGo over view.saved.session.timeout now mid new.dialler told new.told → HearsSo now input old new
-hears {A} now input old new given view stepped row mid told over may steps is subjects rows notes tells ends goes = record {
+-- what is heard and no call may be heard, and the line is as it was
+pub may_hear : {A : Type 0} (input : Input) (old : Trail A) → MayTake input (is_open old.dialler.phase) → MayHear input old
+may_hear (turns.Opened) old may = may
+may_hear (turns.Bytes bytes) old may = may
+may_hear (turns.Call ticket asked) old may = absurd may
+may_hear (turns.Now moment) old may = tt
+may_hear (turns.Cut) old may = tt
+
+pub not_handed : {A : Type 0} (input : Input) (is_open : Bool) (line : List (Entry A)) → MayTake input is_open → line ≡ handed input line
+not_handed (turns.Opened) is_open line may = refl
+not_handed (turns.Bytes bytes) is_open line may = refl
+not_handed (turns.Call ticket asked) is_open line may = absurd may
+not_handed (turns.Now moment) is_open line may = refl
+not_handed (turns.Cut) is_open line may = refl
+
+pub hears : {A : Type 0} (now : ℕ) (input : Input) (old new : Trail A) (line : List (Entry A)) (told : List Told) (heard : Heard) → MayHear input old → line ≡ handed input old.line
+    → TakesSo now input old.view old.subjects line old.told new.view new.subjects new.line told heard
+    → LetsGo heard.is_over new.view.saved.session.timeout now (noted new.view.saved.session.timeout now new.view.standing.state (row_after heard.ends_row old.dialler)) new.dialler told new.told
+    → HearsSo now input old new
+hears now input old new line told heard may is takes goes = record {
   may = may;
-  given = given;
-  stepped = stepped;
-  steps = subst (λ v. Steps now old.view input old.subjects v given stepped) (sym is) steps;
-  subjects = subjects ∙ ap (λ v. map (told_of v) stepped) (sym is);
-  lets_go = subst (λ v. LetsGo (list_any is_over given) v.saved.session.timeout now (noted v.saved.session.timeout now v.standing.state (row_after given old.dialler)) new.dialler
-      ((old.told ++ filter_map output_told given) ++ map news_told (flat_map (news_in v given) stepped)) new.told) (sym is)
-      (subst (λ b. LetsGo b view.saved.session.timeout now (noted view.saved.session.timeout now view.standing.state (row_after given old.dialler)) new.dialler
-      ((old.told ++ filter_map output_told given) ++ map news_told (flat_map (news_in view given) stepped)) new.told) ends
-      (subst (λ t. LetsGo over view.saved.session.timeout now (noted view.saved.session.timeout now view.standing.state (row_after given old.dialler)) new.dialler t new.told) tells
-      (subst (λ d. LetsGo over view.saved.session.timeout now (noted view.saved.session.timeout now view.standing.state d) new.dialler told new.told) rows
-      (subst (λ d. LetsGo over view.saved.session.timeout now d new.dialler told new.told) notes goes))));
+  heard = heard;
+  told = told;
+  takes = subst (λ es. TakesSo now input old.view old.subjects es old.told new.view new.subjects new.line told heard) is takes;
+  lets_go = goes;
 }
+
+-- The client and the line are as it left them, with what was done about the connection after it.
+pub taken_by : {A : Type 0} (now : ℕ) (input : Input) (old new between : Trail A) (line : List (Entry A)) (heard : Heard) → MayHear input old → line ≡ handed input old.line
+    → TakesSo now input old.view old.subjects line old.told between.view between.subjects between.line between.told heard
+    → new.view ≡ between.view → new.subjects ≡ between.subjects → new.line ≡ between.line
+    → LetsGo heard.is_over between.view.saved.session.timeout now (noted between.view.saved.session.timeout now between.view.standing.state (row_after heard.ends_row old.dialler)) new.dialler
+    between.told new.told
+    → HearsSo now input old new
+taken_by {A} now input old new between line heard may is takes same_view same_subjects same_line goes =
+    hears now input old new line between.told heard may is
+    (subst (λ v. TakesSo now input old.view old.subjects line old.told v new.subjects new.line between.told heard) (sym same_view)
+    (subst (λ ss. TakesSo now input old.view old.subjects line old.told between.view ss new.line between.told heard) (sym same_subjects)
+    (subst (λ es. TakesSo now input old.view old.subjects line old.told between.view between.subjects es between.told heard) (sym same_line) takes)))
+    (subst (λ (v : View). LetsGo heard.is_over v.saved.session.timeout now (noted v.saved.session.timeout now v.standing.state (row_after heard.ends_row old.dialler)) new.dialler between.told new.told)
+    (sym same_view) goes)
 
 -- to be told of leaves a subject followed
 pub followed_told : {A : Type 0} (now : ℕ) (view after : View) (stepped new : List (Subject A)) → after ≡ view → new ≡ map (told_of view) stepped → All (IsFollowed now view) stepped

@@ -1,13 +1,14 @@
 -- What outputs say, and what is told of them.
-use Rattle.std.proofs.Common.{◌≡◌, ◌<◌, ◌+◌, ◌++◌, append_assoc, ℕ, Bool, List, [], ◌∷◌, Option, Some, None, length, get_or, map, take, refl, sym, ap, ◌∙◌, arith}
+use Rattle.std.proofs.Common.{◌≡◌, ◌<◌, ◌+◌, ◌++◌, append_assoc, ℕ, Bool, List, [], ◌∷◌, length, get_or, map, take, refl, sym, ap, ◌∙◌}
 use Rattle.std.specs.Prelude.{Result, Ok, Err, OnOk, ◌||◌}
-use Rattle.std.specs.Option.{option_map, option_to_list}
-use Rattle.std.specs.List.{filter_map, list_any}
+use Rattle.std.specs.List.{list_any}
 use Rattle.std.proofs.lemmas.List.{map-append, take_more}
-use Rattle.std.proofs.lemmas.List.Elements.{filter_map-append}
 use Rattle.zk_turns.specs.Turns.{Output}
 use Rattle.zk_client.specs.declared.output.Output.{Output as Made}
 use Rattle.zk_client.specs.Views.{output_view, said}
+use Rattle.zk_line.specs.declared.entry.Entry.{Entry}
+use Rattle.zk_agent.specs.Calls.{hears, hears_all, tells, tells_all}
+use Rattle.zk_agent.specs.Telling.{Told}
 
 -- a test of what outputs say is one of the outputs
 pub any_said : {A : Type 0} (test : Output → Bool) (made : List (Made A)) → list_any test (said made) ≡ list_any (λ output. test (output_view output)) made
@@ -27,9 +28,18 @@ pub map_more : {X Y : Type 0} (f : X → Y) (xs : List X) (i : ℕ) (x : X) → 
 map_more f xs i x within is =
     ap (map f) (take_more xs i x within) ∙ map-append f (take i xs) (get_or xs i x ∷ []) ∙ ap (λ y. map f (take i xs) ++ f y ∷ []) (sym is)
 
--- one more of a list that is used up
-pub told_more : {X Y : Type 0} (h : X → Option Y) (before now all : List Y) (x : X) (rest xs : List X) → xs ≡ x ∷ rest → now ≡ before ++ filter_map h (x ∷ [])
-    → before ++ filter_map h xs ≡ all → now ++ filter_map h rest ≡ all
-told_more h before now all x rest xs is told so_far =
-    ap (λ l. l ++ filter_map h rest) told ∙ append_assoc before (filter_map h (x ∷ [])) (filter_map h rest)
-    ∙ ap (λ l. before ++ l) (sym (filter_map-append h (x ∷ []) rest)) ∙ ap (λ l. before ++ filter_map h l) (sym is) ∙ so_far
+-- one more of outputs that are used up
+module _ {A : Type 0} (line new : List (Entry A)) where
+  pub told_more : (before now all : List Told) (output : Output) (rest outputs : List Output) → outputs ≡ output ∷ rest → new ≡ hears line output → now ≡ before ++ tells line output
+      → before ++ tells_all line outputs ≡ all → now ++ tells_all new rest ≡ all
+  told_more before now all output rest outputs is heard told so_far =
+      ap (λ l. l ++ tells_all new rest) told ∙ ap (λ es. (before ++ tells line output) ++ tells_all es rest) heard
+      ∙ append_assoc before (tells line output) (tells_all (hears line output) rest) ∙ ap (λ l. before ++ tells_all line l) (sym is) ∙ so_far
+
+  pub heard_more : (all : List (Entry A)) (output : Output) (rest outputs : List Output) → outputs ≡ output ∷ rest → new ≡ hears line output
+      → hears_all line outputs ≡ all → hears_all new rest ≡ all
+  heard_more all output rest outputs is heard so_far = ap (λ es. hears_all es rest) heard ∙ ap (hears_all line) (sym is) ∙ so_far
+
+-- two parts of what is told
+pub two_parts : {X : Type 0} (before first second now then_now : List X) → now ≡ before ++ first → then_now ≡ now ++ second → then_now ≡ before ++ (first ++ second)
+two_parts before first second now then_now one two = two ∙ ap (λ l. l ++ second) one ∙ append_assoc before first second

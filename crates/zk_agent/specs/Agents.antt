@@ -1,9 +1,11 @@
 -- How far an agent has come, move by move.
-use Rattle.std.specs.Prelude.{◌≡◌, ⊤, ℕ, ℤ, ◌&&◌, Bool, true, false, if◌then◌else◌, List, [], ◌∷◌, ◌++◌, map, Option, Some, None, string_bytes}
-use Rattle.std.specs.List.{filter_map, flat_map, list_any, FoldsTo}
+use Rattle.std.specs.Prelude.{◌≡◌, ◌<◌, ◌==◌, All, ⊤, ℕ, ℤ, ◌&&◌, Bool, true, false, if◌then◌else◌, List, [], ◌∷◌, ◌++◌, map, Option, Some, None}
+use Rattle.std.specs.List.{count_by, filter, flat_map, FoldsTo}
 use Rattle.std.specs.List.Sorted.{IsPermutation}
 use Rattle.zk_nodes.specs.Path.{Text}
 use Rattle.zk_nodes.specs.declared.side.Side.{Side}
+use Rattle.zk_conversation.specs.Calls.{Call}
+use Rattle.zk_conversation.specs.Views.{call_view}
 use Rattle.zk_session.specs.declared.states.State.{State}
 use Rattle.zk_session.specs.declared.states.State.TheVariants.{Connected, Expired}
 use Rattle.zk_turns.specs.Turns.{Output, Input, Item, Start}
@@ -12,70 +14,42 @@ use Rattle.zk_turns.specs.View.{View, view_at}
 use Rattle.zk_turns.specs.Rule.{Stands}
 use Rattle.zk_turns.specs.Taken.{NothingIsDue}
 use Rattle.zk_client.specs.Clients.{renewed_start, view_of}
-use Rattle.zk_client.specs.Views.{fault_view}
 use Rattle.zk_dialler.specs.declared.dialler.Dialler.{Dialler}
 use Rattle.zk_dialler.specs.declared.dialler.Due.{Due}
-use Rattle.zk_dialler.specs.declared.dialler.Due.TheVariants.{Dial, GiveUp}
 use Rattle.zk_dialler.specs.Backoffs.{connected_at, row_ended}
 use Rattle.zk_dialler.specs.Chances.{state_after}
 use Rattle.zk_dialler.specs.Dialling.{first_moment, has_come, is_open, DialsWell, Ends, Opens}
 use Rattle.zk_dialler.specs.Orders.{numbers, shuffled}
-use Rattle.zk_follow.specs.declared.news.News.{News}
-use Rattle.zk_follow.specs.declared.news.News.TheVariants as news
 use Rattle.zk_follow.specs.declared.progress.Progress.TheVariants as progress
 use Rattle.zk_follow.specs.declared.subject.Subject.{Subject}
 use Rattle.zk_follow.specs.Following.{due_again, first_again, news_in, told_of, unfollowed, Steps}
+use Rattle.zk_line.specs.declared.entry.Entry.{Entry}
+use Rattle.zk_line.specs.declared.entry.Ending.TheVariants as ending
+use Rattle.zk_line.specs.Lines.{first_handed, first_limit, left, next_call}
 use Rattle.zk_agent.specs.declared.action.Action.{Action}
-use Rattle.zk_agent.specs.declared.action.Action.TheVariants as action
 use Rattle.zk_agent.specs.declared.agent.Agent.{Agent}
 use Rattle.zk_agent.specs.declared.input.Input.{Input as Happens}
 use Rattle.zk_agent.specs.declared.input.Input.TheVariants as happens
-use Rattle.zk_agent.specs.Replies.{ends_row, is_over}
-
--- ---- what a program is told
-
--- What an agent asks of its program, and what it tells it, without where it lies in memory.
-pub data Told : Type 0 where
-  Says : Output → Told
-  Tells : (ticket : ℕ) → News → Told
-  Dials : (place within : ℕ) → Told
-  HangsUp Begins : Told
-
-abbrev pub action_view : {A : Type 0} → Action A → Told
-action_view (action.Dial place within) = Dials place within
-action_view action.HangUp = HangsUp
-action_view (action.Send bytes) = Says (turns.Send bytes.items)
-action_view (action.Report path side event) = Says (turns.Report (string_bytes path) side event)
-action_view (action.State state) = Says (turns.Enters state)
-action_view (action.GivenUp fault) = Says (turns.Drop (fault_view fault))
-action_view action.Renewed = Begins
-action_view (action.Shown ticket) = Tells ticket news.Shown
-action_view (action.Refused ticket why) = Tells ticket (news.Refused why)
-
-abbrev pub told_by : {A : Type 0} → List (Action A) → List Told
-told_by actions = map action_view actions
-
--- What a program is told of what the client says: all but the answers to the reads of subjects.
-abbrev pub output_told : Output → Option Told
-output_told (turns.Answer ticket outcome) = None
-output_told output = Some (Says output)
-
-abbrev pub news_told : (ℕ × News) → Told
-news_told news = Tells news.0 news.1
+use Rattle.zk_agent.specs.declared.replies.Heard.{Heard}
+use Rattle.zk_agent.specs.Calls.{endings, handed, hears_all, how_many_wait, tells_all, IsDone, IsInTime}
+use Rattle.zk_agent.specs.Replies.{heard_in}
+use Rattle.zk_agent.specs.Telling.{Told, HangsUp, Begins, due_told, is_end_of, news_told, told_by}
 
 -- ---- how far it has come
 
--- A client, the subjects that are followed, the dialler, and what the program was told.
+-- A client, the subjects that are followed, the calls that wait, the dialler, and what the program was told.
 pub record Trail (A : Type 0) : Type 0 where
   pub view : View
   pub subjects : List (Subject A)
+  pub line : List (Entry A)
   pub dialler : Dialler A
   pub told : List Told
 
 abbrev pub trail_of : {A : Type 0} → Agent A → List (Action A) → Trail A
 trail_of agent actions = record {
-  view = view_of agent.follower.client;
-  subjects = agent.follower.subjects.items;
+  view = view_of agent.asker.follower.client;
+  subjects = agent.asker.follower.subjects.items;
+  line = agent.asker.line.entries.items;
   dialler = agent.dialler;
   told = told_by actions;
 }
@@ -87,6 +61,8 @@ pub data Move : Type 0 where
   Renews : (timeout : ℤ) → Move
   Follows : (ticket : ℕ) → Side → Text → Move
   Unfollows : (ticket : ℕ) → Move
+  Asks : (ticket : ℕ) → Call → (until : Option ℕ) → Move
+  GivesUp : (now : ℕ) → Move
   Opened Ended : (now : ℕ) → Move
   HungUp : Move
   Addressed : (count : ℕ) → Move
@@ -94,8 +70,8 @@ pub data Move : Type 0 where
 
 -- The dialler after outputs, where the client is in this state then. A row of failures ends with a reply, and with a connection that has
 -- lived for a third of the timeout.
-abbrev pub row_after : {A : Type 0} → List Output → Dialler A → Dialler A
-row_after given dialler = if ends_row given then record dialler { backoff = row_ended dialler.backoff } else dialler
+abbrev pub row_after : {A : Type 0} → (is_answered : Bool) → Dialler A → Dialler A
+row_after is_answered dialler = if is_answered then record dialler { backoff = row_ended dialler.backoff } else dialler
 
 abbrev pub is_connected : State → Bool
 is_connected Connected = true
@@ -112,32 +88,68 @@ LetsGoWhere false timeout now old new before after = (new ≡ old) × (after ≡
 abbrev pub LetsGo : {A : Type 0} → (is_over : Bool) → (timeout now : ℕ) → (old new : Dialler A) → (before after : List Told) → Type 0
 LetsGo is_over timeout now old new before after = LetsGoWhere (is_over && is_open old.phase) timeout now old new before after
 
--- Bytes come on a connection that is there; that it begins is told once it is; and a program's calls are none of these.
-abbrev pub MayHear : Input → (is_open : Bool) → Type 0
-MayHear turns.Opened is_open = is_open ≡ true
-MayHear (turns.Bytes bytes) is_open = is_open ≡ true
-MayHear (turns.Call ticket asked) is_open = ⊥
-MayHear _ is_open = ⊤
+-- Bytes come on a connection that is there, and that it begins is told once it is. A call is handed over where a server has accepted the
+-- connection, and it is the one whose turn it is: the first of those that wait for theirs, in the order of asking.
+abbrev pub MayHear : {A : Type 0} → Input → Trail A → Type 0
+MayHear turns.Opened old = is_open old.dialler.phase ≡ true
+MayHear (turns.Bytes bytes) old = is_open old.dialler.phase ≡ true
+MayHear (turns.Call ticket asked) old = (old.view.standing.state ≡ Connected) × (next_call old.line ≡ Some (ticket, asked))
+MayHear _ old = ⊤
+
+-- what is heard and no call
+abbrev pub MayTake : Input → (is_open : Bool) → Type 0
+MayTake turns.Opened is_open = is_open ≡ true
+MayTake (turns.Bytes bytes) is_open = is_open ≡ true
+MayTake (turns.Call ticket asked) is_open = ⊥
+MayTake _ is_open = ⊤
 
 -- The client takes an input at a moment, and subjects are read. What it says is told, in order, and then what there is to tell of the
--- subjects; a connection is hung up where it is over with that.
-pub record HearsSo {A : Type 0} (now : ℕ) (input : Input) (old new : Trail A) : Type 0 where
-  pub may : MayHear input (is_open old.dialler.phase)
+-- subjects. The line, which is this one once the client takes the input, hears the answers, in the same order.
+pub record TakesSo {A : Type 0} (now : ℕ) (input : Input) (old_view : View) (old_subjects : List (Subject A)) (old_line : List (Entry A)) (old_told : List Told)
+    (new_view : View) (new_subjects : List (Subject A)) (new_line : List (Entry A)) (new_told : List Told) (says : Heard) : Type 0 where
   pub given : List Output
   pub stepped : List (Subject A)
-  pub steps : Steps now old.view input old.subjects new.view given stepped
-  pub subjects : new.subjects ≡ map (told_of new.view) stepped
-  pub lets_go : LetsGo (list_any is_over given) new.view.saved.session.timeout now
-      (noted new.view.saved.session.timeout now new.view.standing.state (row_after given old.dialler)) new.dialler
-      ((old.told ++ filter_map output_told given) ++ map news_told (flat_map (news_in new.view given) stepped)) new.told
+  pub steps : Steps now old_view input old_subjects new_view given stepped
+  pub subjects : new_subjects ≡ map (told_of new_view) stepped
+  pub line : new_line ≡ hears_all old_line given
+  pub told : new_told ≡ (old_told ++ tells_all old_line given) ++ map news_told (flat_map (news_in new_view given) stepped)
+  pub heard : says ≡ heard_in given
 
--- Another session begins, after an expiry alone. The last seen zxid is kept, each subject is to be read, and a row of failures ends.
+-- The call is handed over whose turn it is, if there is one.
+abbrev pub HandsOver : {A : Type 0} → (now : ℕ) → View → List (Subject A) → List (Entry A) → List Told → View → List (Subject A) → List (Entry A) → List Told → Option Heard → Type 0
+HandsOver now view subjects line told new_view new_subjects new_line new_told None =
+    (next_call line ≡ None) × (new_view ≡ view) × (new_subjects ≡ subjects) × (new_line ≡ line) × (new_told ≡ told)
+HandsOver now view subjects line told new_view new_subjects new_line new_told (Some heard) =
+    (ticket : ℕ) × (asked : Call) × (next_call line ≡ Some (ticket, asked))
+    × TakesSo now (turns.Call ticket asked) view subjects (first_handed line) told new_view new_subjects new_line new_told heard
+
+-- So it hears an input. A connection is hung up where it is over with that.
+pub record HearsSo {A : Type 0} (now : ℕ) (input : Input) (old new : Trail A) : Type 0 where
+  pub may : MayHear input old
+  pub heard : Heard
+  pub told : List Told
+  pub takes : TakesSo now input old.view old.subjects (handed input old.line) old.told new.view new.subjects new.line told heard
+  pub lets_go : LetsGo heard.is_over new.view.saved.session.timeout now
+      (noted new.view.saved.session.timeout now new.view.standing.state (row_after heard.ends_row old.dialler)) new.dialler told new.told
+
+-- Another session begins, after an expiry alone. The last seen zxid is kept, each subject is to be read, and a row of failures ends. Each call
+-- that waits is answered before, that the session has expired.
 pub record RenewsSo {A : Type 0} (timeout : ℤ) (old new : Trail A) : Type 0 where
   pub expired : old.view.standing.state ≡ Expired
   pub view : new.view ≡ view_at (renewed_start timeout old.view) []
   pub subjects : new.subjects ≡ map due_again old.subjects
   pub dialler : new.dialler ≡ record old.dialler { backoff = row_ended old.dialler.backoff }
-  pub told : new.told ≡ old.told ++ Begins ∷ []
+  pub line : new.line ≡ []
+  pub told : new.told ≡ (old.told ++ endings ending.Expired old.line) ++ Begins ∷ []
+
+-- A call is asked: it waits after those that were asked before.
+pub record AsksSo {A : Type 0} (ticket : ℕ) (asked : Call) (until : Option ℕ) (old new : Trail A) : Type 0 where
+  pub entry : Entry A
+  pub its_ticket : entry.ticket ≡ ticket
+  pub its_call : call_view entry.call ≡ asked
+  pub its_limit : entry.until ≡ until
+  pub waits : entry.is_sent ≡ false
+  pub last : new ≡ record old { line = old.line ++ entry ∷ [] }
 
 -- Another list of addresses is dialled in a new order, which goes on with the same random numbers.
 pub record AddressesSo {A : Type 0} (count : ℕ) (old new : Dialler A) : Type 0 where
@@ -147,11 +159,6 @@ pub record AddressesSo {A : Type 0} (count : ℕ) (old new : Dialler A) : Type 0
   pub phase : new.phase ≡ old.phase
   pub backoff : new.backoff ≡ record old.backoff { chance = record { state = state_after count old.backoff.chance.state } }
 
-abbrev pub due_told : Option Due → List Told
-due_told None = []
-due_told (Some (Dial place within)) = Dials place within ∷ []
-due_told (Some GiveUp) = HangsUp ∷ []
-
 -- What each move does. An address is dialled, or an attempt given up, by the rule of the dialler alone: not before its moment.
 abbrev pub Does : {A : Type 0} → Trail A → Move → Trail A → Type 0
 Does old (Hears now input) new = HearsSo now input old new
@@ -159,6 +166,8 @@ Does old (Renews timeout) new = RenewsSo timeout old new
 Does old (Follows ticket side path) new =
     new ≡ record old { subjects = old.subjects ++ record { ticket = ticket; side = side; path = path; progress = progress.Due; is_missing = false; told = None } ∷ [] }
 Does old (Unfollows ticket) new = new ≡ record old { subjects = unfollowed ticket old.subjects }
+Does old (Asks ticket asked until) new = AsksSo ticket asked until old new
+Does old (GivesUp now) new = new ≡ record old { line = left (ending.Late now) old.line; told = old.told ++ endings (ending.Late now) old.line }
 Does old (Opened now) new = Opens old.view.saved.session.timeout now old.dialler new.dialler true × (new ≡ record old { dialler = new.dialler })
 Does old (Ended now) new = Ends old.view.saved.session.timeout now old.dialler new.dialler × (new ≡ record old { dialler = new.dialler })
 Does old HungUp new = new ≡ record old { told = old.told ++ HangsUp ∷ [] }
@@ -170,19 +179,50 @@ Does old (Decides now due) new =
 abbrev pub IsLed : View → Type 0
 IsLed view = (start : Start) × (items : List Item) × Stands start items view
 
--- Moves, the oldest first. A client that was led stands where it was led.
-pub record Comes {A : Type 0} (old new : Trail A) : Type 0 where
+-- Moves, the oldest first. The calls that are asked are these. A client that was led stands where it was led.
+abbrev pub is_ask : Move → Bool
+is_ask (Asks ticket asked until) = true
+is_ask _ = false
+
+pub record Comes {A : Type 0} (asked : List Move) (old new : Trail A) : Type 0 where
   pub moves : List Move
   pub does : FoldsTo Does old moves new
+  pub asks : filter is_ask moves ≡ asked
   pub led : IsLed old.view → IsLed new.view
+
+-- Calls are handed over, at most one: no limit comes with it. Another one may be where fewer wait for their turn; else none waits, or none can
+-- be handed over.
+pub record Sends {A : Type 0} (now : ℕ) (old new : Trail A) (goes_on : Bool) : Type 0 where
+  pub comes : Comes [] old new
+  pub limits : All (IsInTime now) old.line → All (IsInTime now) new.line
+  pub more : goes_on ≡ true → how_many_wait new.line < how_many_wait old.line
+  pub none : goes_on ≡ false → IsDone new.view new.line
+
+-- what an input asks
+abbrev pub asks_of : {A : Type 0} → Happens A → List Move
+asks_of (happens.Call ticket call until) = Asks ticket (call_view call) until ∷ []
+asks_of input = []
+
+-- ---- calls
+
+-- how many calls of this ticket an input asks, and how many are settled
+abbrev pub asks_for : (ticket : ℕ) → Move → Bool
+asks_for ticket (Asks its asked until) = its == ticket
+asks_for ticket _ = false
+
+abbrev pub how_many_asked : {A : Type 0} → (ticket : ℕ) → Happens A → ℕ
+how_many_asked ticket input = count_by (asks_for ticket) (asks_of input)
+
+abbrev pub how_many_ended : (ticket : ℕ) → List Told → ℕ
+how_many_ended ticket told = count_by (is_end_of ticket) told
 
 -- ---- moments
 
--- nothing is due at a moment: no ping, no silence, no attempt, no end of one, and no read of a subject that was refused
+-- nothing is due at a moment: no ping, no silence, no attempt, no end of one, no read of a subject that was refused, and no limit of a call
 abbrev pub NothingAt : {A : Type 0} → Agent A → (moment : ℕ) → Type 0
 NothingAt agent moment =
-    NothingIsDue (view_of agent.follower.client) moment × (has_come moment (first_moment agent.dialler) ≡ false)
-    × (has_come moment (first_again agent.follower.subjects.items) ≡ false)
+    NothingIsDue (view_of agent.asker.follower.client) moment × (has_come moment (first_moment agent.dialler) ≡ false)
+    × (has_come moment (first_again agent.asker.follower.subjects.items) ≡ false) × (has_come moment (first_limit agent.asker.line.entries.items) ≡ false)
 
 -- when the server was heard last, once bytes have come on a connection that is there
 abbrev pub heard_after : {A : Type 0} → (is_open : Bool) → (now : ℕ) → Happens A → Option ℕ → Option ℕ

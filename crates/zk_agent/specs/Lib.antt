@@ -1,3 +1,5 @@
 pub mod Agents
+pub mod Calls
 pub mod Renewal
 pub mod Replies
+pub mod Telling

@@ -2,7 +2,8 @@
 use Rattle.std.specs.Prelude.{ℤ, pos, negsuc, ◌==◌, ◌||◌, ◌&&◌, not, Bool, true, false, List}
 use Rattle.std.specs.List.{list_any}
 use Rattle.zk_conversation.specs.Results.{Refused}
-use Rattle.zk_turns.specs.Turns.{Output, Answer, Replied, ends_connection}
+use Rattle.zk_turns.specs.Turns.{Output, Answer, Replied, ConnectionLoss, NotConnected, TooManyPending, ends_connection}
+use Rattle.zk_agent.specs.declared.replies.Heard.{Heard}
 
 abbrev pub is_reply : Output → Bool
 is_reply (Answer ticket (Replied zxid result)) = true
@@ -25,3 +26,14 @@ is_over output = ends_connection output || is_lost output
 -- A reply ends a row of failures, except where one says that the session is not the server's own.
 abbrev pub ends_row : List Output → Bool
 ends_row given = list_any is_reply given && not (list_any is_lost given)
+
+-- an answer with which a call may wait for its turn again
+abbrev pub is_back : Output → Bool
+is_back (Answer ticket ConnectionLoss) = true
+is_back (Answer ticket NotConnected) = true
+is_back (Answer ticket TooManyPending) = true
+is_back _ = false
+
+-- what outputs say of all that
+abbrev pub heard_in : List Output → Heard
+heard_in given = record { ends_row = ends_row given; is_over = list_any is_over given; is_lost = list_any is_lost given; goes_back = list_any is_back given }

@@ -1,13 +1,10 @@
 //! What comes out of an agent.
 
 ghost use Rattle.std.specs.Prelude.{◌≡◌, ◌++◌, ◌∷◌, [], map, OnOk};
-ghost use Rattle.std.specs.List.{filter_map};
-ghost use Rattle.zk_client.specs.Views.{output_view, said};
-ghost use Rattle.zk_agent.specs.Agents.{action_view, due_told, news_told, output_told, told_by};
+ghost use Rattle.zk_agent.specs.Telling.{action_view, due_told, news_told, told_by};
 
 use std::alloc::{AllocError, Allocator, Global};
-use std::collections::VecDeque;
-use zk_client::{Event, Fault, Output, Side, State};
+use zk_client::{Event, Fault, Outcome, Side, State};
 use zk_dialler::Due;
 use zk_follow::{News, Refusal};
 
@@ -23,6 +20,16 @@ pub enum Action<A: Allocator = Global> {
     HangUp,
     /// Write all of these bytes, which are one frame.
     Send(Vec<u8, A>),
+    /// A call is answered: by its reply, or by why there is none.
+    Answer {
+        ticket: u64,
+        outcome: Outcome<A>,
+    },
+    /// The limit of a call has come, and it waits no more. One that was sent may happen yet, or have happened; its reply is told to nobody.
+    TimedOut {
+        ticket: u64,
+        was_sent: bool,
+    },
     /// What was known of a side of the path has ended.
     Report {
         path: String<A>,
@@ -54,36 +61,6 @@ pub(crate) fn push<A: Allocator>(
     ensures { OnOk result (told_by actions.new.items ≡ told_by actions.old.items ++ action_view action ∷ []) }
 {
     actions.push(action).map_err(AllocError::from)
-}
-
-/// Adds what a program is told of what the client says: nothing of the answers to the reads of subjects.
-fn push_output<A: Allocator>(
-    output: Output<A>,
-    actions: &mut Vec<Action<A>, A>,
-) -> Result<(), AllocError>
-    ensures { OnOk result (told_by actions.new.items ≡ told_by actions.old.items ++ filter_map output_told (output_view output ∷ [])) }
-{
-    match output {
-        Output::Send(bytes) => push(actions, Action::Send(bytes)),
-        Output::Answer { .. } => Ok(()),
-        Output::Report { path, side, event } => push(actions, Action::Report { path, side, event }),
-        Output::State(state) => push(actions, Action::State(state)),
-        Output::Drop(fault) => push(actions, Action::GivenUp(fault)),
-    }
-}
-
-/// Adds what a program is told of what the client says, in order.
-pub(crate) fn push_outputs<A: Allocator>(
-    outputs: Vec<Output<A>, A>,
-    actions: &mut Vec<Action<A>, A>,
-) -> Result<(), AllocError>
-    ensures { OnOk result (told_by actions.new.items ≡ told_by actions.old.items ++ filter_map output_told (said outputs.items)) }
-{
-    let mut left = VecDeque::from_vec(outputs);
-    while let Some(output) = left.pop_front() {
-        push_output(output, actions)?;
-    }
-    Ok(())
 }
 
 /// What a program is told of a subject.

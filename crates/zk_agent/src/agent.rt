@@ -3,12 +3,13 @@
 ghost use Rattle.std.specs.Prelude.{◌≡◌, ◌<ℤ◌, pos};
 
 use crate::action::{Action, push, push_due};
+use crate::asker::Asker;
 use crate::input::{Input, heard_moment};
-use crate::moments::first_of_three;
+use crate::moments::first_of_four;
 use std::alloc::{AllocError, Allocator, Global};
-use zk_client::{Client, Path, Side, State};
+use zk_client::{Call, Client, Path, Side, State};
 use zk_dialler::Dialler;
-use zk_follow::{Follower, Stop};
+use zk_follow::Stop;
 
 /// What an agent begins with.
 #[derive(Clone, Copy)]
@@ -27,28 +28,33 @@ pub struct Agent<A: Allocator + Copy = Global> {
     pub(crate) alloc: A,
     timeout_ms: i32,
     pub(crate) dialler: Dialler<A>,
-    pub(crate) follower: Follower<A>,
+    pub(crate) asker: Asker<A>,
     latest: u64,
     heard_at: Option<u64>,
     ghost asks: { pos 0 <ℤ timeout_ms },
 }
 
 impl<A: Allocator + Copy> Agent<A> {
-    ghost use Rattle.std.specs.Prelude.{◌≡◌, ◌≤◌, ◌<◌, ◌<ℤ◌, ◌≤ℤ◌, ◌^◌, ◌++◌, ◌∷◌, ℕ, true, map, max, length, pos, unsigned_abs, [], None, IfOk, IfSome, OnOk, All};
+    ghost use Rattle.std.specs.Prelude.{◌≡◌, ◌≤◌, ◌<◌, ◌+◌, ◌<ℤ◌, ◌≤ℤ◌, ◌^◌, ◌++◌, ◌∷◌, ℕ, true, map, max, length, pos, unsigned_abs, [], None, IfOk, IfSome, OnOk, All};
     ghost use Rattle.zk_turns.specs.View.{view_at};
     ghost use Rattle.zk_session.specs.declared.states.State.TheVariants.{Expired};
     ghost use Rattle.zk_client.specs.Clients.{renewed_start, view_of};
     ghost use Rattle.zk_dialler.specs.Backoffs.{row_ended};
     ghost use Rattle.zk_dialler.specs.Dialling.{is_open};
     ghost use Rattle.zk_follow.specs.Following.{due_again, IsFollowed};
-    ghost use Rattle.zk_agent.specs.Agents.{heard_after, told_by, trail_of, Begins, Comes, HangsUp, NothingAt};
+    ghost use Rattle.zk_conversation.specs.Views.{call_view};
+    ghost use Rattle.zk_line.specs.declared.entry.Ending.TheVariants as ending;
+    ghost use Rattle.zk_agent.specs.Agents.{asks_of, heard_after, how_many_asked, how_many_ended, trail_of, Asks, Comes, NothingAt};
+    ghost use Rattle.zk_agent.specs.Calls.{endings, how_many, IsInTime, IsServed};
+    ghost use Rattle.zk_agent.specs.Telling.{told_by, Begins};
 
     /// Of a client that has no connection: a new one, or one that takes up a saved session. The first step asks for a connection. An error
     /// means that memory ran out.
     pub fn new(alloc: A, client: Client<A>, settings: Settings) -> Result<Agent<A>, AllocError>
         requires { pos 0 <ℤ settings.timeout_ms }
-        ensures client { IfOk result (λ agent. view_of agent.follower.client ≡ view_of client) }
-        ensures subjects { IfOk result (λ agent. agent.follower.subjects.items ≡ []) }
+        ensures client { IfOk result (λ agent. view_of agent.asker.follower.client ≡ view_of client) }
+        ensures subjects { IfOk result (λ agent. agent.asker.follower.subjects.items ≡ []) }
+        ensures calls { IfOk result (λ agent. agent.asker.line.entries.items ≡ []) }
         ensures latest { IfOk result (λ agent. agent.latest ≡ 0) }
         ensures heard { IfOk result (λ agent. agent.heard_at ≡ None) }
     {
@@ -56,7 +62,7 @@ impl<A: Allocator + Copy> Agent<A> {
             alloc,
             timeout_ms: settings.timeout_ms,
             dialler: Dialler::new(alloc, settings.addresses, settings.seed)?,
-            follower: Follower::new(alloc, client),
+            asker: Asker::new(alloc, client),
             latest: 0,
             heard_at: None,
         })
@@ -64,23 +70,23 @@ impl<A: Allocator + Copy> Agent<A> {
 
     /// The timeout of the session, in milliseconds.
     pub(crate) fn timeout_ms(&self) -> u32
-        ensures { result ≡ (view_of self.now.follower.client).saved.session.timeout }
+        ensures { result ≡ (view_of self.now.asker.follower.client).saved.session.timeout }
     {
-        self.follower.client().timeout_ms()
+        self.asker.client().timeout_ms()
     }
 
     /// Where the client stands.
     pub(crate) fn state(&self) -> State
-        ensures { result ≡ (view_of self.now.follower.client).standing.state }
+        ensures { result ≡ (view_of self.now.asker.follower.client).standing.state }
     {
-        self.follower.client().state()
+        self.asker.client().state()
     }
 
     /// The client: what is kept of paths, the state, and what another session can be resumed from.
     pub fn client(&self) -> &Client<A>
-        ensures { view_of result.now ≡ view_of self.now.follower.client }
+        ensures { view_of result.now ≡ view_of self.now.asker.follower.client }
     {
-        self.follower.client()
+        self.asker.client()
     }
 
     /// The moment at which the server was heard last, on any connection, and none before it was. What is kept and good was so on the
@@ -98,18 +104,22 @@ impl<A: Allocator + Copy> Agent<A> {
         ensures due { IfSome result (λ first. ¬ (NothingAt self.now first)) }
         ensures never { result ≡ None → (moment : ℕ) → moment < 2 ^ 64 → NothingAt self.now moment }
     {
-        let due = self.follower.client().deadline();
+        let due = self.asker.client().deadline();
         let attempt = self.dialler.deadline();
-        let again = self.follower.deadline();
-        first_of_three(due, attempt, again)
+        let again = self.asker.follower.deadline();
+        let limit = self.asker.line.deadline();
+        first_of_four(due, attempt, again, limit)
     }
 
     /// Takes what has happened, noticed at this moment, and gives what is to be done and what there is to tell, in order.
     ///
     /// An error means that memory ran out. The agent is of no use then: begin with another one, from what was saved.
     pub fn step(&mut self, now: u64, input: Input<A>) -> Result<Vec<Action<A>, A>, Stop>
-        ensures comes { IfOk result (λ actions. Comes (trail_of self.old []) (trail_of self.new actions.items)) }
-        ensures followed { OnOk result (All (IsFollowed self.new.latest (view_of self.new.follower.client)) self.new.follower.subjects.items) }
+        ensures comes { IfOk result (λ actions. Comes (asks_of input) (trail_of self.old []) (trail_of self.new actions.items)) }
+        ensures followed { OnOk result (All (IsFollowed self.new.latest (view_of self.new.asker.follower.client)) self.new.asker.follower.subjects.items) }
+        ensures calls { IfOk result (λ actions. (ticket : ℕ) → how_many ticket self.new.asker.line.entries.items + how_many_ended ticket (told_by actions.items) ≡ how_many ticket self.old.asker.line.entries.items + how_many_asked ticket input) }
+        ensures served { OnOk result (All (IsServed (view_of self.new.asker.follower.client)) self.new.asker.line.entries.items) }
+        ensures limits { OnOk result (All (IsInTime self.new.latest) self.new.asker.line.entries.items) }
         ensures latest { OnOk result (self.new.latest ≡ max self.old.latest now) }
         ensures heard { OnOk result (self.new.heard_at ≡ heard_after (is_open self.old.dialler.phase) (max self.old.latest now) input self.old.heard_at) }
     {
@@ -118,6 +128,8 @@ impl<A: Allocator + Copy> Agent<A> {
         let mut actions = Vec::new(self.alloc);
         self.take(now, input, &mut actions)?;
         self.renew(&mut actions)?;
+        self.give_up(now, &mut actions)?;
+        self.send(now, &mut actions)?;
         self.dial(now, &mut actions)?;
         self.latest = now;
         self.heard_at = heard_at;
@@ -131,8 +143,8 @@ impl<A: Allocator + Copy> Agent<A> {
         input: Input<A>,
         actions: &mut Vec<Action<A>, A>,
     ) -> Result<(), Stop>
-        ensures comes { OnOk result (Comes (trail_of self.old actions.old.items) (trail_of self.new actions.new.items)) }
-        ensures followed { OnOk result (All (IsFollowed now (view_of self.new.follower.client)) self.new.follower.subjects.items) }
+        ensures comes { OnOk result (Comes (asks_of input) (trail_of self.old actions.old.items) (trail_of self.new actions.new.items)) }
+        ensures followed { OnOk result (All (IsFollowed now (view_of self.new.asker.follower.client)) self.new.asker.follower.subjects.items) }
     {
         match input {
             Input::Opened => self.open(now, actions),
@@ -140,6 +152,11 @@ impl<A: Allocator + Copy> Agent<A> {
             Input::Bytes(bytes) => self.bytes(now, bytes, actions),
             Input::Moment => self.hear(now, zk_client::Input::Now(now), actions),
             Input::Addresses(count) => self.set_addresses(now, count, actions),
+            Input::Call {
+                ticket,
+                call,
+                until,
+            } => self.ask(now, ticket, call, until, actions),
             Input::Follow { ticket, side, path } => self.follow(now, ticket, side, path, actions),
             Input::Unfollow { ticket } => self.unfollow(now, ticket, actions),
         }
@@ -147,8 +164,8 @@ impl<A: Allocator + Copy> Agent<A> {
 
     /// The connection that was asked for is there, or another one, which is hung up.
     fn open(&mut self, now: u64, actions: &mut Vec<Action<A>, A>) -> Result<(), Stop>
-        ensures comes { OnOk result (Comes (trail_of self.old actions.old.items) (trail_of self.new actions.new.items)) }
-        ensures followed { OnOk result (All (IsFollowed now (view_of self.new.follower.client)) self.new.follower.subjects.items) }
+        ensures comes { OnOk result (Comes [] (trail_of self.old actions.old.items) (trail_of self.new actions.new.items)) }
+        ensures followed { OnOk result (All (IsFollowed now (view_of self.new.asker.follower.client)) self.new.asker.follower.subjects.items) }
     {
         let timeout_ms = self.timeout_ms();
         if self.dialler.open(timeout_ms, now) {
@@ -160,8 +177,8 @@ impl<A: Allocator + Copy> Agent<A> {
 
     /// The attempt has failed, or the connection is over.
     fn end(&mut self, now: u64, actions: &mut Vec<Action<A>, A>) -> Result<(), Stop>
-        ensures comes { OnOk result (Comes (trail_of self.old actions.old.items) (trail_of self.new actions.new.items)) }
-        ensures followed { OnOk result (All (IsFollowed now (view_of self.new.follower.client)) self.new.follower.subjects.items) }
+        ensures comes { OnOk result (Comes [] (trail_of self.old actions.old.items) (trail_of self.new actions.new.items)) }
+        ensures followed { OnOk result (All (IsFollowed now (view_of self.new.asker.follower.client)) self.new.asker.follower.subjects.items) }
     {
         let timeout_ms = self.timeout_ms();
         self.dialler.end(timeout_ms, now);
@@ -175,8 +192,8 @@ impl<A: Allocator + Copy> Agent<A> {
         bytes: Vec<u8, A>,
         actions: &mut Vec<Action<A>, A>,
     ) -> Result<(), Stop>
-        ensures comes { OnOk result (Comes (trail_of self.old actions.old.items) (trail_of self.new actions.new.items)) }
-        ensures followed { OnOk result (All (IsFollowed now (view_of self.new.follower.client)) self.new.follower.subjects.items) }
+        ensures comes { OnOk result (Comes [] (trail_of self.old actions.old.items) (trail_of self.new actions.new.items)) }
+        ensures followed { OnOk result (All (IsFollowed now (view_of self.new.asker.follower.client)) self.new.asker.follower.subjects.items) }
     {
         if self.dialler.is_open() {
             return self.hear(now, zk_client::Input::Bytes(bytes), actions);
@@ -191,10 +208,26 @@ impl<A: Allocator + Copy> Agent<A> {
         count: usize,
         actions: &mut Vec<Action<A>, A>,
     ) -> Result<(), Stop>
-        ensures comes { OnOk result (Comes (trail_of self.old actions.old.items) (trail_of self.new actions.new.items)) }
-        ensures followed { OnOk result (All (IsFollowed now (view_of self.new.follower.client)) self.new.follower.subjects.items) }
+        ensures comes { OnOk result (Comes [] (trail_of self.old actions.old.items) (trail_of self.new actions.new.items)) }
+        ensures followed { OnOk result (All (IsFollowed now (view_of self.new.asker.follower.client)) self.new.asker.follower.subjects.items) }
     {
         self.dialler.set_addresses(self.alloc, count)?;
+        self.hear(now, zk_client::Input::Now(now), actions)
+    }
+
+    /// A call is asked.
+    fn ask(
+        &mut self,
+        now: u64,
+        ticket: u64,
+        call: Call<A>,
+        until: Option<u64>,
+        actions: &mut Vec<Action<A>, A>,
+    ) -> Result<(), Stop>
+        ensures comes { OnOk result (Comes (Asks ticket (call_view call) until ∷ []) (trail_of self.old actions.old.items) (trail_of self.new actions.new.items)) }
+        ensures followed { OnOk result (All (IsFollowed now (view_of self.new.asker.follower.client)) self.new.asker.follower.subjects.items) }
+    {
+        self.asker.ask(ticket, call, until)?;
         self.hear(now, zk_client::Input::Now(now), actions)
     }
 
@@ -207,10 +240,10 @@ impl<A: Allocator + Copy> Agent<A> {
         path: Path<A>,
         actions: &mut Vec<Action<A>, A>,
     ) -> Result<(), Stop>
-        ensures comes { OnOk result (Comes (trail_of self.old actions.old.items) (trail_of self.new actions.new.items)) }
-        ensures followed { OnOk result (All (IsFollowed now (view_of self.new.follower.client)) self.new.follower.subjects.items) }
+        ensures comes { OnOk result (Comes [] (trail_of self.old actions.old.items) (trail_of self.new actions.new.items)) }
+        ensures followed { OnOk result (All (IsFollowed now (view_of self.new.asker.follower.client)) self.new.asker.follower.subjects.items) }
     {
-        self.follower.follow(ticket, side, path)?;
+        self.asker.follow(ticket, side, path)?;
         self.hear(now, zk_client::Input::Now(now), actions)
     }
 
@@ -221,22 +254,23 @@ impl<A: Allocator + Copy> Agent<A> {
         ticket: u64,
         actions: &mut Vec<Action<A>, A>,
     ) -> Result<(), Stop>
-        ensures comes { OnOk result (Comes (trail_of self.old actions.old.items) (trail_of self.new actions.new.items)) }
-        ensures followed { OnOk result (All (IsFollowed now (view_of self.new.follower.client)) self.new.follower.subjects.items) }
+        ensures comes { OnOk result (Comes [] (trail_of self.old actions.old.items) (trail_of self.new actions.new.items)) }
+        ensures followed { OnOk result (All (IsFollowed now (view_of self.new.asker.follower.client)) self.new.asker.follower.subjects.items) }
     {
-        self.follower.unfollow(ticket);
+        self.asker.unfollow(ticket);
         self.hear(now, zk_client::Input::Now(now), actions)
     }
 
     /// Another session begins.
     fn begin(&mut self, actions: &mut Vec<Action<A>, A>) -> Result<(), Stop>
-        ensures view { OnOk result (view_of self.new.follower.client ≡ view_at (renewed_start self.old.timeout_ms (view_of self.old.follower.client)) []) }
-        ensures subjects { OnOk result (self.new.follower.subjects.items ≡ map due_again self.old.follower.subjects.items) }
+        ensures view { OnOk result (view_of self.new.asker.follower.client ≡ view_at (renewed_start self.old.timeout_ms (view_of self.old.asker.follower.client)) []) }
+        ensures subjects { OnOk result (self.new.asker.follower.subjects.items ≡ map due_again self.old.asker.follower.subjects.items) }
         ensures dialler { OnOk result (self.new.dialler ≡ record self.old.dialler { backoff = row_ended self.old.dialler.backoff }) }
-        ensures told { OnOk result (told_by actions.new.items ≡ told_by actions.old.items ++ Begins ∷ []) }
-        ensures followed { OnOk result ((now : ℕ) → All (IsFollowed now (view_of self.new.follower.client)) self.new.follower.subjects.items) }
+        ensures line { OnOk result (self.new.asker.line.entries.items ≡ []) }
+        ensures told { OnOk result (told_by actions.new.items ≡ (told_by actions.old.items ++ endings ending.Expired self.old.asker.line.entries.items) ++ Begins ∷ []) }
+        ensures followed { OnOk result ((now : ℕ) → All (IsFollowed now (view_of self.new.asker.follower.client)) self.new.asker.follower.subjects.items) }
     {
-        self.follower.renew(self.timeout_ms)?;
+        self.asker.renew(self.timeout_ms, actions)?;
         self.dialler.answered();
         match push(actions, Action::Renewed) {
             Ok(()) => Ok(()),
@@ -246,15 +280,15 @@ impl<A: Allocator + Copy> Agent<A> {
 
     /// Whether the session has expired.
     fn is_expired(&self) -> bool
-        ensures { result ≡ true → (view_of self.now.follower.client).standing.state ≡ Expired }
+        ensures { result ≡ true → (view_of self.now.asker.follower.client).standing.state ≡ Expired }
     {
         matches!(self.state(), State::Expired)
     }
 
     /// After an expiry another session begins.
     fn renew(&mut self, actions: &mut Vec<Action<A>, A>) -> Result<(), Stop>
-        ensures comes { OnOk result (Comes (trail_of self.old actions.old.items) (trail_of self.new actions.new.items)) }
-        ensures followed { (now : ℕ) → All (IsFollowed now (view_of self.old.follower.client)) self.old.follower.subjects.items → OnOk result (All (IsFollowed now (view_of self.new.follower.client)) self.new.follower.subjects.items) }
+        ensures comes { OnOk result (Comes [] (trail_of self.old actions.old.items) (trail_of self.new actions.new.items)) }
+        ensures followed { (now : ℕ) → All (IsFollowed now (view_of self.old.asker.follower.client)) self.old.asker.follower.subjects.items → OnOk result (All (IsFollowed now (view_of self.new.asker.follower.client)) self.new.asker.follower.subjects.items) }
     {
         if self.is_expired() {
             return self.begin(actions);
@@ -262,10 +296,19 @@ impl<A: Allocator + Copy> Agent<A> {
         Ok(())
     }
 
+    /// The calls wait no more whose limit has come.
+    fn give_up(&mut self, now: u64, actions: &mut Vec<Action<A>, A>) -> Result<(), AllocError>
+        ensures comes { OnOk result (Comes [] (trail_of self.old actions.old.items) (trail_of self.new actions.new.items)) }
+        ensures limits { OnOk result (All (IsInTime now) self.new.asker.line.entries.items) }
+        ensures follower { self.new.asker.follower ≡ self.old.asker.follower }
+    {
+        self.asker.give_up(now, actions)
+    }
+
     /// Asks for a connection, or gives an attempt up, where its moment has come.
     fn dial(&mut self, now: u64, actions: &mut Vec<Action<A>, A>) -> Result<(), AllocError>
-        ensures comes { OnOk result (Comes (trail_of self.old actions.old.items) (trail_of self.new actions.new.items)) }
-        ensures follower { self.new.follower ≡ self.old.follower }
+        ensures comes { OnOk result (Comes [] (trail_of self.old actions.old.items) (trail_of self.new actions.new.items)) }
+        ensures asker { self.new.asker ≡ self.old.asker }
     {
         let timeout_ms = self.timeout_ms();
         let due = self.dialler.due(timeout_ms, now);

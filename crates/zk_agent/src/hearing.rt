@@ -1,27 +1,29 @@
 //! What an agent makes of what its client says.
 
-use crate::action::{Action, push, push_news, push_outputs};
+use crate::action::{Action, push};
 use crate::agent::Agent;
 use crate::moments::is_connected;
-use crate::replies::{ends_row, has_end, has_lost};
+use crate::replies::Heard;
 use std::alloc::{AllocError, Allocator};
-use zk_client::{Input, Output};
+use zk_client::Input;
 use zk_follow::Stop;
 
 impl<A: Allocator + Copy> Agent<A> {
-    ghost use Rattle.std.specs.Prelude.{◌≡◌, ◌++◌, ◌∷◌, ◌&&◌, [], map, IfOk, OnOk, All};
-    ghost use Rattle.std.specs.List.{filter_map, flat_map};
+    ghost use Rattle.std.specs.Prelude.{◌≡◌, ◌++◌, ◌∷◌, ◌&&◌, ◌<◌, true, false, [], IfOk, OnOk, All};
+    ghost use Rattle.zk_session.specs.declared.states.State.TheVariants.{Connected};
     ghost use Rattle.zk_client.specs.Clients.{view_of};
-    ghost use Rattle.zk_client.specs.Views.{input_view, said};
+    ghost use Rattle.zk_client.specs.Views.{input_view};
     ghost use Rattle.zk_dialler.specs.Dialling.{is_open, Ends};
-    ghost use Rattle.zk_follow.specs.Following.{news_in, told_of, IsFollowed};
-    ghost use Rattle.zk_agent.specs.Agents.{news_told, noted, output_told, row_after, told_by, trail_of, Comes, HangsUp, HearsSo, LetsGo, MayHear};
+    ghost use Rattle.zk_follow.specs.Following.{IsFollowed};
+    ghost use Rattle.zk_agent.specs.Agents.{noted, row_after, trail_of, Comes, HearsSo, LetsGo, MayTake};
+    ghost use Rattle.zk_agent.specs.Calls.{how_many_wait, IsDone, IsInTime};
+    ghost use Rattle.zk_agent.specs.Telling.{told_by, HangsUp};
 
     /// Lets the connection go.
     fn hang_up(&mut self, now: u64, actions: &mut Vec<Action<A>, A>) -> Result<(), AllocError>
-        ensures ends { OnOk result (Ends (view_of self.old.follower.client).saved.session.timeout now self.old.dialler self.new.dialler) }
+        ensures ends { OnOk result (Ends (view_of self.old.asker.follower.client).saved.session.timeout now self.old.dialler self.new.dialler) }
         ensures told { OnOk result (told_by actions.new.items ≡ told_by actions.old.items ++ HangsUp ∷ []) }
-        ensures follower { self.new.follower ≡ self.old.follower }
+        ensures asker { self.new.asker ≡ self.old.asker }
     {
         let timeout_ms = self.timeout_ms();
         self.dialler.end(timeout_ms, now);
@@ -42,8 +44,8 @@ impl<A: Allocator + Copy> Agent<A> {
         now: u64,
         actions: &mut Vec<Action<A>, A>,
     ) -> Result<(), AllocError>
-        ensures goes { OnOk result (LetsGo is_over (view_of self.old.follower.client).saved.session.timeout now self.old.dialler self.new.dialler (told_by actions.old.items) (told_by actions.new.items)) }
-        ensures follower { self.new.follower ≡ self.old.follower }
+        ensures goes { OnOk result (LetsGo is_over (view_of self.old.asker.follower.client).saved.session.timeout now self.old.dialler self.new.dialler (told_by actions.old.items) (told_by actions.new.items)) }
+        ensures asker { self.new.asker ≡ self.old.asker }
     {
         if self.is_left(is_over) {
             return self.hang_up(now, actions);
@@ -52,19 +54,19 @@ impl<A: Allocator + Copy> Agent<A> {
     }
 
     /// A reply ends a row of failures.
-    fn note_replies(&mut self, outputs: &[Output<A>])
-        ensures dialler { self.new.dialler ≡ row_after (said outputs.now) self.old.dialler }
-        ensures follower { self.new.follower ≡ self.old.follower }
+    fn note_replies(&mut self, ends_row: bool)
+        ensures dialler { self.new.dialler ≡ row_after ends_row self.old.dialler }
+        ensures asker { self.new.asker ≡ self.old.asker }
     {
-        if ends_row(outputs) {
+        if ends_row {
             self.dialler.answered();
         }
     }
 
     /// So does a connection that has lived for a third of the timeout.
     fn note_state(&mut self, now: u64)
-        ensures dialler { self.new.dialler ≡ noted (view_of self.old.follower.client).saved.session.timeout now (view_of self.old.follower.client).standing.state self.old.dialler }
-        ensures follower { self.new.follower ≡ self.old.follower }
+        ensures dialler { self.new.dialler ≡ noted (view_of self.old.asker.follower.client).saved.session.timeout now (view_of self.old.asker.follower.client).standing.state self.old.dialler }
+        ensures asker { self.new.asker ≡ self.old.asker }
     {
         let timeout_ms = self.timeout_ms();
         if is_connected(self.state()) {
@@ -72,32 +74,21 @@ impl<A: Allocator + Copy> Agent<A> {
         }
     }
 
-    /// Notes what ends a row of failures.
-    fn note(&mut self, now: u64, outputs: &[Output<A>])
-        ensures dialler { self.new.dialler ≡ noted (view_of self.old.follower.client).saved.session.timeout now (view_of self.old.follower.client).standing.state (row_after (said outputs.now) self.old.dialler) }
-        ensures follower { self.new.follower ≡ self.old.follower }
-    {
-        self.note_replies(outputs);
-        self.note_state(now);
-    }
-
-    /// Tells what the client has said, and then what there is to tell of the subjects.
-    fn tell(
+    /// Does what the client's outputs ask for: notes what ends a row of failures, and lets a connection go that is over.
+    pub(crate) fn heed(
         &mut self,
-        outputs: Vec<Output<A>, A>,
+        now: u64,
+        heard: Heard,
         actions: &mut Vec<Action<A>, A>,
     ) -> Result<(), AllocError>
-        ensures told { OnOk result (told_by actions.new.items ≡ (told_by actions.old.items ++ filter_map output_told (said outputs.items)) ++ map news_told (flat_map (news_in (view_of self.old.follower.client) (said outputs.items)) self.old.follower.subjects.items)) }
-        ensures subjects { OnOk result (self.new.follower.subjects.items ≡ map (told_of (view_of self.old.follower.client)) self.old.follower.subjects.items) }
-        ensures client { self.new.follower.client ≡ self.old.follower.client }
-        ensures dialler { self.new.dialler ≡ self.old.dialler }
+        ensures goes { OnOk result (LetsGo heard.is_over (view_of self.old.asker.follower.client).saved.session.timeout now
+            (noted (view_of self.old.asker.follower.client).saved.session.timeout now (view_of self.old.asker.follower.client).standing.state (row_after heard.ends_row self.old.dialler)) self.new.dialler
+            (told_by actions.old.items) (told_by actions.new.items)) }
+        ensures asker { self.new.asker ≡ self.old.asker }
     {
-        let mut news = Vec::new(self.alloc);
-        let heard = outputs.as_slice();
-        self.follower.tell(heard, &mut news)?;
-        push_outputs(outputs, actions)?;
-        let told = news.as_slice();
-        push_news(told, actions)
+        self.note_replies(heard.ends_row);
+        self.note_state(now);
+        self.let_go(heard.is_over, now, actions)
     }
 
     /// Hands the client an input, and does what it says. Whether a server says that the session is not its own: the connection is hung up
@@ -108,24 +99,19 @@ impl<A: Allocator + Copy> Agent<A> {
         input: Input<A>,
         actions: &mut Vec<Action<A>, A>,
     ) -> Result<bool, Stop>
-        requires { MayHear (input_view input) (is_open self.old.dialler.phase) }
+        requires { MayTake (input_view input) (is_open self.old.dialler.phase) }
         ensures hears { OnOk result (HearsSo now (input_view input) (trail_of self.old actions.old.items) (trail_of self.new actions.new.items)) }
-        ensures followed { OnOk result (All (IsFollowed now (view_of self.new.follower.client)) self.new.follower.subjects.items) }
+        ensures followed { OnOk result (All (IsFollowed now (view_of self.new.asker.follower.client)) self.new.asker.follower.subjects.items) }
     {
-        let outputs = self.follower.step(now, input)?;
-        let heard = outputs.as_slice();
-        self.note(now, heard);
-        let is_over = has_end(heard);
-        let is_lost = has_lost(heard);
-        self.tell(outputs, actions)?;
-        self.let_go(is_over, now, actions)?;
-        Ok(is_lost)
+        let heard = self.asker.step(now, input, actions)?;
+        self.heed(now, heard, actions)?;
+        Ok(heard.is_lost)
     }
 
     /// The connection was hung up since the session is not the server's own: the client is told that it is over.
     fn hear_cut(&mut self, now: u64, actions: &mut Vec<Action<A>, A>) -> Result<(), Stop>
-        ensures comes { OnOk result (Comes (trail_of self.old actions.old.items) (trail_of self.new actions.new.items)) }
-        ensures followed { OnOk result (All (IsFollowed now (view_of self.new.follower.client)) self.new.follower.subjects.items) }
+        ensures comes { OnOk result (Comes [] (trail_of self.old actions.old.items) (trail_of self.new actions.new.items)) }
+        ensures followed { OnOk result (All (IsFollowed now (view_of self.new.asker.follower.client)) self.new.asker.follower.subjects.items) }
     {
         let _is_lost = self.hear_once(now, Input::Cut, actions)?;
         Ok(())
@@ -138,9 +124,9 @@ impl<A: Allocator + Copy> Agent<A> {
         input: Input<A>,
         actions: &mut Vec<Action<A>, A>,
     ) -> Result<(), Stop>
-        requires { MayHear (input_view input) (is_open self.old.dialler.phase) }
-        ensures comes { OnOk result (Comes (trail_of self.old actions.old.items) (trail_of self.new actions.new.items)) }
-        ensures followed { OnOk result (All (IsFollowed now (view_of self.new.follower.client)) self.new.follower.subjects.items) }
+        requires { MayTake (input_view input) (is_open self.old.dialler.phase) }
+        ensures comes { OnOk result (Comes [] (trail_of self.old actions.old.items) (trail_of self.new actions.new.items)) }
+        ensures followed { OnOk result (All (IsFollowed now (view_of self.new.asker.follower.client)) self.new.asker.follower.subjects.items) }
     {
         let is_lost = self.hear_once(now, input, actions)?;
         if is_lost {

@@ -4,7 +4,7 @@ ghost use Rattle.std.specs.Prelude.{◌≡◌};
 ghost use Rattle.zk_agent.specs.Agents.{heard_after};
 
 use std::alloc::{Allocator, Global};
-use zk_client::{Path, Side};
+use zk_client::{Call, Path, Side};
 
 /// What happens to a session.
 #[derive(Drop)]
@@ -22,7 +22,15 @@ pub enum Input<A: Allocator + Copy = Global> {
     Moment,
     /// The list of addresses is another one, of this many: they are dialled in a new order. A connection that is there stays.
     Addresses(usize),
-    /// This subject is followed: the data of the node, or the names of its children. No other subject has or had the ticket.
+    /// A call is asked. It is handed to the client as soon as a server has accepted the connection and fewer than 1,024 calls are on their way,
+    /// after those that were asked before; and it waits to this moment at most, where there is one. No other call or subject has or had the
+    /// ticket.
+    Call {
+        ticket: u64,
+        call: Call<A>,
+        until: Option<u64>,
+    },
+    /// This subject is followed: the data of the node, or the names of its children. No other call or subject has or had the ticket.
     Follow {
         ticket: u64,
         side: Side,

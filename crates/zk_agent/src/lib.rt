@@ -1,4 +1,5 @@
-//! A session without a socket and without a clock: which server is dialled, what is read again, and when another session begins.
+//! A session without a socket and without a clock: which server is dialled, what is read again, which calls wait, and when another session
+//! begins.
 //!
 //! An [`Agent`] is told what happens, with the moment at which it was noticed, and says what is to be done, in order: dial this address,
 //! hang up, send these bytes. It names the place of an address in its program's list and never sees one. The program has the sockets and
@@ -6,15 +7,22 @@
 //!
 //! Subjects that the program follows are kept good, as in `zk_follow`. After an expiry another session begins by itself, with the last
 //! seen zxid, so that no server which is behind it admits it.
+//!
+//! Calls of the program wait in one line, in the order of asking, until the client can take them; each is answered once, or times out. A read
+//! whose reply is lost with its connection is asked again, in its place; a write is not.
 #![tactic(auto)]
 
 mod action;
+mod advancing;
 mod agent;
+mod asker;
+mod calls;
 mod hearing;
 mod input;
 mod moments;
 mod renewal;
 mod replies;
+mod sending;
 
 pub use action::Action;
 pub use agent::{Agent, Settings};

@@ -17,15 +17,16 @@ fn first_of(moment: Option<u64>, other: Option<u64>) -> Option<u64>
     }
 }
 
-/// The first of three moments.
-pub(crate) fn first_of_three(
+/// The first of four moments.
+pub(crate) fn first_of_four(
     due: Option<u64>,
     attempt: Option<u64>,
     again: Option<u64>,
+    limit: Option<u64>,
 ) -> Option<u64>
-    ensures { result ≡ first_of (first_of due attempt) again }
+    ensures { result ≡ first_of (first_of (first_of due attempt) again) limit }
 {
-    first_of(first_of(due, attempt), again)
+    first_of(first_of(first_of(due, attempt), again), limit)
 }
 
 /// Whether a server has accepted the connection.

@@ -4,10 +4,23 @@ ghost use Rattle.std.specs.Prelude.{◌≡◌};
 ghost use Rattle.std.specs.List.{list_any};
 ghost use Rattle.zk_records.specs.Codes.{code_number};
 ghost use Rattle.zk_client.specs.Views.{output_view, said};
-ghost use Rattle.zk_agent.specs.Replies.{ends_row, is_lost, is_over, is_reply, loses_session};
+ghost use Rattle.zk_agent.specs.Replies.{ends_row, heard_in, is_back, is_lost, is_over, is_reply, loses_session};
 
 use std::alloc::Allocator;
 use zk_client::{CallResult, Code, Outcome, Output};
+
+/// What outputs say of a connection and of calls.
+#[derive(Clone, Copy)]
+pub(crate) struct Heard {
+    /// A row of failures ends with them.
+    pub(crate) ends_row: bool,
+    /// The connection is over with them.
+    pub(crate) is_over: bool,
+    /// The session is not the server's own.
+    pub(crate) is_lost: bool,
+    /// There is an answer with which a call may wait for its turn again.
+    pub(crate) goes_back: bool,
+}
 
 /// Whether an output is the reply to a call.
 fn is_reply<A: Allocator>(output: &Output<A>) -> bool
@@ -52,6 +65,19 @@ fn is_over<A: Allocator>(output: &Output<A>) -> bool
     output.ends_connection() || is_lost(output)
 }
 
+/// Whether an output is an answer with which a call may wait for its turn again.
+fn is_back<A: Allocator>(output: &Output<A>) -> bool
+    ensures { result ≡ is_back (output_view output.now) }
+{
+    match output {
+        Output::Answer { outcome, .. } => matches!(
+            outcome,
+            Outcome::ConnectionLoss | Outcome::NotConnected | Outcome::TooManyPending
+        ),
+        _ => false,
+    }
+}
+
 /// Whether one of these is the reply to a call.
 fn is_any_reply<A: Allocator>(outputs: &[Output<A>]) -> bool
     ensures { result ≡ list_any (λ output. is_reply (output_view output)) outputs.now }
@@ -73,6 +99,13 @@ fn is_any_over<A: Allocator>(outputs: &[Output<A>]) -> bool
     outputs.iter().any(|output| is_over(output))
 }
 
+/// Whether one of these is an answer with which a call may wait for its turn again.
+fn is_any_back<A: Allocator>(outputs: &[Output<A>]) -> bool
+    ensures { result ≡ list_any (λ output. is_back (output_view output)) outputs.now }
+{
+    outputs.iter().any(|output| is_back(output))
+}
+
 /// Whether the client says that a call had its reply.
 fn has_reply<A: Allocator>(outputs: &[Output<A>]) -> bool
     ensures { result ≡ list_any is_reply (said outputs.now) }
@@ -81,22 +114,41 @@ fn has_reply<A: Allocator>(outputs: &[Output<A>]) -> bool
 }
 
 /// Whether the client says that the session is not the server's own.
-pub(crate) fn has_lost<A: Allocator>(outputs: &[Output<A>]) -> bool
+fn has_lost<A: Allocator>(outputs: &[Output<A>]) -> bool
     ensures { result ≡ list_any is_lost (said outputs.now) }
 {
     is_any_lost(outputs)
 }
 
 /// Whether the connection is over, by what the client says.
-pub(crate) fn has_end<A: Allocator>(outputs: &[Output<A>]) -> bool
+fn has_end<A: Allocator>(outputs: &[Output<A>]) -> bool
     ensures { result ≡ list_any is_over (said outputs.now) }
 {
     is_any_over(outputs)
 }
 
 /// Whether a row of failures ends with what the client says.
-pub(crate) fn ends_row<A: Allocator>(outputs: &[Output<A>]) -> bool
+fn ends_row<A: Allocator>(outputs: &[Output<A>]) -> bool
     ensures { result ≡ ends_row (said outputs.now) }
 {
     has_reply(outputs) && !has_lost(outputs)
+}
+
+/// Whether a call may wait for its turn again, by what the client says.
+fn has_back<A: Allocator>(outputs: &[Output<A>]) -> bool
+    ensures { result ≡ list_any is_back (said outputs.now) }
+{
+    is_any_back(outputs)
+}
+
+/// What the client says of its connection and of calls.
+pub(crate) fn heard_in<A: Allocator>(outputs: &[Output<A>]) -> Heard
+    ensures { result ≡ heard_in (said outputs.now) }
+{
+    Heard {
+        ends_row: ends_row(outputs),
+        is_over: has_end(outputs),
+        is_lost: has_lost(outputs),
+        goes_back: has_back(outputs),
+    }
 }

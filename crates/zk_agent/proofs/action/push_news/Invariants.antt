@@ -1,5 +1,5 @@
 use Rattle.std.proofs.Common.{◌≡◌, ◌++◌, map, take}
-use Rattle.zk_agent.specs.Agents.{news_told, told_by}
+use Rattle.zk_agent.specs.Telling.{news_told, told_by}
 use Rattle.zk_agent.proofs.action.push_news.Given as goal
 
 -- those so far were told

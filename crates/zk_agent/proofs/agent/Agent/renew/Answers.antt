@@ -5,7 +5,7 @@ use Rattle.zk_agent.proofs.agent.Agent.renew.Goals as goal
 pub returns-then-is_expired-clause-comes : goal.returns-then-is_expired-clause-comes
 returns-then-is_expired-clause-comes g c =
     renewed c.begin.result (trail_of c.args.self.now c.args.actions.now.items) (trail_of c.begin.new.self c.begin.new.actions.items) c.args.self.now.timeout_ms
-    (c.is_expired.ensures c.if-is_expired.true) c.begin.ensures.view c.begin.ensures.subjects c.begin.ensures.dialler c.begin.ensures.told
+    (c.is_expired.ensures c.if-is_expired.true) c.begin.ensures.view c.begin.ensures.subjects c.begin.ensures.dialler c.begin.ensures.line c.begin.ensures.told
 
 pub returns-then-is_expired-clause-followed : goal.returns-then-is_expired-clause-followed
 returns-then-is_expired-clause-followed g c = λ now all. followed_ok _ c.begin.result now c.begin.ensures.followed

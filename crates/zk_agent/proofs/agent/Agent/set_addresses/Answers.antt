@@ -7,7 +7,7 @@ pub returns-clause-comes : goal.returns-clause-comes
 returns-clause-comes g c =
     let old = trail_of c.args.self.now c.args.actions.now.items in
     let between = record old { dialler = c.set_addresses.new.self } in
-    ok_after c.hear.result old between (trail_of c.hear.new.self c.hear.new.actions.items) (one (Addressed c.args.count) old between (
+    ok_after c.hear.result old between (trail_of c.hear.new.self c.hear.new.actions.items) (one (Addressed c.args.count) old between refl (
       record {
         order = c.in_ok-set_addresses.ensures.order;
         each = c.in_ok-set_addresses.ensures.each;

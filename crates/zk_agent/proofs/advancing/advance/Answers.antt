@@ -1,0 +1,9 @@
+use Rattle.std.proofs.Common.{ap}
+use Rattle.zk_client.specs.Clients.{view_of}
+use Rattle.zk_agent.proofs.Moves.{followed_told}
+use Rattle.zk_agent.proofs.advancing.advance.Goals as goal
+
+pub returns-clause-followed : goal.returns-clause-followed
+returns-clause-followed g c =
+    followed_told c.args.now (view_of c.step.new.self.client) (view_of c.tell.new.follower.client) c.step.new.self.subjects.items c.tell.new.follower.subjects.items
+    (ap view_of c.tell.ensures.client) c.in_ok-tell.ensures.subjects c.in_ok-outputs.ensures.followed

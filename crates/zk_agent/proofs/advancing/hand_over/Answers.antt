@@ -1,0 +1,9 @@
+use Rattle.std.proofs.Common.{refl, sym, ap, ◌∙◌}
+use Rattle.std.specs.Option.{option_map}
+use Rattle.zk_agent.proofs.Lines.{none_handed}
+use Rattle.zk_agent.proofs.advancing.hand_over.Goals as goal
+
+pub returns-in_default-clause-hands : goal.returns-in_default-clause-hands
+returns-in_default-clause-hands g c =
+    let none = sym c.in_ok-ticket.ensures.next ∙ ap (option_map _) c.in_default.is in
+    (none, refl, refl, c.in_ok-ticket.ensures.entries ∙ none_handed c.args.line.now.entries.items none, refl)

@@ -1,0 +1,24 @@
+use Rattle.std.proofs.Common.{◌++◌, ◌∷◌, [], false, refl, ap}
+use Rattle.zk_conversation.specs.Views.{call_view}
+use Rattle.zk_client.specs.Clients.{view_of}
+use Rattle.zk_follow.specs.declared.follower.Follower.{Follower}
+use Rattle.zk_line.specs.declared.entry.Entry.{Entry}
+use Rattle.zk_agent.specs.Agents.{trail_of, Asks}
+use Rattle.zk_agent.proofs.Moves.{asks, ok_then, trail_eq}
+use Rattle.zk_agent.proofs.agent.Agent.ask.Goals as goal
+
+pub returns-clause-comes : goal.returns-clause-comes
+returns-clause-comes g c =
+    let old = trail_of c.args.self.now c.args.actions.now.items in
+    let entry : Entry g.row.A.Denot = record { ticket = c.args.ticket; call = c.args.call; until = c.args.until; is_sent = false } in
+    let between = record old { view = view_of c.ask.new.self.follower.client; subjects = c.ask.new.self.follower.subjects.items; line = c.ask.new.self.line.entries.items } in
+    ok_then c.hear.result (Asks c.args.ticket (call_view c.args.call) c.args.until ∷ []) old between (trail_of c.hear.new.self c.hear.new.actions.items)
+    (asks c.args.ticket (call_view c.args.call) c.args.until old between (record {
+      entry = entry;
+      its_ticket = refl;
+      its_call = refl;
+      its_limit = refl;
+      waits = refl;
+      last = trail_eq (record old { line = old.line ++ entry ∷ [] }) between (ap (λ (f : Follower g.row.A.Denot). view_of f.client) c.ask.ensures.follower)
+          (ap (λ (f : Follower g.row.A.Denot). f.subjects.items) c.ask.ensures.follower) c.in_ok-ask.ensures.line refl refl;
+    })) c.hear.ensures.comes

@@ -1,0 +1,34 @@
+use Rattle.std.proofs.Common.{[]}
+use Rattle.zk_agent.specs.Agents.{trail_of}
+use Rattle.zk_agent.specs.Calls.{how_many_wait}
+use Rattle.zk_agent.proofs.Handing.{fewer_left}
+use Rattle.zk_agent.proofs.Moves.{nothing, then_none}
+use Rattle.zk_agent.proofs.agent.Agent.send.Goals as goal
+
+pub loop-goes_on-init : goal.loop-goes_on-init
+loop-goes_on-init g c = record {
+  comes = nothing (trail_of c.args.self.now c.args.actions.now.items);
+  followed = λ all. all;
+  limits = λ all. all;
+  done = λ e. absurd cc;
+}
+
+pub loop-goes_on-preserved : goal.loop-goes_on-preserved
+loop-goes_on-preserved g c = record {
+  comes = then_none [] (trail_of c.args.self.now c.args.actions.now.items) (trail_of c.loop-goes_on.self c.loop-goes_on.actions.items) (trail_of c.try_one.new.self c.try_one.new.actions.items)
+      c.loop-goes_on.invariant.comes c.in_ok-goes_on.ensures.sends.comes;
+  followed = λ all. c.in_ok-goes_on.ensures.followed (c.loop-goes_on.invariant.followed all);
+  limits = λ all. c.in_ok-goes_on.ensures.sends.limits (c.loop-goes_on.invariant.limits all);
+  done = c.in_ok-goes_on.ensures.sends.none;
+}
+
+pub loop-goes_on-smaller : goal.loop-goes_on-smaller
+loop-goes_on-smaller g c =
+    fewer_left c.loop-goes_on.goes_on c.in_ok-goes_on.goes_on (how_many_wait c.loop-goes_on.self.asker.line.entries.items) (how_many_wait c.try_one.new.self.asker.line.entries.items)
+    c.loop-goes_on-test.true c.in_ok-goes_on.ensures.sends.more
+
+pub returns-clause-comes : goal.returns-clause-comes
+returns-clause-comes g c = c.loop-goes_on.invariant.comes
+
+pub returns-clause-done : goal.returns-clause-done
+returns-clause-done g c = c.loop-goes_on.invariant.done c.loop-goes_on-test.false

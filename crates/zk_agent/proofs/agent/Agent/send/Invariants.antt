@@ -1,0 +1,21 @@
+use Rattle.std.proofs.Common.{◌≡◌, ◌+◌, false, cond, []}
+use Rattle.std.specs.Prelude.{All}
+use Rattle.zk_client.specs.Clients.{view_of}
+use Rattle.zk_follow.specs.Following.{IsFollowed}
+use Rattle.zk_agent.specs.Agents.{trail_of, Comes}
+use Rattle.zk_agent.specs.Calls.{how_many_wait, IsDone, IsInTime}
+use Rattle.zk_agent.proofs.agent.Agent.send.Given as goal
+
+-- so far calls were handed over, and where no further one is to be, none can be or none waits
+abbrev pub invariant-loop-goes_on : goal.invariant-loop-goes_on
+invariant-loop-goes_on g l = record {
+  comes : Comes [] (trail_of l.fn.self l.fn.actions.items) (trail_of l.self l.actions.items);
+  followed : All (IsFollowed l.now (view_of l.fn.self.asker.follower.client)) l.fn.self.asker.follower.subjects.items
+      → All (IsFollowed l.now (view_of l.self.asker.follower.client)) l.self.asker.follower.subjects.items;
+  limits : All (IsInTime l.now) l.fn.self.asker.line.entries.items → All (IsInTime l.now) l.self.asker.line.entries.items;
+  done : l.goes_on ≡ false → IsDone (view_of l.self.asker.follower.client) l.self.asker.line.entries.items;
+}
+
+-- each that is handed over waits for its turn no more
+abbrev pub decreases-loop-goes_on : goal.decreases-loop-goes_on
+decreases-loop-goes_on g l = cond l.goes_on (how_many_wait l.self.asker.line.entries.items + 1) 0

@@ -1,0 +1,21 @@
+use Rattle.std.proofs.Common.{refl, ap}
+use Rattle.zk_client.specs.Clients.{view_of}
+use Rattle.zk_agent.specs.declared.asker.Asker.{Asker}
+use Rattle.zk_agent.specs.Agents.{trail_of}
+use Rattle.zk_agent.proofs.Handing.{hands_as, sends_none, sends_one}
+use Rattle.zk_agent.proofs.agent.Agent.send_one.Goals as goal
+
+pub returns-in_default-clause-sends : goal.returns-in_default-clause-sends
+returns-in_default-clause-sends g c =
+    let old = trail_of c.args.self.now c.args.actions.now.items in
+    let new = trail_of (record c.args.self.now { asker = c.hand_over.new.self }) c.hand_over.new.actions.items in
+    sends_none c.args.now old new (hands_as c.args.now old new c.in_ok-heard.field-0 _ c.in_default.is c.in_ok-heard.ensures.hands) refl
+
+pub returns-clause-sends : goal.returns-clause-sends
+returns-clause-sends g c =
+    let old = trail_of c.args.self.now c.args.actions.now.items in
+    let between = trail_of (record c.args.self.now { asker = c.hand_over.new.self }) c.hand_over.new.actions.items in
+    sends_one c.args.now old between (trail_of c.heed.new.self c.heed.new.actions.items) c.in-Some.heard c.requires
+    (hands_as c.args.now old between c.in_ok-heard.field-0 _ c.in-Some.is c.in_ok-heard.ensures.hands)
+    (ap (λ (a : Asker g.row.A.Denot). view_of a.follower.client) c.heed.ensures.asker) (ap (λ (a : Asker g.row.A.Denot). a.follower.subjects.items) c.heed.ensures.asker)
+    (ap (λ (a : Asker g.row.A.Denot). a.line.entries.items) c.heed.ensures.asker) c.in_ok-heed.ensures.goes

@@ -1,0 +1,95 @@
+//! What a client with subjects and calls is handed.
+
+ghost use Rattle.std.specs.Prelude.{◌≡◌, ◌++◌, ◌<ℤ◌, ℕ, pos, map, [], IfOk, OnOk, OnSome, All};
+ghost use Rattle.std.specs.List.{flat_map};
+ghost use Rattle.zk_turns.specs.View.{view_at};
+ghost use Rattle.zk_client.specs.Clients.{renewed_start, view_of};
+ghost use Rattle.zk_client.specs.Views.{input_view, said};
+ghost use Rattle.zk_follow.specs.Following.{due_again, news_in, told_of, IsFollowed};
+ghost use Rattle.zk_line.specs.Lines.{left};
+ghost use Rattle.zk_agent.specs.Agents.{HandsOver, TakesSo};
+ghost use Rattle.zk_agent.specs.Calls.{endings, hears_all, tells_all};
+ghost use Rattle.zk_agent.specs.Telling.{news_told, told_by};
+
+use crate::action::{Action, push_news};
+use crate::calls::{end_calls, push_outputs};
+use crate::replies::{Heard, heard_in};
+use std::alloc::{AllocError, Allocator};
+use zk_client::{Input, Output};
+use zk_follow::{Follower, Stop};
+use zk_line::{Ending, Line};
+
+/// Tells what the client has said, and then what there is to tell of the subjects. The line hears the answers.
+fn tell<A: Allocator + Copy>(
+    alloc: A,
+    follower: &mut Follower<A>,
+    line: &mut Line<A>,
+    outputs: Vec<Output<A>, A>,
+    actions: &mut Vec<Action<A>, A>,
+) -> Result<(), AllocError>
+    ensures told { OnOk result (told_by actions.new.items ≡ (told_by actions.old.items ++ tells_all line.old.entries.items (said outputs.items)) ++ map news_told (flat_map (news_in (view_of follower.old.client) (said outputs.items)) follower.old.subjects.items)) }
+    ensures line { OnOk result (line.new.entries.items ≡ hears_all line.old.entries.items (said outputs.items)) }
+    ensures subjects { OnOk result (follower.new.subjects.items ≡ map (told_of (view_of follower.old.client)) follower.old.subjects.items) }
+    ensures client { follower.new.client ≡ follower.old.client }
+{
+    let mut news = Vec::new(alloc);
+    follower.tell(outputs.as_slice(), &mut news)?;
+    push_outputs(line, outputs, actions)?;
+    push_news(news.as_slice(), actions)
+}
+
+/// Hands the client an input. The line is as it is once the client has taken that.
+pub(crate) fn advance<A: Allocator + Copy>(
+    alloc: A,
+    follower: &mut Follower<A>,
+    line: &mut Line<A>,
+    now: u64,
+    input: Input<A>,
+    actions: &mut Vec<Action<A>, A>,
+) -> Result<Heard, Stop>
+    ensures takes { IfOk result (λ heard. TakesSo now (input_view input) (view_of follower.old.client) follower.old.subjects.items line.old.entries.items (told_by actions.old.items)
+        (view_of follower.new.client) follower.new.subjects.items line.new.entries.items (told_by actions.new.items) heard) }
+    ensures followed { OnOk result (All (IsFollowed now (view_of follower.new.client)) follower.new.subjects.items) }
+{
+    let outputs = follower.step(now, input)?;
+    let heard = heard_in(outputs.as_slice());
+    tell(alloc, follower, line, outputs, actions)?;
+    Ok(heard)
+}
+
+/// Hands the call over whose turn it is, if there is one.
+pub(crate) fn hand_over<A: Allocator + Copy>(
+    alloc: A,
+    follower: &mut Follower<A>,
+    line: &mut Line<A>,
+    now: u64,
+    actions: &mut Vec<Action<A>, A>,
+) -> Result<Option<Heard>, Stop>
+    ensures hands { IfOk result (λ heard. HandsOver now (view_of follower.old.client) follower.old.subjects.items line.old.entries.items (told_by actions.old.items)
+        (view_of follower.new.client) follower.new.subjects.items line.new.entries.items (told_by actions.new.items) heard) }
+    ensures followed { IfOk result (λ heard. OnSome heard (All (IsFollowed now (view_of follower.new.client)) follower.new.subjects.items)) }
+{
+    let Some((ticket, call)) = line.next()? else {
+        return Ok(None);
+    };
+    let input = Input::Call(ticket, call);
+    Ok(Some(advance(alloc, follower, line, now, input, actions)?))
+}
+
+/// Each call of the line is answered that the session has expired, and the client is one of another session.
+pub(crate) fn begin<A: Allocator + Copy>(
+    follower: &mut Follower<A>,
+    line: &mut Line<A>,
+    timeout_ms: i32,
+    actions: &mut Vec<Action<A>, A>,
+) -> Result<(), AllocError>
+    requires { pos 0 <ℤ timeout_ms }
+    ensures client { OnOk result (view_of follower.new.client ≡ view_at (renewed_start timeout_ms (view_of follower.old.client)) []) }
+    ensures subjects { OnOk result (follower.new.subjects.items ≡ map due_again follower.old.subjects.items) }
+    ensures followed { OnOk result ((now : ℕ) → All (IsFollowed now (view_of follower.new.client)) follower.new.subjects.items) }
+    ensures line { OnOk result (line.new.entries.items ≡ left Ending.Expired line.old.entries.items) }
+    ensures told { OnOk result (told_by actions.new.items ≡ told_by actions.old.items ++ endings Ending.Expired line.old.entries.items) }
+{
+    end_calls(line, Ending::Expired, actions)?;
+    follower.renew(timeout_ms)
+}

@@ -1,0 +1,181 @@
+//! A client with what it is asked for its program: subjects that are followed, and calls.
+
+ghost use Rattle.std.specs.Prelude.{All};
+ghost use Rattle.std.proofs.Props.{props};
+ghost use Rattle.zk_client.specs.Clients.{view_of};
+ghost use Rattle.zk_agent.specs.Calls.{IsAsked};
+
+use crate::action::Action;
+use crate::advancing::{advance, begin, hand_over};
+use crate::calls::end_calls;
+use crate::replies::Heard;
+use std::alloc::{AllocError, Allocator, Global};
+use zk_client::{Call, Client, Input, Path, Side};
+use zk_follow::{Follower, Stop};
+use zk_line::{Ending, Line};
+
+/// A client with what it is asked for its program: subjects that are followed, and calls. Where a call counts as handed over, the client waits
+/// for its reply.
+#[derive(Drop)]
+pub(crate) struct Asker<A: Allocator + Copy = Global> {
+    alloc: A,
+    pub(crate) follower: Follower<A>,
+    pub(crate) line: Line<A>,
+    ghost asked: { All (IsAsked (view_of follower.client)) line.entries.items } by { Prim.hlevel props },
+}
+
+impl<A: Allocator + Copy> Asker<A> {
+    ghost use Rattle.std.specs.Prelude.{◌≡◌, ◌++◌, ◌∷◌, ◌<ℤ◌, ℕ, pos, map, false, [], None, IfOk, OnOk, OnSome, All};
+    ghost use Rattle.zk_turns.specs.View.{view_at};
+    ghost use Rattle.zk_client.specs.Clients.{renewed_start, view_of};
+    ghost use Rattle.zk_client.specs.Views.{input_view};
+    ghost use Rattle.zk_follow.specs.declared.progress.Progress.TheVariants as progress;
+    ghost use Rattle.zk_follow.specs.Following.{due_again, unfollowed, IsFollowed};
+    ghost use Rattle.zk_line.specs.Lines.{left};
+    ghost use Rattle.zk_agent.specs.Agents.{HandsOver, TakesSo};
+    ghost use Rattle.zk_agent.specs.Calls.{endings};
+    ghost use Rattle.zk_agent.specs.Telling.{told_by};
+
+    /// A client that is asked nothing.
+    pub(crate) fn new(alloc: A, client: Client<A>) -> Asker<A>
+        ensures client { view_of result.follower.client ≡ view_of client }
+        ensures subjects { result.follower.subjects.items ≡ [] }
+        ensures line { result.line.entries.items ≡ [] }
+    {
+        Asker {
+            alloc,
+            follower: Follower::new(alloc, client),
+            line: Line::new(alloc),
+        }
+    }
+
+    /// The client.
+    pub(crate) fn client(&self) -> &Client<A>
+        ensures { view_of result.now ≡ view_of self.now.follower.client }
+    {
+        self.follower.client()
+    }
+
+    /// Hands the client an input, and tells what it says.
+    pub(crate) fn step(
+        &mut self,
+        now: u64,
+        input: Input<A>,
+        actions: &mut Vec<Action<A>, A>,
+    ) -> Result<Heard, Stop>
+        ensures takes { IfOk result (λ heard. TakesSo now (input_view input) (view_of self.old.follower.client) self.old.follower.subjects.items self.old.line.entries.items (told_by actions.old.items)
+            (view_of self.new.follower.client) self.new.follower.subjects.items self.new.line.entries.items (told_by actions.new.items) heard) }
+        ensures followed { OnOk result (All (IsFollowed now (view_of self.new.follower.client)) self.new.follower.subjects.items) }
+    {
+        match advance(
+            self.alloc,
+            &mut self.follower,
+            &mut self.line,
+            now,
+            input,
+            actions,
+        ) {
+            Ok(heard) => Ok(heard),
+            Err(stop) => {
+                self.line.clear();
+                Err(stop)
+            }
+        }
+    }
+
+    /// Hands the call over whose turn it is, if there is one, and tells what the client says.
+    pub(crate) fn hand_over(
+        &mut self,
+        now: u64,
+        actions: &mut Vec<Action<A>, A>,
+    ) -> Result<Option<Heard>, Stop>
+        ensures hands { IfOk result (λ heard. HandsOver now (view_of self.old.follower.client) self.old.follower.subjects.items self.old.line.entries.items (told_by actions.old.items)
+            (view_of self.new.follower.client) self.new.follower.subjects.items self.new.line.entries.items (told_by actions.new.items) heard) }
+        ensures followed { IfOk result (λ heard. OnSome heard (All (IsFollowed now (view_of self.new.follower.client)) self.new.follower.subjects.items)) }
+    {
+        match hand_over(self.alloc, &mut self.follower, &mut self.line, now, actions) {
+            Ok(heard) => Ok(heard),
+            Err(stop) => {
+                self.line.clear();
+                Err(stop)
+            }
+        }
+    }
+
+    /// A subject is followed.
+    pub(crate) fn follow(
+        &mut self,
+        ticket: u64,
+        side: Side,
+        path: Path<A>,
+    ) -> Result<(), AllocError>
+        ensures client { self.new.follower.client ≡ self.old.follower.client }
+        ensures subjects { OnOk result (self.new.follower.subjects.items ≡ self.old.follower.subjects.items ++ record { ticket = ticket; side = side; path = path; progress = progress.Due; is_missing = false; told = None } ∷ []) }
+        ensures line { self.new.line ≡ self.old.line }
+    {
+        self.follower.follow(ticket, side, path)
+    }
+
+    /// A subject is followed no more.
+    pub(crate) fn unfollow(&mut self, ticket: u64)
+        ensures client { self.new.follower.client ≡ self.old.follower.client }
+        ensures subjects { self.new.follower.subjects.items ≡ unfollowed ticket self.old.follower.subjects.items }
+        ensures line { self.new.line ≡ self.old.line }
+    {
+        self.follower.unfollow(ticket);
+    }
+
+    /// A call is asked.
+    pub(crate) fn ask(
+        &mut self,
+        ticket: u64,
+        call: Call<A>,
+        until: Option<u64>,
+    ) -> Result<(), AllocError>
+        ensures line { OnOk result (self.new.line.entries.items ≡ self.old.line.entries.items ++ record { ticket = ticket; call = call; until = until; is_sent = false } ∷ []) }
+        ensures follower { self.new.follower ≡ self.old.follower }
+    {
+        self.line.ask(ticket, call, until)
+    }
+
+    /// The calls wait no more whose limit has come.
+    pub(crate) fn give_up(
+        &mut self,
+        now: u64,
+        actions: &mut Vec<Action<A>, A>,
+    ) -> Result<(), AllocError>
+        ensures line { OnOk result (self.new.line.entries.items ≡ left (Ending.Late now) self.old.line.entries.items) }
+        ensures told { OnOk result (told_by actions.new.items ≡ told_by actions.old.items ++ endings (Ending.Late now) self.old.line.entries.items) }
+        ensures follower { self.new.follower ≡ self.old.follower }
+    {
+        match end_calls(&mut self.line, Ending::Late(now), actions) {
+            Ok(()) => Ok(()),
+            Err(fault) => {
+                self.line.clear();
+                Err(fault)
+            }
+        }
+    }
+
+    /// Another session begins, with this timeout in milliseconds.
+    pub(crate) fn renew(
+        &mut self,
+        timeout_ms: i32,
+        actions: &mut Vec<Action<A>, A>,
+    ) -> Result<(), AllocError>
+        requires { pos 0 <ℤ timeout_ms }
+        ensures client { OnOk result (view_of self.new.follower.client ≡ view_at (renewed_start timeout_ms (view_of self.old.follower.client)) []) }
+        ensures subjects { OnOk result (self.new.follower.subjects.items ≡ map due_again self.old.follower.subjects.items) }
+        ensures followed { OnOk result ((now : ℕ) → All (IsFollowed now (view_of self.new.follower.client)) self.new.follower.subjects.items) }
+        ensures line { OnOk result (self.new.line.entries.items ≡ []) }
+        ensures told { OnOk result (told_by actions.new.items ≡ told_by actions.old.items ++ endings Ending.Expired self.old.line.entries.items) }
+    {
+        match begin(&mut self.follower, &mut self.line, timeout_ms, actions) {
+            Ok(()) => Ok(()),
+            Err(fault) => {
+                self.line.clear();
+                Err(fault)
+            }
+        }
+    }
+}

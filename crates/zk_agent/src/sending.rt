@@ -1,0 +1,55 @@
+//! Calls whose turn it is are handed to the client.
+
+use crate::action::Action;
+use crate::agent::Agent;
+use crate::moments::is_connected;
+use std::alloc::Allocator;
+use zk_follow::Stop;
+
+impl<A: Allocator + Copy> Agent<A> {
+    ghost use Rattle.std.specs.Prelude.{◌≡◌, ◌<◌, true, false, [], IfOk, OnOk, All};
+    ghost use Rattle.zk_session.specs.declared.states.State.TheVariants.{Connected};
+    ghost use Rattle.zk_client.specs.Clients.{view_of};
+    ghost use Rattle.zk_follow.specs.Following.{IsFollowed};
+    ghost use Rattle.zk_agent.specs.Agents.{trail_of, Comes, Sends};
+    ghost use Rattle.zk_agent.specs.Calls.{how_many_wait, IsDone, IsInTime};
+
+    /// Hands the call over whose turn it is, where a server has accepted the connection. Whether another one may be: a call was handed over, and
+    /// the client has not said that it cannot be sent now.
+    fn send_one(&mut self, now: u64, actions: &mut Vec<Action<A>, A>) -> Result<bool, Stop>
+        requires { (view_of self.old.asker.follower.client).standing.state ≡ Connected }
+        ensures sends { IfOk result (λ goes_on. Sends now (trail_of self.old actions.old.items) (trail_of self.new actions.new.items) goes_on) }
+        ensures followed { All (IsFollowed now (view_of self.old.asker.follower.client)) self.old.asker.follower.subjects.items → OnOk result (All (IsFollowed now (view_of self.new.asker.follower.client)) self.new.asker.follower.subjects.items) }
+    {
+        let Some(heard) = self.asker.hand_over(now, actions)? else {
+            return Ok(false);
+        };
+        self.heed(now, heard, actions)?;
+        Ok(!heard.goes_back)
+    }
+
+    /// The same where it is not known that a server has.
+    fn try_one(&mut self, now: u64, actions: &mut Vec<Action<A>, A>) -> Result<bool, Stop>
+        ensures sends { IfOk result (λ goes_on. Sends now (trail_of self.old actions.old.items) (trail_of self.new actions.new.items) goes_on) }
+        ensures followed { All (IsFollowed now (view_of self.old.asker.follower.client)) self.old.asker.follower.subjects.items → OnOk result (All (IsFollowed now (view_of self.new.asker.follower.client)) self.new.asker.follower.subjects.items) }
+    {
+        if is_connected(self.state()) {
+            return self.send_one(now, actions);
+        }
+        Ok(false)
+    }
+
+    /// Hands calls over, in the order of asking, as long as they can be.
+    pub(crate) fn send(&mut self, now: u64, actions: &mut Vec<Action<A>, A>) -> Result<(), Stop>
+        ensures comes { OnOk result (Comes [] (trail_of self.old actions.old.items) (trail_of self.new actions.new.items)) }
+        ensures followed { All (IsFollowed now (view_of self.old.asker.follower.client)) self.old.asker.follower.subjects.items → OnOk result (All (IsFollowed now (view_of self.new.asker.follower.client)) self.new.asker.follower.subjects.items) }
+        ensures limits { All (IsInTime now) self.old.asker.line.entries.items → OnOk result (All (IsInTime now) self.new.asker.line.entries.items) }
+        ensures done { OnOk result (IsDone (view_of self.new.asker.follower.client) self.new.asker.line.entries.items) }
+    {
+        let mut goes_on = true;
+        while goes_on {
+            goes_on = self.try_one(now, actions)?;
+        }
+        Ok(())
+    }
+}
