@@ -5,7 +5,7 @@ use Rattle.std.specs.List.{FoldsTo}
 use Rattle.zk_client.specs.Clients.{view_of}
 use Rattle.zk_agent.specs.Agents.{IsLed}
 use Rattle.zk_agent.specs.declared.input.Input.{Input}
-use Rattle.zk_driver.specs.Driving.{ChannelView, Course, AreFollowed, Does, Goes, Hands, Meets, Move, Written, Noted}
+use Rattle.zk_driver.specs.Driving.{ChannelView, Course, AreFollowed, Does, Goes, Hands, Meets, Move, Notes, Written, Noted}
 
 -- ---- what lasts
 
@@ -60,3 +60,18 @@ noted (Err e) input old new between meets hands = tt
 pub noted_so : {A : Type 0} (input : Input A) (old new : Course A) (between : ChannelView) → Meets old.channel input between → Hands input (record old { channel = between }) new → Goes old new
 noted_so input old new between meets hands =
     come (Noted hands.now input ∷ Written ∷ []) old new (hands.between, (between, meets, hands.takes), (new, hands.writes, refl))
+
+-- and it was the first thing
+pub first_so : {A : Type 0} (input : Input A) (old new : Course A) (between : ChannelView) → Meets old.channel input between → Hands input (record old { channel = between }) new → Notes input old new
+first_so input old new between meets hands =
+    record { now = hands.now; between = hands.between; noted = (between, meets, hands.takes); rest = written hands.between new hands.writes }
+
+pub first : {A X E : Type 0} (result : Result X E) (input : Input A) (old new : Course A) (between : ChannelView) → Meets old.channel input between
+    → OnOk result (Hands input (record old { channel = between }) new) → OnOk result (Notes input old new)
+first (Ok x) input old new between meets hands = first_so input old new between meets hands
+first (Err e) input old new between meets hands = tt
+
+pub first_then : {A X E : Type 0} (result : Result X E) (input : Input A) (old between new : Course A) → Notes input old between → OnOk result (Goes between new) → OnOk result (Notes input old new)
+first_then (Ok x) input old between new notes rest =
+    record { now = notes.now; between = notes.between; noted = notes.noted; rest = after notes.between between new notes.rest rest }
+first_then (Err e) input old between new notes rest = tt

@@ -10,6 +10,8 @@ use Rattle.zk_agent.specs.declared.agent.Agent.{Agent}
 use Rattle.zk_agent.specs.declared.input.Input.{Input}
 use Rattle.zk_agent.specs.declared.input.Input.TheVariants as happens
 use Rattle.zk_agent.specs.Agents.{Told, Says, Dials, HangsUp, action_view, heard_after, told_by, trail_of, Comes, IsLed}
+use Rattle.zk_link.specs.declared.bring.Brought.{Brought}
+use Rattle.zk_link.specs.declared.bring.Brought.TheVariants as brought
 use Rattle.zk_link.specs.Frames.{IsLeftOf}
 use Rattle.zk_driver.specs.declared.channel.Attempt.{Attempt}
 use Rattle.zk_driver.specs.declared.channel.Channel.{Channel}
@@ -110,6 +112,19 @@ pub record Goes {A : Type 0} (old new : Course A) : Type 0 where
   pub does : FoldsTo Does old moves new
   pub followed : AreFollowed old.agent → AreFollowed new.agent
   pub led : IsLed (view_of old.agent.follower.client) → IsLed (view_of new.agent.follower.client)
+
+-- This is what the agent is handed first.
+pub record Notes {A : Type 0} (input : Input A) (old new : Course A) : Type 0 where
+  pub now : ℕ
+  pub between : Course A
+  pub noted : Does old (Noted now input) between
+  pub rest : Goes between new
+
+-- what a read has brought, as the agent is handed it
+abbrev pub input_of : {A : Type 0} → Brought A → Input A
+input_of (brought.Piece bytes) = happens.Bytes bytes
+input_of brought.Nothing = happens.Moment
+input_of brought.End = happens.Cut
 
 -- The program hands the agent an input, at the moment at which it does.
 pub record Hands {A : Type 0} (input : Input A) (old new : Course A) : Type 0 where

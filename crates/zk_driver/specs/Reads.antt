@@ -1,5 +1,5 @@
 -- What a read brings, and what a write takes.
-use Rattle.std.specs.Prelude.{◌==◌, ⊤, ℕ, Bool, true, false, if◌then◌else◌, List, Option, Some, None, Result, Ok, Err}
+use Rattle.std.specs.Prelude.{◌≡◌, ◌==◌, ⊤, ℕ, Bool, true, false, if◌then◌else◌, List, Option, Some, None, Result, Ok, Err}
 use Rattle.std.specs.Io.KnownBytes.{Consumes, Keeps}
 use Rattle.std_io.specs.IoError.{error_kind}
 use Rattle.std_io.specs.declared.io.error.Error.{Error}
@@ -32,3 +32,8 @@ abbrev pub Gives : {A : Type 0} → (before after : Option (List ℕ)) → Broug
 Gives before after (brought.Piece bytes) = Consumes before after bytes.items
 Gives before after brought.Nothing = Keeps before after
 Gives before after brought.End = ⊤
+
+-- What was brought is what the stream that is there gave by a read: a piece is the first bytes that it had, in order, and none of the others is gone.
+abbrev pub IsBrought : {A S : Type 0} → (remaining : S → Option (List ℕ)) → (stream : Option S) → Brought A → Type 0
+IsBrought remaining stream brought.End = ⊤
+IsBrought {A} {S} remaining stream brought = (before after : S) × (stream ≡ Some after) × Gives (remaining before) (remaining after) brought

@@ -2,7 +2,7 @@
 
 ghost use Rattle.std.specs.Prelude.{◌≡◌, ◌++◌, None, Some, IfOk, OnOk, is_some};
 ghost use Rattle.zk_driver.specs.Driving.{channel_view, closed, opened, Writes};
-ghost use Rattle.zk_driver.specs.Reads.{Gives};
+ghost use Rattle.zk_driver.specs.Reads.{IsBrought};
 
 use crate::bring::{bring, make_room};
 use crate::send::send;
@@ -91,7 +91,8 @@ impl<A: Allocator + Copy, S: Stream> Channel<A, S> {
 
     /// Writes what is left, and reads once: for `ms` milliseconds, at least 1, or for 10 at most while bytes are left.
     pub(crate) fn exchange(&mut self, alloc: A, ms: u64) -> Result<Brought<A>, AllocError>
-        ensures { Writes (channel_view self.old) (channel_view self.new) }
+        ensures writes { Writes (channel_view self.old) (channel_view self.new) }
+        ensures brings { IfOk result (λ brought. IsBrought S.remaining self.new.stream brought) }
     {
         make_room(&mut self.room)?;
         let Some(stream) = &mut self.stream else {

@@ -3,7 +3,8 @@
 ghost use Rattle.std.specs.Prelude.{◌≡◌, ◌≤◌, ◌<◌, ◌+◌, ◌++◌, ◌∷◌, [], ℕ, None, fold, is_some, true, IfNone, IfOk, OnOk};
 ghost use Rattle.std.specs.List.{filter};
 ghost use Rattle.zk_agent.specs.Agents.{action_view, told_by, NothingAt};
-ghost use Rattle.zk_driver.specs.Driving.{carried, channel_view, closed, course_of, is_passed, Extends, Goes, Hands};
+ghost use Rattle.zk_agent.specs.declared.input.Input.TheVariants as happens;
+ghost use Rattle.zk_driver.specs.Driving.{carried, channel_view, closed, course_of, input_of, is_passed, Extends, Goes, Hands, Notes};
 
 use crate::channel::{Attempt, Channel};
 use crate::wait::wait_between;
@@ -94,7 +95,8 @@ impl<A: Allocator + Copy, S: Stream> Engine<A, S> {
         }
     }
 
-    /// Hands the agent an input that was noticed at this moment, and does what it says. The answer is the moment.
+    /// Hands the agent an input that was noticed at this moment, and does what it says. The answer is the moment. That a write has failed is
+    /// seen by the next read.
     pub(crate) fn hand(&mut self, now: u64, input: Input<A>) -> Result<u64, Stop>
         ensures hands { OnOk result (Hands input (course_of self.old None) (course_of self.new None)) }
         ensures told { IfOk result (λ moment. moment ≤ self.new.agent.latest) }
@@ -116,6 +118,7 @@ impl<A: Allocator + Copy, S: Stream> Engine<A, S> {
     pub(crate) fn open(&mut self, now: u64, stream: S) -> Result<u64, Stop>
         requires { is_some self.old.channel.attempt ≡ true }
         ensures goes { OnOk result (Goes (course_of self.old None) (course_of self.new None)) }
+        ensures notes { OnOk result (Notes happens.Opened (course_of self.old None) (course_of self.new None)) }
         ensures told { IfOk result (λ moment. moment ≤ self.new.agent.latest) }
         ensures kept { Extends (told_by self.old.waiting.items) (told_by self.new.waiting.items) }
     {
@@ -127,6 +130,7 @@ impl<A: Allocator + Copy, S: Stream> Engine<A, S> {
     pub(crate) fn fail(&mut self, now: u64) -> Result<u64, Stop>
         requires { is_some self.old.channel.attempt ≡ true }
         ensures goes { OnOk result (Goes (course_of self.old None) (course_of self.new None)) }
+        ensures notes { OnOk result (Notes happens.Failed (course_of self.old None) (course_of self.new None)) }
         ensures told { IfOk result (λ moment. moment ≤ self.new.agent.latest) }
         ensures noted { OnOk result (now ≤ self.new.agent.latest) }
         ensures kept { Extends (told_by self.old.waiting.items) (told_by self.new.waiting.items) }
@@ -140,6 +144,7 @@ impl<A: Allocator + Copy, S: Stream> Engine<A, S> {
         requires none { self.old.channel.attempt ≡ None }
         requires open { is_some self.old.channel.stream ≡ true }
         ensures goes { OnOk result (Goes (course_of self.old None) (course_of self.new None)) }
+        ensures notes { OnOk result (Notes happens.Cut (course_of self.old None) (course_of self.new None)) }
         ensures told { IfOk result (λ moment. moment ≤ self.new.agent.latest) }
         ensures kept { Extends (told_by self.old.waiting.items) (told_by self.new.waiting.items) }
     {
@@ -151,6 +156,7 @@ impl<A: Allocator + Copy, S: Stream> Engine<A, S> {
     pub(crate) fn tell(&mut self, now: u64) -> Result<u64, Stop>
         requires { self.old.channel.attempt ≡ None }
         ensures goes { OnOk result (Goes (course_of self.old None) (course_of self.new None)) }
+        ensures notes { OnOk result (Notes happens.Moment (course_of self.old None) (course_of self.new None)) }
         ensures told { IfOk result (λ moment. moment ≤ self.new.agent.latest) }
         ensures noted { OnOk result (now ≤ self.new.agent.latest) }
         ensures kept { Extends (told_by self.old.waiting.items) (told_by self.new.waiting.items) }
@@ -190,6 +196,7 @@ impl<A: Allocator + Copy, S: Stream> Engine<A, S> {
         requires none { self.old.channel.attempt ≡ None }
         requires open { is_some self.old.channel.stream ≡ true }
         ensures goes { OnOk result (Goes (course_of self.old None) (course_of self.new None)) }
+        ensures notes { OnOk result (Notes (happens.Bytes bytes) (course_of self.old None) (course_of self.new None)) }
         ensures told { IfOk result (λ moment. moment ≤ self.new.agent.latest) }
         ensures kept { Extends (told_by self.old.waiting.items) (told_by self.new.waiting.items) }
     {
@@ -219,6 +226,7 @@ impl<A: Allocator + Copy, S: Stream> Engine<A, S> {
         requires none { self.old.channel.attempt ≡ None }
         requires open { is_some self.old.channel.stream ≡ true }
         ensures goes { OnOk result (Goes (course_of self.old None) (course_of self.new None)) }
+        ensures notes { OnOk result (Notes (input_of brought) (course_of self.old None) (course_of self.new None)) }
         ensures told { IfOk result (λ moment. moment ≤ self.new.agent.latest) }
         ensures kept { Extends (told_by self.old.waiting.items) (told_by self.new.waiting.items) }
     {

@@ -10,5 +10,5 @@ returns-clause-goes g c =
     let between = record old { channel = channel_view c.exchange.new.self } in
     let later = course_of c.now-now.new.self.engine None in
     ok_after c.take.result old later (course_of c.take.new.self None)
-    (after old between later (written old between (c.exchange.ensures, refl))
+    (after old between later (written old between (c.exchange.ensures.writes, refl))
     (same between later (sym (ap (λ (e : Engine g.row.A.Denot g.row.D-Stream.Denot). course_of e None) c.now-now.ensures.engine)))) c.take.ensures.goes

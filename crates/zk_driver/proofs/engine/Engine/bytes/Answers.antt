@@ -3,7 +3,7 @@ use Rattle.zk_agent.specs.Agents.{told_by}
 use Rattle.zk_agent.specs.declared.input.Input.TheVariants as happens
 use Rattle.zk_driver.specs.Driving.{channel_view, course_of}
 use Rattle.zk_driver.proofs.Carrying.{extends_on}
-use Rattle.zk_driver.proofs.Going.{ok_after, noted_so}
+use Rattle.zk_driver.proofs.Going.{first_so, first_then, noted_so, ok_after}
 use Rattle.zk_driver.proofs.engine.Engine.bytes.Goals as goal
 
 pub returns-then-told-now-clause-goes : goal.returns-then-told-now-clause-goes
@@ -21,3 +21,15 @@ returns-clause-goes g c =
 pub returns-clause-kept : goal.returns-clause-kept
 returns-clause-kept g c =
     extends_on (told_by c.args.self.now.waiting.items) (told_by c.hand.new.self.waiting.items) (told_by c.catch_up.new.self.waiting.items) c.hand.ensures.kept c.catch_up.ensures.kept
+
+pub returns-then-told-now-clause-notes : goal.returns-then-told-now-clause-notes
+returns-then-told-now-clause-notes g c =
+    first_so (happens.Bytes c.args.bytes) (course_of c.args.self.now None) (course_of c.hand.new.self None) (channel_view c.args.self.now.channel) (c.requires.none, c.requires.open, refl)
+    c.in_ok-told.ensures.hands
+
+pub returns-clause-notes : goal.returns-clause-notes
+returns-clause-notes g c =
+    let old = course_of c.args.self.now None in
+    let between = course_of c.hand.new.self None in
+    first_then c.catch_up.result (happens.Bytes c.args.bytes) old between (course_of c.catch_up.new.self None)
+    (first_so (happens.Bytes c.args.bytes) old between (channel_view c.args.self.now.channel) (c.requires.none, c.requires.open, refl) c.in_ok-told.ensures.hands) c.catch_up.ensures.goes
