@@ -1,7 +1,7 @@
 -- What actions ask for, carried out one by one.
 use Rattle.std.proofs.Common.{◌≡◌, ◌++◌, append_assoc, append-nil, ℕ, Bool, true, false, List, [], ◌∷◌, Vec, refl, sym, ap, ◌∙◌}
 use Rattle.std.specs.Prelude.{Result, Ok, Err, OnOk, OnErr, if◌then◌else◌, fold}
-use Rattle.zk_agent.specs.Agents.{Told, action_view, told_by}
+use Rattle.zk_agent.specs.Telling.{Told, action_view, told_by}
 use Rattle.zk_agent.specs.declared.action.Action.{Action}
 use Rattle.zk_agent.specs.declared.action.Action.TheVariants as action
 use Rattle.zk_driver.specs.Driving.{ChannelView, Extends, carried, is_passed}

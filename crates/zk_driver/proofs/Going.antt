@@ -13,16 +13,16 @@ followed_by : {A : Type 0} (move : Move A) (old new : Course A) → Does old mov
 followed_by {A} Written old new does followed = subst (λ (c : Course A). AreFollowed c.agent) (sym does.1) followed
 followed_by (Noted now input) old new does followed = does.2.followed
 
-led_by : {A : Type 0} (move : Move A) (old new : Course A) → Does old move new → IsLed (view_of old.agent.follower.client) → IsLed (view_of new.agent.follower.client)
-led_by {A} Written old new does led = subst (λ (c : Course A). IsLed (view_of c.agent.follower.client)) (sym does.1) led
+led_by : {A : Type 0} (move : Move A) (old new : Course A) → Does old move new → IsLed (view_of old.agent.asker.follower.client) → IsLed (view_of new.agent.asker.follower.client)
+led_by {A} Written old new does led = subst (λ (c : Course A). IsLed (view_of c.agent.asker.follower.client)) (sym does.1) led
 led_by (Noted now input) old new does led = does.2.comes.led led
 
 followed_through : {A : Type 0} (moves : List (Move A)) (old new : Course A) → FoldsTo Does old moves new → AreFollowed old.agent → AreFollowed new.agent
 followed_through {A} [] old new same followed = subst (λ (c : Course A). AreFollowed c.agent) same followed
 followed_through (move ∷ moves) old new does followed = followed_through moves does.0 new does.2 (followed_by move old does.0 does.1 followed)
 
-led_through : {A : Type 0} (moves : List (Move A)) (old new : Course A) → FoldsTo Does old moves new → IsLed (view_of old.agent.follower.client) → IsLed (view_of new.agent.follower.client)
-led_through {A} [] old new same led = subst (λ (c : Course A). IsLed (view_of c.agent.follower.client)) same led
+led_through : {A : Type 0} (moves : List (Move A)) (old new : Course A) → FoldsTo Does old moves new → IsLed (view_of old.agent.asker.follower.client) → IsLed (view_of new.agent.asker.follower.client)
+led_through {A} [] old new same led = subst (λ (c : Course A). IsLed (view_of c.agent.asker.follower.client)) same led
 led_through (move ∷ moves) old new does led = led_through moves does.0 new does.2 (led_by move old does.0 does.1 led)
 
 -- ---- moves

@@ -9,7 +9,9 @@ use Rattle.zk_agent.specs.declared.action.Action.{Action}
 use Rattle.zk_agent.specs.declared.agent.Agent.{Agent}
 use Rattle.zk_agent.specs.declared.input.Input.{Input}
 use Rattle.zk_agent.specs.declared.input.Input.TheVariants as happens
-use Rattle.zk_agent.specs.Agents.{Told, Says, Dials, HangsUp, action_view, heard_after, told_by, trail_of, Comes, IsLed}
+use Rattle.zk_agent.specs.Agents.{asks_of, heard_after, how_many_asked, how_many_ended, trail_of, Comes, IsLed}
+use Rattle.zk_agent.specs.Calls.{how_many, IsInTime, IsServed}
+use Rattle.zk_agent.specs.Telling.{Told, Says, Dials, HangsUp, action_view, told_by}
 use Rattle.zk_link.specs.declared.bring.Brought.{Brought}
 use Rattle.zk_link.specs.declared.bring.Brought.TheVariants as brought
 use Rattle.zk_link.specs.Frames.{IsLeftOf}
@@ -75,13 +77,17 @@ course_of engine passed = record { agent = engine.agent; channel = channel_view 
 
 -- each subject is followed, at the latest moment
 abbrev pub AreFollowed : {A : Type 0} → Agent A → Type 0
-AreFollowed agent = All (IsFollowed agent.latest (view_of agent.follower.client)) agent.follower.subjects.items
+AreFollowed agent = All (IsFollowed agent.latest (view_of agent.asker.follower.client)) agent.asker.follower.subjects.items
 
--- The agent takes an input that was noticed at a moment. What it says is carried out, or put after what the program is told, each in its order.
+-- The agent takes an input that was noticed at a moment: each subject is followed then, each call is settled once or waits, and none waits past its
+-- limit. What it says is carried out, or put after what the program is told, each in its order.
 pub record Takes {A : Type 0} (now : ℕ) (input : Input A) (old new : Course A) : Type 0 where
   pub actions : List (Action A)
-  pub comes : Comes (trail_of old.agent []) (trail_of new.agent actions)
+  pub comes : Comes (asks_of input) (trail_of old.agent []) (trail_of new.agent actions)
   pub followed : AreFollowed new.agent
+  pub calls : (ticket : ℕ) → how_many ticket new.agent.asker.line.entries.items + how_many_ended ticket (told_by actions) ≡ how_many ticket old.agent.asker.line.entries.items + how_many_asked ticket input
+  pub served : All (IsServed (view_of new.agent.asker.follower.client)) new.agent.asker.line.entries.items
+  pub limits : All (IsInTime new.agent.latest) new.agent.asker.line.entries.items
   pub latest : new.agent.latest ≡ max old.agent.latest now
   pub heard : new.agent.heard_at ≡ heard_after (is_open old.agent.dialler.phase) (max old.agent.latest now) input old.agent.heard_at
   pub channel : new.channel ≡ fold carried old.channel (told_by actions)
@@ -111,7 +117,7 @@ pub record Goes {A : Type 0} (old new : Course A) : Type 0 where
   pub moves : List (Move A)
   pub does : FoldsTo Does old moves new
   pub followed : AreFollowed old.agent → AreFollowed new.agent
-  pub led : IsLed (view_of old.agent.follower.client) → IsLed (view_of new.agent.follower.client)
+  pub led : IsLed (view_of old.agent.asker.follower.client) → IsLed (view_of new.agent.asker.follower.client)
 
 -- This is what the agent is handed first.
 pub record Notes {A : Type 0} (input : Input A) (old new : Course A) : Type 0 where

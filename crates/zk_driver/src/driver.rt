@@ -4,7 +4,7 @@ ghost use Rattle.std.specs.Prelude.{◌≡◌, ◌≤◌, ◌<ℤ◌, [], None, 
 ghost use Rattle.zk_turns.specs.Turns.{new_start};
 ghost use Rattle.zk_turns.specs.View.{view_at};
 ghost use Rattle.zk_client.specs.Clients.{view_of};
-ghost use Rattle.zk_agent.specs.Agents.{told_by};
+ghost use Rattle.zk_agent.specs.Telling.{told_by};
 ghost use Rattle.zk_agent.specs.declared.input.Input.TheVariants as happens;
 ghost use Rattle.zk_driver.specs.Driving.{channel_view, closed, course_of, AreFollowed, Extends, Goes, Hands};
 
@@ -12,7 +12,7 @@ use crate::channel::Attempt;
 use crate::engine::Engine;
 use std::alloc::{AllocError, Allocator};
 use zk_agent::{Action, Agent, Input, Settings};
-use zk_client::{Client, Path, Side};
+use zk_client::{Call, Client, Path, Side};
 use zk_link::{Clock, Dial, Stop};
 
 /// An agent, and what carries out what it says.
@@ -60,7 +60,7 @@ impl<'a, A: Allocator + Copy, D: Dial + Drop, C: Clock + Drop> Driver<'a, A, D, 
         addresses: &'a [&'a str],
     ) -> Result<Driver<'a, A, D, C>, AllocError>
         requires { pos 0 <ℤ timeout_ms }
-        ensures client { IfOk result (λ driver. view_of driver.engine.agent.follower.client ≡ view_at (new_start (unsigned_abs timeout_ms)) []) }
+        ensures client { IfOk result (λ driver. view_of driver.engine.agent.asker.follower.client ≡ view_at (new_start (unsigned_abs timeout_ms)) []) }
         ensures followed { IfOk result (λ driver. AreFollowed driver.engine.agent) }
         ensures channel { IfOk result (λ driver. channel_view driver.engine.channel ≡ closed) }
         ensures waiting { IfOk result (λ driver. driver.engine.waiting.items ≡ []) }
@@ -76,7 +76,7 @@ impl<'a, A: Allocator + Copy, D: Dial + Drop, C: Clock + Drop> Driver<'a, A, D, 
 
     /// The client: what is kept of paths, the state, and what another session can be resumed from.
     pub fn client(&self) -> &Client<A>
-        ensures { view_of result.now ≡ view_of self.now.engine.agent.follower.client }
+        ensures { view_of result.now ≡ view_of self.now.engine.agent.asker.follower.client }
     {
         self.engine.agent.client()
     }
@@ -114,6 +114,19 @@ impl<'a, A: Allocator + Copy, D: Dial + Drop, C: Clock + Drop> Driver<'a, A, D, 
         self.hand(Input::Unfollow { ticket })
     }
 
+    /// Asks a call: it is answered once, by [`Action::Answer`], or times out once, at this moment of the clock where there is one. No other call
+    /// or subject has or had the ticket.
+    pub fn ask(&mut self, ticket: u64, call: Call<A>, until: Option<u64>) -> Result<(), Stop>
+        ensures hands { OnOk result (Hands (happens.Call ticket call until) (course_of self.old.engine None) (course_of self.new.engine None)) }
+        ensures kept { Extends (told_by self.old.engine.waiting.items) (told_by self.new.engine.waiting.items) }
+    {
+        self.hand(Input::Call {
+            ticket,
+            call,
+            until,
+        })
+    }
+
     /// Goes on with another list of addresses. A connection that is there stays.
     pub fn set_addresses(&mut self, addresses: &'a [&'a str]) -> Result<(), Stop>
         ensures hands { OnOk result (Hands (happens.Addresses (length addresses.now)) (course_of self.old.engine None) (course_of self.new.engine None)) }
@@ -129,8 +142,10 @@ impl<'a, A: Allocator + Copy, D: Dial + Drop, C: Clock + Drop> Driver<'a, A, D, 
         ensures kept { Extends (told_by self.old.engine.waiting.items) (told_by self.new.engine.waiting.items) }
     {
         let now = self.now();
-        self.engine.hand(now, input)?;
-        Ok(())
+        match self.engine.hand(now, input) {
+            Ok(_) => Ok(()),
+            Err(stop) => Err(stop),
+        }
     }
 
     /// The next action for the program, and none at this moment of the clock. Until then it does what the agent asks for, and tells it what

@@ -2,7 +2,8 @@
 
 ghost use Rattle.std.specs.Prelude.{◌≡◌, ◌≤◌, ◌<◌, ◌+◌, ◌++◌, ◌∷◌, [], ℕ, None, fold, is_some, true, IfNone, IfOk, OnOk};
 ghost use Rattle.std.specs.List.{filter};
-ghost use Rattle.zk_agent.specs.Agents.{action_view, told_by, NothingAt};
+ghost use Rattle.zk_agent.specs.Agents.{NothingAt};
+ghost use Rattle.zk_agent.specs.Telling.{action_view, told_by};
 ghost use Rattle.zk_agent.specs.declared.input.Input.TheVariants as happens;
 ghost use Rattle.zk_driver.specs.Driving.{carried, channel_view, closed, course_of, input_of, is_passed, Extends, Goes, Hands, Notes};
 

@@ -1,6 +1,6 @@
 use Rattle.std.proofs.Common.{◌≡◌, ◌++◌, ◌∷◌, [], sym, ap, ◌∙◌}
 use Rattle.std.specs.List.{filter}
-use Rattle.zk_agent.specs.Agents.{action_view, told_by}
+use Rattle.zk_agent.specs.Telling.{action_view, told_by}
 use Rattle.zk_driver.specs.Driving.{carried, channel_view, is_passed}
 use Rattle.zk_driver.proofs.Carrying.{always, left_alone, on_ok, passed_on}
 use Rattle.zk_driver.proofs.engine.carry.Goals as goal

@@ -1,7 +1,7 @@
 use Rattle.std.proofs.Common.{◌++◌, ap}
 use Rattle.std.specs.Prelude.{fold}
 use Rattle.std.specs.List.{filter}
-use Rattle.zk_agent.specs.Agents.{action_view, told_by}
+use Rattle.zk_agent.specs.Telling.{action_view, told_by}
 use Rattle.zk_driver.specs.Driving.{carried, channel_view, is_passed}
 use Rattle.zk_driver.proofs.Carrying.{kept_more, made_more, extends_on}
 use Rattle.zk_driver.proofs.engine.carry_all.Goals as goal

@@ -1,7 +1,7 @@
 use Rattle.std.proofs.Common.{◌≡◌, ◌++◌, length}
 use Rattle.std.specs.Prelude.{fold}
 use Rattle.std.specs.List.{filter}
-use Rattle.zk_agent.specs.Agents.{told_by}
+use Rattle.zk_agent.specs.Telling.{told_by}
 use Rattle.zk_driver.specs.Driving.{carried, channel_view, is_passed, Extends}
 use Rattle.zk_driver.proofs.engine.carry_all.Given as goal
 

@@ -1,5 +1,5 @@
 use Rattle.std.proofs.Common.{◌≡◌, None, Option, sym, subst}
-use Rattle.zk_agent.specs.Agents.{told_by}
+use Rattle.zk_agent.specs.Telling.{told_by}
 use Rattle.zk_agent.specs.declared.action.Action.{Action}
 use Rattle.zk_driver.specs.Driving.{course_of, Course, Extends}
 use Rattle.zk_driver.proofs.Carrying.{always_err, extends_on}

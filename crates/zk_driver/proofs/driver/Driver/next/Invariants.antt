@@ -1,5 +1,5 @@
 use Rattle.std.proofs.Common.{None}
-use Rattle.zk_agent.specs.Agents.{told_by}
+use Rattle.zk_agent.specs.Telling.{told_by}
 use Rattle.zk_driver.specs.Driving.{course_of, Extends, Goes}
 use Rattle.zk_driver.proofs.driver.Driver.next.Given as goal
 

@@ -1,5 +1,5 @@
 use Rattle.std.proofs.Common.{None, refl}
-use Rattle.zk_agent.specs.Agents.{told_by}
+use Rattle.zk_agent.specs.Telling.{told_by}
 use Rattle.zk_agent.specs.declared.input.Input.TheVariants as happens
 use Rattle.zk_driver.specs.Driving.{channel_view, course_of}
 use Rattle.zk_driver.proofs.Carrying.{extends_on}

@@ -1,5 +1,5 @@
 use Rattle.std.proofs.Common.{refl}
-use Rattle.zk_agent.specs.Agents.{told_by}
+use Rattle.zk_agent.specs.Telling.{told_by}
 use Rattle.zk_driver.specs.Driving.{channel_view}
 use Rattle.zk_driver.proofs.engine.Engine.hand.Goals as goal
 
@@ -11,6 +11,9 @@ returns-clause-hands g c = record {
     actions = c.in-Ok.actions.items;
     comes = c.in-Ok.ensures.comes;
     followed = c.in-Ok.ensures.followed;
+    calls = c.in-Ok.ensures.calls;
+    served = c.in-Ok.ensures.served;
+    limits = c.in-Ok.ensures.limits;
     latest = c.in-Ok.ensures.latest;
     heard = c.in-Ok.ensures.heard;
     channel = c.in-Ok-carry_all.ensures.channel;
