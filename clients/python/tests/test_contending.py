@@ -4,6 +4,7 @@ from __future__ import annotations
 
 import contextlib
 import functools
+import threading
 import time
 import unittest
 from collections.abc import Iterator
@@ -11,13 +12,14 @@ from typing import Any, Callable, Optional
 from unittest import mock
 
 from both import AioCase, BothCase, in_thread
-from support import WAIT, within
+from support import WAIT, PartnerCase, within
 
 import dirwolleu
-from dirwolleu import LockLostError, LockTimeout, ZookeeperError
+from dirwolleu import Client, Lock, LockLostError, LockTimeout, NoNodeError, TransactionFailedError, ZookeeperError
 from dirwolleu import _requests as requests
 from dirwolleu._contending import _check_number
 from dirwolleu._library import Listing, Standing
+from dirwolleu._retry import is_passing
 
 Asked = Callable[[Any, Any], Any]
 """Is told of a request and who waits for its answer, and says who is to wait in its place."""
@@ -192,6 +194,47 @@ class AioTest(AioCase, ContendingRules):
     pass
 
 
+class OutageTest(PartnerCase):
+    """Contenders whose connections and sessions end at any time: each write is guarded by the node of its lock, and tokens rise."""
+
+    def work(self, client: Client, is_over: threading.Event, tokens: list[int]) -> None:
+        lock = Lock(client, "/locks", keeps_while_suspended=True)
+        while not is_over.is_set():
+            try:
+                with lock as held:
+                    held.check()
+                    data, stat = client.get("/state")
+                    self.assertLessEqual(int(data or b""), held.token)
+                    with client.transaction() as transaction:
+                        transaction.check(held.path, -1)
+                        transaction.set_data("/state", b"%d" % held.token, stat.version)
+                    tokens.append(held.token)
+            except TransactionFailedError as refused:
+                self.assertIsInstance(refused.error, NoNodeError)  # and never another writer's version
+            except LockLostError:
+                pass
+            except ZookeeperError as error:
+                self.assertTrue(is_passing(error), error)
+
+    def test_no_two_write_through_outages(self) -> None:
+        server, is_over, tokens = self.partner(), threading.Event(), list[int]()
+        clients = [Client(server.host, 4.0) for _ in range(4)]
+        for client in clients:
+            self.addCleanup(client.close)
+            self.addCleanup(client.stop)
+            client.start(WAIT)
+        clients[0].ensure_path("/locks")
+        clients[0].create("/state", b"0")
+        ends = [in_thread(functools.partial(self.work, client, is_over, tokens)) for client in clients]
+        for end in 2 * ["drop", "drop", "expire", "drop", "down", "up", "expire", "drop"]:
+            server.do(end)
+            time.sleep(0.15)
+        is_over.set()
+        self.assertEqual([end.get(timeout=6 * WAIT) for end in ends], 4 * [None])
+        self.assertGreater(len(tokens), 4)
+        self.assertEqual(clients[0].retry(clients[0].get_children, "/locks"), [])
+
+
 class NumberTest(unittest.TestCase):
     def test_numbers_that_are_used_up_are_told(self) -> None:
         """After 2,147,483,647 the servers go on with -2147483648."""
@@ -204,7 +247,7 @@ class NumberTest(unittest.TestCase):
 
 def load_tests(loader: unittest.TestLoader, *_: Any) -> unittest.TestSuite:
     """The rules are no test by themselves."""
-    return unittest.TestSuite(loader.loadTestsFromTestCase(one) for one in (ThreadsTest, AioTest, NumberTest))
+    return unittest.TestSuite(loader.loadTestsFromTestCase(one) for one in (ThreadsTest, AioTest, OutageTest, NumberTest))
 
 
 if __name__ == "__main__":
