@@ -5,6 +5,7 @@ use crate::engine::Engine;
 use crate::fault::Fault;
 use crate::kept::{Children, DataAnswer, Kept, Mark};
 use crate::saved::SavedSession;
+use crate::snapshot::Snapshot;
 use std::fmt;
 use std::time::Duration;
 
@@ -121,6 +122,35 @@ impl View<'_> {
     pub fn children_mark(&self, path: &str) -> Result<Option<Mark>, Fault> {
         self.at(path, Client::children_mark)
     }
+
+    /// What is kept of these nodes, and of the names below these parents, all of it of one moment; none where some of it is not kept, or
+    /// not good: then read that again, with a watch. Of a node that is not there, [`watch`](crate::Session::watch) has its absence kept.
+    ///
+    /// # Errors
+    ///
+    /// As [`peek`](View::peek), of the first of them that is no path.
+    pub fn snapshot(&self, nodes: &[&str], parents: &[&str]) -> Result<Option<Snapshot>, Fault> {
+        let data = nodes.iter().map(|path| self.peek(path).map(good));
+        let data = data.collect::<Result<Vec<_>, _>>()?;
+        let names = parents
+            .iter()
+            .map(|path| self.peek_children(path).map(good));
+        let names = names.collect::<Result<Vec<_>, _>>()?;
+        let (nodes, children) = (data.into_iter().collect(), names.into_iter().collect());
+        Ok(
+            Option::zip(nodes, children).map(|(nodes, children)| Snapshot {
+                zxid: self.last_zxid(),
+                nodes,
+                children,
+            }),
+        )
+    }
+}
+
+/// What is kept, where it is good.
+fn good<T>(kept: Option<Kept<T>>) -> Option<T> {
+    kept.filter(|kept| kept.mark == Mark::Good)
+        .map(|kept| kept.answer)
 }
 
 impl fmt::Debug for View<'_> {
