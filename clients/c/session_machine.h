@@ -125,6 +125,7 @@ static inline void dws_answer_rest(dws_session *s)
 }
 
 static inline void dws_hang_up(dws_session *s);
+static inline void dws_begin_trees(dws_session *s, bool is_lost);
 
 /* Memory ran out, or what the library answers is not known: the session is over. */
 static inline void dws_fail(dws_session *s, enum dw_result result)
@@ -132,6 +133,7 @@ static inline void dws_fail(dws_session *s, enum dw_result result)
     if (s->result == DW_OK) {
         s->result = result;
         s->is_over = true;
+        dws_begin_trees(s, true);
         dws_hang_up(s);
         dws_tell(s, DWS_FAILED, dw_result_words(result));
         dws_answer_rest(s);
@@ -374,15 +376,18 @@ static inline void dws_take_state(dws_session *s, enum dw_state state)
         s->is_admitted = true;
         s->is_expired = false;
         s->admitted_ms = s->now_ms;
+        dws_begin_trees(s, false);
         dws_tell(s, DWS_CONNECTED, "connected");
     } else if (state == DW_STATE_EXPIRED) {
         s->is_expired = true;
         s->is_over = s->is_over || s->options.is_over_at_expiry;
         s->pause_ms = DWS_FIRST_PAUSE_MS;
+        dws_begin_trees(s, true);
         dws_hang_up(s);
         dws_tell(s, DWS_EXPIRED, "the session has expired");
     } else if (state == DW_STATE_CLOSED) {
         s->is_over = true;
+        dws_begin_trees(s, true);
         dws_hang_up(s);
         dws_tell(s, DWS_CLOSED, "the session is closed");
     }
@@ -398,12 +403,23 @@ static inline void dws_take_drop(dws_session *s)
     dws_tell(s, DWS_CUT, result == DW_OK ? words : dw_result_words(result));
 }
 
+static inline void dws_hear_of_trees(dws_session *s, const dw_output *output);
+
+/* What is kept has become stale, which a subject shows. */
+static inline void dws_take_report(dws_session *s, const dw_output *output)
+{
+    s->has_news = true;
+    if (s->trees != NULL) {
+        dws_hear_of_trees(s, output);
+    }
+}
+
 static inline void dws_take(dws_session *s, const dw_output *output)
 {
     switch (output->kind) {
     case DW_KIND_SEND: dws_send_later(s, output->length); break;
     case DW_KIND_ANSWER: dws_take_answer(s, output); break;
-    case DW_KIND_REPORT: s->has_news = true; break; /* what is kept has become stale, which a subject shows */
+    case DW_KIND_REPORT: dws_take_report(s, output); break;
     case DW_KIND_STATE: dws_take_state(s, output->state); break;
     case DW_KIND_DROP: dws_take_drop(s); break;
     }

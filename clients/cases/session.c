@@ -5,7 +5,9 @@
 static dws_call call;
 static dws_lock lock;
 static dws_subject followed;
-static bool is_news;
+static dws_tree tree;
+static bool is_news, is_shown;
+static char told[4000];
 static int64_t last_token;
 
 static void print_line(const char *text)
@@ -110,6 +112,65 @@ static void print_next(dws_session *session)
     fflush(stdout);
 }
 
+static void take_tree(dws_session *session, dws_tree *shown)
+{
+    (void)session;
+    (void)shown;
+    is_shown = true;
+}
+
+static int compare_nodes(const void *one, const void *other)
+{
+    return strcmp((*(const dws_node *const *)one)->path, (*(const dws_node *const *)other)->path);
+}
+
+/* Writes each node, in the order of the bytes of their paths. */
+static void write_nodes(char *room, size_t size)
+{
+    const dws_node *in_order[100];
+    size_t length = 0;
+    for (size_t i = 0; i < tree.count && i < 100; i++) {
+        in_order[i] = &tree.nodes[i];
+    }
+    qsort(in_order, tree.count, sizeof in_order[0], compare_nodes);
+    for (size_t i = 0; i < tree.count && length < size; i++) {
+        length += (size_t)snprintf(room + length, size - length, "%s%s=%s", i > 0 ? " " : "", in_order[i]->path, in_order[i]->data);
+    }
+}
+
+static void follow_tree(dws_session *session, const char *path, const char *most)
+{
+    char why[DWS_LONGEST_LINE];
+    if (tree.path != NULL) {
+        dws_unfollow_tree(session, &tree);
+    }
+    is_shown = false;
+    told[0] = 0;
+    enum dw_result result = dws_follow_tree(session, &tree, path, most != NULL ? strtoul(most, NULL, 10) : 0, take_tree);
+    if (result != DW_OK) {
+        write_result(why, sizeof why, result, path);
+        print_line(why);
+    }
+}
+
+/* Prints what is told of the tree next, where it is another thing than before. */
+static void print_subtree(dws_session *session)
+{
+    char said[sizeof told] = "";
+    do {
+        while (!is_shown && dws_turn(session)) {
+        }
+        is_shown = false;
+        if (tree.why != 0) {
+            dws_tree_words(session, &tree, said, sizeof said);
+        } else {
+            write_nodes(said, sizeof said);
+        }
+    } while (strcmp(said, told) == 0);
+    strcpy(told, said);
+    print_line(said);
+}
+
 static void take_lock(dws_session *session, const char *path)
 {
     dws_lock_take(session, &lock, path, DWS_EXCLUSIVE, "", NULL);
@@ -141,6 +202,10 @@ static bool obey(dws_session *session, char *line)
         dws_follow(session, &followed, path, note);
     } else if (strcmp(name, "next") == 0) {
         print_next(session);
+    } else if (strcmp(name, "tree") == 0) {
+        follow_tree(session, path, data);
+    } else if (strcmp(name, "subtree") == 0) {
+        print_subtree(session);
     } else if (strcmp(name, "lock") == 0) {
         take_lock(session, path);
     } else if (strcmp(name, "check") == 0 || strcmp(name, "release") == 0) {

@@ -4,7 +4,8 @@ from __future__ import annotations
 
 import pathlib
 import sys
-from typing import Callable
+import time
+from typing import Callable, Optional
 
 sys.path.insert(0, str(pathlib.Path(__file__).resolve().parents[1] / "python"))
 
@@ -19,6 +20,7 @@ class Told:
     def __init__(self, client: dirwolleu.Client) -> None:
         self.client = client
         self.token = 0
+        self.told: Optional[str] = None
 
     def get(self, path: str) -> str:
         data, stat = self.client.get(path)
@@ -53,6 +55,23 @@ class Told:
     def next(self) -> str:
         kept = next(self.followed)
         return f"data {(kept.data or b'').decode()}" if kept.exists else "none"
+
+    def tree(self, path: str) -> None:
+        self.grown, self.told = self.client.tree(path), None
+        self.snapshots = self.grown.snapshots()
+
+    def subtree(self) -> str:
+        """What is told of the tree next, where it is another thing than before."""
+        while True:
+            try:
+                snapshot = next(self.snapshots)
+                said = " ".join(f"{path}={(node.data or b'').decode()}" for path, node in sorted(snapshot.items()))
+            except dirwolleu.NoNodeError as error:
+                said, self.snapshots = str(error), self.grown.snapshots()
+                time.sleep(0.01)  # the tree tells a trouble again and again
+            if said != self.told:
+                self.told = said
+                return said
 
     def lock(self, path: str) -> str:
         self.held = dirwolleu.Lock(self.client, path).acquire()

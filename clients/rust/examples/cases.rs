@@ -1,6 +1,9 @@
 //! A session that does what it is told, for the table of cases, `clients/cases`: `cases HOSTS TRIES`.
 
-use dirwolleu::{Follow, Lock, Mode, Retry, Session, SessionOptions, Sharing};
+use dirwolleu::{
+    Follow, Lock, Mode, Retry, Session, SessionOptions, Sharing, Snapshots, SubtreeNode,
+    TreeSnapshot,
+};
 use std::env;
 use std::error::Error;
 use std::io;
@@ -12,6 +15,8 @@ type Answer = Result<String, Box<dyn Error>>;
 struct Told<'a> {
     session: &'a Session,
     followed: Option<Follow<'a>>,
+    tree: Option<Snapshots<'static>>,
+    told: Option<String>,
     lock: Option<Lock<'a>>,
     token: i64,
 }
@@ -26,6 +31,14 @@ fn data_of(word: &str) -> &[u8] {
 
 fn shown(data: Option<Vec<u8>>) -> String {
     String::from_utf8_lossy(&data.unwrap_or_default()).into_owned()
+}
+
+/// Each node, in the order of the bytes of their paths.
+fn shown_tree(snapshot: &TreeSnapshot) -> String {
+    let mut nodes: Vec<&SubtreeNode> = snapshot.iter().collect();
+    nodes.sort_by_key(|node| &node.path);
+    let shown = |node: &SubtreeNode| format!("{}={}", node.path, shown(node.data.clone()));
+    nodes.into_iter().map(shown).collect::<Vec<_>>().join(" ")
 }
 
 impl Told<'_> {
@@ -66,6 +79,28 @@ impl Told<'_> {
         let node = followed.next().ok_or("the session is over")??;
         let data = node.map(|node| format!("data {}", shown(node.data)));
         Ok(data.unwrap_or_else(|| String::from("none")))
+    }
+
+    fn follow_tree(&mut self, path: &str, most: Option<&str>) -> Result<(), Box<dyn Error>> {
+        let tree = match most {
+            Some(most) => self.session.bounded_tree(path, most.parse()?),
+            None => self.session.tree(path),
+        };
+        self.told = None;
+        self.tree = Some(Box::leak(Box::new(tree?)).snapshots()); // for as long as the program lives
+        Ok(())
+    }
+
+    /// What is told of the tree next, where it is another thing than before.
+    fn subtree(&mut self) -> Answer {
+        let snapshots = self.tree.as_mut().ok_or("there is no tree")?;
+        let mut said = snapshots.map(|news| match news {
+            Ok(snapshot) => shown_tree(&snapshot),
+            Err(trouble) => trouble.to_string(),
+        });
+        let told = self.told.take();
+        self.told = said.find(|said| Some(said) != told.as_ref());
+        Ok(self.told.clone().ok_or("the session is over")?)
     }
 
     fn lock(&mut self, path: &str) -> Answer {
@@ -124,6 +159,15 @@ impl Told<'_> {
                 return Ok(None);
             }
             ["next"] => self.next()?,
+            ["tree", path] => {
+                self.follow_tree(path, None)?;
+                return Ok(None);
+            }
+            ["tree", path, most] => {
+                self.follow_tree(path, Some(most))?;
+                return Ok(None);
+            }
+            ["subtree"] => self.subtree()?,
             ["lock", path] => self.lock(path)?,
             ["check"] => self.check()?,
             ["release"] => self.release()?,
@@ -152,6 +196,8 @@ fn main() -> Result<(), Box<dyn Error>> {
     let mut told = Told {
         session: &session,
         followed: None,
+        tree: None,
+        told: None,
         lock: None,
         token: 0,
     };
