@@ -87,6 +87,7 @@ enum dws_event {
     DWS_READ_REFUSED,   /* the read of a subject was refused; it is read again */
     DWS_EXPIRED,        /* the session has expired: its ephemeral nodes and its watches are gone */
     DWS_CLOSED,         /* it was closed, as it was asked */
+    DWS_BARRED,         /* the server does not take the credentials of the session, which is over: lane.h */
     DWS_FAILED          /* memory ran out: the session is over */
 };
 
@@ -116,7 +117,7 @@ typedef struct dws_options {
     void *context;          /* is passed to read and write; dws_context gives it */
 } dws_options;
 
-enum dws_kind { DWS_EXISTS, DWS_GET, DWS_CHILDREN, DWS_SET, DWS_CREATE, DWS_DELETE, DWS_CLOSE };
+enum dws_kind { DWS_EXISTS, DWS_GET, DWS_CHILDREN, DWS_SET, DWS_CREATE, DWS_DELETE, DWS_CLOSE, DWS_BESIDE /* lane.h */ };
 
 /* A question, and its answer. */
 struct dws_call {
@@ -136,7 +137,7 @@ struct dws_call {
     enum dws_kind kind;
     char *path, *bytes;
     size_t bytes_length, room, names_room;
-    bool watch, is_null_sent;
+    bool watch, is_null_sent, is_repeatable;
     int32_t number;
     int tries_left;
     uint64_t ticket, asked_ms, until_ms, again_ms, pause_ms;
@@ -332,9 +333,21 @@ struct dws_line {
     size_t count;
 };
 
+/* What asks beside the library, on the same connection: lane.h. */
+struct dws_beside {
+    enum dw_result (*ask)(dws_session *s, dws_call *call);                                       /* a call is to be written */
+    void (*begin)(dws_session *s);                                                               /* a connection begins */
+    void (*hear)(dws_session *s, uint64_t came_ms, const uint8_t *bytes, size_t length);         /* bytes came from the server */
+    void (*end)(dws_session *s);                                                                 /* the connection is over */
+    bool (*write_words)(dws_session *s, const dws_call *call, char *room, size_t size);          /* why a call has failed, where it has words */
+    void (*release)(dws_session *s);                                                             /* the session is freed */
+};
+
 struct dws_session {
     dw_client client;
     dws_options options;
+    struct dws_beside *beside;         /* NULL where nothing was asked so */
+    int32_t barred;                    /* the code of the server that does not take the credentials */
     char *hosts_text, *root;           /* the connection string, and the chroot in it: nothing where there is none */
     struct dws_host *hosts;            /* in the order in which they are dialled in this round */
     size_t host_count, host, address;  /* whose turn it is, and which of its addresses */
@@ -600,8 +613,12 @@ static inline void dws_write_place(const dws_session *s, const dws_call *call, c
 
 static inline void dws_words(dws_session *s, const dws_call *call, char *room, size_t size)
 {
-    char path[DWS_LONGEST_LINE];
-    dws_write_place(s, call, path, sizeof path);
+    char place[DWS_LONGEST_LINE];
+    const char *path = call->path != NULL ? place : NULL;
+    dws_write_place(s, call, place, sizeof place);
+    if (call->kind == DWS_BESIDE && s->beside != NULL && s->beside->write_words(s, call, room, size)) {
+        return;
+    }
     if (call->why > DWS_REFUSED) {
         write_result(room, size, (enum dw_result)(DWS_REFUSED - call->why), path);
     } else if (call->why == DW_OUTCOME_NOT_CONNECTED) {
@@ -717,6 +734,9 @@ static inline void dws_free(dws_session *s)
     }
     dws_answer_rest(s);
     dws_hang_up(s);
+    if (s->beside != NULL) {
+        s->beside->release(s);
+    }
     dw_close(&s->client);
     dws_release(&s->close);
     free(s->unsent.bytes);

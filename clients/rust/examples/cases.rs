@@ -1,8 +1,8 @@
 //! A session that does what it is told, for the table of cases, `clients/cases`: `cases HOSTS TRIES`.
 
 use dirwolleu::{
-    Follow, Lock, Mode, Retry, Session, SessionOptions, Sharing, Snapshots, SubtreeNode,
-    TreeSnapshot,
+    Acl, Follow, Lock, Mode, Permissions, Retry, Session, SessionOptions, Sharing, Snapshots,
+    SubtreeNode, TreeSnapshot,
 };
 use std::env;
 use std::error::Error;
@@ -31,6 +31,36 @@ fn data_of(word: &str) -> &[u8] {
 
 fn shown(data: Option<Vec<u8>>) -> String {
     String::from_utf8_lossy(&data.unwrap_or_default()).into_owned()
+}
+
+/// What somebody may do, by letters.
+const LETTERS: [(char, Permissions); 5] = [
+    ('r', Permissions::READ),
+    ('w', Permissions::WRITE),
+    ('c', Permissions::CREATE),
+    ('d', Permissions::DELETE),
+    ('a', Permissions::ADMIN),
+];
+
+/// The lines of an ACL: `SCHEME:ID:LETTERS` each.
+fn acls_of(words: &[&str]) -> Result<Vec<Acl>, Box<dyn Error>> {
+    let line = |word: &&str| {
+        let mut parts = word.split(':');
+        let (Some(scheme), Some(id), Some(letters)) = (parts.next(), parts.next(), parts.next())
+        else {
+            return Err("this is no line of an ACL".into());
+        };
+        let named = LETTERS.iter().filter(|one| letters.contains(one.0));
+        let all = named.fold(Permissions::default(), |all, one| all | one.1);
+        Ok(Acl::new(all, scheme, id))
+    };
+    words.iter().map(line).collect()
+}
+
+fn shown_acl(acl: &Acl) -> String {
+    let named = LETTERS.iter().filter(|one| acl.permissions.contains(one.1));
+    let letters: String = named.map(|one| one.0).collect();
+    format!("{}:{}:{letters}", acl.scheme, acl.id)
 }
 
 /// Each node, in the order of the bytes of their paths.
@@ -134,7 +164,10 @@ impl Told<'_> {
                 ["check", path, version, rest @ ..] => {
                     (transaction.check(path, version.parse()?), rest)
                 }
-                ["delete", path, rest @ ..] => (transaction.delete(path, -1), rest),
+                ["delete", path, rest @ ..] => {
+                    paths.push(*path);
+                    (transaction.delete(path, -1), rest)
+                }
                 ["set", path, data, rest @ ..] => {
                     paths.push(*path);
                     (transaction.set(path, data_of(data), -1), rest)
@@ -149,6 +182,36 @@ impl Told<'_> {
         }
         transaction.commit()?;
         Ok(paths.join(" "))
+    }
+
+    /// What is asked beside the core, except transactions.
+    fn ask_beside(&self, words: &[&str]) -> Answer {
+        Ok(match words {
+            ["sync", path] => {
+                self.session.sync(path)?;
+                String::from("done")
+            }
+            ["auth", scheme, secret] => {
+                self.session.add_auth(scheme, secret.as_bytes())?;
+                String::from("done")
+            }
+            ["acls", path] => {
+                let (acls, stat) = self.session.acls(path)?;
+                let lines: Vec<String> = acls.iter().map(shown_acl).collect();
+                format!("{} version {}", lines.join(" "), stat.aversion)
+            }
+            ["set_acls", path, version, words @ ..] => {
+                let (acls, version) = (acls_of(words)?, version.parse()?);
+                let stat = self.session.set_acls(path, &acls, version)?;
+                format!("version {}", stat.aversion)
+            }
+            ["create_with_acls", path, data, words @ ..] => {
+                let (acls, mode) = (acls_of(words)?, Mode::Persistent);
+                self.session
+                    .create_with_acls(path, data_of(data), mode, &acls)?
+            }
+            _ => return Err("this is no command".into()),
+        })
     }
 
     /// Does what a line says. Nothing is answered where it is to be gone on.
@@ -172,9 +235,8 @@ impl Told<'_> {
             ["check"] => self.check()?,
             ["release"] => self.release()?,
             ["transaction", words @ ..] => self.commit(words)?,
-            ["sync", path] => {
-                self.session.sync(path)?;
-                String::from("done")
+            ["sync" | "auth" | "acls" | "set_acls" | "create_with_acls", ..] => {
+                self.ask_beside(words)?
             }
             ["set", path, data, version] => {
                 let set = self.session.set(path, data_of(data), version.parse()?);

@@ -422,7 +422,7 @@ impl Engine {
         looked.map_err(|fault| fault.at(path))?;
         let shown = Arc::new(Shown::of(path));
         self.grove.plant(&shown, root.into_owned(), most);
-        self.told.reports.get_or_insert_with(Vec::new);
+        self.told.fired.get_or_insert_with(Vec::new);
         Ok(shown)
     }
 
@@ -432,8 +432,8 @@ impl Engine {
             return;
         }
         self.grove.clear();
-        if let Some(reports) = &mut self.told.reports {
-            self.grove.hear(&mem::take(reports));
+        if let Some(fired) = &mut self.told.fired {
+            self.grove.hear(&mem::take(fired));
         }
         if self.is_over() || self.client.state().is_final() {
             self.grove.is_past();

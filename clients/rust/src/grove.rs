@@ -4,7 +4,7 @@ use crate::growing::{Ground, Growing, Shown};
 use crate::moment::Moment;
 use crate::request::CoreCall;
 use crate::subtree::Lacking;
-use crate::told::{Outcome, Report};
+use crate::told::{Fired, Outcome};
 use std::collections::HashMap;
 use std::sync::{Arc, Weak};
 
@@ -66,10 +66,10 @@ impl Grove {
     }
 
     /// Watches have fired.
-    pub(crate) fn hear(&mut self, reports: &[Report]) {
+    pub(crate) fn hear(&mut self, all: &[Fired]) {
         for tree in self.all() {
-            for report in reports {
-                tree.hear(report);
+            for fired in all {
+                tree.hear(fired);
             }
         }
     }

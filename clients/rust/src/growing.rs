@@ -12,7 +12,7 @@ use crate::moment::{Clock, Moment};
 use crate::node::{NodeEvent, Side, Watch};
 use crate::request::CoreCall;
 use crate::subtree::Lacking;
-use crate::told::{Outcome, Report};
+use crate::told::{Fired, Outcome};
 use crate::tree_snapshot::{is_below, TreeSnapshot};
 use std::collections::{HashMap, VecDeque};
 use std::fmt;
@@ -206,8 +206,8 @@ impl Growing {
     }
 
     /// What was good of a path has ended. Of a node that was deleted the names above tell.
-    pub(crate) fn hear(&mut self, report: &Report) {
-        let Report { path, side, event } = report;
+    pub(crate) fn hear(&mut self, fired: &Fired) {
+        let Fired { path, side, event } = fired;
         let is_root = *path == self.root;
         if !is_root && !is_below(path, &self.root) {
             return;

@@ -77,7 +77,7 @@ pub(crate) type Outcome = Result<Found, ErrorKind>;
 
 /// A watch has fired, of a path as the servers know it.
 #[derive(Debug)]
-pub(crate) struct Report {
+pub(crate) struct Fired {
     pub(crate) path: String,
     pub(crate) side: Side,
     pub(crate) event: NodeEvent,
@@ -95,7 +95,7 @@ pub(crate) struct Told {
     /// What was told of the server since this was taken.
     pub(crate) news: News,
     /// The watches that have fired, where somebody wants to know.
-    pub(crate) reports: Option<Vec<Report>>,
+    pub(crate) fired: Option<Vec<Fired>>,
     chroot: Chroot,
     events: VecDeque<Event>,
     missed: u64,
@@ -178,9 +178,9 @@ impl Told {
     }
 
     fn tell_report(&mut self, outer: String, side: Side, event: NodeEvent) {
-        if let Some(reports) = &mut self.reports {
+        if let Some(fired) = &mut self.fired {
             let path = outer.clone();
-            reports.push(Report { path, side, event });
+            fired.push(Fired { path, side, event });
         }
         let path = self.chroot.inner(outer);
         self.tell(Event::Report { path, side, event });
