@@ -1,11 +1,9 @@
 //! Locks and elections, at the server in memory. Where there is no python3, each test says so and passes.
 
-mod server;
-
+use crate::server::Server;
 use dirwolleu::{
     Code, Election, Error, ErrorKind, Lock, Mark, Mode, NoReply, Session, Sharing, ANY_VERSION,
 };
-use server::Server;
 use std::sync::mpsc;
 use std::thread;
 use std::time::Duration;

@@ -1,23 +1,18 @@
 //! Trees that are followed, at the server in memory, and at one that does what a test says. Where there is no python3, each test that
 //! wants the server in memory says so and passes.
 
-mod jute;
-mod partner;
-mod server;
-
+use crate::jute::{Record, EXISTS, GET_CHILDREN_2, GET_DATA, PING, PONG};
+use crate::partner::{Line, Partner};
+use crate::runtime::block_on;
+use crate::server::Server;
 use dirwolleu::{
     Code, DataAnswer, Error, ErrorKind, Fault, LocalSession, Mark, Mode, NoReply, Request, Session,
     SessionOptions, Snapshots, SubtreeNode, Tree, TreeSnapshot,
 };
-use jute::{Record, EXISTS, GET_CHILDREN_2, GET_DATA, PING, PONG};
-use partner::{Line, Partner};
-use server::Server;
-use std::future::{poll_fn, Future};
-use std::pin::pin;
+use std::future::poll_fn;
 use std::sync::atomic::{AtomicBool, Ordering};
 use std::sync::{mpsc, Arc};
-use std::task::{Context, Poll, Wake};
-use std::thread::{self, Thread};
+use std::thread::{self};
 use std::time::{Duration, Instant};
 
 const TIMEOUT: Duration = Duration::from_secs(10);
@@ -300,30 +295,6 @@ fn a_session_without_a_thread_has_trees() {
     server.tell("expire");
     let expired = session.next_snapshot(&mut tree, until()).unwrap_err();
     assert_eq!(expired.no_reply(), Some(NoReply::SessionExpired));
-}
-
-/// Wakes a thread.
-struct Unpark(Thread);
-
-impl Wake for Unpark {
-    fn wake(self: Arc<Self>) {
-        self.0.unpark();
-    }
-}
-
-/// Waits for a future that others wake.
-fn block_on<F: Future>(future: F) -> F::Output {
-    let mut future = pin!(future);
-    let waker = Arc::new(Unpark(thread::current())).into();
-    let mut context = Context::from_waker(&waker);
-    let until = Instant::now() + PATIENCE;
-    loop {
-        match future.as_mut().poll(&mut context) {
-            Poll::Ready(output) => return output,
-            Poll::Pending => thread::park_timeout(PATIENCE),
-        }
-        assert!(Instant::now() < until, "nobody has woken it");
-    }
 }
 
 #[test]

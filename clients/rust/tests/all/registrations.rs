@@ -1,9 +1,7 @@
 //! Registrations, at the server in memory. Where there is no python3, each test says so and passes.
 
-mod server;
-
+use crate::server::Server;
 use dirwolleu::{NoReply, Registration, Session, SessionOptions, SharedSession};
-use server::Server;
 use std::thread::sleep;
 use std::time::{Duration, Instant};
 
