@@ -62,6 +62,19 @@ fn a_node_is_made_again_by_the_next_session() {
 }
 
 #[test]
+fn a_registration_that_ends_at_once_leaves_no_node() {
+    let Some(server) = Server::start(&[]) else {
+        return;
+    };
+    let session = renewing(&server);
+    for _ in 0..50 {
+        let registration = Registration::begin(&session, "/host", b"one").unwrap();
+        assert_eq!(registration.end(), Ok(()));
+        assert_eq!(session.exists("/host"), Ok(None));
+    }
+}
+
+#[test]
 fn the_node_of_an_older_session_is_waited_for() {
     let Some(server) = Server::start(&[]) else {
         return;
