@@ -1,5 +1,5 @@
-/* A session over POSIX sockets, for loops by poll and for small programs that wait: connection strings, calls, nodes that are followed. It is
- * tested, and not proved; what it keeps is the library's, dirwolleu.h. Define _POSIX_C_SOURCE as 200809L before it. It is C11 and C++11.
+/* A session over POSIX sockets, for loops by poll and for small programs that wait: connection strings, calls, nodes and trees that are followed.
+ * It is tested, and not proved; what it keeps is the library's, dirwolleu.h. Define _POSIX_C_SOURCE as 200809L before it. It is C11 and C++11.
  *
  *     static void show(dws_session *session, dws_subject *node)
  *     {
@@ -23,8 +23,8 @@
  * A loop of a program's own has dws_wanted tell what poll is to wait for and how long, and dws_go_on take what poll has told; dws_turn is both
  * for one session. One thread at a time uses a session. Callbacks may ask, follow and end; they do not wait, go on or free the session.
  *
- * A call, a subject and options begin as zeros: static, or by memset, or = {0} in C and = {} in C++. A call is used by one question at a time,
- * and lives until it is answered; a subject lives until dws_unfollow or dws_free. */
+ * A call, a subject, a tree and options begin as zeros: static, or by memset, or = {0} in C and = {} in C++. A call is used by one question at a
+ * time, and lives until it is answered; a subject lives until dws_unfollow or dws_free, and a tree until dws_unfollow_tree or dws_free. */
 #ifndef DIRWOLLEU_SESSION_H
 #define DIRWOLLEU_SESSION_H
 
@@ -67,12 +67,16 @@ enum {
     DWS_PIECE = 65536,           /* the most bytes that are read at once */
     DWS_LONGEST_HOST = 256,      /* the most bytes of a host's name */
     DWS_LONGEST_LINE = 5120,     /* the most bytes of a message with a path */
+    DWS_MOST_NODES = 65536,      /* the most nodes of a tree, where a program says nothing else: as many as the library watches */
+    DWS_MOST_READS = 256,        /* reads of one tree that are on their way at once */
+    DWS_SHARE = 10,              /* a look at a whole tree takes at most this part of the time: after one that took long, the next one waits */
     DWS_REFUSED = 100            /* why a call was not asked: DWS_REFUSED less what the library answered, which is below 0 */
 };
 
 typedef struct dws_session dws_session;
 typedef struct dws_call dws_call;
 typedef struct dws_subject dws_subject;
+typedef struct dws_tree dws_tree;
 typedef struct dws_wire dws_wire;
 
 /* What a session tells besides, with the server and words. */
@@ -83,6 +87,7 @@ enum dws_event {
     DWS_READ_REFUSED,   /* the read of a subject was refused; it is read again */
     DWS_EXPIRED,        /* the session has expired: its ephemeral nodes and its watches are gone */
     DWS_CLOSED,         /* it was closed, as it was asked */
+    DWS_BARRED,         /* the server does not take the credentials of the session, which is over: lane.h */
     DWS_FAILED          /* memory ran out: the session is over */
 };
 
@@ -112,7 +117,7 @@ typedef struct dws_options {
     void *context;          /* is passed to read and write; dws_context gives it */
 } dws_options;
 
-enum dws_kind { DWS_EXISTS, DWS_GET, DWS_CHILDREN, DWS_SET, DWS_CREATE, DWS_DELETE, DWS_CLOSE };
+enum dws_kind { DWS_EXISTS, DWS_GET, DWS_CHILDREN, DWS_SET, DWS_CREATE, DWS_DELETE, DWS_CLOSE, DWS_BESIDE /* lane.h */ };
 
 /* A question, and its answer. */
 struct dws_call {
@@ -132,7 +137,7 @@ struct dws_call {
     enum dws_kind kind;
     char *path, *bytes;
     size_t bytes_length, room, names_room;
-    bool watch, is_null_sent;
+    bool watch, is_null_sent, is_repeatable;
     int32_t number;
     int tries_left;
     uint64_t ticket, asked_ms, until_ms, again_ms, pause_ms;
@@ -160,6 +165,43 @@ struct dws_subject {
     bool is_asked, is_missing, is_changed;
     uint64_t read_at_ms;
     dws_subject *next;
+};
+
+/* A node of a tree. Both texts have a 0 after them. */
+typedef struct dws_node {
+    const char *path;
+    const char *data;
+    size_t length;     /* of the data */
+    bool is_null;      /* the data are null */
+    dw_data_stat stat;
+    int64_t pzxid;     /* of the last change of the names below it */
+} dws_node;
+
+/* Records of a tree, which are the session's own. */
+struct dws_texts {
+    uint8_t *bytes;
+    size_t length, room, at;
+};
+
+/* All nodes at and below a path, of one moment, which are read again after each change. What is shown of it stays until the next `shown`: */
+struct dws_tree {
+    bool is_good;             /* nothing that was told has ended it: it is the servers' subtree at the last zxid, too */
+    int64_t zxid;             /* at which the servers had just these nodes */
+    dws_node *nodes;          /* each node is followed by all that are below it, in the byte order of their names: the first one is the root */
+    size_t count;             /* how many there are: 0 before they are known */
+    int32_t why;              /* why there are no newer ones, as of a call, or 0 where they are read still. dws_tree_words has words */
+    void *context;            /* the program's own */
+    /* The session's own. */
+    void (*shown)(dws_session *session, dws_tree *tree);
+    char *path, *trouble;     /* the root, and the path for which there are no newer ones */
+    size_t most;
+    struct dws_texts text, lacking; /* the nodes, and the reads that are to be asked, of which those before `at` were */
+    size_t nodes_room;
+    dws_call *reads, *idle;   /* all of them, and those that ask nothing */
+    size_t asked;
+    bool must_look, has_moved, is_missing, is_changed;
+    uint64_t look_at_ms;
+    dws_tree *next;
 };
 
 /* Opens a session at these hosts: HOST:PORT,HOST:PORT/CHROOT, of which the port may be left out where it is 2181, and an IPv6 address is in
@@ -233,6 +275,33 @@ static inline void dws_unfollow(dws_session *s, dws_subject *subject);
 /* Whether what is kept of a subject is good. */
 static inline bool dws_is_good(const dws_subject *subject);
 
+/* Follows all nodes at and below a path, of which there are at most `most`; 0 is 65,536. `shown` is called with each subtree that is whole, where
+ * tree->why is 0; of several between two turns with the last. It is called too where there is another reason why there is none: DW_CODE_NO_NODE
+ * where there is no root, whose making is waited for; a code of the server where it has refused a read, which is asked again after a second;
+ * DWS_REFUSED - DW_TOO_MANY where there are more nodes. While nodes change faster than they are read there is no new one, and is_good is false.
+ * Which nodes are shown is the library's word, and proved; when they are is tested. It answers what dws_follow does. */
+static inline enum dw_result dws_follow_tree(dws_session *s, dws_tree *tree, const char *path, size_t most,
+                                             void (*shown)(dws_session *, dws_tree *));
+
+/* Follows a tree no longer, and frees what it holds. */
+static inline void dws_unfollow_tree(dws_session *s, dws_tree *tree);
+
+/* The node of a path; NULL where none is shown. */
+static inline const dws_node *dws_find_node(const dws_tree *tree, const char *path);
+
+/* The first node right below another one, where `before` is NULL; else the one after that. NULL where there is none. */
+static inline const dws_node *dws_next_child(const dws_tree *tree, const dws_node *above, const dws_node *before);
+
+/* Writes why there is no newer subtree, in words: the reason, the path, and what to do. */
+static inline void dws_tree_words(dws_session *s, const dws_tree *tree, char *room, size_t size);
+
+/* Takes a node out of what dw_subtree has copied, from this place on, and goes on to the next: for programs that have a client and no session. The
+ * texts stay there. False where there is none any more. */
+static inline bool dws_read_node(uint8_t **at, const uint8_t *end, dws_node *node);
+
+/* Takes a read out of what dw_lacking has copied, in the same way. The path is not ended by a 0. */
+static inline bool dws_read_lacking(const uint8_t **at, const uint8_t *end, const char **path, size_t *length, enum dw_side *side);
+
 /* The context of the options. */
 static inline void *dws_context(const dws_session *s);
 
@@ -264,9 +333,21 @@ struct dws_line {
     size_t count;
 };
 
+/* What asks beside the library, on the same connection: lane.h. */
+struct dws_beside {
+    enum dw_result (*ask)(dws_session *s, dws_call *call);                                       /* a call is to be written */
+    void (*begin)(dws_session *s);                                                               /* a connection begins */
+    void (*hear)(dws_session *s, uint64_t came_ms, const uint8_t *bytes, size_t length);         /* bytes came from the server */
+    void (*end)(dws_session *s);                                                                 /* the connection is over */
+    bool (*write_words)(dws_session *s, const dws_call *call, char *room, size_t size);          /* why a call has failed, where it has words */
+    void (*release)(dws_session *s);                                                             /* the session is freed */
+};
+
 struct dws_session {
     dw_client client;
     dws_options options;
+    struct dws_beside *beside;         /* NULL where nothing was asked so */
+    int32_t barred;                    /* the code of the server that does not take the credentials */
     char *hosts_text, *root;           /* the connection string, and the chroot in it: nothing where there is none */
     struct dws_host *hosts;            /* in the order in which they are dialled in this round */
     size_t host_count, host, address;  /* whose turn it is, and which of its addresses */
@@ -288,12 +369,14 @@ struct dws_session {
     uint64_t last_ticket;
     dws_call close;
     dws_subject *subjects;
+    dws_tree *trees;
     enum dw_result result;
 };
 
 #include "session_machine.h"
 #include "session_wires.h"
 #include "session_subjects.h"
+#include "session_trees.h"
 
 /* What a session has to do by itself at a moment. */
 static inline void dws_keep_time(dws_session *s)
@@ -343,6 +426,7 @@ static inline void dws_work(dws_session *s)
         }
         dws_read_subjects(s);
     }
+    dws_grow_trees(s);
     dws_send_queued(s);
     dws_transmit(s);
 }
@@ -390,6 +474,7 @@ static inline int dws_wanted(dws_session *s, struct pollfd *polled)
     }
     first = dws_least(first, dws_least(s->due_ms, dws_end_of_waiting(s)));
     first = dws_least(first, dws_least(dws_end_of_queue(s), s->rest_ms));
+    first = dws_least(first, dws_growth(s));
     if (first == UINT64_MAX) {
         return -1;
     }
@@ -528,8 +613,12 @@ static inline void dws_write_place(const dws_session *s, const dws_call *call, c
 
 static inline void dws_words(dws_session *s, const dws_call *call, char *room, size_t size)
 {
-    char path[DWS_LONGEST_LINE];
-    dws_write_place(s, call, path, sizeof path);
+    char place[DWS_LONGEST_LINE];
+    const char *path = call->path != NULL ? place : NULL;
+    dws_write_place(s, call, place, sizeof place);
+    if (call->kind == DWS_BESIDE && s->beside != NULL && s->beside->write_words(s, call, room, size)) {
+        return;
+    }
     if (call->why > DWS_REFUSED) {
         write_result(room, size, (enum dw_result)(DWS_REFUSED - call->why), path);
     } else if (call->why == DW_OUTCOME_NOT_CONNECTED) {
@@ -640,8 +729,14 @@ static inline void dws_free(dws_session *s)
     while (s->subjects != NULL) {
         dws_unfollow(s, s->subjects);
     }
+    while (s->trees != NULL) {
+        dws_unfollow_tree(s, s->trees);
+    }
     dws_answer_rest(s);
     dws_hang_up(s);
+    if (s->beside != NULL) {
+        s->beside->release(s);
+    }
     dw_close(&s->client);
     dws_release(&s->close);
     free(s->unsent.bytes);

@@ -109,8 +109,8 @@ static inline void dws_finish_all(dws_session *s, struct dws_line *line, int32_t
 /* Why a session takes no calls any more. */
 static inline int32_t dws_why_over(dws_session *s)
 {
-    if (s->result != DW_OK) {
-        return DWS_REFUSED - (int32_t)s->result;
+    if (s->result != DW_OK || s->barred != 0) {
+        return s->result != DW_OK ? DWS_REFUSED - (int32_t)s->result : s->barred;
     }
     return dw_state(&s->client) == DW_STATE_EXPIRED ? (int32_t)DW_OUTCOME_EXPIRED : (int32_t)DW_OUTCOME_CLOSED;
 }
@@ -125,6 +125,7 @@ static inline void dws_answer_rest(dws_session *s)
 }
 
 static inline void dws_hang_up(dws_session *s);
+static inline void dws_begin_trees(dws_session *s, bool is_lost);
 
 /* Memory ran out, or what the library answers is not known: the session is over. */
 static inline void dws_fail(dws_session *s, enum dw_result result)
@@ -132,6 +133,7 @@ static inline void dws_fail(dws_session *s, enum dw_result result)
     if (s->result == DW_OK) {
         s->result = result;
         s->is_over = true;
+        dws_begin_trees(s, true);
         dws_hang_up(s);
         dws_tell(s, DWS_FAILED, dw_result_words(result));
         dws_answer_rest(s);
@@ -180,6 +182,9 @@ static inline void dws_hang_up(dws_session *s)
     s->wire.socket = -1;
     s->wire.state = NULL;
     s->wire.words = NULL;
+    if (s->beside != NULL) {
+        s->beside->end(s);
+    }
     dws_put_off(s);
     s->is_over = s->is_over || s->is_closing;
     s->is_connecting = s->is_admitted = s->is_taken = s->has_more = false;
@@ -306,7 +311,7 @@ static inline bool dws_keep_names(dws_session *s, dws_call *call, size_t count)
 static inline bool dws_can_repeat(const dws_call *call, int32_t why)
 {
     enum { THROTTLED = -127 };
-    bool is_read = call->kind == DWS_EXISTS || call->kind == DWS_GET || call->kind == DWS_CHILDREN;
+    bool is_read = call->kind == DWS_EXISTS || call->kind == DWS_GET || call->kind == DWS_CHILDREN || call->is_repeatable;
     bool is_lost = why == DW_OUTCOME_LOST || why == DW_CODE_CONNECTION_LOSS;
     return call->tries_left > 0 && (why == THROTTLED || (is_read && is_lost));
 }
@@ -340,8 +345,22 @@ static inline dws_call *dws_answered(dws_session *s, uint64_t ticket)
     return NULL;
 }
 
+/* Answers the calls beside the library that have waited longest, where the connection is over: those of the library are answered by it. */
+static inline void dws_lose_beside(dws_session *s)
+{
+    while (s->wire.socket < 0 && s->sent.count > 0 && s->sent.first->kind == DWS_BESIDE) {
+        dws_call *call = dws_remove(&s->sent, &s->sent.first);
+        if (dws_can_repeat(call, DW_OUTCOME_LOST)) {
+            dws_repeat(s, call);
+        } else {
+            dws_finish(s, call, DW_OUTCOME_LOST);
+        }
+    }
+}
+
 static inline void dws_take_answer(dws_session *s, const dw_output *output)
 {
+    dws_lose_beside(s);
     dws_call *call = dws_answered(s, output->ticket);
     if (call == NULL) {
         return;
@@ -370,19 +389,23 @@ static inline void dws_take_answer(dws_session *s, const dw_output *output)
 static inline void dws_take_state(dws_session *s, enum dw_state state)
 {
     s->has_news = true;
+    dws_lose_beside(s);
     if (state == DW_STATE_CONNECTED) {
         s->is_admitted = true;
         s->is_expired = false;
         s->admitted_ms = s->now_ms;
+        dws_begin_trees(s, false);
         dws_tell(s, DWS_CONNECTED, "connected");
     } else if (state == DW_STATE_EXPIRED) {
         s->is_expired = true;
         s->is_over = s->is_over || s->options.is_over_at_expiry;
         s->pause_ms = DWS_FIRST_PAUSE_MS;
+        dws_begin_trees(s, true);
         dws_hang_up(s);
         dws_tell(s, DWS_EXPIRED, "the session has expired");
     } else if (state == DW_STATE_CLOSED) {
         s->is_over = true;
+        dws_begin_trees(s, true);
         dws_hang_up(s);
         dws_tell(s, DWS_CLOSED, "the session is closed");
     }
@@ -398,12 +421,23 @@ static inline void dws_take_drop(dws_session *s)
     dws_tell(s, DWS_CUT, result == DW_OK ? words : dw_result_words(result));
 }
 
+static inline void dws_hear_of_trees(dws_session *s, const dw_output *output);
+
+/* What is kept has become stale, which a subject shows. */
+static inline void dws_take_report(dws_session *s, const dw_output *output)
+{
+    s->has_news = true;
+    if (s->trees != NULL) {
+        dws_hear_of_trees(s, output);
+    }
+}
+
 static inline void dws_take(dws_session *s, const dw_output *output)
 {
     switch (output->kind) {
     case DW_KIND_SEND: dws_send_later(s, output->length); break;
     case DW_KIND_ANSWER: dws_take_answer(s, output); break;
-    case DW_KIND_REPORT: s->has_news = true; break; /* what is kept has become stale, which a subject shows */
+    case DW_KIND_REPORT: dws_take_report(s, output); break;
     case DW_KIND_STATE: dws_take_state(s, output->state); break;
     case DW_KIND_DROP: dws_take_drop(s); break;
     }
@@ -442,12 +476,12 @@ static inline uint64_t dws_in_time(dws_session *s)
 }
 
 /* Asks the library. */
-static inline enum dw_result dws_step(dws_session *s, const dws_call *call)
+static inline enum dw_result dws_step(dws_session *s, dws_call *call)
 {
     dw_client *client = &s->client;
     const uint8_t *bytes = (const uint8_t *)call->bytes;
     uint64_t now_ms = dws_in_time(s), ticket = call->ticket;
-    size_t length = strlen(call->path);
+    size_t length = call->path != NULL ? strlen(call->path) : 0;
     switch (call->kind) {
     case DWS_EXISTS: return dw_exists(client, now_ms, ticket, call->path, length, call->watch);
     case DWS_GET: return dw_get_data(client, now_ms, ticket, call->path, length, call->watch);
@@ -458,6 +492,7 @@ static inline enum dw_result dws_step(dws_session *s, const dws_call *call)
         return dw_create(client, now_ms, ticket, call->path, length, bytes, call->bytes_length, call->is_null_sent, (uint32_t)call->number);
     case DWS_DELETE: return dw_delete(client, now_ms, ticket, call->path, length, call->number);
     case DWS_CLOSE: return dw_close_session(client, now_ms, ticket);
+    case DWS_BESIDE: return s->beside->ask(s, call);
     }
     return DW_NOT_PATH;
 }

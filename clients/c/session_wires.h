@@ -197,6 +197,9 @@ static inline void dws_finish_connection(dws_session *s)
     s->write_wants = POLLOUT;
     snprintf(s->trouble, sizeof s->trouble, "connected, and it has not accepted the session");
     dws_act(s, dw_opened(&s->client, s->now_ms));
+    if (s->beside != NULL && s->wire.socket >= 0) {
+        s->beside->begin(s);
+    }
 }
 
 static inline bool dws_is_passing(int error)
@@ -254,7 +257,9 @@ static inline void dws_receive(dws_session *s)
     s->has_more = true;
     for (int i = 0; i < DWS_MOST_PIECES && s->wire.socket >= 0 && s->has_more; i++) {
         ssize_t count = dws_read(s, piece, sizeof piece);
-        if (count > 0) {
+        if (count > 0 && s->beside != NULL) {
+            s->beside->hear(s, came_ms, piece, (size_t)count);
+        } else if (count > 0) {
             dws_hear(s, came_ms, piece, (size_t)count);
         } else if (count == 0) {
             dws_cut(s, "the server has ended the connection");

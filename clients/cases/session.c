@@ -1,11 +1,17 @@
 /* A session by session.h that does what it is told, for the table of cases: session HOSTS TRIES. */
 #define _POSIX_C_SOURCE 200809L
+#include "lane.h"
 #include "lock.h"
 
+enum { MOST_WORDS = 40, MOST_ACLS = 8 };
+
 static dws_call call;
+static dws_lane_call lane;
 static dws_lock lock;
 static dws_subject followed;
-static bool is_news;
+static dws_tree tree;
+static bool is_news, is_shown;
+static char told[4000];
 static int64_t last_token;
 
 static void print_line(const char *text)
@@ -26,15 +32,20 @@ static int compare(const void *one, const void *other)
 }
 
 /* Waits for the call, and prints why it has failed. Whether it has not. */
-static bool is_done(dws_session *session)
+static bool is_well(dws_session *session, dws_call *asked)
 {
     char why[DWS_LONGEST_LINE];
-    if (dws_wait(session, &call) == 0) {
+    if (dws_wait(session, asked) == 0) {
         return true;
     }
-    dws_words(session, &call, why, sizeof why);
+    dws_words(session, asked, why, sizeof why);
     print_line(why);
     return false;
+}
+
+static bool is_done(dws_session *session)
+{
+    return is_well(session, &call);
 }
 
 static void print_names(void)
@@ -110,6 +121,65 @@ static void print_next(dws_session *session)
     fflush(stdout);
 }
 
+static void take_tree(dws_session *session, dws_tree *shown)
+{
+    (void)session;
+    (void)shown;
+    is_shown = true;
+}
+
+static int compare_nodes(const void *one, const void *other)
+{
+    return strcmp((*(const dws_node *const *)one)->path, (*(const dws_node *const *)other)->path);
+}
+
+/* Writes each node, in the order of the bytes of their paths. */
+static void write_nodes(char *room, size_t size)
+{
+    const dws_node *in_order[100];
+    size_t length = 0;
+    for (size_t i = 0; i < tree.count && i < 100; i++) {
+        in_order[i] = &tree.nodes[i];
+    }
+    qsort(in_order, tree.count, sizeof in_order[0], compare_nodes);
+    for (size_t i = 0; i < tree.count && length < size; i++) {
+        length += (size_t)snprintf(room + length, size - length, "%s%s=%s", i > 0 ? " " : "", in_order[i]->path, in_order[i]->data);
+    }
+}
+
+static void follow_tree(dws_session *session, const char *path, const char *most)
+{
+    char why[DWS_LONGEST_LINE];
+    if (tree.path != NULL) {
+        dws_unfollow_tree(session, &tree);
+    }
+    is_shown = false;
+    told[0] = 0;
+    enum dw_result result = dws_follow_tree(session, &tree, path, most != NULL ? strtoul(most, NULL, 10) : 0, take_tree);
+    if (result != DW_OK) {
+        write_result(why, sizeof why, result, path);
+        print_line(why);
+    }
+}
+
+/* Prints what is told of the tree next, where it is another thing than before. */
+static void print_subtree(dws_session *session)
+{
+    char said[sizeof told] = "";
+    do {
+        while (!is_shown && dws_turn(session)) {
+        }
+        is_shown = false;
+        if (tree.why != 0) {
+            dws_tree_words(session, &tree, said, sizeof said);
+        } else {
+            write_nodes(said, sizeof said);
+        }
+    } while (strcmp(said, told) == 0);
+    strcpy(told, said);
+    print_line(said);
+}
+
 static void take_lock(dws_session *session, const char *path)
 {
     dws_lock_take(session, &lock, path, DWS_EXCLUSIVE, "", NULL);
@@ -130,17 +200,135 @@ static void use_lock(dws_session *session, const char *name)
     }
 }
 
+static const char *data_of(const char *word)
+{
+    return strcmp(word, "-") == 0 ? "" : word;
+}
+
+/* Takes an operation of a transaction out of the words, and gives how many it has. */
+static int add_operation(dws_session *session, char **words)
+{
+    const char *name = words[0], *path = words[1];
+    if (strcmp(name, "check") == 0) {
+        dws_transaction_check(session, &lane, path, (int32_t)strtol(words[2], NULL, 10));
+    } else if (strcmp(name, "delete") == 0) {
+        dws_transaction_delete(session, &lane, path, -1);
+        return 2;
+    } else if (strcmp(name, "set") == 0) {
+        dws_transaction_set(session, &lane, path, data_of(words[2]), strlen(data_of(words[2])), -1);
+    } else {
+        dws_transaction_create(session, &lane, path, data_of(words[2]), strlen(data_of(words[2])), DW_MODE_PERSISTENT, NULL, 0);
+    }
+    return 3;
+}
+
+static void commit(dws_session *session, char **words, int count)
+{
+    for (int i = 1; i < count; i += add_operation(session, words + i)) {
+    }
+    if (!is_well(session, dws_commit(session, &lane))) {
+        return;
+    }
+    const char *before = "";
+    for (size_t i = 0; i < lane.change_count; i++) {
+        if (lane.changes[i].operation != DWS_OF_CHECK) {
+            printf("%s%s", before, lane.changes[i].path);
+            before = " ";
+        }
+    }
+    print_line("");
+}
+
+static const char LETTERS[] = "rwcda";
+
+/* The lines of an ACL, SCHEME:ID:LETTERS each, whose words are cut. */
+static size_t read_acls(dws_acl *acls, char **words, int count)
+{
+    for (int i = 0; i < count; i++) {
+        acls[i].scheme = words[i];
+        char *id = strchr(words[i], ':'), *letters = strrchr(words[i], ':');
+        *id = *letters = 0;
+        acls[i].id = id + 1;
+        acls[i].permissions = 0;
+        for (const char *one = letters + 1; *one != 0; one++) {
+            acls[i].permissions |= 1 << (strchr(LETTERS, *one) - LETTERS);
+        }
+    }
+    return (size_t)count;
+}
+
+static void print_acls(void)
+{
+    for (size_t i = 0; i < lane.acl_count; i++) {
+        printf("%s:%s:", lane.acls[i].scheme, lane.acls[i].id);
+        for (int place = 0; LETTERS[place] != 0; place++) {
+            printf("%.*s", (int)(lane.acls[i].permissions >> place & 1), LETTERS + place);
+        }
+        putchar(' ');
+    }
+    printf("version %" PRId32 "\n", lane.call.stat.aversion);
+    fflush(stdout);
+}
+
+/* Asks beside the library. False where the first word is no such question. */
+static bool ask_beside(dws_session *session, char **words, int count)
+{
+    dws_acl acls[MOST_ACLS];
+    if (strcmp(words[0], "transaction") == 0) {
+        commit(session, words, count);
+    } else if (strcmp(words[0], "sync") == 0) {
+        if (is_well(session, dws_sync(session, &lane, words[1]))) {
+            print_line("done");
+        }
+    } else if (strcmp(words[0], "auth") == 0) {
+        if (is_well(session, dws_add_auth(session, &lane, words[1], words[2], strlen(words[2])))) {
+            print_line("done");
+        }
+    } else if (strcmp(words[0], "acls") == 0) {
+        if (is_well(session, dws_get_acl(session, &lane, words[1]))) {
+            print_acls();
+        }
+    } else if (strcmp(words[0], "set_acls") == 0) {
+        size_t lines = read_acls(acls, words + 3, count - 3);
+        if (is_well(session, dws_set_acl(session, &lane, words[1], acls, lines, (int32_t)strtol(words[2], NULL, 10)))) {
+            printf("version %" PRId32 "\n", lane.call.stat.aversion);
+            fflush(stdout);
+        }
+    } else if (strcmp(words[0], "create_with_acls") == 0) {
+        const char *data = data_of(words[2]);
+        size_t lines = read_acls(acls, words + 3, count - 3);
+        if (is_well(session, dws_create_with_acl(session, &lane, words[1], data, strlen(data), DW_MODE_PERSISTENT, acls, lines))) {
+            print_line(lane.call.text);
+        }
+    } else {
+        return false;
+    }
+    return true;
+}
+
 /* Does what a line says. False where it is the last one. */
 static bool obey(dws_session *session, char *line)
 {
-    char *name = strtok(line, " \n"), *path = strtok(NULL, " \n"), *data = strtok(NULL, " \n"), *version = strtok(NULL, " \n");
+    char *words[MOST_WORDS] = {0};
+    int count = 0;
+    for (char *word = strtok(line, " \n"); word != NULL && count < MOST_WORDS; word = strtok(NULL, " \n")) {
+        words[count++] = word;
+    }
+    char *name = words[0], *path = words[1], *data = words[2], *version = words[3];
     data = data != NULL && strcmp(data, "-") == 0 ? data + 1 : data;
+    if (ask_beside(session, words, count)) {
+        return true;
+    }
     if (strcmp(name, "get") == 0 || strcmp(name, "children") == 0 || strcmp(name, "exists") == 0) {
         read_by(session, name, path);
     } else if (strcmp(name, "follow") == 0) {
         dws_follow(session, &followed, path, note);
     } else if (strcmp(name, "next") == 0) {
         print_next(session);
+    } else if (strcmp(name, "tree") == 0) {
+        follow_tree(session, path, data);
+    } else if (strcmp(name, "subtree") == 0) {
+        print_subtree(session);
     } else if (strcmp(name, "lock") == 0) {
         take_lock(session, path);
     } else if (strcmp(name, "check") == 0 || strcmp(name, "release") == 0) {
@@ -178,6 +366,7 @@ int main(int argc, char **argv)
     while (session != NULL && next_line(session, line, sizeof line) && obey(session, line)) {
     }
     dws_release(&call);
+    dws_lane_release(&lane);
     dws_release(&lock.call);
     dws_release(&lock.removal);
     if (session != NULL) {

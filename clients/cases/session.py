@@ -4,21 +4,38 @@ from __future__ import annotations
 
 import pathlib
 import sys
-from typing import Callable
+import time
+from typing import Callable, Optional
 
 sys.path.insert(0, str(pathlib.Path(__file__).resolve().parents[1] / "python"))
 
 import dirwolleu  # noqa: E402
+from dirwolleu.security import ACL, Id  # noqa: E402
 
 
 def data_of(word: str) -> bytes:
     return b"" if word == "-" else word.encode()
 
 
+LETTERS = "rwcda"
+
+
+def acl_of(word: str) -> ACL:
+    """The line of an ACL: SCHEME:ID:LETTERS."""
+    scheme, name, letters = word.split(":")
+    return ACL(sum(1 << LETTERS.index(letter) for letter in letters), Id(scheme, name))
+
+
+def shown(acl: ACL) -> str:
+    letters = [letter for place, letter in enumerate(LETTERS) if acl.perms >> place & 1]
+    return ":".join([*acl.id, "".join(letters)])
+
+
 class Told:
     def __init__(self, client: dirwolleu.Client) -> None:
         self.client = client
         self.token = 0
+        self.told: Optional[str] = None
 
     def get(self, path: str) -> str:
         data, stat = self.client.get(path)
@@ -54,6 +71,23 @@ class Told:
         kept = next(self.followed)
         return f"data {(kept.data or b'').decode()}" if kept.exists else "none"
 
+    def tree(self, path: str) -> None:
+        self.grown, self.told = self.client.tree(path), None
+        self.snapshots = self.grown.snapshots()
+
+    def subtree(self) -> str:
+        """What is told of the tree next, where it is another thing than before."""
+        while True:
+            try:
+                snapshot = next(self.snapshots)
+                said = " ".join(f"{path}={(node.data or b'').decode()}" for path, node in sorted(snapshot.items()))
+            except dirwolleu.NoNodeError as error:
+                said, self.snapshots = str(error), self.grown.snapshots()
+                time.sleep(0.01)  # the tree tells a trouble again and again
+            if said != self.told:
+                self.told = said
+                return said
+
     def lock(self, path: str) -> str:
         self.held = dirwolleu.Lock(self.client, path).acquire()
         before, self.token = self.token, self.held.token
@@ -87,6 +121,20 @@ class Told:
 
     def sync(self, path: str) -> str:
         self.client.sync(path)
+        return "done"
+
+    def acls(self, path: str) -> str:
+        acls, stat = self.client.get_acls(path)
+        return " ".join([*map(shown, acls), "version", str(stat.aversion)])
+
+    def set_acls(self, path: str, version: str, *words: str) -> str:
+        return f"version {self.client.set_acls(path, list(map(acl_of, words)), int(version)).aversion}"
+
+    def create_with_acls(self, path: str, data: str, *words: str) -> str:
+        return self.client.create(path, data_of(data), acl=list(map(acl_of, words)))
+
+    def auth(self, scheme: str, credential: str) -> str:
+        self.client.add_auth(scheme, credential)
         return "done"
 
     def close(self) -> str:

@@ -1,6 +1,9 @@
 //! A session that does what it is told, for the table of cases, `clients/cases`: `cases HOSTS TRIES`.
 
-use dirwolleu::{Follow, Lock, Mode, Retry, Session, SessionOptions, Sharing};
+use dirwolleu::{
+    Acl, Follow, Lock, Mode, Permissions, Retry, Session, SessionOptions, Sharing, Snapshots,
+    SubtreeNode, TreeSnapshot,
+};
 use std::env;
 use std::error::Error;
 use std::io;
@@ -12,6 +15,8 @@ type Answer = Result<String, Box<dyn Error>>;
 struct Told<'a> {
     session: &'a Session,
     followed: Option<Follow<'a>>,
+    tree: Option<Snapshots<'static>>,
+    told: Option<String>,
     lock: Option<Lock<'a>>,
     token: i64,
 }
@@ -26,6 +31,44 @@ fn data_of(word: &str) -> &[u8] {
 
 fn shown(data: Option<Vec<u8>>) -> String {
     String::from_utf8_lossy(&data.unwrap_or_default()).into_owned()
+}
+
+/// What somebody may do, by letters.
+const LETTERS: [(char, Permissions); 5] = [
+    ('r', Permissions::READ),
+    ('w', Permissions::WRITE),
+    ('c', Permissions::CREATE),
+    ('d', Permissions::DELETE),
+    ('a', Permissions::ADMIN),
+];
+
+/// The lines of an ACL: `SCHEME:ID:LETTERS` each.
+fn acls_of(words: &[&str]) -> Result<Vec<Acl>, Box<dyn Error>> {
+    let line = |word: &&str| {
+        let mut parts = word.split(':');
+        let (Some(scheme), Some(id), Some(letters)) = (parts.next(), parts.next(), parts.next())
+        else {
+            return Err("this is no line of an ACL".into());
+        };
+        let named = LETTERS.iter().filter(|one| letters.contains(one.0));
+        let all = named.fold(Permissions::default(), |all, one| all | one.1);
+        Ok(Acl::new(all, scheme, id))
+    };
+    words.iter().map(line).collect()
+}
+
+fn shown_acl(acl: &Acl) -> String {
+    let named = LETTERS.iter().filter(|one| acl.permissions.contains(one.1));
+    let letters: String = named.map(|one| one.0).collect();
+    format!("{}:{}:{letters}", acl.scheme, acl.id)
+}
+
+/// Each node, in the order of the bytes of their paths.
+fn shown_tree(snapshot: &TreeSnapshot) -> String {
+    let mut nodes: Vec<&SubtreeNode> = snapshot.iter().collect();
+    nodes.sort_by_key(|node| &node.path);
+    let shown = |node: &SubtreeNode| format!("{}={}", node.path, shown(node.data.clone()));
+    nodes.into_iter().map(shown).collect::<Vec<_>>().join(" ")
 }
 
 impl Told<'_> {
@@ -68,6 +111,28 @@ impl Told<'_> {
         Ok(data.unwrap_or_else(|| String::from("none")))
     }
 
+    fn follow_tree(&mut self, path: &str, most: Option<&str>) -> Result<(), Box<dyn Error>> {
+        let tree = match most {
+            Some(most) => self.session.bounded_tree(path, most.parse()?),
+            None => self.session.tree(path),
+        };
+        self.told = None;
+        self.tree = Some(Box::leak(Box::new(tree?)).snapshots()); // for as long as the program lives
+        Ok(())
+    }
+
+    /// What is told of the tree next, where it is another thing than before.
+    fn subtree(&mut self) -> Answer {
+        let snapshots = self.tree.as_mut().ok_or("there is no tree")?;
+        let mut said = snapshots.map(|news| match news {
+            Ok(snapshot) => shown_tree(&snapshot),
+            Err(trouble) => trouble.to_string(),
+        });
+        let told = self.told.take();
+        self.told = said.find(|said| Some(said) != told.as_ref());
+        Ok(self.told.clone().ok_or("the session is over")?)
+    }
+
     fn lock(&mut self, path: &str) -> Answer {
         let lock = Lock::acquire(self.session, path, Sharing::Exclusive, b"")?;
         let is_greater = self.token > 0 && lock.token() > self.token;
@@ -99,7 +164,10 @@ impl Told<'_> {
                 ["check", path, version, rest @ ..] => {
                     (transaction.check(path, version.parse()?), rest)
                 }
-                ["delete", path, rest @ ..] => (transaction.delete(path, -1), rest),
+                ["delete", path, rest @ ..] => {
+                    paths.push(*path);
+                    (transaction.delete(path, -1), rest)
+                }
                 ["set", path, data, rest @ ..] => {
                     paths.push(*path);
                     (transaction.set(path, data_of(data), -1), rest)
@@ -116,6 +184,36 @@ impl Told<'_> {
         Ok(paths.join(" "))
     }
 
+    /// What is asked beside the core, except transactions.
+    fn ask_beside(&self, words: &[&str]) -> Answer {
+        Ok(match words {
+            ["sync", path] => {
+                self.session.sync(path)?;
+                String::from("done")
+            }
+            ["auth", scheme, secret] => {
+                self.session.add_auth(scheme, secret.as_bytes())?;
+                String::from("done")
+            }
+            ["acls", path] => {
+                let (acls, stat) = self.session.acls(path)?;
+                let lines: Vec<String> = acls.iter().map(shown_acl).collect();
+                format!("{} version {}", lines.join(" "), stat.aversion)
+            }
+            ["set_acls", path, version, words @ ..] => {
+                let (acls, version) = (acls_of(words)?, version.parse()?);
+                let stat = self.session.set_acls(path, &acls, version)?;
+                format!("version {}", stat.aversion)
+            }
+            ["create_with_acls", path, data, words @ ..] => {
+                let (acls, mode) = (acls_of(words)?, Mode::Persistent);
+                self.session
+                    .create_with_acls(path, data_of(data), mode, &acls)?
+            }
+            _ => return Err("this is no command".into()),
+        })
+    }
+
     /// Does what a line says. Nothing is answered where it is to be gone on.
     fn obey(&mut self, words: &[&str]) -> Result<Option<String>, Box<dyn Error>> {
         Ok(Some(match words {
@@ -124,13 +222,21 @@ impl Told<'_> {
                 return Ok(None);
             }
             ["next"] => self.next()?,
+            ["tree", path] => {
+                self.follow_tree(path, None)?;
+                return Ok(None);
+            }
+            ["tree", path, most] => {
+                self.follow_tree(path, Some(most))?;
+                return Ok(None);
+            }
+            ["subtree"] => self.subtree()?,
             ["lock", path] => self.lock(path)?,
             ["check"] => self.check()?,
             ["release"] => self.release()?,
             ["transaction", words @ ..] => self.commit(words)?,
-            ["sync", path] => {
-                self.session.sync(path)?;
-                String::from("done")
+            ["sync" | "auth" | "acls" | "set_acls" | "create_with_acls", ..] => {
+                self.ask_beside(words)?
             }
             ["set", path, data, version] => {
                 let set = self.session.set(path, data_of(data), version.parse()?);
@@ -152,6 +258,8 @@ fn main() -> Result<(), Box<dyn Error>> {
     let mut told = Told {
         session: &session,
         followed: None,
+        tree: None,
+        told: None,
         lock: None,
         token: 0,
     };

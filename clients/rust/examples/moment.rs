@@ -1,42 +1,32 @@
 //! Several nodes, and the names below another, of one moment: `docs/COOKBOOK.md` has it in Python.
 
-use dirwolleu::{DataAnswer, Error, Fault, Kept, Mark, NoReply, Session, View};
+use dirwolleu::{DataAnswer, Error, Mark, NoReply, Session};
 use std::time::Duration;
 
+const NODES: [&str; 2] = ["/host", "/port"];
+const PARENTS: [&str; 1] = ["/workers"];
+
 fn read_what_is_not_good(session: &Session) -> Result<(), Error> {
-    for node in ["/host", "/port"] {
+    for node in NODES {
         if session.data_mark(node)? != Some(Mark::Good) {
             session.watch(node)?;
         }
     }
-    if session.children_mark("/workers")? != Some(Mark::Good) {
-        session.watch_children("/workers")?;
+    for parent in PARENTS {
+        if session.children_mark(parent)? != Some(Mark::Good) {
+            session.watch_children(parent)?;
+        }
     }
     Ok(())
 }
 
-/// The data as text, where what is kept is good.
-fn text(kept: Option<Kept<DataAnswer>>) -> Option<String> {
-    match kept? {
-        Kept {
-            answer: DataAnswer::Full { data, .. },
-            mark: Mark::Good,
-        } => String::from_utf8(data?).ok(),
-        _ => None,
+fn text(node: &DataAnswer) -> String {
+    match node {
+        DataAnswer::Full {
+            data: Some(data), ..
+        } => String::from_utf8_lossy(data).into_owned(),
+        _ => String::from("nothing"),
     }
-}
-
-/// What is good of one zxid, in words. None where there is something that is not.
-fn moment(view: View<'_>) -> Result<Option<String>, Fault> {
-    let (host, port) = (text(view.peek("/host")?), text(view.peek("/port")?));
-    let workers = view.peek_children("/workers")?;
-    let workers = workers.filter(|kept| kept.mark == Mark::Good);
-    let (Some(host), Some(port), Some(workers)) = (host, port, workers) else {
-        return Ok(None);
-    };
-    let names = workers.answer.names;
-    let zxid = view.last_zxid();
-    Ok(Some(format!("{host} {port} {names:?} at zxid {zxid}")))
 }
 
 fn main() -> Result<(), Box<dyn std::error::Error>> {
@@ -48,8 +38,10 @@ fn main() -> Result<(), Box<dyn std::error::Error>> {
             Err(error) if error.is_passing() => continue,
             Err(error) => return Err(error.into()),
         }
-        if let Some(words) = session.view(moment)? {
-            println!("{words}");
+        if let Some(found) = session.snapshot(&NODES, &PARENTS)? {
+            let nodes: Vec<String> = found.nodes.iter().map(text).collect();
+            let names = &found.children[0].names;
+            println!("{} {names:?} at zxid {}", nodes.join(" "), found.zxid);
         }
         session.next_event(None)?;
     }

@@ -242,6 +242,20 @@ macro_rules! look_ups {
             self.view(|view| view.children_mark(path))
         }
 
+        /// What is kept of these nodes, and of the names below these parents, all of it of one moment, where all of it is kept and good;
+        /// see [`View::snapshot`].
+        ///
+        /// # Errors
+        ///
+        /// As [`peek`](Self::peek).
+        pub fn snapshot(
+            &self,
+            nodes: &[&str],
+            parents: &[&str],
+        ) -> Result<Option<Snapshot>, Fault> {
+            self.view(|view| view.snapshot(nodes, parents))
+        }
+
         /// The greatest zxid seen, not below 0.
         pub fn last_zxid(&self) -> i64 {
             self.view(|view| view.last_zxid())

@@ -5,6 +5,8 @@ use crate::chroot::Chroot;
 use crate::client::{Client, State};
 use crate::error::{ErrorKind, Search};
 use crate::fault::{Code, Fault, NoReply};
+use crate::grove::{Grove, TreeRead};
+use crate::growing::{Ground, Shown};
 use crate::hosts::Hosts;
 use crate::introductions::Introductions;
 use crate::lane::{Credentials, Lane, LaneCall};
@@ -29,6 +31,9 @@ const SHORTEST_PATIENCE: Duration = Duration::from_secs(1);
 
 /// How long the admission of a session is waited for at a time: calls that wait for it may have to be told that there is none.
 const LOOK_ROUND: Duration = Duration::from_millis(250);
+
+/// How many calls wait for their answers, at most, where reads of trees are asked besides.
+const MOST_READS: usize = 500;
 
 /// The moment that never comes.
 pub(crate) const NEVER: Moment = Moment::from_millis(u64::MAX);
@@ -82,6 +87,7 @@ pub(crate) struct Engine {
     calls: Calls,
     told: Told,
     refusals: Refusals,
+    grove: Grove,
     alarm: Option<Moment>,
     line: Option<Box<dyn Outgoing>>,
     inbox: Vec<u8>,
@@ -109,6 +115,7 @@ impl Engine {
             waiting: Waiting::default(),
             calls: Calls::default(),
             refusals: Refusals::default(),
+            grove: Grove::default(),
             alarm: None,
             line: None,
             inbox: Vec::new(),
@@ -132,6 +139,7 @@ impl Engine {
             self.client = renewed;
         }
         self.hang_up();
+        self.grove.begin_again();
         if self.standing != Standing::Stopped {
             self.standing = Standing::GoesOn;
         }
@@ -187,6 +195,13 @@ impl Engine {
         self.standing != Standing::GoesOn || state.is_final() && !is_renewed
     }
 
+    /// Why a session is over that was not closed.
+    pub(crate) fn fault_of_end(&self) -> Option<ErrorKind> {
+        let is_expired = self.client.state() == State::Expired;
+        let expired = is_expired.then(|| NoReply::SessionExpired.into());
+        self.refusal_of_all().or(expired)
+    }
+
     /// It fails where the client has halted.
     pub(crate) fn halt(&self) -> Result<(), Fault> {
         if self.standing == Standing::Halted {
@@ -205,7 +220,7 @@ impl Engine {
         if is_due {
             self.alarm = None;
         }
-        is_due || self.told.has_event() || self.is_over()
+        is_due || self.told.has_event() || self.grove.takes_news() || self.is_over()
     }
 
     /// Has who polls look again at this moment. Where the session waits for its server it may be later, until it pings.
@@ -380,9 +395,75 @@ impl Engine {
                 is_end = true;
             }
             self.waiting.is_answered(ticket);
-            self.calls.end(ticket, outcome);
+            let ground = ground_of(&self.client, &self.chroot, self.clock);
+            if !self.grove.answered(ticket, &outcome, ground) {
+                self.calls.end(ticket, outcome);
+            }
         }
         is_end
+    }
+}
+
+/// What trees grow on, of parts of the engine.
+fn ground_of<'a>(client: &'a Client, chroot: &'a Chroot, clock: Clock) -> Ground<'a> {
+    Ground {
+        client,
+        chroot,
+        clock,
+    }
+}
+
+/// Trees.
+impl Engine {
+    /// Follows the tree at a path, for as long as somebody has what is shown of it.
+    pub(crate) fn plant(&mut self, path: &str, most: usize) -> Result<Arc<Shown>, Fault> {
+        let root = self.chroot.outer(path)?;
+        let looked = self.client.data_mark(&root);
+        looked.map_err(|fault| fault.at(path))?;
+        let shown = Arc::new(Shown::of(path));
+        self.grove.plant(&shown, root.into_owned(), most);
+        self.told.fired.get_or_insert_with(Vec::new);
+        Ok(shown)
+    }
+
+    /// Has trees go on: what is lacking is read, where a server has accepted the session.
+    pub(crate) fn grow(&mut self) {
+        if self.grove.is_empty() {
+            return;
+        }
+        self.grove.clear();
+        if let Some(fired) = &mut self.told.fired {
+            self.grove.hear(&mem::take(fired));
+        }
+        if self.is_over() || self.client.state().is_final() {
+            self.grove.is_past();
+        }
+        while self.may_read() {
+            let ground = ground_of(&self.client, &self.chroot, self.clock);
+            let Some(read) = self.grove.next_read(ground) else {
+                return;
+            };
+            self.put_read(&read);
+        }
+    }
+
+    fn may_read(&self) -> bool {
+        let is_connected = self.client.state() == State::Connected && !self.is_closing;
+        is_connected && !self.is_over() && self.waiting.count() < MOST_READS
+    }
+
+    fn put_read(&mut self, read: &TreeRead) {
+        let (now, ticket) = (self.clock.now(), self.calls.next_ticket());
+        self.waiting.asks(now, ticket);
+        self.grove.asks(ticket, read);
+        let asked = self.step(self.in_time(now), |client, now| {
+            read.call.ask(client, now, ticket, read.path())
+        });
+        if let Err(fault) = asked {
+            self.waiting.is_answered(ticket);
+            let ground = ground_of(&self.client, &self.chroot, self.clock);
+            self.grove.answered(ticket, &Err(fault.into()), ground);
+        }
     }
 }
 
@@ -495,9 +576,16 @@ impl Engine {
         patience.min(self.alarm.unwrap_or(NEVER))
     }
 
+    /// When a tree is to go on, though nothing comes from the server.
+    fn growth(&self) -> Moment {
+        let deadline = self.may_read().then(|| self.grove.deadline());
+        deadline.flatten().unwrap_or(NEVER)
+    }
+
     /// Until when the connection is read, before something else is to be looked at.
     fn listens_until(&self, until: Moment) -> Moment {
         let until = until.min(self.due()).min(self.patience());
+        let until = until.min(self.growth());
         if self.client.state() == State::Connected {
             return until;
         }

@@ -27,6 +27,8 @@ pub enum ErrorKind {
     Fault(Fault),
     /// The caller's limit has passed before there was an answer. The call is on its way: a write may still happen.
     TimedOut,
+    /// The caller's limit has passed before a tree was whole: some of it is not read, or changes faster than it is read. It is read on.
+    NotWhole,
     /// A transaction has not happened: the server refuses the operation at this place, from 0 on.
     RolledBack {
         /// The place of the operation.
@@ -58,7 +60,7 @@ impl ErrorKind {
                 reason,
                 NoReply::ConnectionLoss | NoReply::NotConnected | NoReply::TooManyPending
             ),
-            ErrorKind::TimedOut => true,
+            ErrorKind::TimedOut | ErrorKind::NotWhole => true,
             ErrorKind::Fault(_) | ErrorKind::RolledBack { .. } => false,
         }
     }
@@ -70,6 +72,7 @@ impl ErrorKind {
             ErrorKind::NoReply(reason) => reason.advice(),
             ErrorKind::Fault(fault) => fault.advice(),
             ErrorKind::TimedOut => "it may still happen",
+            ErrorKind::NotWhole => "it is read on",
         }
     }
 }
@@ -82,6 +85,7 @@ impl fmt::Display for ErrorKind {
             ErrorKind::NoReply(reason) => reason.fmt(f),
             ErrorKind::Fault(fault) => f.write_str(fault.reason()),
             ErrorKind::TimedOut => f.write_str("no answer has come in time"),
+            ErrorKind::NotWhole => f.write_str("the tree was not whole in time"),
             ErrorKind::RolledBack { index, code, .. } => {
                 write!(
                     f,
@@ -312,6 +316,10 @@ mod tests {
             (
                 ErrorKind::TimedOut,
                 "no answer has come in time: /a; it may still happen",
+            ),
+            (
+                ErrorKind::NotWhole,
+                "the tree was not whole in time: /a; it is read on",
             ),
         ] {
             assert_eq!(printed(kind), words);

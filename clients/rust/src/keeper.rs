@@ -50,6 +50,7 @@ impl Shared {
     pub(crate) fn with<R>(&self, act: impl FnOnce(&mut Engine) -> R) -> R {
         let mut engine = self.lock();
         let result = act(&mut engine);
+        engine.grow();
         self.hand_out(engine);
         result
     }
@@ -102,6 +103,11 @@ impl Shared {
     fn rest<'a>(&self, engine: MutexGuard<'a, Engine>, wait: Duration) -> MutexGuard<'a, Engine> {
         let waited = self.changed.wait_timeout(engine, wait.min(LONGEST_WAIT));
         waited.unwrap_or_else(PoisonError::into_inner).0
+    }
+
+    /// Looks at the engine, which goes no further.
+    pub(crate) fn look<R>(&self, look: impl FnOnce(&Engine) -> R) -> R {
+        look(&self.lock())
     }
 
     /// Waits while this holds, until this instant at most.

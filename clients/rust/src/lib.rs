@@ -11,7 +11,8 @@
 //! - [`Client`] is the core itself, a machine without socket and clock, for an event loop.
 //!
 //! **Proved** is the core: what each function of its header says. **Tested** is all that is above it, in this crate: connections,
-//! pauses, tickets, retries, chroots, hosts, what is asked beside the core, and [`Lock`], [`Election`] and [`Registration`].
+//! pauses, tickets, retries, chroots, hosts, what is asked beside the core, when a [`Tree`] is read and shown, and [`Lock`], [`Election`] and
+//! [`Registration`]. Which nodes a [`TreeSnapshot`] and a [`Snapshot`] have, and that all of them are of one moment, the core says.
 //!
 //! A session asks beside the core what the core does not know: transactions, ACLs, credentials and `sync`. It writes these requests
 //! between those of the core, and takes their answers out of the stream before the core is handed it. So for the core, what they change
@@ -36,6 +37,8 @@ mod fault;
 #[allow(unsafe_code)]
 mod ffi;
 mod follow;
+mod grove;
+mod growing;
 mod hosts;
 mod introductions;
 mod jute;
@@ -64,6 +67,8 @@ mod subtree;
 mod ticket;
 mod told;
 mod transaction;
+mod tree;
+mod tree_snapshot;
 mod view;
 mod waiting;
 
@@ -93,6 +98,8 @@ pub use subtree::{Lacking, Subtree, SubtreeNode};
 pub use ticket::Ticket;
 pub use told::Event;
 pub use transaction::{Change, Operations, Transaction};
+pub use tree::{LocalTree, Snapshots, Tree};
+pub use tree_snapshot::{TreeChanges, TreeSnapshot};
 pub use view::View;
 
 /// The lines of the page, as a test that they compile.

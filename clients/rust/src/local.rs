@@ -14,7 +14,10 @@ use crate::node::{Mode, Node, Stat};
 use crate::options::{OpenError, SessionOptions};
 use crate::request::Request;
 use crate::saved::SavedSession;
+use crate::snapshot::Snapshot;
 use crate::told::Event;
+use crate::tree::{LocalTree, MOST_NODES};
+use crate::tree_snapshot::TreeSnapshot;
 use crate::view::View;
 use std::fmt;
 use std::time::{Duration, Instant};
@@ -161,6 +164,56 @@ impl LocalSession {
             }
             if is_past || is_over {
                 return self.inner().with(|engine| engine.halt().map(|()| None));
+            }
+            self.keeper.round(until)?;
+            is_past = until <= clock.now();
+        }
+    }
+
+    /// Follows all nodes at and below a path, of which there are 65,536 at most, as [`Session::tree`](crate::Session::tree).
+    ///
+    /// # Errors
+    ///
+    /// [`Fault::NotPath`] and [`Fault::NoMemory`].
+    pub fn tree(&mut self, path: &str) -> Result<LocalTree, Fault> {
+        self.bounded_tree(path, MOST_NODES)
+    }
+
+    /// The same, of this many nodes at most: where there are more, that is its [`trouble`](LocalTree::trouble), until there are fewer.
+    ///
+    /// # Errors
+    ///
+    /// As [`tree`](LocalSession::tree).
+    pub fn bounded_tree(&mut self, path: &str, most: usize) -> Result<LocalTree, Fault> {
+        let shown = self.inner().with(|engine| engine.plant(path, most))?;
+        Ok(LocalTree::new(shown))
+    }
+
+    /// The next snapshot of a tree of this session: one that was not given yet, or the first that comes until this instant, and none where
+    /// none has come by then. Without an instant it waits until there is one. Once the session is closed there is none.
+    ///
+    /// # Errors
+    ///
+    /// The [`trouble`](LocalTree::trouble) of the tree, which is told once, and why the session is over.
+    pub fn next_snapshot(
+        &mut self,
+        tree: &mut LocalTree,
+        until: Option<Instant>,
+    ) -> Result<Option<TreeSnapshot>, Error> {
+        self.keeper.catch_up_if_late()?;
+        let clock = self.inner().with(|engine| engine.clock());
+        let until = until.map_or(NEVER, |until| clock.moment_of(until));
+        let mut is_past = false;
+        loop {
+            if let Some(news) = tree.take_news() {
+                return news.map(Some);
+            }
+            if self.inner().with(|engine| engine.is_over()) {
+                let why = self.inner().with(|engine| engine.fault_of_end());
+                return why.map_or(Ok(None), |kind| Err(Error::about(Some(tree.root()), kind)));
+            }
+            if is_past {
+                return Ok(None);
             }
             self.keeper.round(until)?;
             is_past = until <= clock.now();

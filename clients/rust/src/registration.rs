@@ -136,8 +136,15 @@ impl Keeper {
         Ok(())
     }
 
-    /// Deletes the node, where it is of this session.
+    /// Deletes the node, where it is of this session. What is kept may be of before the node was made.
     fn give_up(&self) -> Result<(), Error> {
+        if self.session.data_mark(&self.path)? != Some(Mark::Good) {
+            match self.session.watch(&self.path) {
+                Err(error) if error.is_of_end() => return Ok(()),
+                Err(error) => return Err(error),
+                Ok(_) => {}
+            }
+        }
         if !self.session.view(|view| self.is_mine(view)) {
             return Ok(());
         }

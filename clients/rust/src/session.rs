@@ -16,9 +16,11 @@ use crate::options::{OpenError, SessionOptions};
 use crate::request::Request;
 use crate::retry::Retry;
 use crate::saved::SavedSession;
+use crate::snapshot::Snapshot;
 use crate::ticket::Ticket;
 use crate::told::Event;
 use crate::transaction::Transaction;
+use crate::tree::{Tree, MOST_NODES};
 use crate::view::View;
 use std::fmt;
 use std::io;
@@ -295,6 +297,43 @@ impl Session {
     /// ```
     pub fn follow(&self, path: &str) -> Follow<'_> {
         Follow::new(self, path)
+    }
+
+    /// Follows all nodes at and below a path, of which there are 65,536 at most: they are read with watches, and what changes is read
+    /// again, until the [`Tree`] is dropped. Where no node of the path is there, its making is waited for.
+    ///
+    /// ```no_run
+    /// use dirwolleu::Session;
+    /// use std::{thread, time::Duration};
+    ///
+    /// # fn main() -> Result<(), Box<dyn std::error::Error>> {
+    /// let session = Session::open("127.0.0.1:2181", Duration::from_secs(10))?;
+    /// let tree = session.tree("/config")?;
+    /// tree.wait_for(Duration::from_secs(10))?;
+    /// thread::scope(|scope| {
+    ///     for _ in 0..4 {
+    ///         scope.spawn(|| tree.latest().map(|snapshot| snapshot.zxid())); // it asks nobody
+    ///     }
+    /// });
+    /// # Ok(())
+    /// # }
+    /// ```
+    ///
+    /// # Errors
+    ///
+    /// [`Fault::NotPath`] and [`Fault::NoMemory`].
+    pub fn tree(&self, path: &str) -> Result<Tree, Fault> {
+        self.bounded_tree(path, MOST_NODES)
+    }
+
+    /// The same, of this many nodes at most: where there are more, that is its [`trouble`](Tree::trouble), until there are fewer.
+    ///
+    /// # Errors
+    ///
+    /// As [`tree`](Session::tree).
+    pub fn bounded_tree(&self, path: &str, most: usize) -> Result<Tree, Fault> {
+        let shown = self.shared.with(|engine| engine.plant(path, most))?;
+        Ok(Tree::new(Arc::clone(&self.shared), shown))
     }
 
     /// Waits while this holds, until the session is over at most.

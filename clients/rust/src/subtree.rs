@@ -1,5 +1,6 @@
 //! All nodes at and below a path, of one moment, and what is still to be read before they are known.
 
+use crate::chroot::Chroot;
 use crate::jute::Reader;
 use crate::node::{DataStat, Side};
 
@@ -16,6 +17,15 @@ pub struct SubtreeNode {
     pub pzxid: i64,
 }
 
+impl SubtreeNode {
+    /// The last name of its path: empty where that is `/`.
+    #[must_use]
+    pub fn name(&self) -> &str {
+        let slash = self.path.rfind('/');
+        slash.map_or("", |slash| &self.path[slash + 1..])
+    }
+}
+
 /// All nodes at and below a path, as the servers' history has them at one zxid.
 #[derive(Clone, Debug, PartialEq, Eq)]
 pub struct Subtree {
@@ -23,6 +33,16 @@ pub struct Subtree {
     pub zxid: i64,
     /// The nodes, each after its parent: that of the path first, and no other node was there.
     pub nodes: Vec<SubtreeNode>,
+}
+
+impl Subtree {
+    /// The same, by the paths that the program knows.
+    pub(crate) fn below(mut self, chroot: &Chroot) -> Subtree {
+        for node in &mut self.nodes {
+            node.path = chroot.inner(std::mem::take(&mut node.path));
+        }
+        self
+    }
 }
 
 /// A read, with a watch, that is lacking before there is a subtree.

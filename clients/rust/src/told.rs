@@ -75,6 +75,14 @@ pub(crate) struct Found {
 /// What comes of a call. The error has no path yet.
 pub(crate) type Outcome = Result<Found, ErrorKind>;
 
+/// A watch has fired, of a path as the servers know it.
+#[derive(Debug)]
+pub(crate) struct Fired {
+    pub(crate) path: String,
+    pub(crate) side: Side,
+    pub(crate) event: NodeEvent,
+}
+
 /// What a client has said.
 #[derive(Default)]
 pub(crate) struct Told {
@@ -86,6 +94,8 @@ pub(crate) struct Told {
     pub(crate) is_over: bool,
     /// What was told of the server since this was taken.
     pub(crate) news: News,
+    /// The watches that have fired, where somebody wants to know.
+    pub(crate) fired: Option<Vec<Fired>>,
     chroot: Chroot,
     events: VecDeque<Event>,
     missed: u64,
@@ -158,14 +168,22 @@ impl Told {
                         .push((ticket, answer_of(outcome, &self.chroot)));
                 }
                 Output::Report { path, side, event } => {
-                    let path = self.chroot.inner(String::from(path));
-                    self.tell(Event::Report { path, side, event });
+                    self.tell_report(String::from(path), side, event);
                 }
                 Output::State(state) => self.tell_state(state),
                 Output::Drop(given_up) => self.tell(dropped(&given_up)),
             }
         }
         Ok(())
+    }
+
+    fn tell_report(&mut self, outer: String, side: Side, event: NodeEvent) {
+        if let Some(fired) = &mut self.fired {
+            let path = outer.clone();
+            fired.push(Fired { path, side, event });
+        }
+        let path = self.chroot.inner(outer);
+        self.tell(Event::Report { path, side, event });
     }
 
     fn tell_state(&mut self, state: State) {

@@ -5,6 +5,8 @@ use crate::engine::Engine;
 use crate::fault::Fault;
 use crate::kept::{Children, DataAnswer, Kept, Mark};
 use crate::saved::SavedSession;
+use crate::snapshot::Snapshot;
+use std::borrow::Cow;
 use std::fmt;
 use std::time::Duration;
 
@@ -120,6 +122,32 @@ impl View<'_> {
     /// As [`peek`](View::peek).
     pub fn children_mark(&self, path: &str) -> Result<Option<Mark>, Fault> {
         self.at(path, Client::children_mark)
+    }
+
+    /// What is kept of these nodes, and of the names below these parents, all of it of one moment; none where some of it is not kept, or
+    /// not good: then read that again, with a watch. Of a node that is not there, [`watch`](crate::Session::watch) has its absence kept.
+    ///
+    /// # Errors
+    ///
+    /// As [`peek`](View::peek), of the first of them that is no path.
+    pub fn snapshot(&self, nodes: &[&str], parents: &[&str]) -> Result<Option<Snapshot>, Fault> {
+        let [nodes, parents] = [self.outer(nodes)?, self.outer(parents)?];
+        let [nodes, parents] =
+            [&nodes, &parents].map(|paths| paths.iter().map(AsRef::as_ref).collect::<Vec<_>>());
+        let found = self.engine.client().snapshot(&nodes, &parents);
+        found.map_err(|fault| match fault {
+            Fault::NotPath { path, reason } => Fault::NotPath {
+                path: self.engine.chroot().inner(path),
+                reason,
+            },
+            other => other,
+        })
+    }
+
+    /// The servers' paths of these of the program.
+    fn outer<'p>(&self, paths: &[&'p str]) -> Result<Vec<Cow<'p, str>>, Fault> {
+        let chroot = self.engine.chroot();
+        paths.iter().map(|path| chroot.outer(path)).collect()
     }
 }
 

@@ -86,6 +86,11 @@ impl Waiting {
         self.calls.remove(&ticket);
     }
 
+    /// How many calls wait for their answer.
+    pub(crate) fn count(&self) -> usize {
+        self.calls.len()
+    }
+
     /// Frames go to the server.
     pub(crate) fn sends(&mut self, now: Moment, frames: &[u8]) {
         let count = self.sent.count(frames);

@@ -1,14 +1,11 @@
 //! What a session asks beside the core: transactions, ACLs, credentials, sync. At a server that does what each test says, frame by frame.
 
-mod jute;
-mod partner;
-
+use crate::jute::{Record, EXISTS, GET_DATA, PING, PONG};
+use crate::partner::{Line, Partner};
 use dirwolleu::{
     Acl, Change, Code, Error, ErrorKind, Event, Mark, Mode, NoReply, Permissions, Request, Session,
     SessionOptions, State, ANY_VERSION,
 };
-use jute::{Record, EXISTS, GET_DATA, PING, PONG};
-use partner::{Line, Partner};
 use std::sync::mpsc;
 use std::time::{Duration, Instant};
 

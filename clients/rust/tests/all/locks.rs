@@ -1,11 +1,9 @@
 //! Locks and elections, at the server in memory. Where there is no python3, each test says so and passes.
 
-mod server;
-
+use crate::server::Server;
 use dirwolleu::{
     Code, Election, Error, ErrorKind, Lock, Mark, Mode, NoReply, Session, Sharing, ANY_VERSION,
 };
-use server::Server;
 use std::sync::mpsc;
 use std::thread;
 use std::time::Duration;
@@ -126,15 +124,15 @@ fn a_place_that_is_taken_away_is_told() {
     };
     let (first, second) = (session_at(&server), session_at(&server));
     let lock = exclusive(&first);
+    let held = first.children("/locks/a").unwrap().0;
+    let before = format!("/locks/a/{}", held[0]);
     thread::scope(|scope| {
         let waits =
             scope.spawn(|| Lock::acquire(&second, "/locks/a", Sharing::Exclusive, b"").map(drop));
-        let mut places = first.children("/locks/a").unwrap().0;
-        let before = format!("/locks/a/{}", places[0]);
         while second.data_mark(&before) != Ok(Some(Mark::Good)) {
             thread::sleep(Duration::from_millis(5));
         }
-        places = first.children("/locks/a").unwrap().0;
+        let mut places = first.children("/locks/a").unwrap().0;
         places.sort_by_key(|name| name[name.len() - 10..].to_owned());
         first
             .delete(&format!("/locks/a/{}", places[1]), ANY_VERSION)

@@ -1,12 +1,9 @@
 //! What a session does where servers go, refuse, and hold it: at a server that does what each test says.
 
-mod example;
-mod jute;
-mod partner;
-
+use crate::example;
+use crate::jute::{self, EXISTS, GET_DATA, NOTICE, PING, PONG};
+use crate::partner::{Line, Partner};
 use dirwolleu::{Code, Error, ErrorKind, Event, LocalSession, Mark, NoReply, Request, State};
-use jute::{EXISTS, GET_DATA, NOTICE, PING, PONG};
-use partner::{Line, Partner};
 use std::fmt::Debug;
 use std::io::{BufRead, BufReader};
 use std::process::{Command, Stdio};

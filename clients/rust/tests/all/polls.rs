@@ -1,47 +1,16 @@
 //! The forms of no runtime: what is polled, and woken by the thread of the session.
 
-mod jute;
-mod partner;
-mod server;
-
+use crate::jute::{Record, EXISTS, GET_DATA, PING, PONG};
+use crate::partner::{Line, Partner};
+use crate::runtime::block_on;
+use crate::server::Server;
 use dirwolleu::{Event, Node, Session, SessionOptions, State};
-use jute::{Record, EXISTS, GET_DATA, PING, PONG};
-use partner::{Line, Partner};
-use server::Server;
-use std::future::{poll_fn, Future};
-use std::pin::pin;
+use std::future::poll_fn;
 use std::sync::mpsc;
-use std::sync::Arc;
-use std::task::{Context, Poll, Wake};
-use std::thread::{self, Thread};
 use std::time::{Duration, Instant};
 
 /// How long what is awaited may take.
 const PATIENCE: Duration = Duration::from_secs(30);
-
-/// Wakes a thread.
-struct Unpark(Thread);
-
-impl Wake for Unpark {
-    fn wake(self: Arc<Self>) {
-        self.0.unpark();
-    }
-}
-
-/// Waits for a future that others wake.
-fn block_on<F: Future>(future: F) -> F::Output {
-    let mut future = pin!(future);
-    let waker = Arc::new(Unpark(thread::current())).into();
-    let mut context = Context::from_waker(&waker);
-    let until = Instant::now() + PATIENCE;
-    loop {
-        match future.as_mut().poll(&mut context) {
-            Poll::Ready(output) => return output,
-            Poll::Pending => thread::park_timeout(PATIENCE),
-        }
-        assert!(Instant::now() < until, "nobody has woken it");
-    }
-}
 
 fn renewing(server: &Server) -> Session {
     let options = SessionOptions::new(Duration::from_secs(10)).renews(true);

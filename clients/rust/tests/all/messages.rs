@@ -1,9 +1,7 @@
 //! What errors print: the reason, the path as the program named it, and what to do.
 
-mod server;
-
+use crate::server::Server;
 use dirwolleu::{Client, Hosts, Mode, Moment, Session, SessionOptions, Watch, ANY_VERSION};
-use server::Server;
 use std::fmt::Display;
 use std::net::{SocketAddr, TcpListener};
 use std::thread;

@@ -1,9 +1,7 @@
 //! Registrations, at the server in memory. Where there is no python3, each test says so and passes.
 
-mod server;
-
+use crate::server::Server;
 use dirwolleu::{NoReply, Registration, Session, SessionOptions, SharedSession};
-use server::Server;
 use std::thread::sleep;
 use std::time::{Duration, Instant};
 
@@ -61,6 +59,19 @@ fn a_node_is_made_again_by_the_next_session() {
     });
     drop(registration);
     wait_until("it is given up", || other.exists("/host") == Ok(None));
+}
+
+#[test]
+fn a_registration_that_ends_at_once_leaves_no_node() {
+    let Some(server) = Server::start(&[]) else {
+        return;
+    };
+    let session = renewing(&server);
+    for _ in 0..50 {
+        let registration = Registration::begin(&session, "/host", b"one").unwrap();
+        assert_eq!(registration.end(), Ok(()));
+        assert_eq!(session.exists("/host"), Ok(None));
+    }
 }
 
 #[test]

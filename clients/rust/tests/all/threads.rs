@@ -1,24 +1,19 @@
 //! Sessions that live by a thread of their own, and calls that are on their way at once.
 
-mod jute;
-mod memory;
-mod partner;
-
+use crate::jute::{self, CREATE, EXISTS, GET_DATA, PING, PONG, SET_DATA};
+use crate::memory;
+use crate::partner::{Line, Partner};
+use crate::runtime::block_on;
 use dirwolleu::{
     Code, Error, ErrorKind, Event, Hosts, LocalSession, Mode, NoReply, Request, Retry, Session,
     SessionOptions, State, Ticket, ANY_VERSION,
 };
-use jute::{CREATE, EXISTS, GET_DATA, PING, PONG, SET_DATA};
-use partner::{Line, Partner};
 use std::fmt::Debug;
-use std::future::Future;
 use std::io;
 use std::net::{TcpListener, TcpStream};
-use std::pin::pin;
 use std::sync::atomic::{AtomicUsize, Ordering};
 use std::sync::{mpsc, Arc, Mutex};
-use std::task::{Context, Poll, Wake};
-use std::thread::{self, sleep, Thread};
+use std::thread::{self, sleep};
 use std::time::{Duration, Instant};
 
 /// How long what is awaited may take.
@@ -96,12 +91,12 @@ fn work(time: Duration) -> Duration {
 
 #[test]
 fn a_session_lives_while_its_program_works() {
-    let (listener, expiries) = expiring(millis(4_000));
+    let (listener, expiries) = expiring(millis(2_000));
     let address = listener.local_addr().unwrap();
-    let session = Session::open(address, millis(4_000)).unwrap();
+    let session = Session::open(address, millis(2_000)).unwrap();
     session.create("/mine", b"", Mode::Ephemeral).unwrap();
-    let late = work(millis(9_000));
-    if late > millis(500) {
+    let late = work(millis(4_500));
+    if late > millis(250) {
         println!("skipped: the machine has held the process up for {late:?}");
         return;
     }
@@ -116,12 +111,12 @@ fn a_session_lives_while_its_program_works() {
 
 #[test]
 fn without_a_thread_the_state_is_not_known_after_work() {
-    let (listener, expiries) = expiring(millis(4_000));
+    let (listener, expiries) = expiring(millis(2_000));
     let address = listener.local_addr().unwrap();
-    let mut session = LocalSession::open(address, millis(4_000)).unwrap();
+    let mut session = LocalSession::open(address, millis(2_000)).unwrap();
     session.create("/mine", b"", Mode::Ephemeral).unwrap();
     assert_eq!(session.state(), Some(State::Connected));
-    sleep(millis(9_000));
+    sleep(millis(4_500));
     assert_eq!(session.state(), None);
     assert_eq!(
         expiries.load(Ordering::SeqCst),
@@ -153,28 +148,6 @@ fn calls_are_on_their_way_at_once() {
     for ticket in tickets {
         let node = ticket.wait_for(PATIENCE).unwrap();
         assert_eq!(node.data.as_deref(), Some(b"one".as_slice()));
-    }
-}
-
-/// Wakes a thread.
-struct Unpark(Thread);
-
-impl Wake for Unpark {
-    fn wake(self: Arc<Self>) {
-        self.0.unpark();
-    }
-}
-
-/// Waits for a future, as the smallest of runtimes would.
-fn block_on<F: Future>(future: F) -> F::Output {
-    let mut future = pin!(future);
-    let waker = Arc::new(Unpark(thread::current())).into();
-    let mut context = Context::from_waker(&waker);
-    loop {
-        match future.as_mut().poll(&mut context) {
-            Poll::Ready(output) => return output,
-            Poll::Pending => thread::park_timeout(PATIENCE),
-        }
     }
 }
 

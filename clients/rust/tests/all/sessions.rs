@@ -1,13 +1,11 @@
 //! Sessions over TCP, at the server in memory. Where there is no python3, each says so and passes.
 
-mod example;
-mod server;
-
+use crate::example;
+use crate::server::Server;
 use dirwolleu::{
     Cause, Code, DataAnswer, Error, ErrorKind, Event, Fault, Mark, Mode, NoReply, NodeEvent,
     Request, Session, SessionOptions, Side, State, ANY_VERSION,
 };
-use server::Server;
 use std::fmt::Debug;
 use std::io::{BufRead, BufReader};
 use std::process::{Command, Stdio};
@@ -330,9 +328,11 @@ fn try_hostile(seed: &str) {
 
 #[test]
 fn each_call_returns_whatever_a_server_sends() {
-    for seed in ["1", "2", "3", "4"] {
-        try_hostile(seed);
-    }
+    thread::scope(|scope| {
+        for seed in ["1", "2", "3", "4"] {
+            scope.spawn(move || try_hostile(seed));
+        }
+    });
 }
 
 #[test]

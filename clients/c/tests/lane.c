@@ -1,0 +1,656 @@
+/* What a session asks beside the library, at a server that the test is itself, over 127.0.0.1: it reads each request, and answers in pieces. With
+ * `quick` the stream is cut at few places. Frames are spelled by zookeeper.jute. */
+#define _POSIX_C_SOURCE 200809L
+#include "../lane.h"
+#include "expect.h"
+#include "frames.h"
+
+#include <stdarg.h>
+
+enum { TYPE_EXISTS = 3, TYPE_GET = 4, SHORT_TURNS = 50, MOST_TURNS = 20000, BIG = 1 << 20 };
+
+static const dw_stat STAT = {3, 5, 1000, 2000, 0, 4, 7, 2, 9, 3, 0};
+
+static dws_session *session;
+static int listener, line;
+static char said[8192], events[64];
+static struct bytes out;
+static size_t heard; /* bytes that the session has read of this connection */
+
+/* Adds to what was said, as printf does. */
+static void say(const char *format, ...)
+{
+    va_list words;
+    size_t length = strlen(said);
+    va_start(words, format);
+    vsnprintf(said + length, sizeof said - length, format, words);
+    va_end(words);
+}
+
+static void expect_said(const char *wanted)
+{
+    if (strcmp(said, wanted) != 0) {
+        fprintf(stderr, "it is said:\n%s\nand not:\n%s\n", said, wanted);
+        exit(EXIT_FAILURE);
+    }
+    said[0] = 0;
+}
+
+static void note(dws_session *s, enum dws_event event, const char *server, const char *words)
+{
+    char number[2] = {(char)('0' + (int)event), 0};
+    (void)s;
+    (void)server;
+    (void)words;
+    if (strlen(events) < sizeof events - 1) {
+        strcat(events, number);
+    }
+}
+
+/* A call that says how it was answered, by its name. */
+struct named {
+    dws_call call;
+    dws_lane_call lane;
+    const char *name;
+};
+
+static void tell(dws_session *s, dws_call *call)
+{
+    (void)s;
+    say("%s %d\n", (const char *)call->context, (int)call->why);
+}
+
+static dws_call *named(dws_call *call, const char *name)
+{
+    call->then = tell;
+    call->context = (void *)(uintptr_t)name;
+    return call;
+}
+
+static ssize_t read_counted(dws_wire *wire, void *room, size_t size, void *context)
+{
+    ssize_t count = recv(wire->socket, room, size, 0);
+    (void)context;
+    heard += count > 0 ? (size_t)count : 0;
+    return count;
+}
+
+static ssize_t write_plain(dws_wire *wire, const void *bytes, size_t size, void *context)
+{
+    (void)context;
+    return send(wire->socket, bytes, size, MSG_NOSIGNAL);
+}
+
+/* The turn of this number of a wait: the first ones do not wait for the socket. */
+static void turn(int number)
+{
+    struct pollfd polled;
+    EXPECT(number < MOST_TURNS);
+    dws_wanted(session, &polled);
+    poll(&polled, 1, number < SHORT_TURNS ? 0 : 1);
+    dws_go_on(session, polled.revents);
+}
+
+static void open_session(int tries)
+{
+    char address[32];
+    struct sockaddr_in bound;
+    socklen_t length = sizeof bound;
+    dws_options options;
+    memset(&options, 0, sizeof options);
+    options.tries = tries;
+    options.told = note;
+    options.read = read_counted;
+    options.write = write_plain;
+    EXPECT(getsockname(listener, (struct sockaddr *)&bound, &length) == 0);
+    snprintf(address, sizeof address, "127.0.0.1:%d", ntohs(bound.sin_port));
+    session = dws_open(address, &options, NULL, 0);
+    EXPECT(session != NULL);
+    events[0] = 0;
+}
+
+static void close_all(void)
+{
+    dws_free(session);
+    close(line);
+}
+
+/* The payload of the next frame that the session sends, into `out`. */
+static void hear(void)
+{
+    size_t wanted = 4, count = 0;
+    uint8_t *at = out.at;
+    for (int i = 0; count < wanted; i++) {
+        ssize_t read = recv(line, at + count, wanted - count, MSG_DONTWAIT);
+        if (read > 0) {
+            count += (size_t)read;
+        } else {
+            turn(i);
+        }
+        if (count == 4 && wanted == 4) {
+            wanted += dws_read_int(at);
+            EXPECT(wanted < sizeof out.at);
+        }
+    }
+    memmove(at, at + 4, count - 4);
+    out.length = count - 4;
+}
+
+/* The next frame has this xid and type, and this body. */
+static void hear_request(int32_t xid, int32_t type, const struct bytes *body)
+{
+    hear();
+    EXPECT_NUMBER(xid, (int32_t)dws_read_int(out.at));
+    EXPECT_NUMBER(type, (int32_t)dws_read_int(out.at + 4));
+    if (body != NULL) {
+        EXPECT_NUMBER(body->length, out.length - 8);
+        EXPECT(memcmp(body->at, out.at + 8, body->length) == 0);
+    }
+}
+
+/* Sends bytes, and has the session take them. */
+static void send_all(const uint8_t *bytes, size_t length)
+{
+    size_t wanted = heard + length;
+    while (length > 0) {
+        ssize_t sent = send(line, bytes, length, MSG_NOSIGNAL);
+        EXPECT(sent > 0);
+        bytes += sent;
+        length -= (size_t)sent;
+    }
+    for (int i = 0; heard < wanted && session->wire.socket >= 0; i++) {
+        turn(i);
+    }
+}
+
+/* Sends bytes: this many by themselves at first, and then pieces of a number of bytes. Each piece is taken before the next one. */
+static void answer(const struct bytes *bytes, size_t first, size_t rest)
+{
+    for (size_t at = 0, count = first; at < bytes->length; at += count, count = rest) {
+        count = (size_t)dws_least(count > 0 ? count : rest, bytes->length - at);
+        send_all(bytes->at + at, count);
+    }
+}
+
+static void answer_at_once(const struct bytes *bytes)
+{
+    answer(bytes, bytes->length, bytes->length);
+}
+
+/* Takes the next connection, and admits the session, in this version of the protocol. */
+static void admit_by(int32_t version)
+{
+    struct bytes connected, spelled;
+    int on = 1;
+    connected.length = spelled.length = 0;
+    for (int i = 0; (line = accept(listener, NULL, NULL)) < 0; i++) {
+        EXPECT(errno == EAGAIN);
+        turn(i);
+    }
+    EXPECT(setsockopt(line, IPPROTO_TCP, TCP_NODELAY, &on, sizeof on) == 0);
+    heard = 0;
+    hear();
+    add_connected(&connected);
+    put_int(&spelled, version);
+    memcpy(connected.at + 4, spelled.at, 4);
+    answer_at_once(&connected);
+}
+
+static void admit(void)
+{
+    admit_by(0);
+}
+
+/* Goes on until a call is answered. */
+static void wait_for(const dws_call *call)
+{
+    for (int i = 0; !call->is_answered; i++) {
+        turn(i);
+    }
+}
+
+static void put_words(struct bytes *bytes, const char *text)
+{
+    put_buffer(bytes, text, strlen(text));
+}
+
+static void put_type(struct bytes *bytes, int32_t type, uint8_t is_end)
+{
+    put_int(bytes, type);
+    bytes->at[bytes->length++] = is_end;
+    put_int(bytes, -1);
+}
+
+/* A reply of the lane: a header, and a body after it. */
+static size_t begin_answer(struct bytes *bytes, int32_t xid, int32_t code)
+{
+    size_t begin = bytes->length;
+    add_header(bytes, xid, 6, code);
+    return begin;
+}
+
+static void end_answer(struct bytes *bytes, size_t begin)
+{
+    size_t end = bytes->length;
+    bytes->length = begin;
+    put_int(bytes, (int32_t)(end - begin - 4));
+    bytes->length = end;
+}
+
+static void add_synced(struct bytes *bytes, int32_t xid)
+{
+    size_t begin = begin_answer(bytes, xid, 0);
+    put_words(bytes, "/a");
+    end_answer(bytes, begin);
+}
+
+static void add_acls(struct bytes *bytes, int32_t xid)
+{
+    size_t begin = begin_answer(bytes, xid, 0);
+    put_int(bytes, 2);
+    put_int(bytes, DWS_MAY_ALL);
+    put_words(bytes, "auth");
+    put_words(bytes, "");
+    put_int(bytes, DWS_MAY_READ);
+    put_words(bytes, "ip");
+    put_words(bytes, "10.0.0.0/8");
+    put_stat(bytes, &STAT);
+    end_answer(bytes, begin);
+}
+
+static void add_changes(struct bytes *bytes, int32_t xid)
+{
+    size_t begin = begin_answer(bytes, xid, 0);
+    put_type(bytes, DWS_OF_CHECK, 0);
+    put_type(bytes, DWS_OF_SET, 0);
+    put_stat(bytes, &STAT);
+    put_type(bytes, DWS_OF_CREATE, 0);
+    put_words(bytes, "/log-0000000000");
+    put_type(bytes, DWS_OF_DELETE, 0);
+    put_type(bytes, -1, 1);
+    end_answer(bytes, begin);
+}
+
+/* A transaction whose first two operations are done, and whose third one is refused, as version 3.8.0 says it. */
+static void add_rolled_back(struct bytes *bytes, int32_t xid, int32_t code)
+{
+    const int32_t codes[] = {0, 0, code, -2};
+    size_t begin = begin_answer(bytes, xid, 0);
+    for (int i = 0; i < 4; i++) {
+        put_type(bytes, -1, 0);
+        put_int(bytes, codes[i]);
+    }
+    put_type(bytes, -1, 1);
+    end_answer(bytes, begin);
+}
+
+static void put_open_acl(struct bytes *bytes)
+{
+    put_int(bytes, 1);
+    put_int(bytes, 31);
+    put_words(bytes, "world");
+    put_words(bytes, "anyone");
+}
+
+static struct named get, sync_call, acl, change, last;
+
+static void spell_transaction(dws_lane_call *call)
+{
+    dws_transaction_check(session, call, "/a", 3);
+    dws_transaction_set(session, call, "/a", "two", 3, 3);
+    dws_transaction_create(session, call, "/log-", "", 0, DW_MODE_SEQUENTIAL, NULL, 0);
+    dws_transaction_delete(session, call, "/b", -1);
+}
+
+static void hear_transaction(int32_t xid)
+{
+    struct bytes body;
+    body.length = 0;
+    put_type(&body, DWS_OF_CHECK, 0);
+    put_words(&body, "/a");
+    put_int(&body, 3);
+    put_type(&body, DWS_OF_SET, 0);
+    put_words(&body, "/a");
+    put_words(&body, "two");
+    put_int(&body, 3);
+    put_type(&body, DWS_OF_CREATE, 0);
+    put_words(&body, "/log-");
+    put_words(&body, "");
+    put_open_acl(&body);
+    put_int(&body, DW_MODE_SEQUENTIAL);
+    put_type(&body, DWS_OF_DELETE, 0);
+    put_words(&body, "/b");
+    put_int(&body, -1);
+    put_type(&body, -1, 1);
+    hear_request(xid, DWS_TYPE_MULTI, &body);
+}
+
+/* What is kept of /a, when the answer to the transaction comes: it is stale already. */
+static void tell_change(dws_session *s, dws_call *call)
+{
+    dw_kept_data kept;
+    uint8_t none;
+    const dws_lane_call *lane = (const dws_lane_call *)(void *)call;
+    EXPECT_NUMBER(DW_OK, dw_peek_data(&s->client, "/a", 2, &kept, &none, 0));
+    say("change %d mark %d zxid %d made %s version %d\n", (int)call->why, (int)kept.mark, (int)call->zxid, lane->changes[2].path,
+        (int)lane->changes[1].stat.version);
+}
+
+static void release_all(void)
+{
+    struct named *all[] = {&get, &sync_call, &acl, &change, &last};
+    for (size_t i = 0; i < sizeof all / sizeof all[0]; i++) {
+        dws_release(&all[i]->call);
+        dws_lane_release(&all[i]->lane);
+    }
+}
+
+/* Calls of both kinds are on their way at once, and are answered in their order, wherever the stream is cut. */
+static void ask_both(size_t first, size_t rest)
+{
+    struct bytes came;
+    open_session(0);
+    admit();
+    dws_get(session, named(&get.call, "get"), "/a", true);
+    named(&sync_call.lane.call, "sync");
+    dws_sync(session, &sync_call.lane, "/a");
+    named(&acl.lane.call, "acl");
+    dws_get_acl(session, &acl.lane, "/a");
+    change.lane.call.then = tell_change;
+    spell_transaction(&change.lane);
+    dws_commit(session, &change.lane);
+    dws_exists(session, named(&last.call, "last"), "/", false);
+    hear_request(1, TYPE_GET, NULL);
+    hear_request(-1001, DWS_TYPE_SYNC, NULL);
+    hear_request(-1002, DWS_TYPE_GET_ACL, NULL);
+    hear_transaction(-1003);
+    hear_request(2, TYPE_EXISTS, NULL); /* of the library, after the write */
+    hear_request(3, TYPE_EXISTS, NULL);
+    came.length = 0;
+    add_data(&came, 1, 5, "one", &STAT);
+    add_synced(&came, -1001);
+    add_acls(&came, -1002);
+    add_notice(&came, DW_EVENT_DATA_CHANGED, "/a");
+    add_changes(&came, -1003);
+    add_stat(&came, 2, 6, &STAT);
+    add_stat(&came, 3, 6, &STAT);
+    answer(&came, first, rest);
+    wait_for(&last.call);
+    expect_said("get 0\nsync 0\nacl 0\nchange 0 mark 2 zxid 6 made /log-0000000000 version 7\nlast 0\n");
+    EXPECT(acl.lane.acl_count == 2 && acl.lane.acls[0].permissions == DWS_MAY_ALL && strcmp(acl.lane.acls[0].id, "") == 0);
+    EXPECT(strcmp(acl.lane.acls[1].scheme, "ip") == 0 && strcmp(acl.lane.acls[1].id, "10.0.0.0/8") == 0);
+    EXPECT(acl.lane.call.stat.pzxid == STAT.pzxid && dws_last_zxid(session) == 6);
+    close_all();
+    release_all();
+}
+
+/* How many bytes the stream above has. */
+static size_t measure_stream(void)
+{
+    struct bytes came;
+    came.length = 0;
+    add_data(&came, 1, 5, "one", &STAT);
+    add_synced(&came, -1001);
+    add_acls(&came, -1002);
+    add_notice(&came, DW_EVENT_DATA_CHANGED, "/a");
+    add_changes(&came, -1003);
+    return came.length;
+}
+
+static void cut_streams(bool is_quick)
+{
+    static const size_t pieces[] = {1, 2, 3, 7, 64, 4096};
+    for (size_t i = is_quick ? 3 : 0; i < sizeof pieces / sizeof pieces[0]; i++) {
+        ask_both(pieces[i], pieces[i]);
+    }
+    for (size_t first = 1, length = measure_stream(); first < length; first += is_quick ? 37 : 1) {
+        ask_both(first, length);
+    }
+}
+
+/* The lane begins within a frame of the library's, cut at each place. */
+static void begin_within_a_frame(bool is_quick)
+{
+    struct bytes came, rest;
+    came.length = 0;
+    add_data(&came, 1, 5, "one", &STAT);
+    for (size_t first = 1; first < came.length; first += is_quick ? 13 : 1) {
+        open_session(0);
+        admit();
+        dws_get(session, named(&get.call, "get"), "/a", false);
+        hear_request(1, TYPE_GET, NULL);
+        send_all(came.at, first);
+        named(&sync_call.lane.call, "sync");
+        dws_sync(session, &sync_call.lane, "/a");
+        hear_request(-1001, DWS_TYPE_SYNC, NULL);
+        rest.length = came.length - first;
+        memcpy(rest.at, came.at + first, rest.length);
+        add_synced(&rest, -1001);
+        answer(&rest, 1, 5);
+        wait_for(&sync_call.lane.call);
+        expect_said("get 0\nsync 0\n");
+        close_all();
+        release_all();
+    }
+}
+
+/* Where a connection ends, each call is lost, in the order of both. */
+static void lose_both(void)
+{
+    open_session(0);
+    admit();
+    named(&sync_call.lane.call, "sync");
+    dws_sync(session, &sync_call.lane, "/");
+    dws_get(session, named(&get.call, "get"), "/", false);
+    named(&acl.lane.call, "acl");
+    dws_get_acl(session, &acl.lane, "/");
+    dws_get(session, named(&last.call, "last"), "/", false);
+    hear_request(-1001, DWS_TYPE_SYNC, NULL);
+    hear_request(1, TYPE_GET, NULL);
+    hear_request(-1002, DWS_TYPE_GET_ACL, NULL);
+    hear_request(2, TYPE_GET, NULL);
+    close(line);
+    wait_for(&last.call);
+    expect_said("sync 1\nget 1\nacl 1\nlast 1\n");
+    close_all();
+    release_all();
+}
+
+/* A read that was lost, or whose answer does not read, is asked again where the options say so. The xids begin again. */
+static void ask_again(void)
+{
+    struct bytes came;
+    char why[DWS_LONGEST_LINE];
+    for (int tries = 0; tries < 2; tries++) {
+        open_session(tries);
+        admit();
+        named(&acl.lane.call, "acl");
+        dws_get_acl(session, &acl.lane, "/");
+        hear_request(-1001, DWS_TYPE_GET_ACL, NULL);
+        came.length = 0;
+        size_t begin = begin_answer(&came, -1001, 0);
+        put_int(&came, 7);
+        end_answer(&came, begin);
+        answer_at_once(&came);
+        EXPECT(strchr(events, '0' + DWS_CUT) != NULL);
+        close(line);
+        if (tries > 0) {
+            admit();
+            hear_request(-1001, DWS_TYPE_GET_ACL, NULL);
+            came.length = 0;
+            add_acls(&came, -1001);
+            answer_at_once(&came);
+        }
+        wait_for(&acl.lane.call);
+        expect_said(tries > 0 ? "acl 0\n" : "acl 1\n");
+        dws_words(session, &acl.lane.call, why, sizeof why);
+        EXPECT(tries > 0 || strcmp(why, "the connection ended before the reply: /; it may or may not have happened: read again") == 0);
+        close_all();
+        release_all();
+    }
+}
+
+static void expect_words(const dws_call *call, const char *wanted)
+{
+    char why[DWS_LONGEST_LINE];
+    dws_words(session, call, why, sizeof why);
+    if (strcmp(why, wanted) != 0) {
+        fprintf(stderr, "it says '%s' and not '%s'\n", why, wanted);
+        exit(EXIT_FAILURE);
+    }
+}
+
+/* What is refused, by the server and before anything is sent, has its words. */
+static void tell_refusals(void)
+{
+    static const struct {
+        int32_t code;
+        const char *words;
+    } rows[] = {
+        {-101, "operation 2 was refused, and nothing has happened: no node: /"},
+        {-110, "operation 2 was refused, and nothing has happened: there is a node already: /log-"},
+    };
+    struct bytes came;
+    char *large = (char *)calloc(1, BIG);
+    open_session(0);
+    admit();
+    for (size_t i = 0; i < 2; i++) {
+        spell_transaction(&change.lane);
+        dws_commit(session, &change.lane);
+        hear_transaction(-1001 - (int32_t)i);
+        hear_request(1 + (int32_t)i, TYPE_EXISTS, NULL);
+        came.length = 0;
+        add_rolled_back(&came, -1001 - (int32_t)i, rows[i].code);
+        add_stat(&came, 1 + (int32_t)i, 6, &STAT);
+        answer(&came, 3, 5);
+        EXPECT_NUMBER(rows[i].code, dws_wait(session, &change.lane.call));
+        EXPECT_NUMBER(2, change.lane.refused);
+        expect_words(&change.lane.call, rows[i].words);
+    }
+    dws_transaction_check(session, &change.lane, "/a", 1);
+    dws_transaction_delete(session, &change.lane, "/a//b", 1);
+    EXPECT(dws_wait(session, dws_commit(session, &change.lane)) == DWS_REFUSED - DW_NOT_PATH);
+    expect_words(&change.lane.call, "/a//b is no path: an empty name");
+    EXPECT(dws_wait(session, dws_sync(session, &sync_call.lane, "a")) == DWS_REFUSED - DW_NOT_PATH);
+    expect_words(&sync_call.lane.call, "a is no path: no slash at its beginning");
+    EXPECT(dws_wait(session, dws_sync(session, &sync_call.lane, "/\xee\x80\x80")) == DWS_REFUSED - DW_NOT_PATH);
+    EXPECT(dws_wait(session, dws_create_with_acl(session, &acl.lane, "/a", large, BIG, 0, NULL, 0)) == DW_OUTCOME_TOO_LARGE);
+    EXPECT(dws_commit(session, &change.lane)->is_answered == false);
+    free(large);
+    close_all();
+    release_all();
+}
+
+static void expect_credentials(const char *words)
+{
+    struct bytes body;
+    body.length = 0;
+    put_int(&body, 0);
+    put_words(&body, "digest");
+    put_words(&body, words);
+    hear_request(-4, DWS_TYPE_AUTH, &body);
+}
+
+/* Credentials are told first on each connection; those that are added, once the server has taken them. */
+static void introduce(void)
+{
+    struct bytes came;
+    open_session(0);
+    EXPECT(dws_introduce(session, "digest", "ann:secret", 10) && dws_introduce(session, "digest", "ann:secret", 10));
+    dws_get(session, named(&get.call, "get"), "/", false);
+    admit_by(-4); /* that is no xid */
+    expect_credentials("ann:secret");
+    hear_request(1, TYPE_GET, NULL);
+    named(&sync_call.lane.call, "bob");
+    dws_add_auth(session, &sync_call.lane, "digest", "bob:secret", 10);
+    named(&acl.lane.call, "eve");
+    dws_add_auth(session, &acl.lane, "digest", "eve:secret", 10);
+    expect_credentials("bob:secret");
+    expect_credentials("eve:secret");
+    came.length = 0;
+    add_header(&came, -4, 0, 0);
+    add_header(&came, -4, 0, 0); /* a server answers credentials before what it was asked before */
+    add_data(&came, 1, 5, "one", &STAT);
+    answer(&came, 7, 11);
+    wait_for(&get.call);
+    expect_said("bob 0\nget 0\n");
+    close(line);
+    wait_for(&acl.lane.call);
+    expect_said("eve 1\n");
+    admit();
+    expect_credentials("ann:secret");
+    expect_credentials("bob:secret");
+    close_all();
+    release_all();
+}
+
+/* Credentials that are refused end the session, and all calls. Those that are added are told to their caller. */
+static void bar(void)
+{
+    struct bytes came;
+    came.length = 0;
+    add_header(&came, -4, 0, -115);
+    open_session(0);
+    admit();
+    EXPECT(dws_add_auth(session, &acl.lane, "digest", "eve:secret", 10) == &acl.lane.call);
+    expect_credentials("eve:secret");
+    answer_at_once(&came);
+    EXPECT(dws_wait(session, &acl.lane.call) == -115 && !dws_is_over(session));
+    expect_words(&acl.lane.call, "the server does not take these credentials");
+    close_all();
+    open_session(3);
+    EXPECT(dws_introduce(session, "digest", "eve:secret", 10));
+    admit();
+    expect_credentials("eve:secret");
+    dws_get(session, named(&get.call, "get"), "/", false);
+    hear_request(1, TYPE_GET, NULL);
+    answer_at_once(&came);
+    wait_for(&get.call);
+    dws_exists(session, named(&last.call, "last"), "/", false);
+    expect_said("get -115\nlast -115\n");
+    EXPECT(dws_is_over(session) && strchr(events, '0' + DWS_BARRED) != NULL);
+    expect_words(&last.call, "the server does not take these credentials: /");
+    close_all();
+    release_all();
+}
+
+/* A frame with an xid of the lane for which nobody waits is the library's, which gives the connection up. */
+static void leave_the_rest(void)
+{
+    struct bytes came;
+    open_session(0);
+    admit();
+    dws_sync(session, named(&sync_call.lane.call, "sync") != NULL ? &sync_call.lane : NULL, "/");
+    hear_request(-1001, DWS_TYPE_SYNC, NULL);
+    came.length = 0;
+    add_synced(&came, -1002);
+    answer(&came, 5, 5);
+    wait_for(&sync_call.lane.call);
+    expect_said("sync 1\n");
+    EXPECT(strchr(events, '0' + DWS_CUT) != NULL);
+    close_all();
+    release_all();
+}
+
+int main(int argc, char **argv)
+{
+    bool is_quick = argc == 2 && strcmp(argv[1], "quick") == 0;
+    struct sockaddr_in any;
+    memset(&any, 0, sizeof any);
+    any.sin_family = AF_INET;
+    any.sin_addr.s_addr = htonl(INADDR_LOOPBACK);
+    listener = socket(AF_INET, SOCK_STREAM, 0);
+    EXPECT(listener >= 0 && bind(listener, (struct sockaddr *)&any, sizeof any) == 0 && listen(listener, 8) == 0);
+    EXPECT(fcntl(listener, F_SETFL, O_NONBLOCK) == 0);
+    cut_streams(is_quick);
+    begin_within_a_frame(is_quick);
+    lose_both();
+    ask_again();
+    tell_refusals();
+    introduce();
+    bar();
+    leave_the_rest();
+    close(listener);
+    printf("lane: passed\n");
+    return EXIT_SUCCESS;
+}

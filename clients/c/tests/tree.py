@@ -1,0 +1,175 @@
+"""Tests of the example `tree`, over the server in memory and one that does what a test says."""
+
+import signal
+import struct
+import subprocess
+import tempfile
+import time
+
+from programs import BOUND, EXISTS, GET_DATA, PING, STAT, Case, program
+
+PROGRAM = program("tree")
+GET_CHILDREN2 = 12
+
+
+def names(*all_of_them):
+    spelled = [struct.pack(">i", len(name)) + name for name in all_of_them]
+    return struct.pack(">i", len(spelled)) + b"".join(spelled) + STAT
+
+
+class Tree(Case):
+    def show(self, servers, path="/t"):
+        self.errors = tempfile.NamedTemporaryFile("w+", encoding="utf-8")
+        self.addCleanup(self.errors.close)
+        self.shown = self.run_of(PROGRAM, servers, path, stderr=self.errors)
+
+    def begin(self, *options):
+        """A server with a tree, and the program that shows it."""
+        partner = self.partner(*options)
+        partner.do("create /t root", "create /t/b 2", "create /t/a 1", "create /t/a/x deep", "create /t/a-b 3", "create /other 4")
+        self.show(partner.address)
+        self.assertEqual(self.subtree(), ['/t "root"', '/t/a "1"', '/t/a/x "deep"', '/t/a-b "3"', '/t/b "2"'])
+        return partner
+
+    def subtree(self):
+        """The nodes of the next subtree."""
+        count, _, _, _, zxid = self.shown.line().split(" ")
+        self.zxid = int(zxid)
+        return [self.shown.line().removeprefix("  ") for _ in range(int(count))]
+
+    def wait_for(self, is_wanted):
+        """The first subtree that is wanted. Zxids do not go back."""
+        while True:
+            before = self.zxid
+            subtree = self.subtree()
+            self.assertGreaterEqual(self.zxid, before)
+            if is_wanted(subtree):
+                return subtree
+
+    def wait_for_words(self, words):
+        """Waits until the program has said this on standard error."""
+        end = time.monotonic() + BOUND
+        said = ""
+        while words not in said:
+            self.assertLess(time.monotonic(), end, f"it does not say {words}: {said}")
+            time.sleep(0.02)
+            said = self.said()
+
+    def said(self):
+        with open(self.errors.name, encoding="utf-8") as errors:
+            return errors.read()
+
+    def expect_end(self):
+        self.shown.process.send_signal(signal.SIGTERM)
+        self.assertEqual(self.shown.process.wait(BOUND), 0)
+
+    def test_changes(self):
+        partner = self.begin()
+        partner.do("set /t/a 9", "delete /t/a/x", "create /t/b/new 7")
+        wanted = ['/t "root"', '/t/a "9"', '/t/a-b "3"', '/t/b "2"', '/t/b/new "7"']
+        self.wait_for(lambda one: one == wanted)
+        partner.do("delete /t/b/new", "create /t/b/new 8")
+        self.wait_for(lambda one: one[-1] == '/t/b/new "8"')
+        self.expect_end()
+
+    def test_node_that_comes_and_goes(self):
+        partner = self.begin()
+        for _ in range(20):
+            partner.do("delete /t/b", "create /t/b again")
+        self.wait_for(lambda one: one[-1] == '/t/b "again"')
+
+    def test_lost_connection_and_expired_session(self):
+        partner = self.begin()
+        partner.do("drop", "set /t/a 5")
+        self.wait_for(lambda one: '/t/a "5"' in one)
+        partner.do("down", "create /t/c 6", "up")
+        self.wait_for(lambda one: one[-1] == '/t/c "6"')
+        partner.do("expire", "delete /t/c")
+        self.wait_for(lambda one: one[-1] == '/t/b "2"')
+        self.expect_end()
+
+    def test_root_that_is_not_there(self):
+        partner = self.partner()
+        self.show(partner.address, "/later")
+        self.wait_for_words("tree: no node: /later\n")
+        partner.do("create /later 1", "create /later/one 2")
+        self.zxid = 0
+        self.wait_for(lambda one: one == ['/later "1"', '/later/one "2"'])
+        partner.do("delete /later/one", "delete /later")
+        self.wait_for_words("tree: no node: /later\ntree: no node: /later\n")
+        partner.do("create /later 3")
+        self.wait_for(lambda one: one == ['/later "3"'])
+
+    def test_tree_below_a_chroot(self):
+        partner = self.begin()
+        self.show(partner.address + "/t/a", "/")
+        self.assertEqual(self.subtree(), ['/ "1"', '/x "deep"'])
+        partner.do("create /t/a/y more")
+        self.wait_for(lambda one: one == ['/ "1"', '/x "deep"', '/y "more"'])
+
+    def test_pieces(self):
+        self.begin("--piece", "1").do("set /t/a 2")
+        self.wait_for(lambda one: '/t/a "2"' in one)
+
+    def test_more_nodes_than_are_read_at_once(self):
+        partner = self.partner()
+        partner.do("create /t root", *(f"create /t/n{number:04} -" for number in range(700)))
+        self.show(partner.address)
+        self.assertEqual(len(self.subtree()), 701)
+
+    def serve(self, read):
+        """A server of /t with the child /t/a, whose data are read by this function of the line and the xid."""
+
+        def serve(_, line):
+            line.admit(10_000)
+            while True:
+                frame = line.frame()
+                xid, kind = struct.unpack(">ii", frame[:8])
+                is_child = b"/t/a" in frame
+                if kind == GET_DATA and is_child:
+                    read(line, xid)
+                elif kind == GET_DATA:
+                    line.answer(xid, 0, struct.pack(">i", 4) + b"root" + STAT)
+                elif kind == GET_CHILDREN2:
+                    line.answer(xid, 0, names() if is_child else names(b"a"))
+                else:
+                    line.answer(xid, 0, b"" if kind == PING else STAT)
+                self.assertIn(kind, (GET_DATA, GET_CHILDREN2, EXISTS, PING))
+
+        server = self.server(serve)
+        self.show(server.address)
+
+    def test_refused_reads(self):
+        """The program goes on at each code, and reads once a second at most. It says which are no wait for a server that is busy."""
+        codes, reads = [-101, -127, -102], []
+
+        def read(line, xid):
+            reads.append(time.monotonic())
+            code = codes.pop() if codes else 0
+            line.answer(xid, code, b"" if code else struct.pack(">i", 3) + b"one" + STAT)
+
+        self.serve(read)
+        self.assertEqual(self.subtree(), ['/t "root"', '/t/a "one"'])
+        self.assertGreater(min(after - before for before, after in zip(reads, reads[1:])), 0.95)
+        self.wait_for_words("tree: the node's ACL does not admit this client: /t/a\n")
+        self.assertNotIn("too much to do", self.said())
+
+    def test_tree_that_never_settles(self):
+        """Each answer is stale at once, until the server is quiet: there is no subtree before."""
+        reads = []
+
+        def read(line, xid):
+            reads.append(xid)
+            reply = struct.pack(">iqi", xid, 5, 0) + struct.pack(">i", 3) + b"one" + STAT
+            notice = struct.pack(">iqi", -1, -1, 0) + struct.pack(">iii", 3, 3, 4) + b"/t/a"
+            frames = [reply] if len(reads) == 50 else [reply, notice]
+            line.send(b"".join(struct.pack(">i", len(frame)) + frame for frame in frames))
+
+        self.serve(read)
+        self.assertEqual(self.subtree(), ['/t "root"', '/t/a "one"'])
+        self.assertEqual(len(reads), 50)
+
+    def test_words_that_are_refused(self):
+        for status, *words in ((2,), (2, "127.0.0.1:", "/"), (1, "127.0.0.1:1", "t")):
+            done = subprocess.run([PROGRAM, *words], capture_output=True, timeout=BOUND, check=False)
+            self.assertEqual((done.returncode, done.stdout), (status, b""), words)

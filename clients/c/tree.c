@@ -1,0 +1,57 @@
+/* Shows all nodes at and below a node of ZooKeeper, and shows them again after each change, through lost connections, restarts of servers and
+ * expired sessions:
+ *
+ *   tree HOST:PORT[,HOST:PORT..][/CHROOT] PATH
+ *
+ * Each subtree is of one moment: no node is left out, and what one transaction changes is in it whole or not at all.
+ *
+ *   3 nodes at zxid 12
+ *     /app ""
+ *     /app/host "alpha"
+ *     /app/port "80"
+ *
+ * Why there is no newer one, as that there is no root, and what happens to connections, is told on standard error. */
+#define _POSIX_C_SOURCE 200809L
+#include "session.h"
+#include "told.h"
+
+static void show(dws_session *session, dws_tree *tree)
+{
+    char why[DWS_LONGEST_LINE];
+    if (tree->why != 0) {
+        dws_tree_words(session, tree, why, sizeof why);
+        fprintf(stderr, "tree: %s\n", why);
+        return;
+    }
+    printf("%zu nodes at zxid %" PRId64 "\n", tree->count, tree->zxid);
+    for (size_t i = 0; i < tree->count; i++) {
+        printf("  %s", tree->nodes[i].path);
+        print_quoted(tree->nodes[i].data, tree->nodes[i].length);
+        putchar('\n');
+    }
+    if (fflush(stdout) != 0) {
+        perror("tree: standard output");
+        exit(EXIT_FAILURE);
+    }
+}
+
+int main(int argc, char **argv)
+{
+    static dws_tree tree;
+    char why[DWS_LONGEST_LINE];
+    dws_options options = {.told = tell};
+    dws_session *session = argc == 3 ? dws_open(argv[1], &options, why, sizeof why) : NULL;
+    if (session == NULL) {
+        fprintf(stderr, "tree: %s\n", argc == 3 ? why : "usage: tree HOST:PORT[,HOST:PORT..][/CHROOT] PATH");
+        return 2;
+    }
+    enum dw_result result = dws_follow_tree(session, &tree, argv[2], 0, show);
+    if (result != DW_OK) {
+        write_result(why, sizeof why, result, argv[2]);
+        fprintf(stderr, "tree: %s\n", why);
+    } else {
+        turn_until_signal(session);
+    }
+    dws_free(session);
+    return result == DW_OK ? EXIT_SUCCESS : EXIT_FAILURE;
+}
