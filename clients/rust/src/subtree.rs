@@ -64,7 +64,8 @@ fn all<T>(spelled: &[u8], mut read: impl FnMut(&mut Reader<'_>) -> Option<T>) ->
     found
 }
 
-/// Bytes after their length: none where they are null.
+/// Bytes after their length, which are none where they are null; and nothing where they are not whole.
+#[allow(clippy::option_option)] // null is no want of bytes
 pub(crate) fn buffer(reader: &mut Reader<'_>) -> Option<Option<Vec<u8>>> {
     match usize::try_from(reader.int()?) {
         Ok(length) => reader.bytes(length).map(Some),

@@ -145,7 +145,7 @@ impl View<'_> {
     }
 
     /// The servers' paths of these of the program.
-    fn outer<'p>(&self, paths: &[&'p str]) -> Result<Vec<Cow<'p, str>>, Fault> {
+    fn outer<'p>(self, paths: &[&'p str]) -> Result<Vec<Cow<'p, str>>, Fault> {
         let chroot = self.engine.chroot();
         paths.iter().map(|path| chroot.outer(path)).collect()
     }
