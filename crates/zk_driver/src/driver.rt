@@ -129,8 +129,10 @@ impl<'a, A: Allocator + Copy, D: Dial + Drop, C: Clock + Drop> Driver<'a, A, D, 
         ensures kept { Extends (told_by self.old.engine.waiting.items) (told_by self.new.engine.waiting.items) }
     {
         let now = self.now();
-        self.engine.hand(now, input)?;
-        Ok(())
+        match self.engine.hand(now, input) {
+            Ok(_) => Ok(()),
+            Err(stop) => Err(stop),
+        }
     }
 
     /// The next action for the program, and none at this moment of the clock. Until then it does what the agent asks for, and tells it what
