@@ -165,6 +165,9 @@ static inline void write_code(char *room, size_t size, int32_t code, const char 
     if (strcmp(reason, dw_code_words(0)) == 0) { /* 0 is no error, and so has no name either */
         reason = words_of_other_code(code);
     }
+    if (code == DW_CODE_INVALID_ACL) { /* the header knows calls with the open one alone */
+        reason = "the server does not take this ACL";
+    }
     if (reason == NULL) {
         snprintf(numbered, sizeof numbered, "the server answers %" PRId32, code);
         reason = numbered;

@@ -48,6 +48,45 @@ fn an_ephemeral_node_is_there_after_nine_seconds_of_work() {
 }
 
 #[test]
+fn a_tree_has_all_nodes_of_one_moment() {
+    let Some(place) = place("tree") else { return };
+    let options = SessionOptions::new(TIMEOUT).renews(true);
+    let (session, writer) = (
+        options.open(&place).unwrap(),
+        Session::open(&place, TIMEOUT).unwrap(),
+    );
+    let tree = session.tree("/").unwrap();
+    let mut snapshots = tree.snapshots();
+    let mut next = || snapshots.next_within(PATIENCE).unwrap().unwrap();
+    assert_eq!(next().len(), 1);
+    let begin = writer.transaction().create("/a", b"0", Mode::Persistent);
+    let begun = begin.create("/b", b"0", Mode::Persistent).commit();
+    begun.unwrap();
+    thread::scope(|scope| {
+        scope.spawn(|| {
+            for number in 1..=200 {
+                let word = number.to_string();
+                let both = writer.transaction().set("/a", word.as_bytes(), -1);
+                both.set("/b", word.as_bytes(), -1).commit().unwrap();
+            }
+        });
+        loop {
+            let snapshot = next();
+            let data = ["/a", "/b"].map(|path| snapshot.get(path).map(|node| node.data.clone()));
+            assert_eq!(data[0], data[1], "{snapshot:?}");
+            if data[0] == Some(Some(b"200".to_vec())) {
+                break;
+            }
+        }
+    });
+    writer.create("/a/mine", b"", Mode::Ephemeral).unwrap();
+    while next().get("/a/mine").is_none() {}
+    writer.close().unwrap();
+    while next().get("/a/mine").is_some() {}
+    assert_eq!(tree.latest().unwrap().len(), 3);
+}
+
+#[test]
 fn a_transaction_happens_as_a_whole_or_not_at_all() {
     let Some(place) = place("transaction") else {
         return;
