@@ -1,5 +1,5 @@
 -- How far a driver has come: what its agent was handed, what was carried out, and what was passed on.
-use Rattle.std.specs.Prelude.{◌≡◌, ℕ, Bool, true, false, List, [], ◌∷◌, ◌++◌, fold, max, Option, Some, None, is_some, All}
+use Rattle.std.specs.Prelude.{◌≡◌, ◌+◌, ℕ, Bool, true, false, List, [], ◌∷◌, ◌++◌, fold, max, Option, Some, None, is_some, All}
 use Rattle.std.specs.List.{filter, FoldsTo}
 use Rattle.zk_turns.specs.Turns.{Send}
 use Rattle.zk_client.specs.Clients.{view_of}
