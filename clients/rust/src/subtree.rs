@@ -65,7 +65,7 @@ fn all<T>(spelled: &[u8], mut read: impl FnMut(&mut Reader<'_>) -> Option<T>) ->
 }
 
 /// Bytes after their length, which are none where they are null; and nothing where they are not whole.
-#[allow(clippy::option_option)] // null is no want of bytes
+#[allow(clippy::option_option)] // null is told apart from too few bytes
 pub(crate) fn buffer(reader: &mut Reader<'_>) -> Option<Option<Vec<u8>>> {
     match usize::try_from(reader.int()?) {
         Ok(length) => reader.bytes(length).map(Some),
