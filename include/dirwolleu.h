@@ -70,7 +70,7 @@ enum dw_result DW_AS_INT32 {
   DW_BAD_TIMEOUT = -6, /* the timeout is not above 0 */
   DW_NO_SUCH_MODE = -7,
   DW_NOT_SAVED = -8, /* the bytes are no saved session */
-  DW_NOT_WHOLE = -9, /* some of the subtree is not kept, or not good */
+  DW_NOT_WHOLE = -9, /* some of what is asked for is not kept, or not good */
   DW_TOO_MANY = -10, /* the subtree has more nodes than were asked for */
   DW_NOT_TEXTS = -11 /* the bytes are no texts, each after its length */
 };
@@ -355,6 +355,20 @@ enum dw_result dw_subtree(dw_client *handle, const char *path, size_t path_lengt
 enum dw_result dw_lacking(dw_client *handle, const char *path, size_t path_length, size_t most, uint8_t *out, size_t room,
                           size_t *count);
 
+/* Copies what is kept of several paths, all of it of one moment, as many bytes as there is room for, and writes how many bytes there are. The
+ * nodes and the parents are paths, each after its length, as dw_peek_names spells names; there may be none of either. It does so exactly where
+ * what is kept of the data of each node, and of the names below each parent, is marked good. Then all of it is what the servers' history has at
+ * dw_last_zxid. The nodes come first, in their order, as zookeeper.jute spells these fields:
+ *   ustring path; int kind; buffer data; long czxid, mzxid, ctime, mtime; int version; long ephemeralOwner; int dataLength;
+ * The kind is one of enum dw_kept. Of DW_KEPT_ABSENT, which says that no node is there, the data are null and the numbers 0; of DW_KEPT_KNOWN,
+ * which dw_exists leaves, the data are null. Then come the parents, in their order, with the names as dw_peek_names tells them:
+ *   ustring path; buffer names; long pzxid;
+ * It takes memory for them too, within the call. Where there was too little room, give more and call again: with no step between it tells
+ * the same. DW_OK; DW_NOT_WHOLE: read again, with a watch, what is not kept good, and ask again; DW_NOT_PATH where one of them is no path,
+ * DW_NOT_TEXTS where they are not spelled so, DW_NO_MEMORY, DW_CLOSED. Unless it answers DW_OK, the count is 0. */
+enum dw_result dw_snapshot(dw_client *handle, const uint8_t *nodes, size_t nodes_length, const uint8_t *parents,
+                           size_t parents_length, uint8_t *out, size_t room, size_t *count);
+
 /* Tells whether the session stands first in a directory by its node of this name: for locks and elections whose nodes are sequential ones. The
  * names are those of a dw_get_children of the directory, asked without a watch after the node was made, as dw_names copies them; `listed` is the
  * zxid of that answer. A name counts where it ends in ten digits, right after a marker: the markers, spelled as names are, are that of its
@@ -371,6 +385,18 @@ enum dw_result dw_lacking(dw_client *handle, const char *path, size_t path_lengt
 enum dw_result dw_standing(dw_client *handle, const char *directory, size_t directory_length, const char *name,
                            size_t name_length, const uint8_t *names, size_t names_length, int64_t listed, const uint8_t *markers,
                            size_t markers_length, int64_t *token, char *out, size_t room, size_t *count);
+
+/* Tells whether the session holds the first place in a directory by the node of this path: of the names there that begin with the prefix, that
+ * of its node is the first in byte order. With names of sequential nodes that is the order in which they were made. Where several markers are
+ * among the names, or no watch is to be left at the directory, dw_standing serves.
+ *   DW_OK     it holds at dw_last_zxid, and no other session does. The token is written, which is the node's czxid: whoever the lock protects
+ *             refuses a smaller one than it has seen. So it is exactly where the names below the directory are kept good; the path lies right
+ *             below it, its name begins with the prefix, and none of these names that does is before it; and the node's data, or that it
+ *             exists, are kept good and its owner is this session.
+ *   DW_NONE   it is not shown: read the names and the node with a watch, or wait.
+ * Also DW_NO_MEMORY, DW_CLOSED, DW_NOT_TEXT, also where the prefix is none, and DW_NOT_PATH. The token is 0 unless it answers DW_OK. */
+enum dw_result dw_holder(dw_client *handle, const char *directory, size_t directory_length, const char *prefix,
+                         size_t prefix_length, const char *path, size_t path_length, int64_t *token);
 
 /* Forgets all stale answers. It takes no memory, and leaves the outputs. DW_OK, DW_CLOSED. */
 enum dw_result dw_forget(dw_client *handle);
@@ -390,7 +416,7 @@ static inline const char *dw_result_words(enum dw_result result) {
   case DW_BAD_TIMEOUT: return "the timeout is not 1 to 2147483647 milliseconds";
   case DW_NO_SUCH_MODE: return "the mode is no sum of DW_MODE_EPHEMERAL and DW_MODE_SEQUENTIAL";
   case DW_NOT_SAVED: return "the bytes are no saved session";
-  case DW_NOT_WHOLE: return "some of the subtree is not kept, or not good";
+  case DW_NOT_WHOLE: return "some of what is asked for is not kept, or not good";
   case DW_TOO_MANY: return "the subtree has more nodes than were asked for";
   case DW_NOT_TEXTS: return "the bytes are no texts, each after its length";
   }

@@ -27,7 +27,7 @@ static inline const char *advice_of_result(enum dw_result result)
     case DW_BAD_TIMEOUT: return "";
     case DW_NO_SUCH_MODE: return "";
     case DW_NOT_SAVED: return "take all of those that dw_saved gave";
-    case DW_NOT_WHOLE: return "read what dw_lacking tells, with a watch";
+    case DW_NOT_WHOLE: return "read what is lacking, with a watch";
     case DW_TOO_MANY: return "ask for more, or for a path below";
     case DW_NOT_TEXTS: return "";
     }

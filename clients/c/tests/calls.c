@@ -184,6 +184,83 @@ static void stand_first(dw_client *client)
     EXPECT(token == 0 && count == 0);
 }
 
+/* What follows the path of a node in a snapshot: its kind, the data, or null, and the numbers. */
+static void put_shown(struct bytes *bytes, enum dw_kept kind, const char *data, const dw_stat *stat)
+{
+    put_int(bytes, kind);
+    if (data == NULL) {
+        put_int(bytes, -1);
+    } else {
+        put_buffer(bytes, data, strlen(data));
+    }
+    put_long(bytes, stat->czxid);
+    put_long(bytes, stat->mzxid);
+    put_long(bytes, stat->ctime);
+    put_long(bytes, stat->mtime);
+    put_int(bytes, stat->version);
+    put_long(bytes, stat->ephemeral_owner);
+    put_int(bytes, stat->data_length);
+}
+
+/* A node that is read, one that is not there and one whose data were not read, and names: all of one moment. */
+static void take_a_snapshot(dw_client *client)
+{
+    const dw_stat read = {3, 5, 1000, 2000, 77, 4, 1, 6, 7, 5, 0}, none = {0, 0, 0, 0, 0, 0, 0, 0, 0, 0, 0};
+    struct bytes came, nodes, parents, wanted;
+    uint8_t room[512];
+    size_t count = 1;
+    came.length = nodes.length = parents.length = wanted.length = 0;
+    EXPECT_NUMBER(DW_OK, dw_exists(client, 1, 12, "/no", 3, true));
+    EXPECT_NUMBER(DW_OK, dw_exists(client, 1, 13, "/yes", 4, true));
+    EXPECT_NUMBER(DW_OK, dw_get_children(client, 1, 14, "/", 1, true));
+    add_header(&came, 7, 6, DW_CODE_NO_NODE);
+    add_stat(&came, 8, 6, &read);
+    add_names(&came, 9, 6, "n-0000000001", "n-0000000000", &read);
+    hand_in(client, &came);
+    put_buffer(&nodes, "/t", 2);
+    put_buffer(&nodes, "/no", 3);
+    put_buffer(&nodes, "/yes", 4);
+    put_buffer(&parents, "/", 1);
+    put_buffer(&wanted, "/t", 2);
+    put_shown(&wanted, DW_KEPT_FULL, "first", &read);
+    put_buffer(&wanted, "/no", 3);
+    put_shown(&wanted, DW_KEPT_ABSENT, NULL, &none);
+    put_buffer(&wanted, "/yes", 4);
+    put_shown(&wanted, DW_KEPT_KNOWN, NULL, &read);
+    put_buffer(&wanted, "/", 1);
+    put_int(&wanted, 2 * 16);
+    put_buffer(&wanted, "n-0000000000", 12);
+    put_buffer(&wanted, "n-0000000001", 12);
+    put_long(&wanted, read.pzxid);
+    EXPECT_NUMBER(DW_OK, dw_snapshot(client, nodes.at, nodes.length, parents.at, parents.length, room, sizeof room, &count));
+    expect_spelled(&wanted, room, count);
+    EXPECT_NUMBER(DW_OK, dw_snapshot(client, nodes.at, nodes.length, parents.at, parents.length, room, 0, &count));
+    EXPECT_NUMBER(wanted.length, count);
+    EXPECT_NUMBER(DW_NOT_TEXTS, dw_snapshot(client, nodes.at, nodes.length - 1, parents.at, parents.length, room, sizeof room, &count));
+    EXPECT_NUMBER(DW_NOT_TEXTS, dw_snapshot(client, nodes.at, nodes.length, parents.at, 4, room, sizeof room, &count));
+    put_buffer(&nodes, "/config", 7);
+    EXPECT_NUMBER(DW_NOT_WHOLE, dw_snapshot(client, nodes.at, nodes.length, parents.at, parents.length, room, sizeof room, &count));
+    EXPECT_NUMBER(0, count);
+    put_buffer(&nodes, "t", 1);
+    EXPECT_NUMBER(DW_NOT_PATH, dw_snapshot(client, nodes.at, nodes.length, parents.at, parents.length, room, sizeof room, &count));
+    EXPECT_NUMBER(DW_OK, dw_snapshot(client, nodes.at, 0, parents.at, 0, room, sizeof room, &count));
+    EXPECT_NUMBER(0, count);
+}
+
+/* By all names of the directory, which are kept now, the node that was made is the first of its prefix. */
+static void hold_first(dw_client *client)
+{
+    int64_t token = 1;
+    EXPECT_NUMBER(DW_OK, dw_holder(client, "/", 1, "n-", 2, "/n-0000000000", 13, &token));
+    EXPECT_NUMBER(6, token);
+    EXPECT_NUMBER(DW_NONE, dw_holder(client, "/", 1, "m-", 2, "/n-0000000000", 13, &token));
+    EXPECT_NUMBER(0, token);
+    EXPECT_NUMBER(DW_NONE, dw_holder(client, "/", 1, "n-", 2, "/n-0000000001", 13, &token));
+    EXPECT_NUMBER(DW_NOT_TEXT, dw_holder(client, "/", 1, "\xff", 1, "/n-0000000000", 13, &token));
+    EXPECT_NUMBER(DW_NOT_PATH, dw_holder(client, "/", 1, "n-", 2, "n-0000000000", 12, &token));
+    EXPECT_NUMBER(0, token);
+}
+
 /* All names of a listing, in the order of the reply. */
 static void list_names(dw_client *client)
 {
@@ -272,6 +349,8 @@ int main(void)
     collect_a_leaf(&client);
     list_names(&client);
     stand_first(&client);
+    take_a_snapshot(&client);
+    hold_first(&client);
     lose_the_connection(&client);
     dw_close(&client);
     printf("calls: passed\n");

@@ -100,10 +100,33 @@ static void expect_no_look_up(dw_client *client, enum dw_result result, const ch
     EXPECT_NUMBER(result, dw_standing(client, path, length, TEXT("n-0000000000"), DATA("\0\0\0\1n"), 1, DATA("\0\0\0\1n"), &token, name,
                                       sizeof name, &count));
     EXPECT(token == 0 && count == 0);
+    token = 1;
+    EXPECT_NUMBER(result, dw_holder(client, path, length, TEXT("n-"), TEXT("/a"), &token));
+    EXPECT_NUMBER(0, token);
+    token = 1;
+    EXPECT_NUMBER(result, dw_holder(client, TEXT("/a"), TEXT("n-"), path, length, &token));
+    EXPECT_NUMBER(0, token);
     expect_untouched(room, sizeof room);
     expect_untouched(name, sizeof name);
     expect_untouched(&data, sizeof data);
     expect_untouched(&names, sizeof names);
+}
+
+/* A snapshot of this path answers this and writes nothing except the count of bytes. */
+static void expect_no_snapshot(dw_client *client, enum dw_result result, const char *path, size_t length)
+{
+    uint8_t room[ROOM];
+    struct bytes spelled;
+    size_t count = 1;
+    spelled.length = 0;
+    put_buffer(&spelled, path, length);
+    memset(room, UNTOUCHED, sizeof room);
+    EXPECT_NUMBER(result, dw_snapshot(client, spelled.at, spelled.length, DATA("\0\0\0\2/a"), room, sizeof room, &count));
+    EXPECT_NUMBER(0, count);
+    count = 1;
+    EXPECT_NUMBER(result, dw_snapshot(client, DATA("\0\0\0\2/a"), spelled.at, spelled.length, room, sizeof room, &count));
+    EXPECT_NUMBER(0, count);
+    expect_untouched(room, sizeof room);
 }
 
 static void expect_closed(dw_client *none)
@@ -112,6 +135,7 @@ static void expect_closed(dw_client *none)
     expect_closed_outputs(none);
     expect_closed_session(none);
     expect_no_look_up(none, DW_CLOSED, TEXT("/a"));
+    expect_no_snapshot(none, DW_CLOSED, TEXT("/a"));
     dw_close(none);
 }
 
@@ -127,6 +151,7 @@ static void expect_refused_path(dw_client *client, enum dw_result result, const 
     EXPECT_NUMBER(result, dw_create(client, NOW, 2, path, length, DATA("x"), false, DW_MODE_PERSISTENT));
     EXPECT_NUMBER(result, dw_delete(client, NOW, 2, path, length, -1));
     expect_no_look_up(client, result, path, length);
+    expect_no_snapshot(client, result == DW_NOT_TEXT ? DW_NOT_TEXTS : result, path, length);
     EXPECT_NUMBER(DW_OK, dw_next(client, &output));
     EXPECT_NUMBER(1, output.ticket);
 }

@@ -134,6 +134,26 @@ static enum dw_result subtree(struct play *play)
     return result == DW_NOT_WHOLE ? DW_OK : result;
 }
 
+/* Not all of it is good any more. */
+static enum dw_result snapshot(struct play *play)
+{
+    static const uint8_t paths[] = "\0\0\0\2/a";
+    uint8_t room[8];
+    size_t count = 1;
+    enum dw_result result = dw_snapshot(&play->client, paths, sizeof paths - 1, paths, sizeof paths - 1, room, sizeof room, &count);
+    EXPECT_NUMBER(0, count);
+    return result == DW_NOT_WHOLE ? DW_OK : result;
+}
+
+/* The names that are kept are stale. */
+static enum dw_result holder(struct play *play)
+{
+    int64_t token = 1;
+    enum dw_result result = dw_holder(&play->client, PATH, sizeof PATH, "n-", 2, PATH, sizeof PATH, &token);
+    EXPECT_NUMBER(0, token);
+    return result == DW_NONE ? DW_OK : result;
+}
+
 /* A rival is listed before this session. */
 static enum dw_result standing(struct play *play)
 {
@@ -234,7 +254,9 @@ static const struct move MOVES[] = {
     {names, REFUSES},
     {lacking, REFUSES},
     {subtree, REFUSES},
+    {snapshot, REFUSES},
     {standing, REFUSES},
+    {holder, REFUSES},
     {forget, 0},
     {cut, STEP},
     {opened, STEP},

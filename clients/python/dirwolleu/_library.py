@@ -10,12 +10,13 @@ from __future__ import annotations
 
 import ctypes
 import ctypes.util
+import itertools
 import os
 import pathlib
 import platform
 import struct
 import sys
-from collections.abc import Collection
+from collections.abc import Collection, Sequence
 from ctypes import POINTER, Structure, byref, string_at
 from ctypes import c_bool, c_char, c_char_p, c_int32, c_int64, c_size_t, c_uint32, c_uint64, c_void_p
 from operator import attrgetter
@@ -218,10 +219,15 @@ _FUNCTIONS: dict[str, tuple[Any, tuple[Any, ...]]] = {
     "dw_peek_names": (c_int32, (_HANDLE, c_char_p, c_size_t, POINTER(c_char), c_size_t, POINTER(c_size_t))),
     "dw_subtree": (c_int32, (_HANDLE, c_char_p, c_size_t, c_size_t, POINTER(c_char), c_size_t, POINTER(c_size_t))),
     "dw_lacking": (c_int32, (_HANDLE, c_char_p, c_size_t, c_size_t, POINTER(c_char), c_size_t, POINTER(c_size_t))),
+    "dw_snapshot": (
+        c_int32,
+        (_HANDLE, c_char_p, c_size_t, c_char_p, c_size_t, POINTER(c_char), c_size_t, POINTER(c_size_t)),
+    ),
     "dw_standing": (
         c_int32,
         (_HANDLE, c_char_p, c_size_t, c_char_p, c_size_t, c_char_p, c_size_t, c_int64, c_char_p, c_size_t, POINTER(c_int64), POINTER(c_char), c_size_t, POINTER(c_size_t)),
     ),
+    "dw_holder": (c_int32, (_HANDLE, c_char_p, c_size_t, c_char_p, c_size_t, c_char_p, c_size_t, POINTER(c_int64))),
     "dw_forget": (c_int32, (_HANDLE,)),
 }
 
@@ -234,7 +240,7 @@ _RESULT_WORDS = {
     BAD_TIMEOUT: "the timeout is not 1 to 2147483647 milliseconds",
     NO_SUCH_MODE: "the mode is no sum of EPHEMERAL and SEQUENTIAL",
     NOT_SAVED: "the bytes are no saved session; take all of those that a client has saved",
-    NOT_WHOLE: "some of the subtree is not kept, or not good; read what is lacking, with a watch",
+    NOT_WHOLE: "some of what is asked for is not kept, or not good; read what is lacking, with a watch",
     TOO_MANY: "the subtree has more nodes than were asked for; ask for more, or for a path below",
     NOT_TEXTS: "the bytes are no texts, each after its length",
 }
@@ -379,8 +385,15 @@ class Standing(NamedTuple):
     rival: Optional[str]
 
 
+class KeptAtOnce(NamedTuple):
+    """What is kept of several paths, all of it good and of one moment: of the nodes, and of the names below the parents."""
+
+    nodes: list[KeptData]
+    children: list[KeptNames]
+
+
 class NotWhole(LookupError):
-    """Some of the subtree is not kept, or not good."""
+    """Some of what is asked for is not kept, or not good."""
 
 
 class TooManyNodes(ValueError):
@@ -450,6 +463,32 @@ def _nodes_in(spelled: bytes, root: Root) -> Iterator[SubtreeNode]:
         yield SubtreeNode(root.read(path or b""), data, DataStat._make(fields), pzxid)
 
 
+_FIELDS_OF_A_SHOWN_NODE = struct.Struct(">qqqqiqi")  # the same without the pzxid
+
+
+def _nodes_shown(spelled: bytes, count: int) -> tuple[list[KeptData], int]:
+    """This many nodes of a snapshot, and the place after them: path, kind, data, and numbers."""
+    nodes, at = [], 0
+    for _ in range(count):
+        _path, at = _buffer_at(spelled, at)
+        kind = _known("kind of what is kept", int.from_bytes(spelled[at : at + 4], "big"), (ABSENT, KNOWN, FULL))
+        data, at = _buffer_at(spelled, at + 4)
+        stat = DataStat._make(_FIELDS_OF_A_SHOWN_NODE.unpack_from(spelled, at))
+        at += _FIELDS_OF_A_SHOWN_NODE.size
+        nodes.append(KeptData(kind, GOOD, None if kind == ABSENT else stat, data))
+    return nodes, at
+
+
+def _parents_shown(spelled: bytes, at: int) -> Iterator[KeptNames]:
+    """The parents of a snapshot from this place on: path, names, and their zxid."""
+    while at < len(spelled):
+        _path, at = _buffer_at(spelled, at)
+        names, at = _buffer_at(spelled, at)
+        pzxid = int.from_bytes(spelled[at : at + 8], "big", signed=True)
+        at += 8
+        yield KeptNames(GOOD, tuple(_texts_in(names or b"")), pzxid)
+
+
 def _lacking_in(spelled: bytes, root: Root) -> Iterator[Lacking]:
     """The reads that follow one another: path and side."""
     at = 0
@@ -460,9 +499,14 @@ def _lacking_in(spelled: bytes, root: Root) -> Iterator[Lacking]:
         yield Lacking(root.read(path or b""), _known("side", side, (DATA_SIDE, CHILDREN_SIDE)))
 
 
-def _spelled(texts: Iterable[str]) -> bytes:
+def _joined(texts: Iterable[bytes]) -> bytes:
     """Texts that follow one another, each after its length in four bytes."""
-    return b"".join(len(text).to_bytes(4, "big") + text for text in map(str.encode, texts))
+    return b"".join(len(text).to_bytes(4, "big") + text for text in texts)
+
+
+def _spelled(texts: Iterable[str]) -> bytes:
+    """The same of texts that are not spelled yet."""
+    return _joined(map(str.encode, texts))
 
 
 class _Room:
@@ -630,6 +674,27 @@ class Machine:
             raise NotWhole(f"a name below {path} makes no path")
         return list(_lacking_in(spelled, self._root))
 
+    def snapshot(self, nodes: Sequence[str], parents: Sequence[str]) -> tuple[Optional[KeptAtOnce], int]:
+        """What is kept of nodes and of the names below parents, in their order, and the last zxid at that moment: it is all what
+        the servers had there at that zxid. None where some of it is not kept good: read that again, with a watch."""
+        found, last_zxid = _steady(lambda: self._kept_at_once(nodes, parents), self.last_zxid)
+        if found is None:
+            return None, last_zxid
+        shown, end = _nodes_shown(found, len(nodes))
+        return KeptAtOnce(shown, list(_parents_shown(found, end))), last_zxid
+
+    def _kept_at_once(self, nodes: Sequence[str], parents: Sequence[str]) -> Optional[bytes]:
+        first, second = (_joined(map(self._root.spell, paths)) for paths in (nodes, parents))
+
+        def copy(*room: Any) -> int:
+            code = _library.dw_snapshot(self._handle, first, len(first), second, len(second), *room)
+            return self._checked_among(code, nodes, parents)
+
+        try:
+            return _Room().filled(copy)
+        except NotWhole:
+            return None
+
     def standing(self, directory: str, name: str, names: Iterable[str], listed: int, markers: Iterable[str]) -> Standing:
         """Where the session stands by its node of this name in a directory, by the names of a listing, which needs no watch,
         and the zxid of that answer. The first marker is that of its name, the others are those of its rivals."""
@@ -644,6 +709,16 @@ class Machine:
             is_whole = not room.widen(count.value)
         rival = string_at(room.bytes, count.value).decode() if code == WAITS else None
         return Standing(token.value if code == OK else None, rival)
+
+    def holder(self, directory: str, prefix: str, path: str) -> Optional[int]:
+        """The token by which the session holds the first place in a directory by its node of this path: of the names there that
+        begin with the prefix, which are kept good, that node's is the first in byte order, and what is kept of the node is good and
+        this session's. None where that is not shown."""
+        spelled, begin, own, token = self._root.spell(directory), prefix.encode(), self._root.spell(path), c_int64()
+        place = spelled, len(spelled), begin, len(begin), own, len(own)
+        code = _library.dw_holder(self._handle, *place, byref(token))
+        self._checked_among(code, (directory, path))
+        return token.value if code == OK else None
 
     def forget(self) -> None:
         """Forgets all stale answers."""
@@ -685,6 +760,14 @@ class Machine:
 
     def _checked_at(self, code: int, path: str) -> int:
         self._check(code, path)
+        return code
+
+    def _checked_among(self, code: int, *paths: Iterable[str]) -> int:
+        """The same of a call about these paths: names the first that is none."""
+        if code == NOT_PATH:
+            for path in itertools.chain(*paths):
+                self._side_kept(path)
+        _checked(code)
         return code
 
     # What a step tells.

@@ -19,6 +19,7 @@ import support
 
 from dirwolleu import _library as library
 from dirwolleu._library import Answer, Drop, Machine, Report, Send, StateChange
+from dirwolleu._root import Root
 from dirwolleu.types import DataStat, Stat
 
 HEADER = support.CLIENTS.parent / "include" / "dirwolleu.h"
@@ -223,6 +224,58 @@ class MachineTest(unittest.TestCase):
             machine.subtree("/a", 1)
         with self.assertRaises(ValueError):
             machine.subtree("a", 1)
+
+    def test_a_snapshot_is_of_several_paths_that_are_all_good(self) -> None:
+        machine, paths = connected(), ["/none", "/ö", "/known"]
+        self.assertEqual(machine.snapshot(paths, ["/ö"]), (None, 0))
+        machine.exists(200, 1, "/none", True)
+        machine.get_data(200, 2, "/ö", True)
+        machine.exists(200, 3, "/known", True)
+        machine.get_children(200, 4, "/ö", True)
+        machine.received(300, reply(1, 8, -101))
+        machine.received(300, reply(2, 9, 0, buffer(b"hello") + STAT_BYTES))
+        machine.received(300, reply(3, 9, 0, STAT_BYTES))
+        names = struct.pack(">i", 2) + buffer(b"c") + buffer("ä".encode())
+        machine.received(300, reply(4, 9, 0, names + STAT_BYTES))
+        stat = DataStat(2, 5, 1000, 2000, 3, 0, 5)
+        nodes = [
+            library.KeptData(library.ABSENT, library.GOOD, None, None),
+            library.KeptData(library.FULL, library.GOOD, stat, b"hello"),
+            library.KeptData(library.KNOWN, library.GOOD, stat, None),
+        ]
+        children = [library.KeptNames(library.GOOD, ("c", "ä"), 6)]
+        self.assertEqual(machine.snapshot(paths, ["/ö"]), ((nodes, children), 9))
+        self.assertEqual(machine.snapshot([], []), (([], []), 9))
+        with self.assertRaisesRegex(ValueError, "^b is no path"):
+            machine.snapshot(["/ö", "b"], ["/ö"])
+        machine.received(400, frame(struct.pack(">iqiii", -1, -1, 0, 3, 3) + buffer("/ö".encode())))
+        self.assertEqual(machine.snapshot(paths, ["/ö"]), (None, 9))
+        self.assertEqual(machine.snapshot(["/none"], ["/ö"]), ((nodes[:1], children), 9))
+
+    def test_a_snapshot_below_a_root_is_of_its_paths(self) -> None:
+        machine = Machine(6000, root=Root("/app"))
+        machine.opened(100)
+        machine.received(100, CONNECT_RESPONSE)
+        machine.exists(200, 1, "/a", True)
+        machine.received(300, reply(1, 9, 0, STAT_BYTES))
+        found, last_zxid = machine.snapshot(["/a"], [])
+        self.assertTrue(found and found.nodes[0].kind == library.KNOWN and last_zxid == 9)
+
+    def test_who_holds_by_the_first_name_of_a_prefix_has_a_token(self) -> None:
+        machine, own = connected(), "/l/lock-0000000007"
+        machine.get_data(200, 1, own, True)
+        owned = struct.pack(">qqqqiiiqiiq", *Stat(88, 89, 0, 0, 1, 0, 0, 0x1234, 0, 0, 88))
+        machine.received(300, reply(1, 90, 0, buffer(b"") + owned))
+        self.assertIsNone(machine.holder("/l", "lock-", own))
+        machine.get_children(400, 2, "/l", True)
+        names = b"".join(map(buffer, (b"lock-0000000007", b"lock-0000000008", b"a")))
+        machine.received(500, reply(2, 90, 0, struct.pack(">i", 3) + names + STAT_BYTES))
+        self.assertEqual(machine.holder("/l", "lock-", own), 88)
+        self.assertIsNone(machine.holder("/l", "", own))
+        self.assertIsNone(machine.holder("/", "lock-", own))
+        for directory, path, none in (("l", own, "l"), ("/l", "lock-", "lock-")):
+            with self.assertRaisesRegex(ValueError, f"^{none} is no path"):
+                machine.holder(directory, "lock-", path)
 
     def test_who_stands_first_has_a_token_and_others_wait(self) -> None:
         machine, own, other = connected(), "x-lock-0000000007", "a-lock-0000000008"

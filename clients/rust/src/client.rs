@@ -1,13 +1,15 @@
 //! The client.
 
-use crate::fault::Fault;
+use crate::fault::{done, Fault};
 use crate::ffi::{Call, Handle, KeptData};
 use crate::kept::{mark_of, Children, DataAnswer, Kept, Mark};
 use crate::moment::Moment;
 use crate::node::{Mode, Watch};
 use crate::numbers::result;
 use crate::output::Outputs;
+use crate::path_fault::PathFault;
 use crate::saved::SavedSession;
+use crate::snapshot::{snapshot_in, Snapshot};
 use crate::standing::{spelled, Contender, Standing};
 use crate::subtree::{lacking_in, nodes_in, Lacking, Subtree};
 use std::fmt;
@@ -44,6 +46,16 @@ pub(crate) fn texts_in(count: usize, mut spelled: &[u8]) -> Vec<String> {
         spelled = rest;
     }
     texts
+}
+
+/// The fault of the first of these texts that is no path.
+fn no_path_among<'a>(paths: impl IntoIterator<Item = &'a &'a str>) -> Fault {
+    let mut paths = paths.into_iter();
+    Fault::not_path(
+        paths
+            .find(|path| PathFault::of(path).is_some())
+            .unwrap_or(&""),
+    )
 }
 
 impl State {
@@ -390,6 +402,30 @@ impl Client {
         Ok(lacking_in(&spelled))
     }
 
+    /// What is kept of the nodes of the first paths, and of the names below the second ones, and none where some of it is not kept good:
+    /// then read that again, with a watch. It is all of one moment: what the servers' history has at that zxid. Of a node that is not
+    /// there, [`exists`](Client::exists) leaves its absence.
+    ///
+    /// # Errors
+    ///
+    /// As [`peek_data`](Client::peek_data), of the first of them that is no path.
+    pub fn snapshot(&self, nodes: &[&str], parents: &[&str]) -> Result<Option<Snapshot>, Fault> {
+        let [spelled_nodes, spelled_parents] =
+            [nodes, parents].map(|paths| spelled(paths.iter().copied()));
+        let found = whole(|room| {
+            let (code, count) = self.handle.snapshot(&spelled_nodes, &spelled_parents, room);
+            if code == result::NOT_PATH {
+                return Err(no_path_among(nodes.iter().chain(parents)));
+            }
+            done(code).map(|()| count)
+        });
+        match found {
+            Ok(bytes) => Ok(Some(snapshot_in(self.last_zxid(), nodes.len(), &bytes)?)),
+            Err(Fault::NotWhole) => Ok(None),
+            Err(other) => Err(other),
+        }
+    }
+
     /// Whether the session comes first in a directory by its node there, and by one listing of it that needs no watch: it does so
     /// [`First`](Standing::First) where what is kept of the node's data, or that it exists, is good, its owner is this session, no listed
     /// rival is before it, and the listing is neither older than the node nor newer than [`last_zxid`](Client::last_zxid). It stays so
@@ -415,6 +451,22 @@ impl Client {
             },
             _ => Standing::Unsure,
         })
+    }
+
+    /// The token by which the session holds the first place in a directory by its node of this path, and none where that is not shown: the
+    /// names below the directory are kept good, the path lies right below it, its name begins with the prefix, and none of these names
+    /// that does is before it in byte order; and what is kept of the node's data, or that it exists, is good, and its owner is this
+    /// session. Whoever the lock protects refuses a smaller token than it has seen.
+    ///
+    /// # Errors
+    ///
+    /// As [`peek_data`](Client::peek_data), of the directory and of the path.
+    pub fn holder(&self, directory: &str, prefix: &str, path: &str) -> Result<Option<i64>, Fault> {
+        match self.handle.holder(directory, prefix, path) {
+            (result::NONE, _) => Ok(None),
+            (result::NOT_PATH, _) => Err(no_path_among([&directory, &path])),
+            (code, token) => done(code).map(|()| Some(token)),
+        }
     }
 
     /// Forgets all stale answers. What is kept is bounded by nothing but memory: who goes from path to path calls this now and then.

@@ -98,7 +98,9 @@ extern "C" {
     fn dw_peek_names(handle: *mut Raw, path: *const u8, path_length: usize, out: *mut u8, room: usize, count: *mut usize) -> i32;
     fn dw_subtree(handle: *mut Raw, path: *const u8, path_length: usize, most: usize, out: *mut u8, room: usize, count: *mut usize) -> i32;
     fn dw_lacking(handle: *mut Raw, path: *const u8, path_length: usize, most: usize, out: *mut u8, room: usize, count: *mut usize) -> i32;
+    fn dw_snapshot(handle: *mut Raw, nodes: *const u8, nodes_length: usize, parents: *const u8, parents_length: usize, out: *mut u8, room: usize, count: *mut usize) -> i32;
     fn dw_standing(handle: *mut Raw, directory: *const u8, directory_length: usize, name: *const u8, name_length: usize, names: *const u8, names_length: usize, listed: i64, markers: *const u8, markers_length: usize, token: *mut i64, out: *mut u8, room: usize, count: *mut usize) -> i32;
+    fn dw_holder(handle: *mut Raw, directory: *const u8, directory_length: usize, prefix: *const u8, prefix_length: usize, path: *const u8, path_length: usize, token: *mut i64) -> i32;
     fn dw_forget(handle: *mut Raw) -> i32;
 }
 // end of what is made
@@ -421,6 +423,38 @@ impl Handle {
     /// Copies the reads that are lacking before there is a subtree, as the header spells them.
     pub(crate) fn lacking(&self, path: &str, most: usize, room: &mut [u8]) -> Result<usize, Fault> {
         self.collect(dw_lacking, path, most, room)
+    }
+
+    /// What the library answers of a snapshot of paths that are spelled: its code, and how many bytes what is kept of them has, of which it
+    /// copies as many as there is room for.
+    pub(crate) fn snapshot(&self, nodes: &[u8], parents: &[u8], room: &mut [u8]) -> (i32, usize) {
+        let mut count = 0;
+        let (first, length) = (nodes.as_ptr(), nodes.len());
+        let (second, width) = (parents.as_ptr(), parents.len());
+        let (out, room) = (room.as_mut_ptr(), room.len());
+        let raw = self.raw.get();
+        // SAFETY: as `Handle` says.
+        let code = unsafe { dw_snapshot(raw, first, length, second, width, out, room, &mut count) };
+        (code, count)
+    }
+
+    /// What the library answers of whether the session holds: its code, and the token.
+    pub(crate) fn holder(&self, directory: &str, prefix: &str, path: &str) -> (i32, i64) {
+        let mut token = 0;
+        // SAFETY: as `Handle` says.
+        let code = unsafe {
+            dw_holder(
+                self.raw.get(),
+                directory.as_ptr(),
+                directory.len(),
+                prefix.as_ptr(),
+                prefix.len(),
+                path.as_ptr(),
+                path.len(),
+                &mut token,
+            )
+        };
+        (code, token)
     }
 
     /// What the library answers of where a session stands, by names and markers that are spelled: its code, the token, and how many bytes

@@ -412,7 +412,7 @@ pub(crate) mod words {
             -6 => "the timeout is not 1 to 2147483647 milliseconds",
             -7 => "the mode is no sum of DW_MODE_EPHEMERAL and DW_MODE_SEQUENTIAL",
             -8 => "the bytes are no saved session",
-            -9 => "some of the subtree is not kept, or not good",
+            -9 => "some of what is asked for is not kept, or not good",
             -10 => "the subtree has more nodes than were asked for",
             -11 => "the bytes are no texts, each after its length",
             _ => return None,

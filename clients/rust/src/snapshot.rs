@@ -1,8 +1,14 @@
 //! What is kept of several paths, all of it of one moment.
 
+use crate::client::texts_in;
+use crate::fault::UnknownNumber;
+use crate::jute::Reader;
 use crate::kept::{Children, DataAnswer};
+use crate::numbers::kept;
+use crate::subtree::{buffer, data_stat};
 
-/// What is kept of several paths, as the servers' history has it at one zxid: of [`Session::snapshot`](crate::Session::snapshot).
+/// What is kept of several paths, as the servers' history has it at one zxid: of [`Client::snapshot`](crate::Client::snapshot) and
+/// [`Session::snapshot`](crate::Session::snapshot).
 ///
 /// ```no_run
 /// use dirwolleu::{DataAnswer, Session};
@@ -30,4 +36,50 @@ pub struct Snapshot {
     pub nodes: Vec<DataAnswer>,
     /// The names below the parents, in the order of their paths.
     pub children: Vec<Children>,
+}
+
+/// What the library has spelled of a node.
+fn answer(reader: &mut Reader<'_>) -> Option<Result<DataAnswer, UnknownNumber>> {
+    let _path = reader.text()?;
+    let kind = reader.int()?;
+    let (data, stat) = (buffer(reader)?, data_stat(reader)?);
+    Some(match kind {
+        kept::ABSENT => Ok(DataAnswer::Absent),
+        kept::KNOWN => Ok(DataAnswer::Known(stat)),
+        kept::FULL => Ok(DataAnswer::Full { data, stat }),
+        other => Err(UnknownNumber::of("kind of what is kept", other)),
+    })
+}
+
+/// The same of the names below a parent.
+fn children(reader: &mut Reader<'_>) -> Option<Children> {
+    let _path = reader.text()?;
+    let names = buffer(reader)??;
+    Some(Children {
+        names: texts_in(0, &names),
+        pzxid: reader.long()?,
+    })
+}
+
+/// All that the library has spelled, of this many nodes.
+pub(crate) fn snapshot_in(
+    zxid: i64,
+    nodes: usize,
+    spelled: &[u8],
+) -> Result<Snapshot, UnknownNumber> {
+    let mut reader = Reader::new(spelled);
+    let mut snapshot = Snapshot {
+        zxid,
+        nodes: Vec::with_capacity(nodes),
+        children: Vec::new(),
+    };
+    for _ in 0..nodes {
+        let node = answer(&mut reader).expect("the library spells whole records");
+        snapshot.nodes.push(node?);
+    }
+    while !reader.is_empty() {
+        let names = children(&mut reader).expect("the library spells whole records");
+        snapshot.children.push(names);
+    }
+    Ok(snapshot)
 }

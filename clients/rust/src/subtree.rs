@@ -64,24 +64,35 @@ fn all<T>(spelled: &[u8], mut read: impl FnMut(&mut Reader<'_>) -> Option<T>) ->
     found
 }
 
+/// Data: none where they are null.
+pub(crate) type Data = Option<Vec<u8>>;
+
+/// Bytes after their length.
+pub(crate) fn buffer(reader: &mut Reader<'_>) -> Option<Data> {
+    match usize::try_from(reader.int()?) {
+        Ok(length) => reader.bytes(length).map(Some),
+        Err(_) => Some(None),
+    }
+}
+
+/// What is known of a node, in the order of a `Stat`.
+pub(crate) fn data_stat(reader: &mut Reader<'_>) -> Option<DataStat> {
+    Some(DataStat {
+        czxid: reader.long()?,
+        mzxid: reader.long()?,
+        ctime: reader.long()?,
+        mtime: reader.long()?,
+        version: reader.int()?,
+        ephemeral_owner: reader.long()?,
+        data_length: reader.int()?,
+    })
+}
+
 fn node(reader: &mut Reader<'_>) -> Option<SubtreeNode> {
-    let path = reader.text()?;
-    let data = match usize::try_from(reader.int()?) {
-        Ok(length) => Some(reader.bytes(length)?),
-        Err(_) => None,
-    };
     Some(SubtreeNode {
-        path,
-        data,
-        stat: DataStat {
-            czxid: reader.long()?,
-            mzxid: reader.long()?,
-            ctime: reader.long()?,
-            mtime: reader.long()?,
-            version: reader.int()?,
-            ephemeral_owner: reader.long()?,
-            data_length: reader.int()?,
-        },
+        path: reader.text()?,
+        data: buffer(reader)?,
+        stat: data_stat(reader)?,
         pzxid: reader.long()?,
     })
 }

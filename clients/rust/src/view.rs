@@ -6,6 +6,7 @@ use crate::fault::Fault;
 use crate::kept::{Children, DataAnswer, Kept, Mark};
 use crate::saved::SavedSession;
 use crate::snapshot::Snapshot;
+use std::borrow::Cow;
 use std::fmt;
 use std::time::Duration;
 
@@ -130,27 +131,23 @@ impl View<'_> {
     ///
     /// As [`peek`](View::peek), of the first of them that is no path.
     pub fn snapshot(&self, nodes: &[&str], parents: &[&str]) -> Result<Option<Snapshot>, Fault> {
-        let data = nodes.iter().map(|path| self.peek(path).map(good));
-        let data = data.collect::<Result<Vec<_>, _>>()?;
-        let names = parents
-            .iter()
-            .map(|path| self.peek_children(path).map(good));
-        let names = names.collect::<Result<Vec<_>, _>>()?;
-        let (nodes, children) = (data.into_iter().collect(), names.into_iter().collect());
-        Ok(
-            Option::zip(nodes, children).map(|(nodes, children)| Snapshot {
-                zxid: self.last_zxid(),
-                nodes,
-                children,
-            }),
-        )
+        let chroot = self.engine.chroot();
+        let outer = |paths: &[&str]| -> Result<Vec<String>, Fault> {
+            let outer = paths.iter().map(|path| chroot.outer(path));
+            outer.map(|path| path.map(Cow::into_owned)).collect()
+        };
+        let (nodes, parents) = (outer(nodes)?, outer(parents)?);
+        let [nodes, parents] =
+            [&nodes, &parents].map(|paths| paths.iter().map(String::as_str).collect::<Vec<_>>());
+        let found = self.engine.client().snapshot(&nodes, &parents);
+        found.map_err(|fault| match &fault {
+            Fault::NotPath { path, .. } => {
+                let inner = chroot.inner(path.clone());
+                fault.at(&inner)
+            }
+            _ => fault,
+        })
     }
-}
-
-/// What is kept, where it is good.
-fn good<T>(kept: Option<Kept<T>>) -> Option<T> {
-    kept.filter(|kept| kept.mark == Mark::Good)
-        .map(|kept| kept.answer)
 }
 
 impl fmt::Debug for View<'_> {

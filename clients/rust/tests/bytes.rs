@@ -3,9 +3,9 @@
 mod jute;
 
 use dirwolleu::{
-    Brought, Cause, Client, Code, Contender, DataAnswer, Fault, Kept, Lacking, Mark, Markers, Mode,
-    Moment, NoReply, NodeEvent, Output, Outputs, Reply, SavedSession, Side, Standing, State,
-    Subtree, Watch, ANY_VERSION,
+    Brought, Cause, Children, Client, Code, Contender, DataAnswer, Fault, Kept, Lacking, Mark,
+    Markers, Mode, Moment, NoReply, NodeEvent, Output, Outputs, Reply, SavedSession, Side,
+    Standing, State, Subtree, Watch, ANY_VERSION,
 };
 use jute::Record;
 use std::time::Duration;
@@ -347,6 +347,68 @@ fn a_subtree_is_told_once_nothing_is_lacking() {
     );
     assert_eq!(client.subtree("/a", 1), Err(Fault::TooManyNodes));
     assert!(matches!(client.lacking("a", 1), Err(Fault::NotPath { .. })));
+}
+
+#[test]
+fn a_snapshot_is_of_several_paths_that_are_all_good() {
+    let mut client = watching();
+    assert_eq!(client.snapshot(&["/a"], &["/a"]), Ok(None));
+    let _ = client.exists(START, 8, "/known", Watch::Yes).unwrap();
+    let _ = client.exists(START, 9, "/none", Watch::Yes).unwrap();
+    let _ = client.get_children(START, 10, "/a", Watch::Yes).unwrap();
+    let known = Record::reply(2, 6, 0).stat(4, 1, 2, 0).framed();
+    let none = Record::reply(3, 6, -101).framed();
+    let names = Record::reply(4, 6, 0).texts(&["c", "b"]).stat(5, 0, 3, 2);
+    let came = [known, none, names.framed()].concat();
+    let _ = client.bytes(START, &came).unwrap();
+    let paths = ["/none", "/a", "/known"];
+    let found = client.snapshot(&paths, &["/a"]).unwrap().unwrap();
+    let [DataAnswer::Absent, DataAnswer::Full { data, stat }, DataAnswer::Known(known)] =
+        found.nodes.as_slice()
+    else {
+        panic!("{found:?}");
+    };
+    assert_eq!((found.zxid, data.as_deref()), (6, Some(b"one".as_slice())));
+    assert_eq!((stat.czxid, stat.version, known.version), (5, 0, 1));
+    assert_eq!((known.mtime, known.data_length), (2_000, 2));
+    let names = ["b", "c"].map(String::from).to_vec();
+    assert_eq!(found.children, [Children { names, pzxid: 5 }]);
+    let empty = client.snapshot(&[], &[]).unwrap().unwrap();
+    assert_eq!(
+        (empty.zxid, empty.nodes.len(), empty.children.len()),
+        (6, 0, 0)
+    );
+    let not_path = client.snapshot(&["/a", "b"], &["/a"]).unwrap_err();
+    assert_eq!(
+        not_path.to_string(),
+        "b is no path: no slash at its beginning"
+    );
+    let _ = client.bytes(START, &Record::notice(3, "/a")).unwrap();
+    assert_eq!(client.snapshot(&paths, &["/a"]), Ok(None));
+    assert!(client.snapshot(&["/none"], &["/a"]).unwrap().is_some());
+}
+
+#[test]
+fn who_holds_by_the_first_name_of_a_prefix_has_a_token() {
+    let mut client = connected();
+    let own = "/l/lock-0000000007";
+    let _ = client.get_data(START, 1, own, Watch::Yes).unwrap();
+    let longs = Record::reply(1, 90, 0).buffer(b"").long(88).long(89);
+    let owned = longs.long(0).long(0).int(1).int(0).int(0).long(SESSION);
+    let data = owned.int(0).int(0).long(88).framed();
+    let _ = client.bytes(START, &data).unwrap();
+    assert_eq!(client.holder("/l", "lock-", own), Ok(None));
+    let _ = client.get_children(START, 2, "/l", Watch::Yes).unwrap();
+    let names = ["lock-0000000007", "lock-0000000008", "a"];
+    let reply = Record::reply(2, 90, 0).texts(&names).stat(80, 0, 0, 3);
+    let _ = client.bytes(START, &reply.framed()).unwrap();
+    assert_eq!(client.holder("/l", "lock-", own), Ok(Some(88)));
+    assert_eq!(client.holder("/l", "", own), Ok(None));
+    assert_eq!(client.holder("/", "lock-", own), Ok(None));
+    for (directory, path, none) in [("l", own, "l"), ("/l", "lock-", "lock-")] {
+        let fault = client.holder(directory, "lock-", path).unwrap_err();
+        assert!(matches!(fault, Fault::NotPath { path, .. } if path == none));
+    }
 }
 
 #[test]

@@ -5,7 +5,7 @@ mod session;
 mod told;
 
 use anyhow::Result;
-use events::{CLOSES, COLLECTS, EXPIRES, Event, STANDS};
+use events::{CLOSES, COLLECTS, EXPIRES, Event, HOLDS, SHOWS, STANDS};
 use session::play;
 use std::alloc::Global;
 use std::io::Write;
@@ -33,5 +33,7 @@ pub fn play_devices<W: Write>(alloc: Global, out: &mut W) -> Result<()> {
     play_cut(alloc, &EXPIRES, out)?;
     play_cut(alloc, &CLOSES, out)?;
     play_cut(alloc, &COLLECTS, out)?;
-    play_cut(alloc, &STANDS, out)
+    play_cut(alloc, &STANDS, out)?;
+    play_cut(alloc, &SHOWS, out)?;
+    play_cut(alloc, &HOLDS, out)
 }

@@ -1,9 +1,11 @@
--- Where a session stands, by the number that is answered.
+-- Where a session stands, and whether it holds, by the number that is answered.
 use Rattle.std.specs.Prelude.{◌≡◌, ℕ, zero, suc, ℤ, pos, List, Result, Ok, Err}
 use Rattle.zk_nodes.specs.Path.{Text}
 use Rattle.zk_turns.specs.View.{View}
 use Rattle.zk_device.specs.Codes.{refusal_code}
 use Rattle.zk_device.specs.declared.refusal.Refusal.{Refusal}
+use Rattle.zk_conclusions.specs.Holders.{ShowsHolder}
+use Rattle.zk_device.specs.Holders.{ArePlace, HoldsFirst, RefusesHolder}
 use Rattle.zk_device.specs.Standings.{RefusesStanding, Stood}
 use Rattle.zk_device.specs.declared.standings.Stands.{Stands}
 use Rattle.zk_device.specs.declared.standings.Stands.TheVariants.{First, After, Unsure}
@@ -23,3 +25,10 @@ FindsStanding view directory name names listed markers (pos (suc zero)) token ro
 FindsStanding view directory name names listed markers (pos (suc (suc zero))) token room written count = Stood view directory name names listed markers (After count) room written × (token ≡ pos 0)
 FindsStanding view directory name names listed markers code token room written count =
     RefusesStanding directory name names markers code × (written ≡ room) × (token ≡ pos 0) × (count ≡ 0)
+
+-- Whether the session holds: 0 where it does, by the token; 1 where that is not shown; and any other number where nothing is told, for a
+-- reason that it has.
+abbrev pub FindsHolder : View → (directory prefix path : Text) → (code token : ℤ) → Type 0
+FindsHolder view directory prefix path (pos zero) token = HoldsFirst view directory prefix path token × ArePlace directory prefix path
+FindsHolder view directory prefix path (pos (suc zero)) token = ((other : ℤ) → ¬ (ShowsHolder view directory prefix path other)) × ArePlace directory prefix path × (token ≡ pos 0)
+FindsHolder view directory prefix path code token = RefusesHolder directory prefix path code × (token ≡ pos 0)

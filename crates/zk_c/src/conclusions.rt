@@ -1,15 +1,16 @@
 //! What follows from several answers together.
 
-ghost use Rattle.std.specs.Prelude.{◌≡◌, Some, None, negsuc};
+ghost use Rattle.std.specs.Prelude.{◌≡◌, Some, None, negsuc, pos};
 ghost use Rattle.zk_client.specs.Clients.{view_of};
 ghost use Rattle.zk_conclusions.specs.Lacks.{HasNoPath};
 ghost use Rattle.zk_conclusions.specs.Subtrees.{HasMoreNodes, IsWholeBelow};
 ghost use Rattle.zk_device.specs.declared.device.Device.{Device};
 ghost use Rattle.zk_device.specs.Kept.{WritesText};
 ghost use Rattle.zk_device.specs.Refused.{RefusesNodes};
+ghost use Rattle.zk_device.specs.Snapshots.{IsSnapshotText, RefusesSnapshot};
 ghost use Rattle.zk_device.specs.Subtrees.{IsLackingText, IsSubtreeText};
 ghost use Rattle.zk_c.specs.Kept.{FindsText};
-ghost use Rattle.zk_c.specs.Stood.{FindsStanding, TellsStands};
+ghost use Rattle.zk_c.specs.Stood.{FindsHolder, FindsStanding, TellsStands};
 
 use crate::handle::DwClient;
 use crate::taking::{CLOSED, NONE, WAITS, take};
@@ -76,6 +77,36 @@ pub extern "C" fn dw_lacking(
     }
 }
 
+/// Copies what is kept of the nodes of the first paths, and of the names below the second ones, where all of it is good, as many bytes of it
+/// as there is room for, and writes how many there are.
+#[unsafe(no_mangle)]
+pub extern "C" fn dw_snapshot(
+    alloc: Global,
+    handle: &mut DwClient,
+    nodes: &[u8],
+    parents: &[u8],
+    out: &mut [u8],
+    count: &mut usize,
+) -> i32
+    ensures closed { handle.old.slot.held ≡ None → (result ≡ negsuc 2) × (out.new ≡ out.old) × (count.new ≡ 0) }
+    ensures finds { (d : Device) → handle.old.slot.held ≡ Some d → FindsText (RefusesSnapshot (view_of d.client).cache nodes.now parents.now) (WritesText (IsSnapshotText (view_of d.client) nodes.now parents.now)) result out.old out.new count.new }
+    ensures same { handle.new.slot.held ≡ handle.old.slot.held }
+{
+    *count = 0;
+    let Some(device) = take(alloc, handle) else {
+        return CLOSED;
+    };
+    let found = device.snapshot(alloc, nodes, parents, out);
+    *handle = DwClient::of(device);
+    match found {
+        Ok(length) => {
+            *count = length;
+            0
+        }
+        Err(refusal) => refusal.code(),
+    }
+}
+
 // Writes where a session stands, or that nothing is told, and answers the number of it.
 fn write_stands(stands: Result<Stands, Refusal>, token: &mut i64, count: &mut usize) -> i32
     ensures { TellsStands stands result token.new count.new }
@@ -128,4 +159,35 @@ pub extern "C" fn dw_standing(
     let stands = device.standing(alloc, &contender, out);
     *handle = DwClient::of(device);
     write_stands(stands, token, count)
+}
+
+/// Tells whether the session holds the first place of the names in a directory that begin with a prefix, by its node of this path: writes its
+/// token where it does.
+#[unsafe(no_mangle)]
+pub extern "C" fn dw_holder(
+    alloc: Global,
+    handle: &mut DwClient,
+    directory: &[u8],
+    prefix: &[u8],
+    path: &[u8],
+    token: &mut i64,
+) -> i32
+    ensures closed { handle.old.slot.held ≡ None → (result ≡ negsuc 2) × (token.new ≡ pos 0) }
+    ensures finds { (d : Device) → handle.old.slot.held ≡ Some d → FindsHolder (view_of d.client) directory.now prefix.now path.now result token.new }
+    ensures same { handle.new.slot.held ≡ handle.old.slot.held }
+{
+    *token = 0;
+    let Some(device) = take(alloc, handle) else {
+        return CLOSED;
+    };
+    let found = device.holder(alloc, directory, prefix, path);
+    *handle = DwClient::of(device);
+    match found {
+        Ok(Some(shown)) => {
+            *token = shown;
+            0
+        }
+        Ok(None) => NONE,
+        Err(refusal) => refusal.code(),
+    }
 }

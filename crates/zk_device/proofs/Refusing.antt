@@ -1,8 +1,9 @@
 -- What is refused leaves the device as it was.
 use mathlib.Core.Path.{refl}
-use Rattle.std.proofs.Common.{inr, subst, sym}
+use Rattle.std.proofs.Common.{inl, inr, subst, sym}
 use Rattle.std.specs.Prelude.{◌≡◌, ◌∷◌, List, ℕ, ℤ, negsuc, Result, Ok, Err, IfErr, IsErrAnd}
 use Rattle.zk_turns.specs.Turns.{Input}
+use Rattle.zk_turns.specs.View.{Cache}
 use Rattle.zk_device.specs.declared.device.Device.{Device}
 use Rattle.zk_device.specs.declared.refusal.Refusal.{Refusal}
 use Rattle.zk_device.specs.declared.refusal.Refusal.TheVariants.{Halted, Memory, NotText, NotPath, BadTimeout, NoSuchMode, NotSaved, NotWhole, TooMany, NotTexts}
@@ -12,9 +13,10 @@ use Rattle.zk_nodes.specs.PathFault.{IsPath}
 use Rattle.zk_conclusions.specs.Subtrees.{Says}
 use Rattle.zk_conclusions.specs.declared.no_subtree.NoSubtree.{NoSubtree}
 use Rattle.zk_conclusions.specs.declared.no_subtree.NoSubtree.TheVariants as why
+use Rattle.zk_device.specs.Snapshots.{RefusesSnapshot}
 use Rattle.zk_device.specs.Standings.{RefusesStanding}
 use Rattle.zk_device.specs.Steps.{Steps}
-use Rattle.zk_device.specs.Texts.{RefusesTexts}
+use Rattle.zk_device.specs.Texts.{RefusesPaths, RefusesTexts}
 
 pub refuses : (Refuses : ℤ → Type 0) (moment : ℕ) (input : Input) (device : Device) (refusal : Refusal)
     → Refuses (refusal_code refusal) → (Refuses (negsuc 0) → ⊥) → Steps Refuses moment input device (refusal_code refusal) device
@@ -78,6 +80,32 @@ refuses_markers directory name names markers NotSaved is = absurd is
 refuses_markers directory name names markers NotWhole is = absurd is
 refuses_markers directory name names markers TooMany is = absurd is
 refuses_markers directory name names markers NotTexts is = inr (λ own against are. is (own ∷ against) are)
+
+-- what spells no nodes of a snapshot
+pub refuses_first : (cache : Cache) (nodes parents : List ℕ) (refusal : Refusal) → RefusesPaths nodes (refusal_code refusal) → RefusesSnapshot cache nodes parents (refusal_code refusal)
+refuses_first cache nodes parents Halted is = absurd is
+refuses_first cache nodes parents Memory is = absurd is
+refuses_first cache nodes parents NotText is = absurd is
+refuses_first cache nodes parents NotPath is = inl is
+refuses_first cache nodes parents BadTimeout is = absurd is
+refuses_first cache nodes parents NoSuchMode is = absurd is
+refuses_first cache nodes parents NotSaved is = absurd is
+refuses_first cache nodes parents NotWhole is = absurd is
+refuses_first cache nodes parents TooMany is = absurd is
+refuses_first cache nodes parents NotTexts is = inl is
+
+-- what spells no parents
+pub refuses_second : (cache : Cache) (nodes parents : List ℕ) (refusal : Refusal) → RefusesPaths parents (refusal_code refusal) → RefusesSnapshot cache nodes parents (refusal_code refusal)
+refuses_second cache nodes parents Halted is = absurd is
+refuses_second cache nodes parents Memory is = absurd is
+refuses_second cache nodes parents NotText is = absurd is
+refuses_second cache nodes parents NotPath is = inr is
+refuses_second cache nodes parents BadTimeout is = absurd is
+refuses_second cache nodes parents NoSuchMode is = absurd is
+refuses_second cache nodes parents NotSaved is = absurd is
+refuses_second cache nodes parents NotWhole is = absurd is
+refuses_second cache nodes parents TooMany is = absurd is
+refuses_second cache nodes parents NotTexts is = inr is
 
 -- what is so of a refusal is so of what is handed on
 pub on_refused : {T : Type 0} (r : Result T Refusal) (refusal : Refusal) (P : Refusal → Type 0) → IsErrAnd r (λ one. one ≡ refusal) → P refusal → IfErr r P

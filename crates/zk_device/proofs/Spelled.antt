@@ -7,10 +7,10 @@ use Rattle.zk_jute.specs.Spelling.{Fits, counted_bytes, int_bytes, spelling}
 use Rattle.zk_device.specs.Standings.{AreNoMarkers}
 use Rattle.zk_device.specs.Texts.{AreTexts}
 
-abbrev spelled : List ℕ → List ℕ
+abbrev pub spelled : List ℕ → List ℕ
 spelled text = spelling ustring (Some text)
 
-abbrev FitText : List ℕ → Type 0
+abbrev pub FitText : List ℕ → Type 0
 FitText text = Fits ustring (Some text)
 
 -- a spelling is not empty

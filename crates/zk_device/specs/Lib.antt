@@ -1,9 +1,11 @@
 pub mod Codes
 pub mod Flats
+pub mod Holders
 pub mod Kept
 pub mod Outputs
 pub mod Refused
 pub mod Sessions
+pub mod Snapshots
 pub mod Standings
 pub mod Steps
 pub mod Subtrees

@@ -49,10 +49,14 @@ node_value path bytes stat pzxid =
 abbrev pub node_kept : Cache → Text → Value node_layout
 node_kept cache path = node_value path (bytes_in (cache.nodes path)) (stat_in (cache.nodes path)) (pzxid_in (cache.children path))
 
+-- One record of each of these paths, one after the other.
+pub record AreRecords (layout : Layout) (value : Text → Value layout) (paths : List Text) (text : List ℕ) : Type 0 where
+  pub fits : AllByRecursion (λ path. Fits layout (value path)) paths
+  pub is : text ≡ flat_map (λ path. spelling layout (value path)) paths
+
 -- What is kept of the nodes at these paths, one after the other.
-pub record AreNodes (cache : Cache) (paths : List Text) (text : List ℕ) : Type 0 where
-  pub fits : AllByRecursion (λ path. Fits node_layout (node_kept cache path)) paths
-  pub is : text ≡ flat_map (λ path. spelling node_layout (node_kept cache path)) paths
+abbrev pub AreNodes : Cache → List Text → List ℕ → Type 0
+AreNodes cache = AreRecords node_layout (node_kept cache)
 
 -- All nodes at and below a path, at most that many, each after its parent: as the client keeps them, which is whole and good, and under
 -- servers of a history as the history has them at the last seen zxid, and no others.
@@ -72,9 +76,8 @@ abbrev pub read_value : Side → Text → Value read_layout
 read_value side path = (Some path, side_number side)
 
 -- These paths, each with the number of the side.
-pub record AreReads (side : Side) (paths : List Text) (text : List ℕ) : Type 0 where
-  pub fits : AllByRecursion (λ path. Fits read_layout (read_value side path)) paths
-  pub is : text ≡ flat_map (λ path. spelling read_layout (read_value side path)) paths
+abbrev pub AreReads : Side → List Text → List ℕ → Type 0
+AreReads side = AreRecords read_layout (read_value side)
 
 -- The reads that are lacking at and below a path, of at most that many nodes: those of data first, then those of names. None is lacking
 -- exactly where there is a subtree.

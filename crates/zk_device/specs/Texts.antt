@@ -1,8 +1,11 @@
 -- Texts that follow one another, each after its length.
-use Rattle.std.specs.Prelude.{◌≡◌, ⊤, ℕ, zero, suc, ℤ, negsuc, List, Some}
+use Rattle.std.specs.Prelude.{◌≡◌, ⊤, ℕ, zero, suc, ℤ, negsuc, IsSome, List, Some}
 use Rattle.std.specs.List.{flat_map, AllByRecursion}
 use Rattle.zk_jute.specs.Layout.{ustring}
 use Rattle.zk_jute.specs.Spelling.{Fits, spelling}
+use Rattle.zk_nodes.specs.Path.{Text}
+use Rattle.zk_nodes.specs.PathFault.{IsPath, fault_of}
+use Rattle.zk_turns.specs.Meaning.{Among}
 
 -- Each of the texts is spelled as zookeeper.jute spells a ustring, and this is all of them.
 pub record AreTexts (texts : List (List ℕ)) (spelled : List ℕ) : Type 0 where
@@ -18,3 +21,26 @@ abbrev pub RefusesTexts : (spelled : List ℕ) → ℤ → Type 0
 RefusesTexts spelled (negsuc (suc zero)) = ⊤
 RefusesTexts spelled (negsuc (suc (suc (suc (suc (suc (suc (suc (suc (suc (suc zero))))))))))) = AreNoTexts spelled
 RefusesTexts spelled code = ⊥
+
+-- The texts are spelled so, and each is a path.
+pub record ArePaths (paths : List Text) (spelled : List ℕ) : Type 0 where
+  pub texts : AreTexts paths spelled
+  pub each : AllByRecursion IsPath paths
+
+-- Paths are spelled so.
+abbrev pub SpellsPaths : List ℕ → Type 0
+SpellsPaths spelled = (paths : List Text) × ArePaths paths spelled
+
+-- Texts are spelled so, of which this one is no path.
+pub record SpellsNoPath (spelled : List ℕ) : Type 0 where
+  pub texts : List (List ℕ)
+  pub are : AreTexts texts spelled
+  pub text : List ℕ
+  pub among : Among text texts
+  pub fault : IsSome (fault_of text)
+
+-- bytes for paths: -5 where one of the texts is no path, and -11 where no texts are spelled so
+abbrev pub RefusesPaths : (spelled : List ℕ) → ℤ → Type 0
+RefusesPaths spelled (negsuc (suc (suc (suc (suc zero))))) = SpellsNoPath spelled
+RefusesPaths spelled (negsuc (suc (suc (suc (suc (suc (suc (suc (suc (suc (suc zero))))))))))) = AreNoTexts spelled
+RefusesPaths spelled code = ⊥

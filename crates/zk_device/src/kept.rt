@@ -99,7 +99,8 @@ fn data_stat_flat(stat: &DataStat) -> FlatDataStat
     }
 }
 
-fn data_flat(kept: Option<(&DataAnswer<Global>, Mark)>) -> KeptData
+/// What is kept of the data, as numbers.
+pub(crate) fn data_flat(kept: Option<(&DataAnswer<Global>, Mark)>) -> KeptData
     ensures { result ≡ data_flat (option_map (λ kept. record { answer = answer_of kept.0.now; mark = kept.1 }) kept.entry) }
 {
     let mut flat = NO_DATA;
@@ -193,8 +194,11 @@ fn spelled_names(alloc: Global, names: &Names<Global>) -> Result<Vec<u8>, AllocE
     Ok(text)
 }
 
-// The same of what is kept.
-fn names_text(alloc: Global, kept: Option<(&Names<Global>, Mark)>) -> Result<Vec<u8>, AllocError>
+/// The names that are kept, in byte order and each after its length. An error says that memory ran out.
+pub(crate) fn names_text(
+    alloc: Global,
+    kept: Option<(&Names<Global>, Mark)>,
+) -> Result<Vec<u8>, AllocError>
     ensures { IfOk result (λ text. AreKeptNames (option_map (λ kept. record { answer = names_in kept.0.now; mark = kept.1 }) kept.entry) text.items) }
 {
     match kept {

@@ -31,8 +31,8 @@ const NO_STAT: DataStat = DataStat {
     data_length: 0,
 };
 
-// The data of a node that is kept with its data.
-fn bytes_in(kept: Option<(&DataAnswer<Global>, Mark)>) -> Option<&[u8]>
+/// The data of a node that is kept with its data.
+pub(crate) fn bytes_in(kept: Option<(&DataAnswer<Global>, Mark)>) -> Option<&[u8]>
     ensures { option_map (λ bytes. bytes.now) result ≡ bytes_in (option_map (λ kept. record { answer = answer_of kept.0.now; mark = kept.1 }) kept.entry) }
 {
     match kept {
@@ -41,8 +41,8 @@ fn bytes_in(kept: Option<(&DataAnswer<Global>, Mark)>) -> Option<&[u8]>
     }
 }
 
-// What is known of it.
-fn stat_in(kept: Option<(&DataAnswer<Global>, Mark)>) -> DataStat
+/// What is known of it.
+pub(crate) fn stat_in(kept: Option<(&DataAnswer<Global>, Mark)>) -> DataStat
     ensures { result ≡ stat_in (option_map (λ kept. record { answer = answer_of kept.0.now; mark = kept.1 }) kept.entry) }
 {
     match kept {
@@ -52,8 +52,8 @@ fn stat_in(kept: Option<(&DataAnswer<Global>, Mark)>) -> DataStat
     }
 }
 
-// The zxid of the last change of the names below it.
-fn pzxid_in(kept: Option<(&Names<Global>, Mark)>) -> i64
+/// The zxid of the last change of the names below it.
+pub(crate) fn pzxid_in(kept: Option<(&Names<Global>, Mark)>) -> i64
     ensures { result ≡ pzxid_in (option_map (λ kept. record { answer = names_in kept.0.now; mark = kept.1 }) kept.entry) }
 {
     match kept {

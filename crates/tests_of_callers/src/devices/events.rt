@@ -24,6 +24,10 @@ pub enum Event {
     Collects(&'static str, usize),
     /// Whether the session comes first in `/l` by its node of this name, by these names that were listed at a zxid.
     Stands(&'static str, &'static [&'static str], i64),
+    /// All that is kept of these nodes, and of the names below these parents: paths, each after its length.
+    Shows(&'static [u8], &'static [u8]),
+    /// Whether the session holds by its node of this path, of the names in a directory that begin with a prefix.
+    Holds(&'static str, &'static [u8], &'static str),
 }
 
 /// A session that expires.
@@ -126,4 +130,52 @@ pub static STANDS: [Event; 14] = [
     ),
     Event::Stands("a/b", &[], 4),
     Event::Stands("x-lock-1", &[], 4),
+];
+
+/// A session that asks for several paths at once.
+pub static SHOWS: [Event; 21] = [
+    Event::Opens,
+    Event::Shows(b"", b""),
+    Event::Exists("/a"),
+    Event::Shows(b"\0\0\0\x02/a", b""),
+    Event::Shows(b"\0\0\0\x02/a", b"\0\0\0\x02/a"),
+    Event::Creates("/a", Some("one"), 0),
+    Event::Shows(b"\0\0\0\x02/a", b""),
+    Event::Exists("/a"),
+    Event::Shows(b"\0\0\0\x02/a", b""),
+    Event::Reads("/a"),
+    Event::Exists("/no"),
+    Event::Creates("/a/b", None, 1),
+    Event::Creates("/a/cd", None, 0),
+    Event::Lists("/a"),
+    Event::Lists("/a/b"),
+    Event::Shows(b"\0\0\0\x03/no\0\0\0\x02/a", b"\0\0\0\x02/a\0\0\0\x04/a/b"),
+    Event::Shows(b"", b"\0\0\0\x02/a\0\0\0\x02/a"),
+    Event::Shows(b"\0\0\0\x02/", b""),
+    Event::Shows(b"\0\0\0\x02/a", b"\0\0\0\x02/\xff"),
+    Event::Shows(b"\0\0\0\x01a\0\0\0\x02/a", b""),
+    Event::Shows(b"\0\0\0\x02/a", b"\0\0\0\x02/a\0\0\0\0"),
+];
+
+/// A session that holds the first place of a prefix, and then not the first one of all names.
+pub static HOLDS: [Event; 19] = [
+    Event::Opens,
+    Event::Creates("/l", None, 0),
+    Event::Creates("/l/lock-", None, 3),
+    Event::Reads("/l/lock-0000000000"),
+    Event::Holds("/l", b"lock-", "/l/lock-0000000000"),
+    Event::Lists("/l"),
+    Event::Holds("/l", b"lock-", "/l/lock-0000000000"),
+    Event::Sets("/l/lock-0000000000", Some("x"), 0),
+    Event::Holds("/l", b"lock-", "/l/lock-0000000000"),
+    Event::Exists("/l/lock-0000000000"),
+    Event::Holds("/l", b"lock-", "/l/lock-0000000000"),
+    Event::Creates("/l/a-lock-", None, 3),
+    Event::Lists("/l"),
+    Event::Holds("/l", b"lock-", "/l/lock-0000000000"),
+    Event::Holds("/l", b"", "/l/lock-0000000000"),
+    Event::Holds("/", b"lock-", "/l/lock-0000000000"),
+    Event::Holds("/l", b"\xff", "/l/lock-0000000000"),
+    Event::Holds("/l/", b"lock-", "/l/lock-0000000000"),
+    Event::Holds("/l", b"lock-", "lock-0000000000"),
 ];

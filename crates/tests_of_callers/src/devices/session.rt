@@ -1,7 +1,9 @@
 //! A device and the server that it speaks to.
 
 use crate::devices::events::Event;
-use crate::devices::told::{tell, tell_collected, tell_kept, tell_number, tell_standing};
+use crate::devices::told::{
+    tell, tell_collected, tell_holder, tell_kept, tell_number, tell_shown, tell_standing,
+};
 use anyhow::Result;
 use std::alloc::Global;
 use zk_bench::{Bench, History};
@@ -118,6 +120,12 @@ impl Session {
         }
         if let Event::Stands(name, names, listed) = event {
             return tell_standing(self.alloc, &self.device, name, names, listed, told);
+        }
+        if let Event::Shows(nodes, parents) = event {
+            return tell_shown(self.alloc, &self.device, nodes, parents, told);
+        }
+        if let Event::Holds(directory, prefix, path) = event {
+            return tell_holder(self.alloc, &self.device, directory, prefix, path, told);
         }
         let done = self.happen(event);
         tell_number("event", code_of(done), told)?;

@@ -181,3 +181,33 @@ pub fn tell_standing(
     }
     Ok(())
 }
+
+/// Tells what is kept of several paths, as the bytes that spell it.
+pub fn tell_shown(
+    alloc: Global,
+    device: &Device,
+    nodes: &[u8],
+    parents: &[u8],
+    told: &mut String,
+) -> Result<()> {
+    let mut room = [0; ROOM];
+    let shown = device.snapshot(alloc, nodes, parents, &mut room);
+    tell_copied("shown", shown, &room, told)
+}
+
+/// Tells the token by which the session holds.
+pub fn tell_holder(
+    alloc: Global,
+    device: &Device,
+    directory: &str,
+    prefix: &[u8],
+    path: &str,
+    told: &mut String,
+) -> Result<()> {
+    match device.holder(alloc, directory.as_bytes(), prefix, path.as_bytes()) {
+        Ok(Some(token)) => writeln!(told, "holds {token}")?,
+        Ok(None) => writeln!(told, "holds not")?,
+        Err(refusal) => writeln!(told, "holder {}", refusal.code())?,
+    }
+    Ok(())
+}
