@@ -7,7 +7,8 @@ use crate::kept::{Children, DataAnswer};
 use crate::numbers::kept;
 use crate::subtree::{buffer, data_stat};
 
-/// What is kept of several paths, as the servers' history has it at one zxid: of [`Session::snapshot`](crate::Session::snapshot).
+/// What is kept of several paths, as the servers' history has it at one zxid: of [`Client::snapshot`](crate::Client::snapshot) and
+/// [`Session::snapshot`](crate::Session::snapshot).
 ///
 /// ```no_run
 /// use dirwolleu::{DataAnswer, Session};

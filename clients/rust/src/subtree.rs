@@ -64,9 +64,11 @@ fn all<T>(spelled: &[u8], mut read: impl FnMut(&mut Reader<'_>) -> Option<T>) ->
     found
 }
 
-/// Bytes after their length, which are none where they are null; and nothing where they are not whole.
-#[allow(clippy::option_option)] // null is told apart from too few bytes
-pub(crate) fn buffer(reader: &mut Reader<'_>) -> Option<Option<Vec<u8>>> {
+/// Data: none where they are null.
+pub(crate) type Data = Option<Vec<u8>>;
+
+/// Bytes after their length.
+pub(crate) fn buffer(reader: &mut Reader<'_>) -> Option<Data> {
     match usize::try_from(reader.int()?) {
         Ok(length) => reader.bytes(length).map(Some),
         Err(_) => Some(None),

@@ -131,23 +131,22 @@ impl View<'_> {
     ///
     /// As [`peek`](View::peek), of the first of them that is no path.
     pub fn snapshot(&self, nodes: &[&str], parents: &[&str]) -> Result<Option<Snapshot>, Fault> {
-        let [nodes, parents] = [self.outer(nodes)?, self.outer(parents)?];
-        let [nodes, parents] =
-            [&nodes, &parents].map(|paths| paths.iter().map(AsRef::as_ref).collect::<Vec<_>>());
-        let found = self.engine.client().snapshot(&nodes, &parents);
-        found.map_err(|fault| match fault {
-            Fault::NotPath { path, reason } => Fault::NotPath {
-                path: self.engine.chroot().inner(path),
-                reason,
-            },
-            other => other,
-        })
-    }
-
-    /// The servers' paths of these of the program.
-    fn outer<'p>(self, paths: &[&'p str]) -> Result<Vec<Cow<'p, str>>, Fault> {
         let chroot = self.engine.chroot();
-        paths.iter().map(|path| chroot.outer(path)).collect()
+        let outer = |paths: &[&str]| -> Result<Vec<String>, Fault> {
+            let outer = paths.iter().map(|path| chroot.outer(path));
+            outer.map(|path| path.map(Cow::into_owned)).collect()
+        };
+        let (nodes, parents) = (outer(nodes)?, outer(parents)?);
+        let [nodes, parents] =
+            [&nodes, &parents].map(|paths| paths.iter().map(String::as_str).collect::<Vec<_>>());
+        let found = self.engine.client().snapshot(&nodes, &parents);
+        found.map_err(|fault| match &fault {
+            Fault::NotPath { path, .. } => {
+                let inner = chroot.inner(path.clone());
+                fault.at(&inner)
+            }
+            _ => fault,
+        })
     }
 }
 
