@@ -1,29 +1,35 @@
-//! Follows a node: asks for it where nothing good is kept of it, and tells what it holds where that came.
-use crate::Live;
+//! Follows a node, which need not be there: prints what it holds, each time that is known again.
 use anyhow::Result;
 use std::alloc::Global;
 use std::io::Write;
-use zk_client::{Call, DataAnswer, Mark, Output, Path, State};
+use zk_client::{Client, DataAnswer, Path};
+use zk_driver::{Action, Driver};
+use zk_link::{Clock, Dial};
 
-pub fn follow<W: Write>(alloc: Global, link: &mut Live, node: &Path, out: &mut W) -> Result<()> {
+/// Goes on until this moment with a driver that follows the node.
+pub fn follow<D: Dial + Drop, C: Clock + Drop, W: Write>(
+    driver: &mut Driver<'_, Global, D, C>,
+    node: &Path,
+    until: u64,
+    out: &mut W,
+) -> Result<()> {
     for _ in 0..u64::MAX {
-        let mut outputs = Vec::new(alloc);
-        link.go_on(u64::MAX, &mut outputs)?;
-        let is_answer = matches!(outputs.last(), Some(Output::Answer { .. }));
-        drop(outputs);
-        match link.client().peek_data(node) {
-            Some((DataAnswer::Full(Some(data), _), Mark::Good)) if is_answer => {
-                out.write_all(data.as_slice())?;
-                out.write_all(b"\n")?;
-            }
-            Some((_, Mark::Good)) => {}
-            _ if link.client().state() == State::Connected && !is_answer => {
-                let path = Path::new(alloc, node.as_str())?;
-                link.ask(1, Call::GetData { path, watch: true }, &mut Vec::new(alloc))?;
-            }
-            _ if link.client().state() == State::Expired => break,
-            _ => {}
+        match driver.next(until)? {
+            Some(Action::Shown { .. }) => tell(driver.client(), node, out)?,
+            Some(Action::Renewed) => writeln!(out, "another session")?,
+            Some(_) => {}
+            None => break,
         }
     }
     Ok(())
+}
+
+/// What is kept of the node, which is good.
+fn tell<W: Write>(client: &Client, node: &Path, out: &mut W) -> Result<()> {
+    match client.peek_data(node) {
+        Some((DataAnswer::Full(Some(bytes), _), _)) => out.write_all(bytes.as_slice())?,
+        Some((DataAnswer::Full(None, _), _)) => out.write_all(b"no data")?,
+        _ => out.write_all(b"no node")?,
+    }
+    Ok(out.write_all(b"\n")?)
 }

@@ -1,40 +1,56 @@
-//! Follows the data of one node of real servers, through reconnects: tells what it holds at first, and after each change.
+//! Follows the data of one node of real servers, through lost connections and expired sessions: tells what it holds at first, and after each
+//! change. Without words it does so over a server in memory.
 #![tactic(auto)]
 
 mod follower;
+mod memory;
 
 use anyhow::Result;
 use follower::follow;
 use std::alloc::Global;
+use std::io::Write;
 use std::process::ExitCode;
-use zk_client::{Client, Path};
-use zk_link::{Clock, Link, SystemClock, Tcp};
-
-/// A link over TCP and the system's clock.
-type Live<'a> = Link<'a, Global, Tcp<'a, HostRuntime>, SystemClock<'a, HostRuntime>>;
+use zk_client::{Path, Side};
+use zk_driver::Driver;
+use zk_link::{Clock, Dial, SystemClock, Tcp};
 
 /// The timeout to ask for, in milliseconds.
 const TIMEOUT_MS: i32 = 10_000;
 
-/// Follows a node, over servers that are dialled in turn.
-fn run(rt: &HostRuntime, node: &Path, addresses: &[&str]) -> Result<()> {
-    let client = Client::new(rt.alloc(), TIMEOUT_MS);
-    let (dial, mut clock) = (Tcp::new(rt), SystemClock::new(rt));
-    let seed = clock.now();
-    let mut link = Link::new(rt.alloc(), client, dial, clock, addresses, seed);
-    let followed = follow(rt.alloc(), &mut link, node, &mut rt.stdout());
-    drop(link);
+/// A driver that follows a node, over servers that are dialled in turn.
+fn driver_of<'a, D: Dial + Drop, C: Clock + Drop>(
+    alloc: Global,
+    node: &Path,
+    dial: D,
+    clock: C,
+    addresses: &'a [&'a str],
+) -> Result<Driver<'a, Global, D, C>> {
+    let mut driver = Driver::begin(alloc, TIMEOUT_MS, dial, clock, addresses)?;
+    driver.follow(1, Side::Data, Path::new(alloc, node.as_str())?)?;
+    Ok(driver)
+}
+
+/// Follows a node of real servers.
+fn run<W: Write>(rt: &HostRuntime, node: &str, addresses: &[&str], out: &mut W) -> Result<()> {
+    let node = Path::new(rt.alloc(), node)?;
+    let (dial, clock) = (Tcp::new(rt), SystemClock::new(rt));
+    let mut driver = driver_of(rt.alloc(), &node, dial, clock, addresses)?;
+    let followed = follow(&mut driver, &node, u64::MAX, out);
+    drop(driver);
     followed
 }
 
 fn main(rt: HostRuntime) -> Result<ExitCode> {
     let words: Vec<String> = std::env::args(&rt)?.collect(rt.alloc())?;
     let texts: Vec<&str> = words.iter().map(|word| word.as_str()).collect(rt.alloc())?;
-    let [_, node, addresses @ ..] = texts.as_slice() else {
-        println!(rt; "usage: config_follower PATH IP:PORT..")?;
-        return Ok(ExitCode::from(2));
-    };
-    let node = Path::new(rt.alloc(), node)?;
-    run(&rt, &node, addresses)?;
+    let mut out = rt.stdout();
+    match texts.as_slice() {
+        [] | [_] => memory::run(rt.alloc(), &mut out)?,
+        [_, _] => {
+            writeln!(out, "usage: config_follower [PATH IP:PORT..]")?;
+            return Ok(ExitCode::from(2));
+        }
+        [_, node, addresses @ ..] => run(&rt, node, addresses, &mut out)?,
+    }
     Ok(ExitCode::SUCCESS)
 }
