@@ -17,25 +17,25 @@ use zk_link::{Clock, Dial, SystemClock, Tcp};
 /// The timeout to ask for, in milliseconds.
 const TIMEOUT_MS: i32 = 10_000;
 
-/// A driver that follows a node, over servers that are dialled in turn.
-fn driver_of<'a, D: Dial + Drop, C: Clock + Drop>(
+/// Has a driver follow a node.
+fn add<D: Dial + Drop, C: Clock + Drop>(
     alloc: Global,
+    driver: &mut Driver<'_, Global, D, C>,
     node: &Path,
-    dial: D,
-    clock: C,
-    addresses: &'a [&'a str],
-) -> Result<Driver<'a, Global, D, C>> {
-    let mut driver = Driver::begin(alloc, TIMEOUT_MS, dial, clock, addresses)?;
-    driver.follow(1, Side::Data, Path::new(alloc, node.as_str())?)?;
-    Ok(driver)
+) -> Result<()> {
+    let path = Path::new(alloc, node.as_str())?;
+    Ok(driver.follow(1, Side::Data, path)?)
 }
 
 /// Follows a node of real servers.
 fn run<W: Write>(rt: &HostRuntime, node: &str, addresses: &[&str], out: &mut W) -> Result<()> {
     let node = Path::new(rt.alloc(), node)?;
     let (dial, clock) = (Tcp::new(rt), SystemClock::new(rt));
-    let mut driver = driver_of(rt.alloc(), &node, dial, clock, addresses)?;
-    let followed = follow(&mut driver, &node, u64::MAX, out);
+    let mut driver = Driver::begin(rt.alloc(), TIMEOUT_MS, dial, clock, addresses)?;
+    let followed = match add(rt.alloc(), &mut driver, &node) {
+        Ok(()) => follow(&mut driver, &node, u64::MAX, out),
+        Err(fault) => Err(fault),
+    };
     drop(driver);
     followed
 }

@@ -1,6 +1,6 @@
 //! The same over a server in memory.
 
-use crate::{driver_of, follow};
+use crate::{TIMEOUT_MS, add, follow};
 use anyhow::Result;
 use example_world::{Change, History, Moments, Shared, World};
 use std::alloc::Global;
@@ -99,8 +99,11 @@ pub fn run<W: Write>(alloc: Global, out: &mut W) -> Result<()> {
     let world = RefCell::new(World::new(alloc, History::new(alloc), usize::MAX));
     let moments = Moments::new();
     let (dial, clock) = (Shared::new(&world, &moments), Shared::new(&world, &moments));
-    let mut driver = driver_of(alloc, &node, dial, clock, &ADDRESSES)?;
-    let played = play(alloc, &mut driver, &node, &world, out);
+    let mut driver = Driver::begin(alloc, TIMEOUT_MS, dial, clock, &ADDRESSES)?;
+    let played = match add(alloc, &mut driver, &node) {
+        Ok(()) => play(alloc, &mut driver, &node, &world, out),
+        Err(fault) => Err(fault),
+    };
     drop(driver);
     played
 }
