@@ -100,7 +100,7 @@ class TimeoutTest(ClientCase):
 
 class FutureTest(ClientCase):
     def test_futures_are_answered_in_their_order(self) -> None:
-        client = self.client(self.partner().host)
+        client = self.client(self.partner().host, 60.0)
         client.create("/a", b"one")
         answered: list[int] = []
         futures = [client.get_async("/a") for _ in range(3000)]
