@@ -1,6 +1,6 @@
 """What the tests of programs share: the server in memory, a server that does what a test says, and processes whose lines are waited for.
 
-  programs.py OUT PARTNER     runs the tests of follow.py, tree.py and lane.py side by side, with the programs that are in OUT
+  programs.py OUT PARTNER     runs the tests of follow.py and tree.py side by side, with the programs that are in OUT
 """
 
 import concurrent.futures
