@@ -16,6 +16,8 @@ import threading
 import time
 import unittest
 
+sys.dont_write_bytecode = True
+
 # Seconds that a line, or an end, is waited for; and that a busy machine may make something late.
 BOUND, SLACK = 20, 3
 AT_ONCE = 12
