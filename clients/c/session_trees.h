@@ -205,6 +205,11 @@ static inline void dws_take_tree_read(dws_session *s, dws_call *call)
     bool is_question = call->kind == DWS_EXISTS, has_no_root = call->why == DW_CODE_NO_NODE && strcmp(call->path, tree->path) == 0;
     bool is_lost = call->why == DW_OUTCOME_LOST || call->why == DW_OUTCOME_NOT_CONNECTED || call->why == DW_OUTCOME_EXPIRED
                    || call->why == DW_OUTCOME_CLOSED;
+    free(call->text); /* the library keeps it */
+    free(call->names);
+    call->text = NULL;
+    call->names = NULL;
+    call->room = call->names_room = 0;
     call->next = tree->idle;
     tree->idle = call;
     tree->asked--;

@@ -1,6 +1,6 @@
 """What the tests of programs share: the server in memory, a server that does what a test says, and processes whose lines are waited for.
 
-  programs.py OUT PARTNER     runs the tests of follow.py, tree.py and lane.py side by side, with the programs that are in OUT
+  programs.py OUT PARTNER     runs the tests of follow.py and tree.py side by side, with the programs that are in OUT
 """
 
 import concurrent.futures
@@ -15,6 +15,8 @@ import sys
 import threading
 import time
 import unittest
+
+sys.dont_write_bytecode = True
 
 # Seconds that a line, or an end, is waited for; and that a busy machine may make something late.
 BOUND, SLACK = 20, 3

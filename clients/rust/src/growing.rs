@@ -409,3 +409,122 @@ impl Growing {
         self.warn_of_root(fault.into(), ground);
     }
 }
+
+#[cfg(test)]
+mod tests {
+    use super::{Ground, Growing, Lacking, Shown};
+    use crate::chroot::Chroot;
+    use crate::client::Client;
+    use crate::error::ErrorKind;
+    use crate::fault::Code;
+    use crate::jute::Writer;
+    use crate::moment::{Clock, Moment};
+    use crate::node::{NodeEvent, Side, Watch};
+    use crate::told::{Fired, Found};
+    use std::sync::Arc;
+    use std::time::Duration;
+
+    const NOW: Moment = Moment::from_millis(1);
+
+    fn framed(payload: Writer) -> Vec<u8> {
+        let mut frame = Writer::default();
+        frame.buffer(&payload.into_bytes());
+        frame.into_bytes()
+    }
+
+    /// A client with a session.
+    fn connected() -> Client {
+        let mut client = Client::open(Duration::from_secs(10)).unwrap();
+        let _ = client.opened(NOW).unwrap();
+        let mut accepted = Writer::default();
+        accepted.int(0).int(10_000).int(0).int(7);
+        accepted.buffer(&[0; 16]).boolean(false);
+        let _ = client.bytes(NOW, &framed(accepted)).unwrap();
+        client
+    }
+
+    /// The client reads the names below `/t`, which were changed last at this zxid: `b` alone.
+    fn list(client: &mut Client, xid: i32, pzxid: i32) {
+        let _ = client.get_children(NOW, 1, "/t", Watch::Yes).unwrap();
+        let mut reply = Writer::default();
+        reply.int(xid).int(0).int(pzxid).int(0);
+        reply.int(1).text("b");
+        for _ in 0..8 {
+            reply.int(0); // four zxids and times
+        }
+        reply.int(0).int(0).int(0).int(0).int(0).int(0).int(1);
+        reply.int(0).int(pzxid);
+        let _ = client.bytes(NOW, &framed(reply)).unwrap();
+    }
+
+    fn read(path: &str, side: Side) -> Lacking {
+        let path = String::from(path);
+        Lacking { path, side }
+    }
+
+    fn ground(client: &Client) -> Ground<'_> {
+        static WHOLE: std::sync::OnceLock<Chroot> = std::sync::OnceLock::new();
+        Ground {
+            client,
+            chroot: WHOLE.get_or_init(Chroot::default),
+            clock: Clock::start(),
+        }
+    }
+
+    fn tree() -> (Arc<Shown>, Growing) {
+        let shown = Arc::new(Shown::of("/t"));
+        let tree = Growing::new(Arc::downgrade(&shown), String::from("/t"), 10);
+        (shown, tree)
+    }
+
+    #[test]
+    fn a_node_that_names_lead_to_still_rests_and_one_of_other_names_does_not() {
+        let (_shown, mut tree) = tree();
+        let mut client = connected();
+        list(&mut client, 1, 5);
+        let lost = read("/t/b", Side::Data);
+        tree.begun.insert(lost.clone(), Some(5));
+        let none = Err(ErrorKind::Server(Code::NO_NODE));
+        tree.answered(&lost, &none, ground(&client));
+        tree.want_known(lost.clone(), ground(&client));
+        assert!(tree.begun.is_empty(), "the names are those that led there");
+        assert!(tree.deadline().is_some());
+        list(&mut client, 2, 9);
+        tree.want_known(lost.clone(), ground(&client));
+        assert!(tree.begun.contains_key(&lost));
+    }
+
+    #[test]
+    fn what_has_fired_is_read_again_where_it_is_of_the_tree() {
+        let (_shown, mut tree) = tree();
+        let fired = |path: &str, side, event| {
+            let path = String::from(path);
+            Fired { path, side, event }
+        };
+        for (path, side, event, is_read) in [
+            ("/t", Side::Data, NodeEvent::DataChanged, true),
+            ("/t/a", Side::Children, NodeEvent::ChildrenChanged, true),
+            ("/t/b", Side::Data, NodeEvent::Deleted, false),
+            ("/ta", Side::Data, NodeEvent::DataChanged, false),
+            ("/", Side::Children, NodeEvent::ChildrenChanged, false),
+        ] {
+            tree.hear(&fired(path, side, event));
+            assert_eq!(tree.begun.remove(&read(path, side)).is_some(), is_read);
+            tree.queue.clear();
+        }
+        tree.hear(&fired("/t", Side::Data, NodeEvent::Deleted));
+        assert_eq!(tree.begun.len(), 1, "the root is asked for");
+        tree.hear(&fired("/t", Side::Children, NodeEvent::Deleted));
+        assert_eq!(tree.begun.len(), 1);
+    }
+
+    #[test]
+    fn an_answer_that_nobody_waits_for_changes_nothing() {
+        let (shown, mut tree) = tree();
+        let client = connected();
+        tree.must_look = false;
+        let found = Ok(Found::default());
+        tree.answered(&read("/t", Side::Data), &found, ground(&client));
+        assert!(!tree.must_look && shown.news_after(0).is_none());
+    }
+}

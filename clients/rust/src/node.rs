@@ -41,6 +41,8 @@ pub struct Stat {
 }
 
 /// The fields of a [`Stat`] that change only where a watch on the data fires: those that are kept.
+///
+/// [`Stat`] has an example.
 #[repr(C)]
 #[derive(Clone, Copy, Debug, Default, PartialEq, Eq)]
 pub struct DataStat {
@@ -75,6 +77,8 @@ pub struct Node {
 pub const ANY_VERSION: i32 = -1;
 
 /// Whether a read leaves a watch on its path. What such a read brings is kept.
+///
+/// [`Subtree`](crate::Subtree) has an example.
 #[derive(Clone, Copy, Debug, PartialEq, Eq, Hash)]
 pub enum Watch {
     /// It leaves one.

@@ -261,6 +261,8 @@ impl fmt::Debug for Bytes<'_> {
 }
 
 /// A path or a code, which stays in the library until it is copied.
+///
+/// [`Output`] has an example.
 #[derive(Clone, Copy)]
 pub struct Text<'a> {
     bytes: Bytes<'a>,
@@ -297,6 +299,8 @@ impl fmt::Debug for Text<'_> {
 }
 
 /// Names of children, which stay in the library until they are copied.
+///
+/// [`Output`] has an example.
 #[derive(Clone, Copy)]
 pub struct Names<'a> {
     handle: &'a Handle,
@@ -380,6 +384,8 @@ impl Cause {
 }
 
 /// That a connection is given up.
+///
+/// [`Output`] has an example.
 #[derive(Clone, Copy, Debug)]
 pub struct GivenUp<'a> {
     /// Why.

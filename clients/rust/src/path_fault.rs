@@ -9,6 +9,16 @@ const LONGEST_PATH: usize = 4_096;
 const LONGEST_SHOWN: usize = 256;
 
 /// Why a text is no path of a node.
+///
+/// ```
+/// use dirwolleu::{Client, Fault, PathFault};
+/// use std::time::Duration;
+///
+/// let client = Client::open(Duration::from_secs(10))?;
+/// let fault = client.data_mark("/a/../b").unwrap_err();
+/// assert!(matches!(fault, Fault::NotPath { reason: Some(PathFault::DotName), .. }));
+/// # Ok::<(), Fault>(())
+/// ```
 #[derive(Clone, Copy, Debug, PartialEq, Eq, Hash)]
 #[non_exhaustive]
 pub enum PathFault {

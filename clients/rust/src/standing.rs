@@ -1,6 +1,8 @@
 //! Whether a session stands first in a directory: for locks and elections.
 
 /// How contenders are named: a name counts where it ends in ten digits, as that of a sequential node does, right after a marker.
+///
+/// [`Standing`] has an example.
 #[derive(Clone, Copy, Debug, PartialEq, Eq)]
 pub struct Markers<'a> {
     /// That of the session's name.
@@ -10,6 +12,8 @@ pub struct Markers<'a> {
 }
 
 /// A session's node in a directory, and the names that were listed there.
+///
+/// [`Standing`] has an example.
 #[derive(Clone, Copy, Debug, PartialEq, Eq)]
 pub struct Contender<'a> {
     /// The path of the directory.
@@ -24,7 +28,22 @@ pub struct Contender<'a> {
     pub markers: Markers<'a>,
 }
 
-/// Whether a session comes first in a directory.
+/// Whether a session comes first in a directory: of [`Client::standing`](crate::Client::standing).
+///
+/// ```
+/// use dirwolleu::{Client, Contender, Fault, Markers, Standing};
+///
+/// /// Where a session stands by its node of this name, and the names that were listed at this zxid.
+/// fn tell(client: &Client, name: &str, names: &[String], listed: i64) -> Result<(), Fault> {
+///     let markers = Markers { own: "lock-", against: &["lock-"] };
+///     match client.standing(&Contender { directory: "/lock", name, names, listed, markers })? {
+///         Standing::First { token } => println!("held, with token {token}"),
+///         Standing::After { rival } => println!("after {rival}, which is to be watched"),
+///         Standing::Unsure => println!("to be listed again"),
+///     }
+///     Ok(())
+/// }
+/// ```
 #[derive(Clone, Debug, PartialEq, Eq, Hash)]
 pub enum Standing {
     /// First, by this token: the zxid of the transaction that made its node.

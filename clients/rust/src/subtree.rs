@@ -5,6 +5,8 @@ use crate::jute::Reader;
 use crate::node::{DataStat, Side};
 
 /// A node of a [`Subtree`].
+///
+/// [`TreeSnapshot`](crate::TreeSnapshot) has an example.
 #[derive(Clone, Debug, PartialEq, Eq)]
 pub struct SubtreeNode {
     /// Its path.
@@ -26,7 +28,23 @@ impl SubtreeNode {
     }
 }
 
-/// All nodes at and below a path, as the servers' history has them at one zxid.
+/// All nodes at and below a path, as the servers' history has them at one zxid: of [`Client::subtree`](crate::Client::subtree).
+///
+/// ```
+/// use dirwolleu::{Client, Fault, Moment, Side, Subtree, Watch};
+///
+/// /// The nodes at and below a path, or none where some of them are still asked for.
+/// fn look(client: &mut Client, now: Moment, path: &str) -> Result<Option<Subtree>, Fault> {
+///     for (ticket, read) in (0..).zip(client.lacking(path, 1_000)?) {
+///         let outputs = match read.side {
+///             Side::Data => client.get_data(now, ticket, &read.path, Watch::Yes)?,
+///             _ => client.get_children(now, ticket, &read.path, Watch::Yes)?,
+///         };
+///         drop(outputs); // a program does what they say
+///     }
+///     client.subtree(path, 1_000)
+/// }
+/// ```
 #[derive(Clone, Debug, PartialEq, Eq)]
 pub struct Subtree {
     /// That zxid.
@@ -46,6 +64,8 @@ impl Subtree {
 }
 
 /// A read, with a watch, that is lacking before there is a subtree.
+///
+/// [`Subtree`] has an example.
 #[derive(Clone, Debug, PartialEq, Eq, Hash)]
 pub struct Lacking {
     /// The path to read.
