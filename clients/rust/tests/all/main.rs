@@ -21,4 +21,5 @@ mod reconnects;
 mod registrations;
 mod sessions;
 mod threads;
+mod tree_reads;
 mod trees;
