@@ -16,6 +16,7 @@ mod server;
 mod lane;
 mod locks;
 mod messages;
+mod outages;
 mod polls;
 mod reconnects;
 mod registrations;
