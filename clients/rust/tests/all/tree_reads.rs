@@ -195,9 +195,43 @@ fn who_waits_for_a_tree_is_woken_where_others_take_all_events() {
     taker.join().unwrap();
 }
 
+/// The names of the children of a large tree.
+fn many_names() -> Vec<String> {
+    (0..MANY).map(|number| format!("n{number}")).collect()
+}
+
+/// A server of a large tree, which tells a change of one node before it answers to exists.
+fn change_of_many(line: &mut Line) {
+    let names = many_names();
+    let names: Vec<_> = names.iter().map(String::as_str).collect();
+    serve(line, |line, request| {
+        if request.kind == EXISTS {
+            line.send(&Record::notice(3, "/t/n7"));
+        }
+        let is_root = request.kind == GET_CHILDREN_2 && !is_below(request);
+        is_root && line.send(&listed(request, &names))
+    });
+}
+
+#[test]
+fn a_large_tree_that_has_just_been_looked_at_is_looked_at_again_after_a_change() {
+    let partner = Partner::start(|_, mut line| change_of_many(&mut line));
+    let session = Session::open(partner.address, TIMEOUT).unwrap();
+    let tree = session.tree("/t").unwrap();
+    let mut snapshots = tree.snapshots();
+    for _ in 0..3 {
+        let begun = Instant::now();
+        let news = snapshots.next_within(PATIENCE).unwrap();
+        assert_eq!(news.unwrap().len(), MANY + 1);
+        let took = begun.elapsed();
+        assert!(took < TIMEOUT / 4, "it waits for a ping: {took:?}");
+        session.exists("/x").unwrap();
+    }
+}
+
 /// A server that has many children, and answers no read of them before it is asked whether there is a node.
 fn hold_reads(line: &mut Line, reads: &mpsc::Sender<()>) {
-    let names: Vec<_> = (0..MANY).map(|number| format!("n{number}")).collect();
+    let names = many_names();
     let names: Vec<_> = names.iter().map(String::as_str).collect();
     let mut held = Some(Vec::new());
     serve(line, |line, request| {
