@@ -1,6 +1,6 @@
 //! How trees are read: at a server that does what each test says.
 
-use crate::jute::{Record, EXISTS, GET_CHILDREN_2, GET_DATA, PING, PONG};
+use crate::jute::{Record, EXISTS, GET_CHILDREN_2, GET_DATA, PING, PONG, SET_WATCHES, WATCHES_SET};
 use crate::partner::{Line, Partner, Request};
 use dirwolleu::{Code, ErrorKind, Session, SubtreeNode, TreeSnapshot};
 use std::mem;
@@ -72,6 +72,7 @@ fn answer(line: &mut Line, request: &Request) -> bool {
     let names: &[&str] = if is_below(request) { &[] } else { &["a"] };
     match request.kind {
         PING => line.refuse(PONG, 0),
+        SET_WATCHES => line.refuse(WATCHES_SET, 0),
         GET_DATA => line.tell_data(request.xid),
         EXISTS => line.tell_stat(request.xid),
         GET_CHILDREN_2 => line.send(&listed(request, names)),
@@ -268,4 +269,53 @@ fn the_reads_of_a_large_tree_leave_room_for_a_call() {
     assert!(more.is_err(), "no more reads are on their way");
     assert!(session.exists("/x").unwrap().is_some());
     assert_eq!(tree.wait_for(PATIENCE).unwrap().len(), MANY + 1);
+}
+
+/// The time from the admission of a session to the read of the child, at which the connection ends.
+fn end_at_the_child(line: &mut Line) -> Option<Duration> {
+    line.admit(millis(TIMEOUT));
+    let begun = Instant::now();
+    while let Some(request) = line.request() {
+        if request.kind == GET_DATA && is_below(&request) {
+            return Some(begun.elapsed());
+        }
+        answer(line, &request);
+    }
+    None
+}
+
+#[test]
+fn a_read_that_was_lost_is_made_again_at_once() {
+    let (sender, times) = mpsc::channel();
+    let partner = Partner::start(move |number, mut line| match number {
+        0 => drop(end_at_the_child(&mut line)),
+        1 | 2 => drop(sender.send(end_at_the_child(&mut line))),
+        _ => serve(&mut line, |_, _| false),
+    });
+    let session = Session::open(partner.address, TIMEOUT).unwrap();
+    let tree = session.tree("/t").unwrap();
+    let whole = tree.wait_for(PATIENCE);
+    assert_eq!(whole.map(|all| all.len()), Ok(2), "no loss is told");
+    let least = times.try_iter().flatten().min().unwrap();
+    assert!(least < Duration::from_millis(400), "{least:?}");
+}
+
+#[test]
+fn a_tree_is_read_anew_by_a_renewed_client() {
+    let (admit, is_admitted) = mpsc::channel();
+    let partner = Partner::start(move |number, mut line| {
+        if number > 0 {
+            is_admitted.recv_timeout(PATIENCE).unwrap();
+        }
+        serve(&mut line, |_, _| false);
+    });
+    let session = Session::open(partner.address, TIMEOUT).unwrap();
+    let tree = session.tree("/t").unwrap();
+    let mut snapshots = tree.snapshots();
+    let first = snapshots.next().unwrap().unwrap();
+    session.renew().unwrap();
+    assert_eq!((tree.current(), tree.latest()), (None, Some(first.clone())));
+    admit.send(()).unwrap();
+    let again = snapshots.next_within(PATIENCE).unwrap().unwrap();
+    assert_eq!((again.len(), tree.current()), (first.len(), Some(again)));
 }
