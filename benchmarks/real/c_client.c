@@ -1,4 +1,5 @@
-/* The rows over ZooKeeper's C client of many threads: its blocking functions where one call waits at a time, else the others.
+/* The rows over ZooKeeper's C client: compiled with THREADED over the library of many threads, by its blocking functions where one call waits at
+ * a time, else by the others; or over the library of one thread, in a loop by poll.
  *
  * usage: c_client RESOLVES PORT ROW COUNT TIMES
  *
@@ -7,6 +8,7 @@
 #define _POSIX_C_SOURCE 200809L
 #include "measure.h"
 
+#include <poll.h>
 #include <semaphore.h>
 #include <stdbool.h>
 #include <zookeeper.h>
@@ -53,6 +55,33 @@ static int ask_write(zhandle_t *handle, const char *path) {
   return zoo_aset(handle, path, node_data, NODE_BYTES, -1, on_stat, NULL);
 }
 
+#ifdef THREADED
+
+static void await(zhandle_t *handle, sem_t *told) {
+  (void)handle;
+  sem_wait(told);
+}
+
+#else
+
+/* Waits until something happens or is due, and has the client take it. */
+static void turn(zhandle_t *handle) {
+  struct timeval wait = {0};
+  struct pollfd polled = {.fd = -1};
+  int interest = 0;
+  zookeeper_interest(handle, &polled.fd, &interest, &wait);
+  polled.events = (short)((interest & ZOOKEEPER_READ ? POLLIN : 0) | (interest & ZOOKEEPER_WRITE ? POLLOUT : 0));
+  poll(&polled, 1, (int)(wait.tv_sec * 1000 + wait.tv_usec / 1000));
+  bool reads = polled.revents & (POLLIN | POLLHUP | POLLERR), writes = polled.revents & POLLOUT;
+  zookeeper_process(handle, (reads ? ZOOKEEPER_READ : 0) | (writes ? ZOOKEEPER_WRITE : 0));
+}
+
+static void await(zhandle_t *handle, sem_t *told) {
+  while (sem_trywait(told) != 0) turn(handle);
+}
+
+#endif
+
 static void want(int count) {
   answers = 0;
   wanted_answers = count;
@@ -63,7 +92,7 @@ static void ask_at_once(zhandle_t *handle, asking *ask, int count) {
   for (int i = 0; i < count; i++) {
     if (ask(handle, NODE) != ZOK) fail("a call");
   }
-  sem_wait(&all_answered);
+  await(handle, &all_answered);
 }
 
 /* Asks about COUNT nodes by number, from the first on. */
@@ -74,7 +103,7 @@ static void ask_some(zhandle_t *handle, asking *ask, int first, int count) {
     snprintf(path, sizeof path, NODE "/%d", i);
     if (ask(handle, path) != ZOK) fail("a call");
   }
-  sem_wait(&all_answered);
+  await(handle, &all_answered);
 }
 
 static void ask_each(zhandle_t *handle, asking *ask, int count) {
@@ -82,6 +111,8 @@ static void ask_each(zhandle_t *handle, asking *ask, int count) {
     ask_some(handle, ask, first, count - first < AT_ONCE ? count - first : AT_ONCE);
   }
 }
+
+#ifdef THREADED
 
 static void read_one(zhandle_t *handle) {
   char data[NODE_BYTES];
@@ -92,6 +123,14 @@ static void read_one(zhandle_t *handle) {
 static void write_one(zhandle_t *handle) {
   if (zoo_set(handle, NODE, node_data, NODE_BYTES, -1) != ZOK) fail("a write");
 }
+
+#else
+
+static void read_one(zhandle_t *handle) { ask_at_once(handle, ask_read, 1); }
+
+static void write_one(zhandle_t *handle) { ask_at_once(handle, ask_write, 1); }
+
+#endif
 
 static void ask_over(zhandle_t *handle, bool write, int count, int times) {
   for (int i = 0; i < times; i++) {
@@ -120,7 +159,7 @@ static void measure_watches(zhandle_t *handle, int count) {
   tell(since);
   since = mark();
   tell_ready();
-  sem_wait(&all_reported);
+  await(handle, &all_reported);
   tell(since);
 }
 
@@ -128,7 +167,7 @@ static void measure_reconnect(zhandle_t *handle, int count) {
   ask_each(handle, ask_watched, count);
   struct mark since = mark();
   tell_ready();
-  sem_wait(&connected);
+  await(handle, &connected);
   read_one(handle);
   tell(since);
 }
@@ -151,7 +190,7 @@ int main(int words, char **word) {
   zhandle_t *handle = zookeeper_init(server, on_state, TIMEOUT_MS, NULL, NULL, 0);
   if (!handle) fail("a client");
   if (strcmp(word[1], "once") == 0) zoo_set_servers_resolution_delay(handle, -1);
-  sem_wait(&connected);
+  await(handle, &connected);
   run(handle, word[3], atoi(word[4]), atoi(word[5]));
   zookeeper_close(handle);
 }

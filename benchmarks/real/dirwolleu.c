@@ -6,7 +6,7 @@
  *   watch         reads COUNT nodes with a watch; says `ready`; waits until each has been reported
  *   reconnect     the same, and waits until the connection has ended and begun again and all watches are set
  *   make          creates the nodes that the others use: COUNT of them
- *   change        says `ready`, and once a line comes writes each of COUNT nodes */
+ *   change        says `ready`, and once a line comes writes COUNT nodes, from number TIMES on */
 #define _POSIX_C_SOURCE 200809L
 #include "dirwolleu.h"
 #include "measure.h"
@@ -172,18 +172,20 @@ static void ask_over(struct session *session, asking *ask, int count, int times)
   for (int i = 0; i < times; i++) ask_at_once(session, ask, count);
 }
 
-/* Asks about each of the nodes by number; at most AT_ONCE calls wait. */
-static void ask_each(struct session *session, asking *ask, int count) {
+/* Asks about COUNT nodes by number, from the first on; at most AT_ONCE calls wait. */
+static void ask_some(struct session *session, asking *ask, int first, int count) {
   uint64_t before = session->answers;
   char path[32];
   for (int i = 0; i < count; i++) {
-    snprintf(path, sizeof path, NODE "/%d", i);
+    snprintf(path, sizeof path, NODE "/%d", first + i);
     ask(session, path);
     take_outputs(session);
     if ((i + 1) % AT_ONCE == 0) await(session, &session->answers, before + (uint64_t)i + 1);
   }
   await(session, &session->answers, before + (uint64_t)count);
 }
+
+static void ask_each(struct session *session, asking *ask, int count) { ask_some(session, ask, 0, count); }
 
 static void measure_over(struct session *session, asking *ask, int count, int times) {
   ask_over(session, ask, count, (times + 9) / 10);
@@ -213,11 +215,11 @@ static void measure_reconnect(struct session *session, int count) {
   tell(since);
 }
 
-static void change(struct session *session, int count) {
+static void change(struct session *session, int first, int count) {
   ask_at_once(session, ask_read, 1);
   tell_ready();
   if (getchar() == EOF) fail("no line came");
-  ask_each(session, ask_write, count);
+  ask_some(session, ask_write, first, count);
 }
 
 static void run(struct session *session, const char *row, int count, int times) {
@@ -225,7 +227,7 @@ static void run(struct session *session, const char *row, int count, int times) 
   if (strcmp(row, "write") == 0) measure_over(session, ask_write, count, times);
   if (strcmp(row, "watch") == 0) measure_watches(session, count);
   if (strcmp(row, "reconnect") == 0) measure_reconnect(session, count);
-  if (strcmp(row, "change") == 0) change(session, count);
+  if (strcmp(row, "change") == 0) change(session, times, count);
   if (strcmp(row, "make") == 0) {
     ask_at_once(session, ask_create, 1);
     ask_each(session, ask_create, count);

@@ -415,12 +415,14 @@ mod tests {
     use super::{Ground, Growing, Lacking, Shown};
     use crate::chroot::Chroot;
     use crate::client::Client;
-    use crate::error::ErrorKind;
+    use crate::error::{Error, ErrorKind};
     use crate::fault::Code;
     use crate::jute::Writer;
     use crate::moment::{Clock, Moment};
     use crate::node::{NodeEvent, Side, Watch};
+    use crate::subtree::Subtree;
     use crate::told::{Fired, Found};
+    use crate::tree_snapshot::TreeSnapshot;
     use std::sync::Arc;
     use std::time::Duration;
 
@@ -516,6 +518,50 @@ mod tests {
         assert_eq!(tree.begun.len(), 1, "the root is asked for");
         tree.hear(&fired("/t", Side::Children, NodeEvent::Deleted));
         assert_eq!(tree.begun.len(), 1);
+    }
+
+    /// A snapshot without nodes, as of this zxid.
+    fn snapshot(zxid: i64) -> TreeSnapshot {
+        let nodes = Vec::new();
+        TreeSnapshot::new("/t", Subtree { zxid, nodes })
+    }
+
+    fn trouble(code: Code) -> Error {
+        Error::about(Some("/t"), code.into())
+    }
+
+    #[test]
+    fn news_come_in_the_order_in_which_they_were() {
+        let shown = Shown::of("/t");
+        assert_eq!(shown.news_after(0), None);
+        shown.board().show(snapshot(1));
+        shown.board().show(snapshot(2));
+        assert!(shown.board().warn(trouble(Code::NO_NODE)));
+        let first = shown.news_after(0).unwrap();
+        assert_eq!(first.1, Ok(snapshot(2)), "the newest of several");
+        let second = shown.news_after(first.0).unwrap();
+        assert_eq!(second.1, Err(trouble(Code::NO_NODE)));
+        assert_eq!(shown.news_after(second.0), None);
+        shown.board().show(snapshot(3));
+        let third = shown.news_after(second.0).unwrap();
+        assert_eq!((third.1, shown.trouble()), (Ok(snapshot(3)), None));
+        assert_eq!(shown.news_after(third.0), None);
+        assert_eq!(shown.news_after(0), Some((third.0, Ok(snapshot(3)))));
+    }
+
+    #[test]
+    fn a_trouble_is_told_once_and_ends_what_is_current() {
+        let shown = Shown::of("/t");
+        shown.board().show(snapshot(1));
+        assert_eq!(shown.current(), Some(snapshot(1)));
+        assert!(shown.board().warn(trouble(Code::NO_NODE)));
+        assert_eq!((shown.current(), shown.latest()), (None, Some(snapshot(1))));
+        let (told, _) = shown.news_after(1).unwrap();
+        assert!(!shown.board().warn(trouble(Code::NO_NODE)));
+        assert_eq!(shown.news_after(told), None);
+        assert!(shown.board().warn(trouble(Code::NO_AUTH)));
+        let (_, other) = shown.news_after(told).unwrap();
+        assert_eq!(other, Err(trouble(Code::NO_AUTH)));
     }
 
     #[test]

@@ -5,11 +5,12 @@ use crate::fault::Fault;
 use crate::hosts::{Order, Turns};
 use crate::moment::Moment;
 use crate::request::Request;
+use crate::signal::Signal;
 use crate::stream::{self, Dial, Incoming, Server};
 use crate::ticket::{Slot, TakesBack, Ticket};
 use crate::told::Event;
 use std::mem;
-use std::sync::{Arc, Condvar, Mutex, MutexGuard, PoisonError, Weak};
+use std::sync::{Arc, Mutex, MutexGuard, PoisonError, Weak};
 use std::task::{Context, Poll, Waker};
 use std::thread;
 use std::time::{Duration, Instant};
@@ -29,7 +30,7 @@ const WAIT_FOR_MEMORY: Duration = Duration::from_millis(10);
 /// An engine that threads share.
 pub(crate) struct Shared {
     engine: Mutex<Engine>,
-    changed: Condvar,
+    changed: Signal,
     wakers: Mutex<Vec<Waker>>,
 }
 
@@ -37,7 +38,7 @@ impl Shared {
     pub(crate) fn new(engine: Engine) -> Arc<Shared> {
         Arc::new(Shared {
             engine: Mutex::new(engine),
-            changed: Condvar::new(),
+            changed: Signal::default(),
             wakers: Mutex::default(),
         })
     }
@@ -70,7 +71,7 @@ impl Shared {
 
     /// Has all look again: who rests, and who was told to poll later.
     fn tell_all(&self) {
-        self.changed.notify_all();
+        self.changed.tell_all();
         let wakers = mem::take(&mut *self.wakers());
         wakers.into_iter().for_each(Waker::wake);
     }
@@ -101,8 +102,7 @@ impl Shared {
 
     /// Waits until something is changed, for so long at most.
     fn rest<'a>(&self, engine: MutexGuard<'a, Engine>, wait: Duration) -> MutexGuard<'a, Engine> {
-        let waited = self.changed.wait_timeout(engine, wait.min(LONGEST_WAIT));
-        waited.unwrap_or_else(PoisonError::into_inner).0
+        self.changed.wait(engine, Some(wait.min(LONGEST_WAIT)))
     }
 
     /// Looks at the engine, which goes no further.

@@ -60,6 +60,7 @@ mod request;
 mod retry;
 mod saved;
 mod session;
+mod signal;
 mod snapshot;
 mod standing;
 mod stream;

@@ -136,7 +136,7 @@ impl Dial for Tcp {
         stream.set_nodelay(true)?;
         stream.set_write_timeout(Some(within))?;
         Ok(Connection {
-            incoming: Box::new(stream.try_clone()?),
+            incoming: Box::new(Bounded::new(stream.try_clone()?)),
             outgoing: Box::new(stream),
         })
     }
@@ -146,6 +146,44 @@ impl Incoming for TcpStream {
     fn read(&mut self, room: &mut [u8], wait: Duration) -> io::Result<usize> {
         self.set_read_timeout(Some(wait.max(SHORTEST_WAIT)))?;
         Read::read(self, room)
+    }
+}
+
+/// A stream that is read, and the bound on a wait that the system knows. Most reads are to wait for about as long as the one before: they
+/// do not tell it again.
+struct Bounded {
+    stream: TcpStream,
+    bound: Duration,
+}
+
+impl Bounded {
+    fn new(stream: TcpStream) -> Bounded {
+        let bound = Duration::ZERO;
+        Bounded { stream, bound }
+    }
+
+    /// Has a wait last for so long at most, and for half of that at least.
+    fn bind(&mut self, wait: Duration) -> io::Result<()> {
+        if self.bound > wait || self.bound.saturating_mul(2) < wait {
+            self.stream.set_read_timeout(Some(wait))?;
+            self.bound = wait;
+        }
+        Ok(())
+    }
+}
+
+impl Incoming for Bounded {
+    fn read(&mut self, room: &mut [u8], wait: Duration) -> io::Result<usize> {
+        let mut left = wait.max(SHORTEST_WAIT);
+        loop {
+            self.bind(left)?;
+            match Read::read(&mut self.stream, room) {
+                Err(fault) if is_past(&fault) && self.bound < left => {
+                    left = left.saturating_sub(self.bound);
+                }
+                read => return read,
+            }
+        }
     }
 }
 
@@ -172,8 +210,54 @@ pub(crate) fn fault_of(place: &dyn Display, fault: &io::Error) -> io::Error {
 
 /// Whether a read that failed so may succeed later: nothing came in time, or it was interrupted.
 pub(crate) fn is_late(fault: &io::Error) -> bool {
-    matches!(
-        fault.kind(),
-        ErrorKind::WouldBlock | ErrorKind::TimedOut | ErrorKind::Interrupted
-    )
+    is_past(fault) || fault.kind() == ErrorKind::Interrupted
+}
+
+/// Whether a read has failed since nothing came in time.
+fn is_past(fault: &io::Error) -> bool {
+    matches!(fault.kind(), ErrorKind::WouldBlock | ErrorKind::TimedOut)
+}
+
+#[cfg(test)]
+mod tests {
+    use super::{is_past, Bounded, Incoming};
+    use std::io::Write;
+    use std::net::{TcpListener, TcpStream};
+    use std::time::{Duration, Instant};
+
+    /// What is read of a connection, and its other end.
+    fn connected() -> (Bounded, TcpStream) {
+        let listener = TcpListener::bind("127.0.0.1:0").unwrap();
+        let stream = TcpStream::connect(listener.local_addr().unwrap()).unwrap();
+        (Bounded::new(stream), listener.accept().unwrap().0)
+    }
+
+    #[test]
+    fn a_bound_that_serves_is_told_once() {
+        let (mut incoming, mut server) = connected();
+        for (wait, told) in [(100, 100), (120, 100), (200, 100), (201, 201), (200, 200)] {
+            server.write_all(b"one").unwrap();
+            let read = incoming.read(&mut [0; 8], Duration::from_secs(wait));
+            assert_eq!(read.unwrap(), 3);
+            assert_eq!(incoming.bound.as_secs(), told, "{wait}");
+            let known = incoming.stream.read_timeout().unwrap();
+            assert_eq!(known, Some(incoming.bound));
+        }
+    }
+
+    #[test]
+    fn a_read_waits_for_as_long_as_it_is_told() {
+        let (mut incoming, _server) = connected();
+        for wait in [50, 90, 40, 0] {
+            let begun = Instant::now();
+            let wait = Duration::from_millis(wait);
+            let late = incoming.read(&mut [0; 8], wait).unwrap_err();
+            let taken = begun.elapsed();
+            assert!(is_past(&late), "{late}");
+            assert!(
+                taken >= wait && taken < wait + Duration::from_secs(5),
+                "{taken:?}"
+            );
+        }
+    }
 }

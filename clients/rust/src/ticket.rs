@@ -1,12 +1,13 @@
 //! Tickets for answers that are still to come.
 
 use crate::error::{Error, ErrorKind, Search};
+use crate::signal::Signal;
 use crate::told::{Found, Outcome};
 use std::fmt;
 use std::future::Future;
 use std::mem;
 use std::pin::Pin;
-use std::sync::{Arc, Condvar, Mutex, MutexGuard, PoisonError, Weak};
+use std::sync::{Arc, Mutex, MutexGuard, PoisonError, Weak};
 use std::task::{Context, Poll, Waker};
 use std::time::{Duration, Instant};
 
@@ -30,7 +31,7 @@ pub(crate) struct Slot {
     node: Option<String>,
     asked_at: Instant,
     stage: Mutex<Stage>,
-    is_told: Condvar,
+    is_told: Signal,
 }
 
 impl Slot {
@@ -40,7 +41,7 @@ impl Slot {
             node: node.map(String::from),
             asked_at: Instant::now(),
             stage: Mutex::new(Stage::Waits(None)),
-            is_told: Condvar::new(),
+            is_told: Signal::default(),
         })
     }
 
@@ -62,7 +63,7 @@ impl Slot {
     /// Puts the answer there, and wakes who waits for it.
     pub(crate) fn tell(&self, ending: Ending) {
         let before = mem::replace(&mut *self.stage(), Stage::Told(ending));
-        self.is_told.notify_all();
+        self.is_told.tell_all();
         if let Stage::Waits(Some(waker)) = before {
             waker.wake();
         }
@@ -84,16 +85,11 @@ impl Slot {
             if let Some(ending) = take(&mut stage) {
                 return Some(ending);
             }
-            let Some(until) = until else {
-                stage = self
-                    .is_told
-                    .wait(stage)
-                    .unwrap_or_else(PoisonError::into_inner);
-                continue;
+            let left = match until {
+                Some(until) => Some(until.checked_duration_since(Instant::now())?),
+                None => None,
             };
-            let left = until.checked_duration_since(Instant::now())?;
-            let waited = self.is_told.wait_timeout(stage, left);
-            stage = waited.unwrap_or_else(PoisonError::into_inner).0;
+            stage = self.is_told.wait(stage, left);
         }
     }
 

@@ -100,7 +100,7 @@ fn a_connection_begins_with_a_connect_request() {
     assert_eq!(outputs.client().timeout(), Duration::from_secs(6));
 }
 
-/// The frame of a request: its header, the path, and what is behind.
+/// The frame of a request: its header, the path, and what follows.
 fn request(xid: i32, kind: i32, path: &str) -> Record {
     Record::new().int(xid).int(kind).text(path)
 }

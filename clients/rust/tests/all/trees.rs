@@ -1,8 +1,5 @@
-//! Trees that are followed, at the server in memory, and at one that does what a test says. Where there is no python3, each test that
-//! wants the server in memory says so and passes.
+//! Trees that are followed, at the server in memory. Where there is no python3, each test that wants it says so and passes.
 
-use crate::jute::{Record, EXISTS, GET_CHILDREN_2, GET_DATA, PING, PONG};
-use crate::partner::{Line, Partner};
 use crate::runtime::block_on;
 use crate::server::Server;
 use dirwolleu::{
@@ -10,8 +7,7 @@ use dirwolleu::{
     SessionOptions, Snapshots, SubtreeNode, Tree, TreeSnapshot,
 };
 use std::future::poll_fn;
-use std::sync::atomic::{AtomicBool, Ordering};
-use std::sync::{mpsc, Arc};
+use std::sync::Arc;
 use std::thread::{self};
 use std::time::{Duration, Instant};
 
@@ -231,7 +227,7 @@ fn a_transaction_is_in_a_snapshot_as_a_whole() {
         let is_last = |one: &TreeSnapshot| data(one, "/t/a") == Some("100");
         next(&mut snapshots, |one| {
             let [a, b] = ["/t/a", "/t/b"].map(|path| data(one, path));
-            assert!(a == b || (a, b) == (Some("1"), Some("")), "{a:?} {b:?}");
+            assert!(a == b || (a, b) == (Some("1"), Some("-")), "{a:?} {b:?}");
             is_last(one)
         });
     });
@@ -340,106 +336,5 @@ fn listed_nodes_are_of_one_moment_or_there_is_none() {
     assert!(
         matches!(&refused, Fault::NotPath { path, .. } if path == "t"),
         "{refused}"
-    );
-}
-
-#[test]
-fn a_tree_that_never_settles_has_no_snapshot_until_it_does() {
-    let is_quiet = Arc::new(AtomicBool::new(false));
-    let quiet = Arc::clone(&is_quiet);
-    let partner = Partner::start(move |_, mut line| {
-        serve_child(&mut line, |line, xid| {
-            let reply = Record::reply(xid, 5, 0).buffer(b"one");
-            let reply = reply.stat(5, 0, 3, 0).framed();
-            let notice = Record::notice(3, "/t/a");
-            let is_quiet = quiet.load(Ordering::SeqCst);
-            let told = if is_quiet {
-                vec![reply]
-            } else {
-                vec![reply, notice]
-            };
-            line.send(&told.concat());
-        });
-    });
-    let session = Session::open(partner.address, TIMEOUT).unwrap();
-    let tree = session.tree("/t").unwrap();
-    let late = tree.wait_for(Duration::from_millis(200)).unwrap_err();
-    assert_eq!(*late.kind(), ErrorKind::NotWhole);
-    assert_eq!((tree.latest(), tree.trouble()), (None, None));
-    is_quiet.store(true, Ordering::SeqCst);
-    let settled = tree.wait_for(PATIENCE).unwrap();
-    assert_eq!(paths(&settled), ["/t", "/t/a"]);
-    assert_eq!(tree.current(), Some(settled));
-}
-
-/// A server that has `/t` with one child, of which it says what a test says.
-fn serve_child(line: &mut Line, child: impl Fn(&mut Line, i32)) {
-    line.admit(3_000);
-    while let Some(request) = line.request() {
-        let is_child = request.rest.windows(4).any(|bytes| bytes == b"/t/a");
-        let names = || Record::reply(request.xid, 5, 0).texts(&["a"]);
-        match request.kind {
-            PING => line.refuse(PONG, 0),
-            GET_DATA if is_child => {
-                child(line, request.xid);
-                true
-            }
-            GET_DATA => line.tell_data(request.xid),
-            EXISTS => line.tell_stat(request.xid),
-            GET_CHILDREN_2 if is_child => {
-                let none = Record::reply(request.xid, 5, 0).texts(&[]);
-                line.send(&none.stat(5, 0, 3, 0).framed())
-            }
-            GET_CHILDREN_2 => line.send(&names().stat(5, 0, 3, 1).framed()),
-            _ => line.refuse(request.xid, -6),
-        };
-    }
-}
-
-/// The moments of the first two reads of a node whose first read is answered with this code, and what was told.
-fn refuse_once(code: i32) -> (Duration, Vec<String>) {
-    let (sender, reads) = mpsc::channel();
-    let partner = Partner::start(move |_, mut line| {
-        let (sender, first) = (sender.clone(), std::cell::Cell::new(true));
-        serve_child(&mut line, |line, xid| {
-            let _ = sender.send(Instant::now());
-            if first.replace(false) {
-                line.refuse(xid, code);
-            } else {
-                line.tell_data(xid);
-            }
-        });
-    });
-    let session = Session::open(partner.address, Duration::from_secs(3)).unwrap();
-    let tree = session.tree("/t").unwrap();
-    let mut told = Vec::new();
-    for news in tree.snapshots() {
-        match news {
-            Ok(snapshot) => {
-                assert_eq!(snapshot.len(), 2);
-                break;
-            }
-            Err(trouble) => told.push(trouble.to_string()),
-        }
-    }
-    let [first, second] = [(); 2].map(|()| reads.recv_timeout(PATIENCE).unwrap());
-    (second - first, told)
-}
-
-#[test]
-fn a_read_that_was_refused_is_made_again_after_a_second() {
-    let bounds = Duration::from_millis(950)..Duration::from_secs(8);
-    let kinds = [Code::NO_AUTH, Code::THROTTLED, Code::NO_NODE];
-    let told = thread::scope(|scope| {
-        let tried = kinds.map(|code| scope.spawn(move || refuse_once(code.0)));
-        tried.map(|tried| tried.join().unwrap())
-    });
-    for ((pause, _), code) in told.iter().zip(kinds) {
-        assert!(bounds.contains(pause), "{code}: {pause:?}");
-    }
-    let denied = "the node's ACL does not admit this client: /t/a";
-    assert_eq!(
-        told.map(|(_, told)| told),
-        [vec![String::from(denied)], vec![], vec![]]
     );
 }

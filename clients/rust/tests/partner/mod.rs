@@ -22,6 +22,7 @@ pub struct Line {
 }
 
 /// A request: its xid, its type, and what follows.
+#[derive(Clone)]
 pub struct Request {
     pub xid: i32,
     pub kind: i32,

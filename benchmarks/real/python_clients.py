@@ -1,17 +1,18 @@
-"""The rows over kazoo: the same words and lines as dirwolleu.c, without `make` and `change`.
+"""The rows over kazoo or over dirwolleu: the same words and lines as dirwolleu.c, without `make` and `change`.
 
-usage: kazoo_client.py PORT ROW COUNT TIMES
+usage: python_clients.py CLIENT PORT ROW COUNT TIMES, where CLIENT is kazoo or dirwolleu
 """
 
+import importlib
 import logging
+import operator
 import resource
 import sys
 import threading
 import time
 
-from kazoo.client import KazooClient
-from kazoo.protocol.states import EventType, KazooState
-
+# The module of each client, its class, and how its answers are taken.
+CLIENTS = {"kazoo": ("kazoo.client", "KazooClient", "get"), "dirwolleu": ("dirwolleu", "Client", "result")}
 NODE = "/real"
 DATA = b"0123456789" * 10
 AT_ONCE = 1000
@@ -30,9 +31,12 @@ def tell(since):
     print("took", wall, processor, peak, flush=True)
 
 
+take = operator.methodcaller(CLIENTS[sys.argv[1]][2])
+
+
 def ask_at_once(ask, paths):
     for answer in [ask(path) for path in paths]:
-        answer.get()
+        take(answer)
 
 
 def ask_each(ask, count):
@@ -63,7 +67,7 @@ def measure_watches(client, count):
 
     def reported(event):
         nonlocal reports
-        reports += event.type == EventType.CHANGED
+        reports += event.type == "CHANGED"
         if reports == count:
             all_reported.set()
 
@@ -77,30 +81,34 @@ def measure_watches(client, count):
     tell(since)
 
 
-def measure_reconnect(client, count):
+def measure_reconnect(client, count, reads_again):
     """Kazoo sets no watch again: where a connection ends it forgets them all, and its program reads all nodes anew."""
     connected = threading.Event()
     watched = lambda path: client.get_async(path, watch=lambda event: None)
-    client.add_listener(lambda state: state == KazooState.CONNECTED and connected.set())
+    client.add_listener(lambda state: state == "CONNECTED" and connected.set())
     ask_each(watched, count)
     since = mark()
     print("ready", flush=True)
     connected.wait()
-    ask_each(watched, count)
+    if reads_again:
+        ask_each(watched, count)
+    else:
+        client.get(NODE)
     tell(since)
 
 
 def main():
-    port, row, count, times = sys.argv[1], sys.argv[2], int(sys.argv[3]), int(sys.argv[4])
+    name, port, row, count, times = *sys.argv[1:4], int(sys.argv[4]), int(sys.argv[5])
     logging.disable(logging.CRITICAL)
-    client = KazooClient(f"127.0.0.1:{port}", timeout=30)
+    module, made, _ = CLIENTS[name]
+    client = getattr(importlib.import_module(module), made)(f"127.0.0.1:{port}", timeout=30)
     client.start()
     if row in ("read", "write"):
         measure_over(client, row == "write", count, times)
     elif row == "watch":
         measure_watches(client, count)
     else:
-        measure_reconnect(client, count)
+        measure_reconnect(client, count, reads_again=name == "kazoo")
     client.stop()
 
 

@@ -1,0 +1,225 @@
+//! Servers that are behind, that never answer, and that stay away; and when a session that asks nothing is heard of.
+
+use crate::jute::{Record, GET_DATA, PING, PONG, SET_WATCHES, WATCHES_SET};
+use crate::partner::{Line, Partner, Request};
+use dirwolleu::{
+    Cause, Error, Event, Mark, NoReply, Request as Call, Server, Session, SessionOptions, State,
+    Tcp,
+};
+use std::net::{SocketAddr, TcpListener};
+use std::sync::atomic::{AtomicUsize, Ordering};
+use std::sync::{mpsc, Arc};
+use std::thread::{self, sleep};
+use std::time::{Duration, Instant};
+
+/// How long what is awaited may take.
+const PATIENCE: Duration = Duration::from_secs(30);
+
+/// How much later than it could a program on a busy machine may act.
+const SLACK: Duration = Duration::from_millis(700);
+
+fn millis(count: u64) -> Duration {
+    Duration::from_millis(count)
+}
+
+/// The first event of this kind. Those before it are skipped.
+fn wait_for(session: &Session, is_awaited: impl Fn(&Event) -> bool) -> Event {
+    let until = Instant::now() + PATIENCE;
+    loop {
+        let event = session.next_event(Some(until)).unwrap();
+        let event = event.expect("an event comes in time");
+        if is_awaited(&event) {
+            return event;
+        }
+    }
+}
+
+fn wait_for_state(session: &Session, state: State) {
+    wait_for(session, |event| *event == Event::State(state));
+}
+
+/// The mark of what is kept of the data of `/a`.
+fn mark(session: &Session) -> Option<Mark> {
+    session.data_mark("/a").unwrap()
+}
+
+/// What a `ConnectRequest` says: the greatest zxid that the client has seen, and its session.
+fn asked(connect_request: &[u8]) -> (i64, i64) {
+    let long = |at: usize| i64::from_be_bytes(connect_request[at..at + 8].try_into().unwrap());
+    (long(4), long(16))
+}
+
+/// Answers as a server that holds the transactions up to this zxid, until the client ends the connection.
+fn serve_at(line: &mut Line, zxid: i64) {
+    while let Some(request) = line.request() {
+        serve_one_at(line, &request, zxid);
+    }
+}
+
+fn serve_one_at(line: &mut Line, request: &Request, zxid: i64) -> bool {
+    let reply = |xid| Record::reply(xid, zxid, 0);
+    let frame = match request.kind {
+        PING => reply(PONG),
+        SET_WATCHES => reply(WATCHES_SET),
+        GET_DATA => reply(request.xid).buffer(b"one").stat(zxid, 0, 3, 0),
+        _ => reply(request.xid).stat(zxid, 0, 3, 0),
+    };
+    line.send(&frame.framed())
+}
+
+/// The servers of an ensemble in the order in which they are dialled: one that holds zxid 9 and goes, one that refuses who has seen more than
+/// it holds, one that admits all the same, and one that has caught up.
+fn serve_behind(number: usize, mut line: Line, requests: &mpsc::Sender<Vec<u8>>) {
+    let request = line.frame().unwrap();
+    requests.send(request).unwrap();
+    if number == 1 {
+        return;
+    }
+    line.send(&Record::accepted(10_000, 0x1234));
+    match number {
+        0 => {
+            let request = line.request().unwrap();
+            serve_one_at(&mut line, &request, 9);
+        }
+        2 => serve_at(&mut line, 5),
+        _ => serve_at(&mut line, 10),
+    }
+}
+
+#[test]
+fn a_server_that_is_behind_is_not_believed() {
+    let (sender, requests) = mpsc::channel();
+    let partner = Partner::start(move |number, line| serve_behind(number, line, &sender));
+    let session = Session::open(partner.address, millis(10_000)).unwrap();
+    let watched = || session.call(Call::get("/a").watched());
+    assert_eq!(watched().unwrap().stat.mzxid, 9);
+    wait_for_state(&session, State::Idle);
+    wait_for_state(&session, State::Connected);
+    assert_eq!(mark(&session), Some(Mark::Good));
+    let lost = watched().unwrap_err();
+    assert_eq!(lost.no_reply(), Some(NoReply::ConnectionLoss));
+    let dropped = wait_for(&session, |event| matches!(event, Event::Dropped { .. }));
+    let Event::Dropped { cause, .. } = dropped else {
+        unreachable!()
+    };
+    assert_eq!(cause, Cause::Behind { zxid: 5 });
+    assert_eq!((session.last_zxid(), mark(&session)), (9, Some(Mark::Good)));
+    assert_eq!(watched().unwrap().stat.mzxid, 10);
+    assert_eq!(session.last_zxid(), 10);
+    let asked: Vec<_> = requests.try_iter().map(|request| asked(&request)).collect();
+    assert_eq!(asked, [(0, 0), (9, 0x1234), (9, 0x1234), (9, 0x1234)]);
+}
+
+#[test]
+fn a_server_that_accepts_and_never_answers_is_left() {
+    let mut silent = None;
+    let partner = Partner::start(move |number, mut line| {
+        if number == 0 {
+            silent = Some(line);
+        } else if line.admit(3_000) {
+            serve_at(&mut line, 5);
+        }
+        assert!(silent.is_some(), "it is held open");
+    });
+    let session = Session::open(partner.address, millis(3_000)).unwrap();
+    assert!(session.exists("/a").unwrap().is_some());
+    let first = partner.dial();
+    let took = partner.dial() - first;
+    let least = millis(2_000) - millis(50); // two thirds of the timeout; the partner may come late to the first
+    assert!(took >= least && took < least + SLACK, "{took:?}");
+}
+
+/// A session at this address, and how often it has dialled.
+fn counting(address: SocketAddr, timeout: Duration) -> (Session, Arc<AtomicUsize>) {
+    let dials = Arc::new(AtomicUsize::new(0));
+    let counted = Arc::clone(&dials);
+    let dial = move |server: &Server<'_>, within: Duration| {
+        counted.fetch_add(1, Ordering::SeqCst);
+        dirwolleu::Dial::dial(&mut Tcp, server, within)
+    };
+    let options = SessionOptions::new(timeout).dial(dial);
+    (options.open(address).unwrap(), dials)
+}
+
+#[test]
+fn a_server_that_stays_away_is_dialled_until_it_comes() {
+    let listener = TcpListener::bind("127.0.0.2:0").unwrap(); // others take no port of it
+    let address = listener.local_addr().unwrap();
+    drop(listener);
+    let (session, dials) = counting(address, millis(6_000));
+    let comes = thread::spawn(move || {
+        sleep(millis(3_000));
+        let listener = TcpListener::bind(address).unwrap();
+        let mut line = Line::over(listener.accept().unwrap().0);
+        line.admit(6_000);
+        serve_at(&mut line, 5);
+    });
+    let begun = Instant::now();
+    assert!(session.exists("/a").unwrap().is_some());
+    let took = begun.elapsed();
+    assert!(
+        took < millis(3_600) + SLACK,
+        "a pause is a tenth of the timeout at most: {took:?}"
+    );
+    let dials = dials.load(Ordering::SeqCst);
+    assert!((6..=12).contains(&dials), "{dials} attempts in 3 seconds");
+    drop(session);
+    comes.join().unwrap();
+}
+
+/// A server that admits a session for so long, answers its first call, and goes.
+fn serve_and_go(listener: TcpListener, timeout: i32) {
+    let mut line = Line::over(listener.accept().unwrap().0);
+    drop(listener);
+    line.admit(timeout);
+    let request = line.request().unwrap();
+    serve_one_at(&mut line, &request, 9);
+}
+
+#[test]
+fn what_was_read_stays_good_while_a_server_stays_away_and_ends_with_the_session() {
+    let listener = TcpListener::bind("127.0.0.3:0").unwrap();
+    let address = listener.local_addr().unwrap();
+    let goes = thread::spawn(move || serve_and_go(listener, 1_500));
+    let session = Session::open(address, millis(1_500)).unwrap();
+    session.call(Call::get("/a").watched()).unwrap();
+    goes.join().unwrap();
+    wait_for_state(&session, State::Idle);
+    let nobody = session.get("/a").as_ref().map_err(Error::no_reply).err();
+    assert_eq!(nobody, Some(Some(NoReply::NotConnected)));
+    sleep(millis(500));
+    assert_eq!(
+        (session.state(), mark(&session)),
+        (Some(State::Idle), Some(Mark::Good))
+    );
+    let listener = TcpListener::bind(address).unwrap();
+    let mut line = Line::over(listener.accept().unwrap().0);
+    assert_eq!(asked(&line.frame().unwrap()), (9, 0x1234));
+    line.send(&Record::expired());
+    wait_for_state(&session, State::Expired);
+    assert_eq!(mark(&session), None);
+}
+
+#[test]
+fn the_first_ping_comes_a_third_of_the_timeout_after_the_last_frame() {
+    let (sender, heard) = mpsc::channel();
+    let partner = Partner::start(move |_, mut line| {
+        line.frame();
+        sender.send((Instant::now(), 0)).unwrap();
+        sleep(millis(1_500));
+        line.send(&Record::accepted(9_000, 0x1234));
+        while let Some(request) = line.request() {
+            sender.send((Instant::now(), request.kind)).unwrap();
+            serve_one_at(&mut line, &request, 5);
+        }
+    });
+    let session = Session::open(partner.address, millis(20_000)).unwrap();
+    let [(begun, _), (first, kind)] = [(); 2].map(|()| heard.recv_timeout(PATIENCE).unwrap());
+    let took = first - begun;
+    assert_eq!(kind, PING);
+    assert!(
+        took + SLACK >= millis(3_000) && took < millis(3_000) + SLACK,
+        "{took:?}"
+    );
+    assert_eq!(session.state(), Some(State::Connected));
+}

@@ -1,0 +1,321 @@
+//! How trees are read: at a server that does what each test says.
+
+use crate::jute::{Record, EXISTS, GET_CHILDREN_2, GET_DATA, PING, PONG, SET_WATCHES, WATCHES_SET};
+use crate::partner::{Line, Partner, Request};
+use dirwolleu::{Code, ErrorKind, Session, SubtreeNode, TreeSnapshot};
+use std::mem;
+use std::sync::atomic::{AtomicBool, Ordering};
+use std::sync::{mpsc, Arc};
+use std::thread;
+use std::time::{Duration, Instant};
+
+const TIMEOUT: Duration = Duration::from_secs(60);
+
+/// How long what is awaited may take.
+const PATIENCE: Duration = Duration::from_secs(30);
+
+/// How many calls wait for their answers, at most, where a tree asks another one.
+const MOST_READS: usize = 500;
+
+/// How many children a large tree has.
+const MANY: usize = 1_500;
+
+fn millis(time: Duration) -> i32 {
+    i32::try_from(time.as_millis()).unwrap()
+}
+
+fn paths(snapshot: &TreeSnapshot) -> Vec<&str> {
+    let nodes = snapshot.into_iter();
+    nodes.map(|node: &SubtreeNode| node.path.as_str()).collect()
+}
+
+#[test]
+fn a_tree_that_never_settles_has_no_snapshot_until_it_does() {
+    let is_quiet = Arc::new(AtomicBool::new(false));
+    let quiet = Arc::clone(&is_quiet);
+    let partner = Partner::start(move |_, mut line| {
+        serve_child(&mut line, |line, xid| {
+            let reply = Record::reply(xid, 5, 0).buffer(b"one");
+            let reply = reply.stat(5, 0, 3, 0).framed();
+            let notice = Record::notice(3, "/t/a");
+            let is_quiet = quiet.load(Ordering::SeqCst);
+            let told = if is_quiet {
+                vec![reply]
+            } else {
+                vec![reply, notice]
+            };
+            line.send(&told.concat());
+        });
+    });
+    let session = Session::open(partner.address, TIMEOUT).unwrap();
+    let tree = session.tree("/t").unwrap();
+    let late = tree.wait_for(Duration::from_millis(200)).unwrap_err();
+    assert_eq!(*late.kind(), ErrorKind::NotWhole);
+    assert_eq!((tree.latest(), tree.trouble()), (None, None));
+    is_quiet.store(true, Ordering::SeqCst);
+    let settled = tree.wait_for(PATIENCE).unwrap();
+    assert_eq!(paths(&settled), ["/t", "/t/a"]);
+    assert_eq!(tree.current(), Some(settled));
+}
+
+/// A server that has `/t` with the child `a`, and does what a test says with requests that the test takes.
+fn serve(line: &mut Line, mut takes: impl FnMut(&mut Line, &Request) -> bool) {
+    line.admit(millis(TIMEOUT));
+    while let Some(request) = line.request() {
+        if !takes(line, &request) {
+            answer(line, &request);
+        }
+    }
+}
+
+fn answer(line: &mut Line, request: &Request) -> bool {
+    let names: &[&str] = if is_below(request) { &[] } else { &["a"] };
+    match request.kind {
+        PING => line.refuse(PONG, 0),
+        SET_WATCHES => line.refuse(WATCHES_SET, 0),
+        GET_DATA => line.tell_data(request.xid),
+        EXISTS => line.tell_stat(request.xid),
+        GET_CHILDREN_2 => line.send(&listed(request, names)),
+        _ => line.refuse(request.xid, -6),
+    }
+}
+
+/// The answer that a node has these children.
+fn listed(request: &Request, names: &[&str]) -> Vec<u8> {
+    let count = i32::try_from(names.len()).unwrap();
+    let reply = Record::reply(request.xid, 5, 0).texts(names);
+    reply.stat(5, 0, 3, count).framed()
+}
+
+/// Whether a request is about a node below `/t`.
+fn is_below(request: &Request) -> bool {
+    request.rest.windows(3).any(|bytes| bytes == b"/t/")
+}
+
+/// The same, where the reads of the child's data are those that the test takes.
+fn serve_child(line: &mut Line, mut child: impl FnMut(&mut Line, i32)) {
+    serve(line, |line, request| {
+        let is_taken = request.kind == GET_DATA && is_below(request);
+        if is_taken {
+            child(line, request.xid);
+        }
+        is_taken
+    });
+}
+
+/// The time between the first two reads of a node whose first read is answered with this code, and what was told. Nothing else wakes the
+/// session meanwhile: its first ping is due after 20 seconds.
+fn refuse_once(code: i32) -> (Duration, Vec<String>) {
+    let (sender, reads) = mpsc::channel();
+    let partner = Partner::start(move |_, mut line| {
+        let mut is_first = true;
+        serve_child(&mut line, |line, xid| {
+            let _ = sender.send(Instant::now());
+            if mem::replace(&mut is_first, false) {
+                line.refuse(xid, code);
+            } else {
+                line.tell_data(xid);
+            }
+        });
+    });
+    let session = Session::open(partner.address, TIMEOUT).unwrap();
+    let tree = session.tree("/t").unwrap();
+    let mut told = Vec::new();
+    for news in tree.snapshots() {
+        match news {
+            Ok(snapshot) => {
+                assert_eq!(snapshot.len(), 2);
+                break;
+            }
+            Err(trouble) => told.push(trouble.to_string()),
+        }
+    }
+    let [first, second] = [(); 2].map(|()| reads.recv_timeout(PATIENCE).unwrap());
+    (second - first, told)
+}
+
+#[test]
+fn a_read_that_was_refused_is_made_again_after_a_second() {
+    let bounds = Duration::from_millis(950)..Duration::from_secs(8);
+    let kinds = [Code::NO_AUTH, Code::THROTTLED, Code::NO_NODE];
+    let told = thread::scope(|scope| {
+        let tried = kinds.map(|code| scope.spawn(move || refuse_once(code.0)));
+        tried.map(|tried| tried.join().unwrap())
+    });
+    for ((pause, _), code) in told.iter().zip(kinds) {
+        assert!(bounds.contains(pause), "{code}: {pause:?}");
+    }
+    let denied = "the node's ACL does not admit this client: /t/a";
+    assert_eq!(
+        told.map(|(_, told)| told),
+        [vec![String::from(denied)], vec![], vec![]]
+    );
+}
+
+/// A server that tells a change of the child before it answers to exists. Then it answers no read of the child, or each.
+fn change_once(line: &mut Line, answers: bool) {
+    let mut is_changed = false;
+    serve(line, |line, request| {
+        if request.kind == EXISTS {
+            is_changed = true;
+            line.send(&Record::notice(3, "/t/a"));
+        }
+        is_changed && is_below(request) && !answers
+    });
+}
+
+#[test]
+fn a_report_ends_what_is_current() {
+    let partner = Partner::start(|_, mut line| change_once(&mut line, false));
+    let session = Session::open(partner.address, TIMEOUT).unwrap();
+    let tree = session.tree("/t").unwrap();
+    let first = tree.wait_for(PATIENCE).unwrap();
+    assert_eq!(tree.current().as_ref(), Some(&first));
+    session.exists("/x").unwrap();
+    assert_eq!(tree.current(), None);
+    assert_eq!((tree.latest(), tree.trouble()), (Some(first), None));
+}
+
+#[test]
+fn who_waits_for_a_tree_is_woken_where_others_take_all_events() {
+    let partner = Partner::start(|_, mut line| change_once(&mut line, true));
+    let session = Session::open(partner.address, TIMEOUT).unwrap().shared();
+    let taking = session.clone();
+    let taker = thread::spawn(move || while taking.next_event(None).unwrap().is_some() {});
+    let tree = session.tree("/t").unwrap();
+    let mut snapshots = tree.snapshots();
+    for _ in 0..2 {
+        let begun = Instant::now();
+        let news = snapshots.next_within(PATIENCE).unwrap();
+        assert_eq!(news.unwrap().len(), 2);
+        let took = begun.elapsed();
+        assert!(took < PATIENCE, "it was there, and nobody was told");
+        session.exists("/x").unwrap();
+    }
+    let _ = session.close();
+    taker.join().unwrap();
+}
+
+/// The names of the children of a large tree.
+fn many_names() -> Vec<String> {
+    (0..MANY).map(|number| format!("n{number}")).collect()
+}
+
+/// A server of a large tree, which tells a change of one node before it answers to exists.
+fn change_of_many(line: &mut Line) {
+    let names = many_names();
+    let names: Vec<_> = names.iter().map(String::as_str).collect();
+    serve(line, |line, request| {
+        if request.kind == EXISTS {
+            line.send(&Record::notice(3, "/t/n7"));
+        }
+        let is_root = request.kind == GET_CHILDREN_2 && !is_below(request);
+        is_root && line.send(&listed(request, &names))
+    });
+}
+
+#[test]
+fn a_large_tree_that_has_just_been_looked_at_is_looked_at_again_after_a_change() {
+    let partner = Partner::start(|_, mut line| change_of_many(&mut line));
+    let session = Session::open(partner.address, TIMEOUT).unwrap();
+    let tree = session.tree("/t").unwrap();
+    let mut snapshots = tree.snapshots();
+    for _ in 0..3 {
+        let begun = Instant::now();
+        let news = snapshots.next_within(PATIENCE).unwrap();
+        assert_eq!(news.unwrap().len(), MANY + 1);
+        let took = begun.elapsed();
+        assert!(took < TIMEOUT / 4, "it waits for a ping: {took:?}");
+        session.exists("/x").unwrap();
+    }
+}
+
+/// A server that has many children, and answers no read of them before it is asked whether there is a node.
+fn hold_reads(line: &mut Line, reads: &mpsc::Sender<()>) {
+    let names = many_names();
+    let names: Vec<_> = names.iter().map(String::as_str).collect();
+    let mut held = Some(Vec::new());
+    serve(line, |line, request| {
+        if request.kind == GET_CHILDREN_2 && !is_below(request) {
+            return line.send(&listed(request, &names));
+        }
+        if request.kind == EXISTS {
+            let held = held.take().unwrap_or_default();
+            for read in held {
+                answer(line, &read);
+            }
+        }
+        match &mut held {
+            Some(held) if is_below(request) => {
+                held.push(request.clone());
+                let _ = reads.send(());
+                true
+            }
+            _ => false,
+        }
+    });
+}
+
+#[test]
+fn the_reads_of_a_large_tree_leave_room_for_a_call() {
+    let (sender, reads) = mpsc::channel();
+    let partner = Partner::start(move |_, mut line| hold_reads(&mut line, &sender));
+    let session = Session::open(partner.address, TIMEOUT).unwrap();
+    let tree = session.tree("/t").unwrap();
+    for _ in 0..MOST_READS {
+        reads.recv_timeout(PATIENCE).unwrap();
+    }
+    let more = reads.recv_timeout(Duration::from_millis(300));
+    assert!(more.is_err(), "no more reads are on their way");
+    assert!(session.exists("/x").unwrap().is_some());
+    assert_eq!(tree.wait_for(PATIENCE).unwrap().len(), MANY + 1);
+}
+
+/// The time from the admission of a session to the read of the child, at which the connection ends.
+fn end_at_the_child(line: &mut Line) -> Option<Duration> {
+    line.admit(millis(TIMEOUT));
+    let begun = Instant::now();
+    while let Some(request) = line.request() {
+        if request.kind == GET_DATA && is_below(&request) {
+            return Some(begun.elapsed());
+        }
+        answer(line, &request);
+    }
+    None
+}
+
+#[test]
+fn a_read_that_was_lost_is_made_again_at_once() {
+    let (sender, times) = mpsc::channel();
+    let partner = Partner::start(move |number, mut line| match number {
+        0 => drop(end_at_the_child(&mut line)),
+        1 | 2 => drop(sender.send(end_at_the_child(&mut line))),
+        _ => serve(&mut line, |_, _| false),
+    });
+    let session = Session::open(partner.address, TIMEOUT).unwrap();
+    let tree = session.tree("/t").unwrap();
+    let whole = tree.wait_for(PATIENCE);
+    assert_eq!(whole.map(|all| all.len()), Ok(2), "no loss is told");
+    let least = times.try_iter().flatten().min().unwrap();
+    assert!(least < Duration::from_millis(400), "{least:?}");
+}
+
+#[test]
+fn a_tree_is_read_anew_by_a_renewed_client() {
+    let (admit, is_admitted) = mpsc::channel();
+    let partner = Partner::start(move |number, mut line| {
+        if number > 0 {
+            is_admitted.recv_timeout(PATIENCE).unwrap();
+        }
+        serve(&mut line, |_, _| false);
+    });
+    let session = Session::open(partner.address, TIMEOUT).unwrap();
+    let tree = session.tree("/t").unwrap();
+    let mut snapshots = tree.snapshots();
+    let first = snapshots.next().unwrap().unwrap();
+    session.renew().unwrap();
+    assert_eq!((tree.current(), tree.latest()), (None, Some(first.clone())));
+    admit.send(()).unwrap();
+    let again = snapshots.next_within(PATIENCE).unwrap().unwrap();
+    assert_eq!((again.len(), tree.current()), (first.len(), Some(again)));
+}
