@@ -466,7 +466,7 @@ class WatchesTest(KazooCase):
     def is_watched(self, path: str) -> bool:
         """Whether a function waits for a watch of this path."""
         assert self.zk._session is not None
-        return any(key[0] == path and functions for key, functions in list(self.zk._session._engine._watchers.items()))
+        return self.zk._session._engine._watchers.has(path)
 
     def test_watches_fire_once(self) -> None:
         self.zk.create("/a")
