@@ -7,7 +7,6 @@ import contextlib
 import heapq
 import itertools
 import logging
-import os
 import struct
 from collections.abc import Iterable, Iterator
 from dataclasses import dataclass
@@ -21,6 +20,7 @@ from dirwolleu._lane import Lane, LaneRequest, Reply
 from dirwolleu._library import Answer, Closed, Drop, Found, Halted, KeptData, KeptNames, Machine, Output, Report, Send
 from dirwolleu._growing import Growing
 from dirwolleu._listening import Listeners, Listening
+from dirwolleu._process import this_process
 from dirwolleu._registry import Watchers
 from dirwolleu._requests import Request
 from dirwolleu._root import Root
@@ -243,7 +243,7 @@ class Engine:
         if self._saved_at_close is not None:
             raise ConnectionClosedError("the client is closed")
         if not self.is_running:
-            self._process = os.getpid()
+            self._process = this_process()
             self._refuse_handed(ConnectionClosedError("the client was not started"))
             self.refused = None
             self.is_running = True
@@ -347,6 +347,10 @@ class Engine:
             moments += [tree.deadline() for tree in list(self._trees)]
         return min((moment for moment in moments if moment is not None), default=None)
 
+    def is_idle(self) -> bool:
+        """Whether nothing that was sent waits for its answer."""
+        return not self._sent and not self._lane
+
     def is_recast(self) -> bool:
         """Whether the deadline may be earlier than when it was asked for last, by other things than frames that came and
         went: what these bring is due after a third of the timeout, or later.
@@ -402,7 +406,7 @@ class Engine:
 
     def is_here(self) -> bool:
         """Whether this is no forked child of the process in which the client was started."""
-        return self._process in (None, os.getpid())
+        return self._process in (None, this_process())
 
     def is_introduced(self) -> bool:
         """Whether a server has accepted the session, and answered for all credentials."""

@@ -23,6 +23,7 @@ from operator import itemgetter
 from typing import Any, Callable, Iterable, Iterator, NamedTuple, Optional, TypeVar, Union
 
 from dirwolleu._paths import no_path
+from dirwolleu._process import this_process
 from dirwolleu._root import Root
 from dirwolleu.types import DataStat, Stat
 
@@ -610,7 +611,7 @@ class Machine:
 
     def __init__(self, timeout_ms: int, saved: Optional[bytes] = None, root: Root = Root()) -> None:
         self._handle, self._output, self._room = _Handle(), _Output(), _Room()
-        self._process = os.getpid()
+        self._process = this_process()
         self._root = root
         if saved is None:
             _checked(_library.dw_open(self._handle, timeout_ms))
@@ -619,7 +620,7 @@ class Machine:
 
     def close(self) -> None:
         """Frees what it holds. It ends no session. In a forked child it does nothing."""
-        if os.getpid() == self._process:
+        if this_process() == self._process:
             _library.dw_close(self._handle)
 
     def __del__(self) -> None:

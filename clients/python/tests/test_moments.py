@@ -43,8 +43,13 @@ class PingTest(UntimedCase):
     def test_an_idle_session_is_kept_up(self) -> None:
         """That of the client for threads, whose loop is this one: nothing waits in it, and it is an hour later soon."""
         server, states = Server(self.loop, 1, answers), list[State]()
+
+        def loop_of(waiting: Any) -> Any:
+            waiting.close()
+            return self.loop
+
         client_moment = mock.patch("dirwolleu.client.moment", self.loop.moment)
-        with client_moment, mock.patch("asyncio.new_event_loop", lambda: self.loop):
+        with client_moment, mock.patch("asyncio.SelectorEventLoop", loop_of):
             client = Client("127.0.0.1:1", 30.0)
             self.addCleanup(client.close)
             client.add_listener(states.append)
