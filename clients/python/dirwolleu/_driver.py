@@ -21,6 +21,8 @@ logger = logging.getLogger("dirwolleu.connection")
 SHORTEST_DIAL = 1.0
 """How long an attempt to connect has at least, in seconds, however short the timeout is."""
 SHORTEST_WAIT = 0.1
+ROOM = 65536
+"""How many bytes of a connection are read at once, at most."""
 _NO_DESCRIPTOR = (errno.EMFILE, errno.ENFILE)
 
 
@@ -34,12 +36,13 @@ def _words_of(error: Optional[BaseException]) -> str:
     return str(error or "no connection in time")
 
 
-class Link(asyncio.Protocol):
-    """One connection to a server, from the moment that it is dialled."""
+class Link(asyncio.BufferedProtocol):
+    """One connection to a server, from the moment that it is dialled. What comes is read into one buffer."""
 
     def __init__(self, driver: Driver) -> None:
         self.transport: Optional[asyncio.Transport] = None
         self._driver = driver
+        self._room = memoryview(bytearray(ROOM))
         self._is_over = False
 
     def connection_made(self, transport: asyncio.BaseTransport) -> None:
@@ -49,9 +52,12 @@ class Link(asyncio.Protocol):
         else:
             self._driver.begin()
 
-    def data_received(self, data: bytes) -> None:
+    def get_buffer(self, sizehint: int) -> memoryview:
+        return self._room
+
+    def buffer_updated(self, nbytes: int) -> None:
         if not self._is_over:
-            self._driver.bring(data)
+            self._driver.bring(self._room[:nbytes].tobytes())
 
     def connection_lost(self, error: Optional[Exception]) -> None:
         self.end(str(error) if error is not None else "the server has closed it")
@@ -119,8 +125,12 @@ class Driver:
         self.act()
 
     def act_soon(self) -> None:
-        """Acts once after all that is asked in this turn of the event loop."""
-        if not self._is_to_act:
+        """Acts at once where nothing waits for an answer, and else once after all that is asked in this turn of the event loop."""
+        if self._is_to_act:
+            return
+        if self._engine.is_idle():
+            self.act()
+        else:
             self._is_to_act = True
             self._loop.call_soon(self.act)
 
@@ -129,15 +139,16 @@ class Driver:
         if not self._is_started:
             return
         self._is_to_act = False
-        self._engine.take_handed(self._noticed())
-        frames, is_over = self._engine.take_frames()
-        if self._link is not None and self._link.transport is not None:
+        engine, link = self._engine, self._link
+        engine.take_handed(self._noticed())
+        frames, is_over = engine.take_frames()
+        if link is not None and link.transport is not None:
             if frames:
-                self._link.transport.write(frames)
+                link.transport.write(frames)
             if is_over:
-                self._link.end()
-        if not self._is_stopped:
-            self._wake_by(self._engine.deadline())
+                link.end()
+        if not self._is_stopped and (self._timer is None or engine.is_recast()):
+            self._wake_by(engine.deadline())
 
     def leave(self, why: str = "") -> None:
         """The connection is over, or none came to be. The next attempt comes after a pause."""
@@ -200,12 +211,13 @@ class Driver:
         What came may have come at any time since then.
         """
         now = moment()
-        if self._timer is None or now <= self._wakes_at + self._longest_wait():
+        if self._timer is None or now <= self._wakes_at or now <= self._wakes_at + self._longest_wait():
             self._awake_at = now
         return self._awake_at
 
     def _longest_wait(self) -> int:
-        """A tenth of the timeout: so a driver that was held up knows how long, in milliseconds."""
+        """A tenth of the timeout, in milliseconds: so a driver that was held up knows how long, and no deadline that frames bring
+        comes before the next wake."""
         return int(1000 * max(self._engine.timeout() / 10, SHORTEST_WAIT))
 
     def _wake_by(self, deadline: Optional[int]) -> None:

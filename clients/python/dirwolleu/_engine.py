@@ -4,11 +4,9 @@ from __future__ import annotations
 
 import collections
 import contextlib
-import functools
 import heapq
 import itertools
 import logging
-import os
 import struct
 from collections.abc import Iterable, Iterator
 from dataclasses import dataclass
@@ -22,7 +20,9 @@ from dirwolleu._lane import Lane, LaneRequest, Reply
 from dirwolleu._library import Answer, Closed, Drop, Found, Halted, KeptData, KeptNames, Machine, Output, Report, Send
 from dirwolleu._growing import Growing
 from dirwolleu._listening import Listeners, Listening
-from dirwolleu._requests import Request, Watcher
+from dirwolleu._process import this_process
+from dirwolleu._registry import Watchers
+from dirwolleu._requests import Request
 from dirwolleu._root import Root
 from dirwolleu.exceptions import (
     CallTimeoutError,
@@ -82,17 +82,25 @@ class News(Protocol):
     def clear(self) -> None: ...
 
 
-@dataclass
 class _Asked:
-    """A request, who waits for its answer, and the moment at which it is given up if it could not be sent."""
+    """A request, who waits for its answer, and the moment at which it is given up if it could not be sent.
 
-    request: Union[Request[Any], LaneRequest[Any]]
-    waiter: Waiter
-    until: int
-    ends_at: Optional[int] = None
-    """The moment at which it is given up, sent or not."""
-    sent_at: int = 0
-    is_sent: bool = False
+    `ends_at` is the moment at which it is given up, sent or not.
+    """
+
+    __slots__ = "request", "waiter", "until", "ends_at", "sent_at", "is_sent"
+
+    def __init__(
+        self,
+        request: Union[Request[Any], LaneRequest[Any]],
+        waiter: Waiter,
+        until: int,
+        ends_at: Optional[int] = None,
+        sent_at: int = 0,
+        is_sent: bool = False,
+    ) -> None:
+        self.request, self.waiter, self.until = request, waiter, until
+        self.ends_at, self.sent_at, self.is_sent = ends_at, sent_at, is_sent
 
     def fail(self, error: BaseException) -> None:
         if self.waiter.done():
@@ -102,16 +110,13 @@ class _Asked:
             error.may_have_happened = error.may_have_happened and not self.request.is_repeatable
         self.waiter.set_exception(error)
 
-    def answer(self, answer: Answer) -> None:
-        assert isinstance(self.request, Request)
+    def settle(self, *answer: Any) -> None:
+        """Takes the answer, as the request reads it. Raises `Malformed` where one of the lane does not read."""
         if not self.waiter.done():
-            self._settle(functools.partial(self.request.result, answer))
-
-    def reply(self, reply: Reply, root: Root) -> None:
-        """Takes the answer of the lane. Raises `Malformed` where it does not read."""
-        assert isinstance(self.request, LaneRequest)
-        if not self.waiter.done():
-            self._settle(functools.partial(self.request.result, reply.code, reply.body, root))
+            try:
+                self.waiter.set_result(self.request.result(*answer))
+            except ZookeeperError as error:
+                self.fail(error)
 
     def give_up(self) -> None:
         """The time of its caller is over."""
@@ -119,12 +124,6 @@ class _Asked:
         error = CallTimeoutError("no answer has come in time", fate)
         error.may_have_happened = self.is_sent
         self.fail(error)
-
-    def _settle(self, result: Callable[[], Any]) -> None:
-        try:
-            self.waiter.set_result(result())
-        except ZookeeperError as error:
-            self.fail(error)
 
 
 def _kept(path: str, found: KeptData, last_zxid: int) -> Kept:
@@ -175,9 +174,10 @@ class Contact:
 
     def answered(self, sent_at: int, now: int) -> None:
         """A call or a ping was answered."""
-        took = float(now - sent_at)
-        self.proved_at = max(self.proved_at or 0, sent_at)
-        self.round_trip = took if self.round_trip is None else self.round_trip + (took - self.round_trip) / 8
+        took, average = float(now - sent_at), self.round_trip
+        if self.proved_at is None or sent_at > self.proved_at:
+            self.proved_at = sent_at
+        self.round_trip = took if average is None else average + (took - average) / 8
 
 
 class Engine:
@@ -201,6 +201,8 @@ class Engine:
             raise ValueError(f"a timeout is 0.001 to {_LONGEST_TIMEOUT_MS / 1000} seconds")
         self._root = root
         self._machine = Machine(self._timeout_ms, saved, root)
+        self._granted_ms = self._machine.timeout_ms()
+        self._is_recast = True
         self._machine.peek_data("/")  # a ValueError where the root is no path
         self._tell = tell
         self._tickets = itertools.count(1)
@@ -211,7 +213,7 @@ class Engine:
         self._lane_zxid = self._used = 0
         self._credentials = list(credentials)
         self._timed: list[tuple[int, int, _Asked]] = []
-        self._watchers: dict[tuple[str, int], dict[Watcher, None]] = {}
+        self._watchers = Watchers()
         self._listening = Listeners()
         self._trees: list[Growing] = []
         self._listeners: list[Listener] = []
@@ -241,7 +243,7 @@ class Engine:
         if self._saved_at_close is not None:
             raise ConnectionClosedError("the client is closed")
         if not self.is_running:
-            self._process = os.getpid()
+            self._process = this_process()
             self._refuse_handed(ConnectionClosedError("the client was not started"))
             self.refused = None
             self.is_running = True
@@ -274,6 +276,7 @@ class Engine:
         self.is_running = False
         self._forget_callers(ConnectionClosedError("the client was closed"), State.LOST)
         self._saved_at_close = self._machine.saved()
+        self._granted_ms = self._timeout_ms
         self._machine.close()
 
     # What happens to the connection.
@@ -282,8 +285,8 @@ class Engine:
         self._leave_connection()
         self._is_over = False
         self._opened_at = now
-        self._step(now, lambda machine: machine.tick(now))
-        self._step(now, lambda machine: machine.opened(now))
+        self._step(now, Machine.tick, now)
+        self._step(now, Machine.opened, now)
         self._frames = [self._with_zxid_of_lane(frame) for frame in self._frames]
 
     def cut(self, now: int, why: str = "") -> None:
@@ -293,12 +296,12 @@ class Engine:
             logger.log(
                 logging.WARNING if self.is_running else logging.INFO, "the connection to %s is over: %s", where, reason
             )
-        self._step(now, lambda machine: machine.cut(now))
+        self._step(now, Machine.cut, now)
         self.contact.lived = 0 if self._admitted_at is None else now - self._admitted_at
         self._leave_connection()
 
     def tick(self, now: int) -> None:
-        self._step(now, lambda machine: machine.tick(now))
+        self._step(now, Machine.tick, now)
         ends = self._patience_ends()
         if ends is not None and ends <= now and not self._is_over:
             self._give_up("an answer has taken more than two thirds of the timeout")
@@ -311,16 +314,18 @@ class Engine:
     def received(self, now: int, data: bytes) -> None:
         """Bytes came. Each frame is a step of its own, so that what is kept can be looked up as it was with the frame.
         """
-        for piece in self._came.cut(data):
-            if piece.kind is Kind.LANE and self._reply(now, piece.data):
+        for piece, kind in self._came.cut(data):
+            if kind is Kind.LANE and self._reply(now, piece):
                 continue
-            self._step(now, lambda machine: machine.received(now, piece.data))
-            if piece.kind is Kind.PONG and self._pinged:
+            self._step(now, Machine.received, now, piece)
+            if kind is Kind.PONG and self._pinged:
                 self.contact.answered(self._pinged.popleft(), now)
-            self._grow_trees(now)
+            if self._trees:
+                self._grow_trees(now)
         if self.state is State.CONNECTED:
             self.contact.heard_at = now
-        self._send_line(now)
+        if self._line:
+            self._send_line(now)
 
     def take_frames(self) -> tuple[bytes, bool]:
         """What is to be written, and whether the connection is to be closed then."""
@@ -330,6 +335,7 @@ class Engine:
 
     def deadline(self) -> Optional[int]:
         """The moment at which `tick` is wanted, at the latest."""
+        self._is_recast = False
         if self._saved_at_close is not None:
             return None
         moments = [self._machine.deadline(), self._patience_ends()]
@@ -340,6 +346,16 @@ class Engine:
         if self.state is State.CONNECTED:
             moments += [tree.deadline() for tree in list(self._trees)]
         return min((moment for moment in moments if moment is not None), default=None)
+
+    def is_idle(self) -> bool:
+        """Whether nothing that was sent waits for its answer."""
+        return not self._sent and not self._lane
+
+    def is_recast(self) -> bool:
+        """Whether the deadline may be earlier than when it was asked for last, by other things than frames that came and
+        went: what these bring is due after a third of the timeout, or later.
+        """
+        return self._is_recast or bool(self._trees)
 
     def no_server(self, seconds: Optional[float]) -> str:
         """That no server was found in this time, and what became of the last attempt, in words."""
@@ -377,8 +393,11 @@ class Engine:
             self._line.append(asked)
             if asked.ends_at is not None:
                 heapq.heappush(self._timed, (asked.ends_at, next(self._tickets), asked))
-        self._send_line(now)
-        self._grow_trees(now)
+                self._is_recast = self._is_recast or self._timed[0][2] is asked
+        if self._line:
+            self._send_line(now)
+        if self._trees:
+            self._grow_trees(now)
 
     def check_process(self) -> None:
         """Raises where this is a forked child of the process in which the client was started."""
@@ -387,7 +406,7 @@ class Engine:
 
     def is_here(self) -> bool:
         """Whether this is no forked child of the process in which the client was started."""
-        return self._process in (None, os.getpid())
+        return self._process in (None, this_process())
 
     def is_introduced(self) -> bool:
         """Whether a server has accepted the session, and answered for all credentials."""
@@ -520,7 +539,7 @@ class Engine:
 
     def timeout(self) -> float:
         """The timeout of the session in seconds: the one that a server granted last, or the one to ask for."""
-        return (self._look(Machine.timeout_ms) or self._timeout_ms) / 1000
+        return self._granted_ms / 1000
 
     def may_live(self, now: int) -> bool:
         """Whether the session may live still: it has not expired, and a server was heard within its timeout."""
@@ -560,13 +579,14 @@ class Engine:
 
     # Steps.
 
-    def _step(self, now: int, step: Callable[[Machine], list[Output]]) -> None:
+    def _step(self, now: int, step: Callable[..., list[Output]], *words: Any) -> None:
+        """A step of the machine, with these words."""
         if self._saved_at_close is not None:
             return
         self._now = now
         self._written = len(self._frames)
         try:
-            self._take(step(self._machine))
+            self._take(step(self._machine, *words))
         except Halted:
             self._resume("the client ran out of memory")
         except KeyboardInterrupt:  # within an event loop of the main thread
@@ -575,18 +595,24 @@ class Engine:
 
     def _take(self, outputs: list[Output]) -> None:
         for output in outputs:
-            if isinstance(output, Send):
+            if isinstance(output, Answer):
+                self._answer(output)
+            elif isinstance(output, Send):
                 self._frames.append(output.frame)
                 if is_ping(output.frame):
                     self._pinged.append(self._now)
-            elif isinstance(output, Answer):
-                self._answer(output)
             elif isinstance(output, Report):
                 self._report(output)
             elif isinstance(output, Drop):
                 self._give_up(f"{output.fault} {output.words}")
             else:
                 self._change(output.state)
+
+    def _recast(self) -> None:
+        """What is due, and when, is another thing than before."""
+        self._is_recast = True
+        if self._saved_at_close is None:
+            self._granted_ms = self._machine.timeout_ms()
 
     def _give_up(self, why: str) -> None:
         self._is_over, self._why = True, why
@@ -599,15 +625,19 @@ class Engine:
         self._came = Frames()
         self._pinged.clear()
         self._opened_at = self._admitted_at = None
+        self._is_recast = True
 
     def _patience_ends(self) -> Optional[int]:
         """When the server has had its time to accept the session, or to answer the oldest call or ping."""
         if self._opened_at is not None:
             return self._opened_at + 2 * self._timeout_ms // 3
-        waiting = [asked.sent_at for asked in itertools.islice(self._sent.values(), 1)] + list(self._pinged)[:1]
-        of_lane = self._lane.oldest()
-        waiting += [] if of_lane is None else [of_lane]
-        return min(waiting) + 2 * self._machine.timeout_ms() // 3 if waiting else None
+        waiting = [next(iter(self._sent.values())).sent_at] if self._sent else []
+        if self._pinged:
+            waiting.append(self._pinged[0])
+        of_lane = self._lane.oldest() if self._lane else None
+        if of_lane is not None:
+            waiting.append(of_lane)
+        return min(waiting) + 2 * self._granted_ms // 3 if waiting else None
 
     def _is_given_up(self, asked: _Asked, now: int) -> bool:
         return self.state is not State.CONNECTED and asked.until <= now
@@ -627,11 +657,11 @@ class Engine:
         request = asked.request
         if isinstance(request, LaneRequest):
             return self._send_in_lane(asked, request)
-        ticket, call = next(self._tickets), request.call
+        ticket = next(self._tickets)
         asked.is_sent = True
         self._sent[ticket] = asked
         try:
-            self._step(now, lambda machine: call(machine, now, ticket))
+            self._step(now, request.call, now, ticket)
         except (ValueError, MemoryError) as error:
             self._sent.pop(ticket, None)
             asked.fail(error)
@@ -662,7 +692,7 @@ class Engine:
             self.contact.answers += 1
         self.contact.answered(asked.sent_at, now)
         try:
-            asked.reply(reply, self._root)
+            asked.settle(reply.code, reply.body, self._root)
         except Malformed:
             self._give_up("an answer does not read")
             self._count_loss(asked, ConnectionLoss("the answer does not read"))
@@ -725,13 +755,13 @@ class Engine:
             self.contact.answered(asked.sent_at, self._now)
         else:
             self.contact.losses += 1
-        assert isinstance(asked.request, Request)
-        watcher = asked.request.watcher
-        if watcher is not None and asked.request.leaves_watch(answer):
-            self._watchers.setdefault((watcher.path, watcher.side), {})[watcher] = None
-        asked.answer(answer)
-        if asked.request.node is not None:
-            self._bring(asked.request.node)
+        request = asked.request
+        assert isinstance(request, Request)
+        if request.watcher is not None and request.leaves_watch(answer):
+            self._watchers.add(request.watcher)
+        asked.settle(answer)
+        if request.node is not None and self._listening.is_there(request.node):
+            self._bring(request.node)
 
     def _bring(self, path: str) -> None:
         """Hands an answer to those who follow the node, as long as it is good: the next frame may be a notice."""
@@ -743,13 +773,14 @@ class Engine:
 
     def _report(self, report: Report) -> None:
         event = WatchedEvent(_EVENTS[report.event], self.state, report.path)
-        for watcher in self._watchers.pop((report.path, report.side), ()):
-            self._tell(watcher.function, event)
+        for function in self._watchers.take(report.path, report.side):
+            self._tell(function, event)
         for tree in list(self._trees):
             tree.reported(report.path, report.side)
         self._wake(report.path)
 
     def _change(self, state: int) -> None:
+        self._recast()
         if state == library.CONNECTED:
             self._opened_at = None
             self.trouble = ""
@@ -780,12 +811,14 @@ class Engine:
         """Has the machine begin a new session, and leaves all callers of the old one."""
         if self._saved_at_close is None:
             self._machine.renew(self._timeout_ms)
+        self._recast()
         self._forget_callers(error, State.LOST)
 
     def _resume(self, why: str) -> None:
         """Has a machine of the same session, which keeps nothing, where the old one is of no use any more."""
         old, self._machine = self._machine, Machine(self._timeout_ms, self._machine.saved(), self._root)
         old.close()
+        self._recast()
         self._give_up(why)
         self._forget_callers(ConnectionLoss(why), State.SUSPENDED)
 
@@ -799,7 +832,7 @@ class Engine:
         self._lane = Lane()
         self._sent.clear()
         self._line.clear()
-        watchers = list(itertools.chain.from_iterable(self._watchers.values()))
+        watchers = self._watchers.all()
         self._watchers.clear()
         for watcher in watchers:
             self._tell(watcher.function, WatchedEvent(EventType.NONE, state, watcher.path))

@@ -3,6 +3,7 @@
 from __future__ import annotations
 
 import enum
+import struct
 from collections.abc import Iterator
 from typing import NamedTuple
 
@@ -13,11 +14,13 @@ LANE_XID = -1001
 AUTH_XID = -4
 PING_XID = -2
 _HEADER = 16
+_PING = PING_XID.to_bytes(4, "big", signed=True)
+_head_in = struct.Struct(">ii").unpack_from
 
 
 def is_ping(frame: bytes) -> bool:
     """Whether a frame with its length is a ping, or the answer to one."""
-    return frame[4:8] == PING_XID.to_bytes(4, "big", signed=True)
+    return frame[4:8] == _PING
 
 
 class Kind(enum.Enum):
@@ -54,26 +57,34 @@ class Frames:
 
     def cut(self, data: bytes) -> Iterator[Piece]:
         """The pieces of the data, with what was held back before."""
-        data, begin = self._held + data, 0
-        while True:
-            if self._left == 0 and not self._knows(data[begin : begin + 8]):
-                break
-            is_lane = self._kind is Kind.LANE
-            if begin == len(data) or is_lane and len(data) - begin < self._left:
-                break
-            piece = data[begin : begin + self._left]
-            begin += len(piece)
-            self._left -= len(piece)
-            yield Piece(piece, self._kind if self._left == 0 else Kind.CORE)
+        data, begin = self._held + data if self._held else data, 0
+        end = len(data)
+        while begin < end and (self._left or self._knows(data, begin)):
+            left = self._left
+            if left > end - begin:
+                if self._kind is Kind.LANE:
+                    break
+                piece = Piece(data[begin:], Kind.CORE)
+            else:
+                piece = Piece(data if left == end else data[begin : begin + left], self._kind)
+            begin += len(piece.data)
+            self._left -= len(piece.data)
+            yield piece
         self._held = data[begin:]
 
-    def _knows(self, head: bytes) -> bool:
-        """Whether the first bytes of a frame say how long it is and whose; if so, that is kept."""
-        length = int.from_bytes(head[:4], "big", signed=True)
-        if len(head) < 4 or 4 <= length <= LONGEST_FRAME and len(head) < 8:
+    def _knows(self, data: bytes, begin: int) -> bool:
+        """Whether the first bytes of a frame, at this place, say how long it is and whose; if so, that is kept."""
+        count = len(data) - begin
+        if count >= 8:
+            length, xid = _head_in(data, begin)
+        elif count < 4:
             return False
-        self._left = 4 + max(length, 0)
-        self._kind = self._whose(length, int.from_bytes(head[4:8], "big", signed=True))
+        else:
+            length, xid = int.from_bytes(data[begin : begin + 4], "big", signed=True), 0
+            if 4 <= length <= LONGEST_FRAME:
+                return False
+        self._left = 4 + length if length > 0 else 4
+        self._kind = self._whose(length, xid)
         self._is_first = False
         return True
 

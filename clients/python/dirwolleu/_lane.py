@@ -51,9 +51,9 @@ class Created(NamedTuple):
     stat: Stat
 
 
-@dataclass(frozen=True)
+@dataclass(eq=False)
 class LaneRequest(Generic[Result]):
-    """A request of the lane, whose answer brings a result of this type."""
+    """A request of the lane, whose answer brings a result of this type. It never changes."""
 
     operation: Operation
     paths: Sequence[str]

@@ -19,10 +19,11 @@ import sys
 from collections.abc import Collection, Sequence
 from ctypes import POINTER, Structure, byref, string_at
 from ctypes import c_bool, c_char, c_char_p, c_int32, c_int64, c_size_t, c_uint32, c_uint64, c_void_p
-from operator import attrgetter
+from operator import itemgetter
 from typing import Any, Callable, Iterable, Iterator, NamedTuple, Optional, TypeVar, Union
 
 from dirwolleu._paths import no_path
+from dirwolleu._process import this_process
 from dirwolleu._root import Root
 from dirwolleu.types import DataStat, Stat
 
@@ -527,13 +528,19 @@ class _Room:
 
     def __init__(self) -> None:
         self.bytes = ctypes.create_string_buffer(4096)
+        self._view = memoryview(self.bytes)
 
     def widen(self, length: int) -> bool:
         """Makes room for this many bytes. Answers whether there was too little."""
         is_short = length > len(self.bytes)
         if is_short:
             self.bytes = ctypes.create_string_buffer(length)
+            self._view = memoryview(self.bytes)
         return is_short
+
+    def first(self, length: int) -> bytes:
+        """The first bytes of it, which are there."""
+        return self._view[:length].tobytes()
 
     def filled(self, call: Callable[..., int]) -> bytes:
         """What a call writes into the room, of which it is told how much there is, and counts."""
@@ -541,7 +548,7 @@ class _Room:
         while not is_whole:
             _checked(call(self.bytes, len(self.bytes), byref(count)))
             is_whole = not self.widen(count.value)
-        return string_at(self.bytes, count.value)
+        return self.first(count.value)
 
 
 Found = TypeVar("Found")
@@ -558,7 +565,42 @@ def _steady(look: Callable[[], Found], stamp: Callable[[], Stamp]) -> tuple[Foun
         before = after
 
 
-_fields_of_stat, _fields_of_data_stat = attrgetter(*Stat._fields), attrgetter(*DataStat._fields)
+def _codes_of(kind: type[Structure]) -> Iterator[str]:
+    for field in kind._fields_:
+        if issubclass(field[1], Structure):
+            yield from _codes_of(field[1])
+        else:
+            yield getattr(field[1], "_type_")
+
+
+def _fields_of(kind: type[Structure]) -> Callable[[Structure], tuple[Any, ...]]:
+    """What tells all fields of a structure at once, with those of the structures in it in their places."""
+    return struct.Struct("@" + "".join(_codes_of(kind))).unpack_from
+
+
+def _record_of(kind: type[Structure], record: type[Record], begin: int) -> Callable[[tuple[Any, ...]], Record]:
+    """What makes a record of the fields of a structure, of which those of this kind begin at this place."""
+    names = [field[0] for field in kind._fields_]
+    chosen, make = itemgetter(*(begin + names.index(name) for name in record._fields)), record._make
+    return lambda fields: make(chosen(fields))
+
+
+Record = TypeVar("Record", Stat, DataStat)
+
+_fields_of_output, _fields_of_kept_data = _fields_of(_Output), _fields_of(_KeptData)
+_HEAD_OF_OUTPUT, _HEAD_OF_KEPT_DATA = len(_Output._fields_) - 1, len(_KeptData._fields_) - 1  # the last field is the Stat
+_stat_in, _data_stat_in = _record_of(_Stat, Stat, _HEAD_OF_OUTPUT), _record_of(_DataStat, DataStat, _HEAD_OF_KEPT_DATA)
+_KINDS_OF_KEPT, _MARKS, _EVENTS, _SIDES = (
+    frozenset((NOTHING, ABSENT, KNOWN, FULL)),
+    frozenset((0, GOOD, STALE)),
+    frozenset((NODE_CREATED, NODE_DELETED, DATA_CHANGED, CHILDREN_CHANGED)),
+    frozenset((DATA_SIDE, CHILDREN_SIDE)),
+)
+_STATES, _OUTCOMES, _RESULTS = (
+    frozenset((IDLE, CONNECTING, CONNECTED, EXPIRED, SESSION_CLOSED)),
+    frozenset(range(REPLIED, TOO_MANY_PENDING + 1)),
+    frozenset(range(CODE, DONE + 1)),
+)
 
 
 class Machine:
@@ -569,7 +611,7 @@ class Machine:
 
     def __init__(self, timeout_ms: int, saved: Optional[bytes] = None, root: Root = Root()) -> None:
         self._handle, self._output, self._room = _Handle(), _Output(), _Room()
-        self._process = os.getpid()
+        self._process = this_process()
         self._root = root
         if saved is None:
             _checked(_library.dw_open(self._handle, timeout_ms))
@@ -578,7 +620,7 @@ class Machine:
 
     def close(self) -> None:
         """Frees what it holds. It ends no session. In a forked child it does nothing."""
-        if os.getpid() == self._process:
+        if this_process() == self._process:
             _library.dw_close(self._handle)
 
     def __del__(self) -> None:
@@ -653,9 +695,11 @@ class Machine:
     def deadline(self) -> Optional[int]:
         """The first moment at which something is due, if anything ever is."""
         first = c_uint64()
-        code = _library.dw_deadline(self._handle, byref(first))
+        code = _library.dw_deadline(self._handle, first)
+        if code == OK:
+            return first.value
         _checked(code)
-        return first.value if code == OK else None
+        return None
 
     def saved(self) -> bytes:
         """What takes the session up again."""
@@ -746,21 +790,21 @@ class Machine:
         return int(answered)
 
     def _data_kept(self, path: str) -> KeptData:
-        kept, room, is_whole, spelled = _KeptData(), _Room(), False, self._root.spell(path)
+        told, room, is_whole, spelled = _KeptData(), _Room(), False, self._root.spell(path)
         while not is_whole:
-            given = room.bytes, len(room.bytes)
-            self._check(_library.dw_peek_data(self._handle, spelled, len(spelled), byref(kept), *given), path)
-            is_whole = not room.widen(kept.length)
-        _known("kind of what is kept", kept.kind, (NOTHING, ABSENT, KNOWN, FULL))
-        _known("mark", kept.mark, (0, GOOD, STALE))
-        stat = DataStat._make(_fields_of_data_stat(kept.stat)) if kept.kind in (KNOWN, FULL) else None
-        data = string_at(room.bytes, kept.length) if kept.kind == FULL and not kept.is_null else None
-        return KeptData(kept.kind, kept.mark, stat, data)
+            self._check(_library.dw_peek_data(self._handle, spelled, len(spelled), told, room.bytes, len(room.bytes)), path)
+            fields = _fields_of_kept_data(told)
+            kind, mark, length, is_null = fields[:_HEAD_OF_KEPT_DATA]
+            is_whole = not room.widen(length)
+        _known("kind of what is kept", kind, _KINDS_OF_KEPT)
+        _known("mark", mark, _MARKS)
+        stat = _data_stat_in(fields) if kind in (KNOWN, FULL) else None
+        return KeptData(kind, mark, stat, room.first(length) if kind == FULL and not is_null else None)
 
     def _side_kept(self, path: str) -> tuple[int, int]:
         kept, spelled = _KeptNames(), self._root.spell(path)
         self._check(_library.dw_peek_children(self._handle, spelled, len(spelled), byref(kept)), path)
-        return _known("mark", kept.mark, (0, GOOD, STALE)), kept.pzxid
+        return _known("mark", kept.mark, _MARKS), kept.pzxid
 
     def _names_kept(self, path: str) -> tuple[str, ...]:
         spelled = self._root.spell(path)
@@ -791,54 +835,53 @@ class Machine:
 
     def _check(self, code: int, path: str) -> None:
         """Raises what a code below 0 says of a call about this path."""
-        if code == NOT_PATH:
-            raise no_path(path, self._root.full(path))
-        _checked(code)
+        if code < OK:
+            if code == NOT_PATH:
+                raise no_path(path, self._root.full(path))
+            _checked(code)
 
     def _outputs(self, code: int, path: str = "") -> list[Output]:
-        self._check(code, path)
+        if code < OK:
+            self._check(code, path)
         outputs: list[Output] = []
-        while _library.dw_next(self._handle, self._output) == OK:
-            outputs.append(self._read(self._output))
+        handle, output, take, read = self._handle, self._output, _library.dw_next, self._read
+        while take(handle, output) == OK:
+            outputs.append(read(output))
         return outputs
 
     def _read(self, output: _Output) -> Output:
-        if output.kind == SEND:
-            return Send(self._text())
-        if output.kind == ANSWER:
-            return self._answer(output)
-        if output.kind == REPORT:
-            event = _known("event", output.detail, (NODE_CREATED, NODE_DELETED, DATA_CHANGED, CHILDREN_CHANGED))
-            return Report(event, _known("side", output.result, (DATA_SIDE, CHILDREN_SIDE)), self._root.read(self._text()))
-        if output.kind == STATE:
-            return StateChange(_known("state", output.detail, (IDLE, CONNECTING, CONNECTED, EXPIRED, SESSION_CLOSED)))
-        _known("output", output.kind, (DROP,))
-        return Drop(self._text().decode(), self._words())
+        fields = _fields_of_output(output)
+        kind, detail, result, _, _, _, length, _, _, _ = fields[:_HEAD_OF_OUTPUT]
+        if kind == SEND:
+            return Send(self._text(length))
+        if kind == ANSWER:
+            return self._answer(fields)
+        if kind == REPORT:
+            event, side = _known("event", detail, _EVENTS), _known("side", result, _SIDES)
+            return Report(event, side, self._root.read(self._text(length)))
+        if kind == STATE:
+            return StateChange(_known("state", detail, _STATES))
+        _known("output", kind, (DROP,))
+        return Drop(self._text(length).decode(), self._words())
 
-    def _answer(self, output: _Output) -> Answer:
-        _known("outcome", output.detail, range(REPLIED, TOO_MANY_PENDING + 1))
-        if output.detail == REPLIED:
-            _known("result of a reply", output.result, range(CODE, DONE + 1))
-        has_text = output.result == CREATED or output.result == DATA and not output.is_null
-        text = self._text() if has_text else None
-        if output.result == CREATED and text is not None:
+    def _answer(self, fields: tuple[Any, ...]) -> Answer:
+        _, lack, result, code, ticket, zxid, length, names, is_null, has_stat = fields[:_HEAD_OF_OUTPUT]
+        _known("outcome", lack, _OUTCOMES)
+        if lack == REPLIED:
+            _known("result of a reply", result, _RESULTS)
+        else:
+            zxid = 0
+        text = self._text(length) if result == DATA and not is_null or result == CREATED else None
+        if result == CREATED and text is not None:
             text = self._root.read(text).encode()
-        return Answer(
-            output.ticket,
-            output.detail,
-            output.result,
-            output.code,
-            Stat._make(_fields_of_stat(output.stat)) if output.has_stat else None,
-            text,
-            list(_texts_in(self._names())) if output.names else [],
-            output.zxid if output.detail == REPLIED else 0,
-        )
+        listed = list(_texts_in(self._names())) if names else []
+        return Answer(ticket, lack, result, code, _stat_in(fields) if has_stat else None, text, listed, zxid)
 
-    def _text(self) -> bytes:
-        length = self._output.length
-        self._room.widen(length)
-        _library.dw_copy(self._handle, 0, self._room.bytes, length)
-        return string_at(self._room.bytes, length)
+    def _text(self, length: int) -> bytes:
+        room = self._room
+        room.widen(length)
+        _library.dw_copy(self._handle, 0, room.bytes, length)
+        return room.first(length)
 
     def _names(self) -> bytes:
         return self._room.filled(lambda *room: _library.dw_names(self._handle, *room))

@@ -39,6 +39,10 @@ class Listeners:
             self.add(path, one, listening)
             listening.wake()
 
+    def is_there(self, path: str) -> bool:
+        """Whether anybody listens to this path."""
+        return path in self._by_path
+
     def of(self, path: str) -> list[Listening]:
         return list(self._by_path.get(path, {}).values())
 

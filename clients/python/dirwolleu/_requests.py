@@ -52,9 +52,9 @@ class Watcher(NamedTuple):
     function: Callable[[WatchedEvent], object]
 
 
-@dataclass(frozen=True)
+@dataclass(eq=False)
 class Request(Generic[Result]):
-    """A call of a machine, at a moment and with a ticket, whose answer brings a result of this type."""
+    """A call of a machine, at a moment and with a ticket, whose answer brings a result of this type. It never changes."""
 
     call: Callable[[Machine, int, int], list[Output]]
     path: Optional[str] = None

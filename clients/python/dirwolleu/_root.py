@@ -22,7 +22,7 @@ class Root(NamedTuple):
 
     def spell(self, path: str) -> bytes:
         """The bytes of the servers' path of a program's path."""
-        return self.full(path).encode()
+        return (self.full(path) if self.path else path).encode()
 
     def own(self, full: str) -> str:
         """The program's path of a servers' path. One that is not below the root stays as it is."""

@@ -4,15 +4,60 @@ from __future__ import annotations
 
 import asyncio
 import contextlib
-import os
+import selectors
+import socket
 import threading
-from typing import Callable
+from typing import Callable, Optional
 
 from dirwolleu._driver import Driver
+from dirwolleu._process import this_process
 from dirwolleu._waiting import Callbacks
 
 LONGEST_END = 5.0
 """How long `stop` waits for its own threads, in seconds: they end at once, unless the process is held up."""
+
+
+class _Waiting(selectors.DefaultSelector):
+    """How the event loop of a client waits: not where something was asked since it has looked last.
+
+    Whoever asks writes to a socket only where the loop waits already. No lock is taken, and it does not matter where a
+    thread that asks is interrupted.
+    """
+
+    def __init__(self, act: Callable[[], object]) -> None:
+        super().__init__()
+        self._act = act
+        self._is_asked = self._waits = False
+        self._writes, self._reads = socket.socketpair()
+        for end in (self._writes, self._reads):
+            end.setblocking(False)
+        self.register(self._reads, selectors.EVENT_READ)
+
+    def ask(self) -> None:
+        """Has the loop act. Any thread may say so, and what is asked is to be there before."""
+        self._is_asked = True
+        if self._waits:
+            with contextlib.suppress(OSError):  # it is full, so the loop wakes; or closed
+                self._writes.send(b"\0")
+
+    def select(self, timeout: Optional[float] = None) -> list[tuple[selectors.SelectorKey, int]]:
+        self._waits = True  # before it looks whether something is asked
+        found = super().select(0 if self._is_asked else timeout)
+        self._waits = False
+        if self._is_asked:
+            self._is_asked = False
+            self._act()
+        for one in found:
+            if one[0].fileobj is self._reads:
+                self._reads.recv(4096)
+                found.remove(one)
+                break
+        return found
+
+    def close(self) -> None:
+        super().close()
+        self._writes.close()
+        self._reads.close()
 
 
 class Loop(threading.Thread):
@@ -21,7 +66,12 @@ class Loop(threading.Thread):
     def __init__(self, driver: Driver) -> None:
         super().__init__(name="dirwolleu", daemon=True)
         self._driver = driver
-        self._loop = asyncio.new_event_loop()
+        self._waiting = _Waiting(lambda: self._loop.call_soon(driver.act))
+        try:
+            self._loop = asyncio.SelectorEventLoop(self._waiting)
+        except BaseException:
+            self._waiting.close()
+            raise
         self._turns = [None]
 
     def run(self) -> None:
@@ -34,7 +84,7 @@ class Loop(threading.Thread):
 
     def act(self) -> None:
         """Lets the driver do what was asked."""
-        self._soon(self._driver.act)
+        self._waiting.ask()
 
     def later(self, seconds: float, function: Callable[[], object]) -> None:
         """Calls a function after this many seconds, in this thread. Where it ends before, it does not."""
@@ -65,11 +115,11 @@ class Threads:
     def __init__(self, driver: Driver) -> None:
         self.loop = Loop(driver)
         self.callbacks = Callbacks()
-        self._process = os.getpid()
+        self._process = this_process()
 
     def are_here(self) -> bool:
         """Whether this is the process that they run in. A forked child has none of them."""
-        return os.getpid() == self._process
+        return this_process() == self._process
 
     def start(self) -> None:
         self.callbacks.start()

@@ -3,7 +3,6 @@
 from __future__ import annotations
 
 import concurrent.futures
-import contextlib
 import logging
 import queue
 import threading
@@ -31,8 +30,10 @@ class News:
         self._lack.acquire()
 
     def set(self) -> None:
-        with contextlib.suppress(RuntimeError):  # it is set already
+        try:
             self._lack.release()
+        except RuntimeError:  # it is set already
+            pass
 
     def clear(self) -> None:
         self._lack.acquire(blocking=False)
@@ -87,9 +88,13 @@ class Future(concurrent.futures.Future[Any]):
     def __init__(self, tell: Callable[[Callable[[Any], object], Any], bool]) -> None:
         super().__init__()
         self._tell = tell
+        self._is_begun = False
 
     def begin(self) -> bool:
-        return self.running() or not self.done() and self.set_running_or_notify_cancel()
+        if not self._is_begun and not self.done():
+            self._is_begun = self.set_running_or_notify_cancel()
+            return self._is_begun
+        return self.running()
 
     def add_done_callback(self, function: Callable[[Any], object]) -> None:
         def tell(done: Any) -> None:

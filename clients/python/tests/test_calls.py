@@ -100,15 +100,16 @@ class TimeoutTest(ClientCase):
 
 class FutureTest(ClientCase):
     def test_futures_are_answered_in_their_order(self) -> None:
-        client = self.client(self.partner().host, 60.0)
+        client = self.client(self.partner().host, 600.0)  # so that no busy machine ends a call
         client.create("/a", b"one")
         answered: list[int] = []
         futures = [client.get_async("/a") for _ in range(3000)]
         for number, future in enumerate(futures):
             future.add_done_callback(lambda _, number=number: answered.append(number))  # type: ignore[misc]
-        done, waiting = concurrent.futures.wait(futures, 3 * WAIT)
+        done, waiting = concurrent.futures.wait(futures, 9 * WAIT)
         self.assertEqual((len(done), len(waiting)), (3000, 0))
-        within(lambda: len(answered) == 3000)
+        within(lambda: len(answered) == 3000, 9 * WAIT)
+        self.assertEqual(answered, list(range(3000)))
         self.assertEqual({future.result()[0] for future in futures}, {b"one"})
 
     def test_each_call_has_a_future(self) -> None:

@@ -452,12 +452,6 @@ class SessionTest(ClientCase):
         self.assertGreaterEqual(time.monotonic() - began, 0.9)
         self.assertEqual(client.get("/a")[0], b"second")
 
-    def test_an_idle_session_is_kept_up(self) -> None:
-        client = self.client(self.partner(), timeout=2.4)
-        states = self.listen(client)
-        time.sleep(2.4)
-        self.assertTrue(client.connected and states.empty())
-
     def test_a_session_is_put_away_and_taken_up(self) -> None:
         partner = self.partner()
         client = Client(partner.host)

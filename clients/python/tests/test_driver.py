@@ -270,7 +270,7 @@ class DialTest(PartnerCase):
                 client.get("/a")
 
     def test_want_of_descriptors_for_the_client_itself_is_raised_by_start(self) -> None:
-        with mock.patch("asyncio.new_event_loop", side_effect=OSError(errno.EMFILE, "Too many open files")):
+        with mock.patch("asyncio.SelectorEventLoop", side_effect=OSError(errno.EMFILE, "Too many open files")):
             client = Client("127.0.0.1:1", 1.0)
             self.addCleanup(client.close)
             with self.assertRaisesRegex(OSError, "Too many open files"):

@@ -466,7 +466,7 @@ class WatchesTest(KazooCase):
     def is_watched(self, path: str) -> bool:
         """Whether a function waits for a watch of this path."""
         assert self.zk._session is not None
-        return any(key[0] == path and functions for key, functions in list(self.zk._session._engine._watchers.items()))
+        return self.zk._session._engine._watchers.has(path)
 
     def test_watches_fire_once(self) -> None:
         self.zk.create("/a")
@@ -561,6 +561,31 @@ class WatchesTest(KazooCase):
         with mock.patch.object(self.zk, "_kept", marked), mock.patch.object(self.zk, "get", wraps=self.zk.get) as get:
             self.zk.DataWatch("/a", lambda data, stat: found.append(data))
         self.assertEqual((found, get.call_count), ([b"0"], 3))
+
+    def test_a_change_has_its_event(self) -> None:
+        """A look as after a lost connection, whose answer has ended before it is looked at, leaves the change to its event."""
+        found: list[Any] = []
+        self.zk.create("/a", b"0")
+        data, names = self.zk.DataWatch("/a"), self.zk.ChildrenWatch("/a", send_event=True)
+        data(lambda data, stat, event: found.append((data, event and event.type)))
+        names(lambda names, event: found.append((names, event and event.type)))
+        for watch, name, change, is_stale in (
+            (data, "get", "set /a 1", lambda: self.zk._kept("/a").mark is Mark.STALE),  # type: ignore[union-attr]
+            (names, "get_children", "create /a/b", lambda: self.zk._kept_children("/a").mark is Mark.STALE),  # type: ignore[union-attr]
+        ):
+            read, changes = getattr(self.zk, name), iter([change])
+
+            def overtaken(*words: Any, read: Any = read, changes: Any = changes, is_stale: Any = is_stale) -> Any:
+                answer = read(*words)
+                for change in changes:
+                    self.server.do(change)
+                    within(is_stale)
+                return answer
+
+            with mock.patch.object(self.zk, name, overtaken):
+                watch._look(None)
+        within(lambda: len(found) == 4)
+        self.assertEqual(found, [(b"0", None), ([], None), (b"1", "CHANGED"), (["b"], "CHILD")])
 
     def test_children_watch(self) -> None:
         found: list[Any] = []

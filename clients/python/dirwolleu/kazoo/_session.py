@@ -157,9 +157,12 @@ class KazooEngine(Engine):
         since = self.contact.heard_at if self._probed_at is None else self._probed_at
         return min(deadline, since + half)
 
+    def is_recast(self) -> bool:
+        return self.read_timeout_ms is not None or super().is_recast()
+
     def drop_watchers(self) -> list[Watcher]:
         """Forgets the functions that wait for watches, and tells them."""
-        dropped = [watcher for watchers in self._watchers.values() for watcher in watchers]
+        dropped = self._watchers.all()
         self._watchers.clear()
         return dropped
 

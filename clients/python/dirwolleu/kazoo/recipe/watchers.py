@@ -1,7 +1,7 @@
 """Functions that are called with each new value (kazoo.recipe.watchers).
 
 A function is called with what was good right before: the core has kept the answer, and was told of no change since. An
-answer that is stale by then is read again.
+answer that is stale by then is read again, at once or with the event that tells of the change.
 """
 
 from __future__ import annotations
@@ -61,6 +61,12 @@ class _Watch:
         if event.type != EventType.NONE:
             self._look(event)
 
+    def _is_followed(self, event: Optional[WatchedEvent], was_told: bool) -> bool:
+        """Whether another look comes after this one, whose answer is not good any more: at the next connection, or where
+        this one comes after a lost connection at the event that has ended the answer. So that change has its event.
+        """
+        return not self._client.connected or event is None and was_told
+
     def _session_watcher(self, state: str) -> Optional[bool]:
         if self._stopped:
             return True
@@ -117,7 +123,7 @@ class DataWatch(_Watch):
             self(func)
 
     def _tell(self, event: Optional[WatchedEvent]) -> None:
-        found = self._read()
+        found = self._read(event)
         if found is None:
             return
         data, stat = found
@@ -128,13 +134,13 @@ class DataWatch(_Watch):
         assert self._func is not None
         self._call(*((data, stat, event) if _takes(self._func, 3) else (data, stat)))
 
-    def _read(self) -> Optional[tuple[Optional[bytes], Optional[ZnodeStat]]]:
-        """A good answer, or None where there is no connection: the next one tells."""
+    def _read(self, event: Optional[WatchedEvent]) -> Optional[tuple[Optional[bytes], Optional[ZnodeStat]]]:
+        """A good answer, or None where another look tells."""
         while True:
             found: tuple[Optional[bytes], Optional[ZnodeStat]] = self._retry(self._ask)
             if self._is_good(found[1]):
                 return found
-            if not self._client.connected:
+            if self._is_followed(event, self._was_told):
                 return None
 
     def _ask(self) -> tuple[Optional[bytes], Optional[ZnodeStat]]:
@@ -180,7 +186,7 @@ class ChildrenWatch(_Watch):
 
     def _tell(self, event: Optional[WatchedEvent]) -> None:
         try:
-            names = self._read()
+            names = self._read(event)
         except NoNodeError:
             self._stop()
             return
@@ -189,13 +195,13 @@ class ChildrenWatch(_Watch):
         self._told_names = sorted(names)
         self._call(*((names, event) if self._sends_event else (names,)))
 
-    def _read(self) -> Optional[list[str]]:
-        """A good answer, or None where there is no connection: the next one tells."""
+    def _read(self, event: Optional[WatchedEvent]) -> Optional[list[str]]:
+        """A good answer, or None where another look tells."""
         ask = functools.partial(self._client.get_children, self._path, self._watcher)
         while True:
             names: list[str] = self._client.retry(ask)
             kept = self._client._kept_children(self._path)
             if kept is not None and kept.mark is Mark.GOOD and sorted(kept.names) == sorted(names):
                 return names
-            if not self._client.connected:
+            if self._is_followed(event, self._told_names is not None):
                 return None

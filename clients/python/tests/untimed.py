@@ -1,0 +1,237 @@
+"""An event loop without sockets, whose time passes only where nothing is left to be done before: so a test of hours takes no time, and no load
+of the machine changes what it sees.
+"""
+
+from __future__ import annotations
+
+import asyncio
+import contextlib
+import errno
+import importlib
+import os
+import selectors
+import struct
+import sys
+from collections.abc import Coroutine
+from typing import Any, Callable, NamedTuple, Optional, cast
+from unittest import mock
+
+from support import CLIENTS, PASSWORD, Asked, Connected, PartnerCase
+
+from dirwolleu import aio
+
+sys.path.insert(0, str(CLIENTS / "partner"))
+partner: Any = importlib.import_module("partner")
+
+Serve = Callable[[], asyncio.Protocol]
+
+
+class _Clock(selectors.SelectSelector):
+    """What a loop waits by: it waits for nothing, and its time is later then."""
+
+    now = 1000.0
+
+    def select(self, timeout: Optional[float] = None) -> list[tuple[selectors.SelectorKey, int]]:
+        found = super().select(0)
+        if not found:
+            if timeout is None:
+                raise AssertionError("nothing is left that could come")
+            self.now += timeout
+        return found
+
+
+class _End(asyncio.Transport):
+    """One end of a connection. What is written at it comes at the other one in the next turn of the loop."""
+
+    other: _End
+
+    def __init__(self, loop: Untimed, protocol: asyncio.BaseProtocol) -> None:
+        super().__init__()
+        self._loop, self._protocol, self._is_over = loop, protocol, False
+
+    def write(self, data: Any) -> None:
+        if not self._is_over:
+            self._loop.call_soon(self.other._bring, bytes(data))
+
+    def is_closing(self) -> bool:
+        return self._is_over
+
+    def close(self) -> None:
+        if not self._is_over:
+            self._is_over = True
+            self._loop.call_soon(self._protocol.connection_lost, None)
+            self._loop.call_soon(self.other.close)
+
+    def abort(self) -> None:
+        self.close()
+
+    def _bring(self, data: bytes) -> None:
+        if self._is_over:
+            return
+        if isinstance(self._protocol, asyncio.BufferedProtocol):
+            while data:
+                room = memoryview(self._protocol.get_buffer(len(data)))
+                piece, data = data[: len(room)], data[len(room) :]
+                room[: len(piece)] = piece
+                self._protocol.buffer_updated(len(piece))
+        else:
+            cast(asyncio.Protocol, self._protocol).data_received(data)
+
+
+class _Listener:
+    """What listens at a port, as the partner has it."""
+
+    def __init__(self, loop: Untimed, port: int) -> None:
+        self._loop, self._port, self.sockets = loop, port, [self]
+
+    def getsockname(self) -> tuple[str, int]:
+        return "127.0.0.1", self._port
+
+    def close(self) -> None:
+        self._loop.servers.pop(self._port, None)
+
+
+class Untimed(asyncio.SelectorEventLoop):
+    """A loop whose connections lead to servers in it."""
+
+    def __init__(self) -> None:
+        self._clock = _Clock()
+        super().__init__(self._clock)
+        self.servers: dict[int, Serve] = {}
+        """What serves at each port. At all others a connection is refused."""
+        self.away: set[int] = set()
+        """The ports of hosts that are away: nothing there answers an attempt to connect."""
+        self.dials: list[tuple[float, int]] = []
+        """When was dialled, and which port."""
+
+    def time(self) -> float:
+        return self._clock.now
+
+    def moment(self) -> int:
+        return round(self.time() * 1000)
+
+    async def create_connection(self, factory: Any, host: Any = None, port: Any = None, **_: Any) -> Any:  # type: ignore[override]
+        self.dials.append((self.time(), port))
+        if port in self.away:
+            await self.create_future()
+        if port not in self.servers:
+            raise ConnectionRefusedError(errno.ECONNREFUSED, os.strerror(errno.ECONNREFUSED))
+        protocols = factory(), self.servers[port]()
+        ends = [_End(self, protocol) for protocol in protocols]
+        for end, other, protocol in zip(ends, reversed(ends), protocols):
+            end.other = other
+            protocol.connection_made(end)
+        return ends[0], protocols[0]
+
+    async def create_server(self, factory: Any, host: Any = None, port: Any = None, **_: Any) -> Any:  # type: ignore[override]
+        port = port or 1 + max(self.servers, default=0)
+        self.servers[port] = factory
+        return _Listener(self, port)
+
+
+class Came(NamedTuple):
+    """A request, and when it came."""
+
+    at: float
+    asked: Asked
+
+
+class Server:
+    """A server of which a test writes what it answers. It accepts each session, unless `admits` says otherwise."""
+
+    def __init__(self, loop: Untimed, port: int, answer: Callable[[Asked], Optional[bytes]]) -> None:
+        self.answer = answer
+        self.admits = True
+        self.granted_ms: Optional[int] = None
+        """The timeout that it grants, where that is not the one that is asked for."""
+        self.came: list[Came] = []
+        self.connects: list[Connected] = []
+        self.loop = loop
+        loop.servers[port] = lambda: _Served(self)
+
+
+class _Served(asyncio.Protocol):
+    """A connection of such a server."""
+
+    def __init__(self, server: Server) -> None:
+        self._server, self._came, self._is_admitted = server, b"", False
+
+    def connection_made(self, transport: asyncio.BaseTransport) -> None:
+        self._transport = cast(asyncio.Transport, transport)
+
+    def data_received(self, data: bytes) -> None:
+        self._came += data
+        while len(self._came) >= 4:
+            end = 4 + int.from_bytes(self._came[:4], "big")
+            if len(self._came) < end:
+                return
+            payload, self._came = self._came[4:end], self._came[end:]
+            answer = self._take(payload) if self._is_admitted else self._admit(payload)
+            if answer is not None:
+                self._transport.write(struct.pack(">i", len(answer)) + answer)
+
+    def _take(self, payload: bytes) -> Optional[bytes]:
+        xid, kind = struct.unpack(">ii", payload[:8])
+        asked = Asked(xid, kind, payload[8:])
+        self._server.came.append(Came(self._server.loop.time(), asked))
+        return self._server.answer(asked)
+
+    def _admit(self, payload: bytes) -> Optional[bytes]:
+        _, last_zxid, timeout_ms, session = struct.unpack(">iqiq", payload[:24])
+        self._server.connects.append(Connected(last_zxid, timeout_ms, session))
+        if not self._server.admits:
+            return None
+        self._is_admitted = True
+        return struct.pack(">iiq", 0, self._server.granted_ms or timeout_ms, session or 7) + PASSWORD + b"\0"
+
+
+class UntimedCase(PartnerCase):
+    """A test whose client and servers share one such loop, `loop`. Pauses are the longest that chance gives."""
+
+    def setUp(self) -> None:
+        self.loop = Untimed()
+        self.addCleanup(self.loop.close)
+        for module in ("_driver", "_shown", "aio"):
+            patch = mock.patch(f"dirwolleu.{module}.moment", self.loop.moment)
+            patch.start()
+            self.addCleanup(patch.stop)
+        longest = mock.patch("dirwolleu._pauses.random.uniform", lambda _, most: most)
+        longest.start()
+        self.addCleanup(longest.stop)
+
+    def run_in_loop(self, main: Coroutine[Any, Any, None]) -> None:
+        asyncio.set_event_loop(self.loop)
+        try:
+            self.loop.run_until_complete(main)
+        finally:
+            asyncio.set_event_loop(None)
+
+    async def a_partner(self) -> Any:
+        """The server in memory, within the loop. Its `port` is where it listens."""
+        made = partner.Partner(None, None)
+        await made.listen(0)
+        return made
+
+    @contextlib.asynccontextmanager
+    async def client(self, *ports: int, timeout: float, is_awaited: bool = True) -> Any:
+        """A client of these servers, in their order."""
+        hosts = ",".join(f"127.0.0.1:{port}" for port in ports)
+        client = aio.Client(hosts, timeout, randomize_hosts=False)
+        starting = asyncio.ensure_future(client.start(None))
+        if is_awaited:
+            await starting
+        try:
+            yield client
+        finally:
+            starting.cancel()
+            await asyncio.gather(starting, return_exceptions=True)
+            await client.stop()
+            await client.close()
+
+    async def until(self, condition: Callable[[], Any], seconds: float) -> float:
+        """Waits until a condition holds, in the loop's time, and gives the moment."""
+        end = self.loop.time() + seconds
+        while not condition():
+            self.assertLess(self.loop.time(), end, "this has not come to pass in time")
+            await asyncio.sleep(0.001)
+        return self.loop.time()
