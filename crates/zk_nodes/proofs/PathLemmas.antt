@@ -11,7 +11,7 @@ use Rattle.std.specs.Prelude.{fold, chars, IsUtf8}
 use Rattle.std.proofs.lemmas.Str.{chars-append}
 use Rattle.std.specs.List.{list_any, list_all}
 use Rattle.zk_nodes.specs.Path.{Name, NodePath, text_of, byte_more, path_of, IsPathText, has_no_slash, is_empty, are_names, parent_of}
-use Rattle.zk_nodes.specs.PathFault.{is_dots, is_refused, fault_of_names, fault_of, fault_told, IsPath}
+use Rattle.zk_nodes.specs.PathFault.{is_dots, is_refused, fault_of_names, fault_of, IsPath}
 use Rattle.zk_nodes.specs.declared.path_fault.PathFault.{PathFault}
 use Rattle.zk_nodes.specs.declared.path_fault.PathFault.TheVariants.{EmptyName, DotName, BadCharacter}
 use Rattle.zk_limits.specs.declared.limits.TheConstants.{LONGEST_PATH}
@@ -135,15 +135,6 @@ fault_of-refused text n m h r = grind (arith, nat_tests, n, m, h, r)
 
 pub fault_of-names : (text : List ℕ) → (length text ≡ 0 → ⊥) → length text ≤ LONGEST_PATH → get_or text 0 0 ≡ 47 → list_any is_refused (chars text) ≡ false → fault_of text ≡ fault_of_names (path_of text)
 fault_of-names text n m h r = grind (arith, nat_tests, n, m, h, r)
-
-told_either : (a b : Bool) (f : PathFault) → (if a then Some EmptyName else (if b then Some DotName else None)) ≡ Some f → fault_told f ≡ Some f
-told_either true b f e = let h : EmptyName ≡ f = cc in rw (← h) refl
-told_either false true f e = let h : DotName ≡ f = cc in rw (← h) refl
-told_either false false f e = cc
-
--- a fault of the names is told as it is
-pub fault_told-names : (path : NodePath) (f : PathFault) → fault_of_names path ≡ Some f → fault_told f ≡ Some f
-fault_told-names path f e = told_either (list_any is_empty path) (list_any is_dots path) f e
 
 -- what it means that a text has no fault
 pub IsPath-parts : (text : List ℕ) → IsPath text

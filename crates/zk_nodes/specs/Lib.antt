@@ -1,5 +1,6 @@
 pub mod Path
 pub mod PathFault
+pub mod Plain
 pub mod FaultText
 pub mod Names
 pub mod StatLayout

@@ -11,6 +11,7 @@ pub mod laws;
 mod names;
 mod path;
 mod path_fault;
+mod plain;
 mod side;
 mod stat;
 

@@ -6,6 +6,7 @@ ghost use Rattle.zk_nodes.specs.Path.{path_eq, path_of, IsPathText, child_text, 
 ghost use Rattle.zk_nodes.specs.PathFault.{child_fault, fault_of, fault_of_names, fault_told, is_refused, IsPath};
 
 use crate::path_fault::PathFault;
+use crate::plain::is_plain;
 use std::alloc::{AllocError, Allocator, Global};
 use std::marker::Model;
 use zk_limits::LONGEST_PATH;
@@ -68,6 +69,28 @@ fn name_fault(text: &[u8]) -> Option<PathFault>
         return Some(PathFault::DotName);
     }
     None
+}
+
+// The first fault of a text.
+fn text_fault(text: &str) -> Option<PathFault>
+    ensures { result ≡ fault_of text.now }
+{
+    if text.is_empty() {
+        return Some(PathFault::Empty);
+    }
+    if text.len() > LONGEST_PATH {
+        return Some(PathFault::TooLong);
+    }
+    if text.as_bytes()[0] != b'/' {
+        return Some(PathFault::NoSlashFirst);
+    }
+    if is_plain(text.as_bytes()) {
+        return None;
+    }
+    if text.chars().any(is_refused) {
+        return Some(PathFault::BadCharacter);
+    }
+    name_fault(text.as_bytes())
 }
 
 // The place of the last slash.
@@ -142,19 +165,7 @@ impl<A: Allocator> Path<A> {
         ensures accepted { OnOk result (IsPath text.now) }
         ensures refused { IfErr result (λ fault. fault_of text.now ≡ fault_told fault) }
     {
-        if text.is_empty() {
-            return Err(PathFault::Empty);
-        }
-        if text.len() > LONGEST_PATH {
-            return Err(PathFault::TooLong);
-        }
-        if text.as_bytes()[0] != b'/' {
-            return Err(PathFault::NoSlashFirst);
-        }
-        if text.chars().any(is_refused) {
-            return Err(PathFault::BadCharacter);
-        }
-        if let Some(fault) = name_fault(text.as_bytes()) {
+        if let Some(fault) = text_fault(text) {
             return Err(fault);
         }
         Ok(Path {

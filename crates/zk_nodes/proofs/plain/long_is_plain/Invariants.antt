@@ -1,0 +1,12 @@
+use Rattle.std.proofs.Common.{◌-◌, ◌≤◌}
+use Rattle.zk_nodes.specs.Plain.{ArePlain}
+use Rattle.zk_nodes.proofs.plain.long_is_plain.Given as goal
+
+abbrev pub invariant-loop-at : goal.invariant-loop-at
+invariant-loop-at l = record {
+  some : 1 ≤ l.at;
+  plain : ArePlain l.text 1 l.at;
+}
+
+abbrev pub decreases-loop-at : goal.decreases-loop-at
+decreases-loop-at l = l.last - l.at

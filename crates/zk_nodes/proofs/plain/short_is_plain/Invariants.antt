@@ -1,0 +1,5 @@
+use Rattle.zk_nodes.specs.Plain.{ArePlain}
+use Rattle.zk_nodes.proofs.plain.short_is_plain.Given as goal
+
+abbrev pub invariant-loop-at : goal.invariant-loop-at
+invariant-loop-at l = ArePlain l.text 1 l.at
