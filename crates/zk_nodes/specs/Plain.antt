@@ -10,6 +10,6 @@ may_follow before byte = nat_le 0x20 byte && nat_le byte 0x7e && (not (before ==
 abbrev pub ArePlain : Text → ℕ → ℕ → Type 0
 ArePlain text start end = (k : ℕ) → start ≤ k → k < end → may_follow (slice_index text (k - 1)) (slice_index text k) ≡ true
 
--- each byte may follow the one before it, and the last one is no slash, but for the text of a slash alone
+-- each byte may follow the one before it, and the last one is no slash, unless the text is a slash alone
 abbrev pub IsPlain : Text → Type 0
 IsPlain text = ArePlain text 1 (length text) × (1 < length text → slice_index text (length text - 1) ≢ 47)

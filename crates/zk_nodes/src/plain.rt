@@ -5,7 +5,7 @@ ghost use Rattle.zk_nodes.specs.Plain.{ArePlain, IsPlain, may_follow};
 
 use std::simd::prelude::*;
 
-// So many bytes are looked at together, and so many of a shorter text.
+// A text is looked at by this many bytes together, and a shorter one by fewer.
 const LANES: usize = 16;
 
 const FEW_LANES: usize = 8;

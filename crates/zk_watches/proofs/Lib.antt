@@ -5,3 +5,4 @@ pub mod SoundLemmas
 pub mod CutLemmas
 pub mod GreedyLemmas
 pub mod PartsLemmas
+pub mod PlaceLemmas

@@ -4,3 +4,4 @@ pub mod Listed
 pub mod Lists
 pub mod Numbered
 pub mod Parts
+pub mod Placed

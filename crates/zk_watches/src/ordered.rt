@@ -2,7 +2,7 @@
 ghost use Rattle.std.specs.Prelude.{◌≡◌, [], length, true, not, IsOk, OnOk, OnErr, IfOk, map};
 ghost use Rattle.zk_watches.specs.Lists.{has, with_path, without};
 
-use crate::numbered::{Numbers, count, is_in, list, next_number, put_last, take_out};
+use crate::numbered::{Numbers, count, is_in, list_below, next_number, put_last, take_out};
 use indexmap::IndexMap;
 use std::alloc::{AllocError, Allocator};
 use std::marker::Model;
@@ -84,6 +84,6 @@ impl<A: Allocator + Copy> Ordered<A> {
     pub(crate) fn list(&self) -> Result<Vec<&str, A>, AllocError>
         ensures { IfOk result (λ texts. map (λ text. text.now) texts.items ≡ self.now) }
     {
-        list(self.alloc, &self.numbers)
+        list_below(self.alloc, &self.numbers, self.next)
     }
 }
