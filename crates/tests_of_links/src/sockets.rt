@@ -14,22 +14,28 @@ use zk_link::{Clock, Dial, SystemClock, Tcp};
 /// The node that is followed.
 const NODE: &str = "/config";
 
-/// The timeout of the session in milliseconds, how long the node is followed, and how long either side waits for the other at a time.
+/// The timeout of the session, in milliseconds.
 const TIMEOUT_MS: i32 = 3_000;
 
-const WHOLE_MS: u64 = 2_000;
-
+/// How long either side waits for the other at a time, in milliseconds.
 const TURN_MS: u64 = 5;
 
-/// A client sends nothing for a third of the timeout, and then a ping. Its program and this server take their time.
+/// How long the node is followed, in milliseconds.
+const WHOLE_MS: u64 = 2_000;
+
+/// How long it is followed where no ping comes.
+const MOST_MS: u64 = 20_000;
+
+/// A client that sends nothing else sends a ping after a third of the timeout.
 const PING_FROM_MS: u64 = 1_000;
 
-const PING_UNTIL_MS: u64 = 1_500;
+/// After two thirds its connection would be given up.
+const PING_UNTIL_MS: u64 = 2_000;
 
 /// A frame of 8 bytes: xid -2, and the type of a ping, 11.
 const PING: [u8; 12] = [0, 0, 0, 8, 255, 255, 255, 254, 0, 0, 0, 11];
 
-/// When another session sets the node, after the beginning in milliseconds, and to what.
+/// When another session sets the node, after the beginning in milliseconds, and to what. It waits until what was there was shown.
 static CHANGES: [(u64, &str); 2] = [(100, "two"), (400, "three")];
 
 /// What answers a client: a server in memory, and its end of the connection.
@@ -37,8 +43,9 @@ static CHANGES: [(u64, &str); 2] = [(100, "two"), (400, "three")];
 struct Host<S: Drop> {
     stream: S,
     bench: Bench<Global>,
-    /// How many of the changes were made.
+    /// How many of the changes were made, and how many times the node was shown.
     made: usize,
+    shown: usize,
     /// The moment at which something other than a ping came last, and that of the first ping after it.
     heard: u64,
     pinged: Option<u64>,
@@ -80,7 +87,7 @@ impl<S: Read + Write + Drop> Host<S> {
         let Some((moment, text)) = CHANGES.get(self.made) else {
             return Ok(());
         };
-        if passed < *moment {
+        if passed < *moment || self.shown <= self.made {
             return Ok(());
         }
         self.made += 1;
@@ -102,16 +109,18 @@ impl<S: Read + Write + Drop> Host<S> {
     }
 }
 
-/// Prints what is kept of the node, each time that the driver says that it is good again, until this moment.
+/// Prints what is kept of the node, each time that the driver says that it is good again, until this moment. How many times it was.
 fn tell<D: Dial + Drop, C: Clock + Drop, W: Write>(
     driver: &mut Driver<'_, Global, D, C>,
     node: &Path,
     until: u64,
     out: &mut W,
-) -> Result<()> {
+) -> Result<usize> {
+    let mut shown = 0usize;
     for _ in 0..u64::MAX {
         match driver.next(until)? {
             Some(Action::Shown { .. }) => {
+                shown = shown.saturating_add(1);
                 if let Some((DataAnswer::Full(Some(bytes), _), _)) = driver
                     .client()
                     .peek_data(node)
@@ -124,7 +133,7 @@ fn tell<D: Dial + Drop, C: Clock + Drop, W: Write>(
             None => break,
         }
     }
-    Ok(())
+    Ok(shown)
 }
 
 /// Goes on with a driver and its server in turn. When the first ping came, after what came last before it.
@@ -143,22 +152,24 @@ fn go_on<R: Net, D: Dial + Drop, C: Clock + Drop, W: Write>(
         stream,
         bench: begun(alloc)?,
         made: 0,
+        shown: 0,
         heard: begins,
         pinged: None,
     };
     for _ in 0..u64::MAX {
         let now = driver.now();
         let passed = now.saturating_sub(begins);
-        if WHOLE_MS <= passed {
+        if MOST_MS <= passed || WHOLE_MS <= passed && host.pinged.is_some() {
             break;
         }
         host.serve(alloc, now, passed)?;
-        tell(driver, &node, now.saturating_add(TURN_MS), out)?;
+        let shown = tell(driver, &node, now.saturating_add(TURN_MS), out)?;
+        host.shown = host.shown.saturating_add(shown);
     }
     Ok(host.pinged.map(|moment| moment.saturating_sub(host.heard)))
 }
 
-/// Follows the node for two seconds.
+/// Follows the node for two seconds, and until a ping has come.
 fn follow<R: Net + time::Clock, W: Write>(
     rt: &R,
     alloc: Global,
@@ -187,6 +198,5 @@ pub fn play_sockets<R: Net + time::Clock, W: Write>(
         Some(ms) if PING_UNTIL_MS < ms => "a ping too late",
         Some(_) => "a ping after a third of the timeout",
     };
-    writeln!(out, "{text}")?;
-    Ok(())
+    Ok(writeln!(out, "{text}")?)
 }
