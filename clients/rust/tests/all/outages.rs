@@ -2,6 +2,7 @@
 
 use crate::jute::{Record, GET_DATA, PING, PONG, SET_WATCHES, WATCHES_SET};
 use crate::partner::{Line, Partner, Request};
+use crate::sessions::{wait_for, wait_for_state};
 use dirwolleu::{
     Cause, Error, Event, Mark, NoReply, Request as Call, Server, Session, SessionOptions, State,
     Tcp,
@@ -20,22 +21,6 @@ const SLACK: Duration = Duration::from_millis(700);
 
 fn millis(count: u64) -> Duration {
     Duration::from_millis(count)
-}
-
-/// The first event of this kind. Those before it are skipped.
-fn wait_for(session: &Session, is_awaited: impl Fn(&Event) -> bool) -> Event {
-    let until = Instant::now() + PATIENCE;
-    loop {
-        let event = session.next_event(Some(until)).unwrap();
-        let event = event.expect("an event comes in time");
-        if is_awaited(&event) {
-            return event;
-        }
-    }
-}
-
-fn wait_for_state(session: &Session, state: State) {
-    wait_for(session, |event| *event == Event::State(state));
 }
 
 /// The mark of what is kept of the data of `/a`.
