@@ -121,13 +121,18 @@ fn refuse_once(code: i32) -> (Duration, Vec<String>) {
     let session = Session::open(partner.address, TIMEOUT).unwrap();
     let tree = session.tree("/t").unwrap();
     let mut told = Vec::new();
-    for news in tree.snapshots() {
-        match news {
+    let mut snapshots = tree.snapshots();
+    loop {
+        let news = snapshots.next_within(PATIENCE);
+        match news.expect("the session lives") {
             Ok(snapshot) => {
                 assert_eq!(snapshot.len(), 2);
                 break;
             }
-            Err(trouble) => told.push(trouble.to_string()),
+            Err(trouble) => {
+                assert_ne!(trouble.kind(), &ErrorKind::NotWhole);
+                told.push(trouble.to_string());
+            }
         }
     }
     let [first, second] = [(); 2].map(|()| reads.recv_timeout(PATIENCE).unwrap());
