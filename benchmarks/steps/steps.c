@@ -2,6 +2,7 @@
  *
  * The frames of the server are made here, before they are counted. Which paths are touched, and the order of names, come from a fixed seed.
  * At the end it prints a line of what the client has sent and handed out, which is the same for each client that does the same. */
+#include "../frames.h"
 #include "client.h"
 
 #include <inttypes.h>
@@ -12,15 +13,13 @@
 
 /* How many steps a row has, and how many calls wait at most. */
 enum { STEPS = 500, LONG_STEPS = 50, AT_ONCE = 1000, TICKS = 1000 };
-enum { DATA = 100, NAME = 8, SHORT = 8, MIDDLE = 100, LONG = 4007, DIGITS = 6, FEW = 10, MANY = 1000, MOST = 50000 };
+enum { NAME = 8, SHORT = 8, MIDDLE = 100, LONG = 4007, DIGITS = 6, FEW = 10, MANY = 1000, MOST = 50000 };
 enum { NOTICE = -1, PONG = -2, WATCHES_SET = -8, DATA_CHANGED = 3, CONNECTED = 3 };
 
 uint8_t sent[ROOM], handed[ROOM];
 size_t sent_length, handed_length;
 struct told told;
 
-static uint8_t frame[ROOM];
-static size_t length;
 static int32_t xid;
 static int64_t zxid = 10;
 static uint64_t now_ms = 1;
@@ -34,51 +33,6 @@ static uint64_t random_below(uint64_t bound)
     state ^= state >> 7;
     state ^= state << 17;
     return state % bound;
-}
-
-static void put(uint64_t number, int bytes)
-{
-    while (bytes--) {
-        frame[length++] = (uint8_t)(number >> (8 * bytes));
-    }
-}
-
-static void put_bytes(const void *bytes, size_t count)
-{
-    put(count, 4);
-    memcpy(frame + length, bytes, count);
-    length += count;
-}
-
-/* A node of one version, whose data have 100 bytes. */
-static void put_stat(size_t children)
-{
-    for (int field = 0; field < 4; field++) {
-        put(5, 8);
-    }
-    put(0, 4);
-    put(children, 4);
-    put(0, 4);
-    put(0, 8);
-    put(DATA, 4);
-    put(children, 4);
-    put(5, 8);
-}
-
-static void begin_reply(int32_t number, int64_t seen)
-{
-    length = 4;
-    put((uint32_t)number, 4);
-    put((uint64_t)seen, 8);
-    put(0, 4);
-}
-
-static void end_frame(void)
-{
-    size_t payload = length - 4;
-    length = 0;
-    put(payload, 4);
-    length = payload + 4;
 }
 
 /* The path of this number and this many bytes: paths differ in their last ones. */
@@ -134,18 +88,6 @@ static void hand_in(void)
 {
     step_bytes(now_ms, frame, length);
     note();
-}
-
-static void make_accepted(void)
-{
-    uint8_t password[16] = {0};
-    length = 4;
-    put(0, 4);
-    put(TIMEOUT_MS, 4);
-    put(7, 8);
-    put_bytes(password, sizeof password);
-    put(0, 1);
-    end_frame();
 }
 
 static void make_data(void)
@@ -213,7 +155,7 @@ static void connect_first(void)
 {
     step_open(now_ms);
     note();
-    make_accepted();
+    make_accepted(TIMEOUT_MS);
     hand_in();
 }
 
@@ -276,7 +218,7 @@ static void count_names(const char *row, size_t first, size_t lists, size_t coun
 static void count_watches(const char *row)
 {
     size_t before = told.frames + 1;
-    make_accepted();
+    make_accepted(TIMEOUT_MS);
     begin_row();
     step_cut(now_ms);
     step_open(now_ms);

@@ -1,93 +1,55 @@
 /* What a look at a whole tree costs: a root with so many nodes below it, each with 100 bytes and no names, all of it read with a watch. It is
  * read from frames made here, with no server. callgrind counts the instructions of the functions by their names. */
+#include "../frames.h"
 #include "dirwolleu.h"
 
 #include <stdio.h>
 #include <stdlib.h>
 #include <string.h>
 
-enum { DATA = 100, ROOM = 1 << 24, SESSION = 7, ZXID = 9 };
-enum side { OF_DATA, OF_NAMES };
+enum { ROOM = 1 << 24, TIMEOUT_MS = 30000, ZXID = 9 };
 
-static uint8_t frame[ROOM], told[ROOM];
-static size_t length;
+static uint8_t told[ROOM];
 static int32_t xid;
 
-static void put(uint64_t number, int bytes) {
-    while (bytes--)
-        frame[length++] = (uint8_t)(number >> (8 * bytes));
-}
-
-static void put_bytes(const void *bytes, size_t count) {
-    put(count, 4);
-    memcpy(frame + length, bytes, count);
-    length += count;
-}
-
-/* The fields of a node of this many children: made at zxid 5, with its data of version 0. */
-static void put_stat(size_t children) {
-    for (int field = 0; field < 4; field++)
-        put(5, 8);
-    put(0, 4);
-    put(children, 4);
-    put(0, 4);
-    put(0, 8);
-    put(DATA, 4);
-    put(children, 4);
-    put(5, 8);
-}
-
-static void begin(void) { length = 4; }
-
 static void hand_in(dw_client *client) {
-    size_t payload = length - 4;
-    length = 0;
-    put(payload, 4);
-    if (dw_bytes(client, 0, frame, payload + 4) != DW_OK)
+    if (dw_bytes(client, 0, frame, length) != DW_OK)
         exit(1);
 }
 
-static void connect_client(dw_client *client) {
-    uint8_t password[16] = {0};
-    if (dw_open(client, 30000) != DW_OK || dw_opened(client, 0) != DW_OK)
-        exit(1);
-    begin();
-    put(0, 4);
-    put(30000, 4);
-    put(SESSION, 8);
-    put_bytes(password, sizeof password);
-    put(0, 1);
+static void hand_in_reply(dw_client *client) {
+    end_frame();
     hand_in(client);
 }
 
-static void begin_reply(void) {
-    begin();
-    put((uint64_t)++xid, 4);
-    put(ZXID, 8);
-    put(0, 4);
+static void connect_client(dw_client *client) {
+    if (dw_open(client, TIMEOUT_MS) != DW_OK || dw_opened(client, 0) != DW_OK)
+        exit(1);
+    make_accepted(TIMEOUT_MS);
+    hand_in(client);
 }
 
 static void read_data(dw_client *client, const char *path) {
     uint8_t data[DATA] = {0};
     if (dw_get_data(client, 0, 1, path, strlen(path), true) != DW_OK)
         exit(1);
-    begin_reply();
+    begin_reply(++xid, ZXID);
     put_bytes(data, sizeof data);
     put_stat(0);
-    hand_in(client);
+    hand_in_reply(client);
 }
 
 static void read_names(dw_client *client, const char *path, size_t count) {
     if (dw_get_children(client, 0, 1, path, strlen(path), true) != DW_OK)
         exit(1);
-    begin_reply();
+    begin_reply(++xid, ZXID);
     put(count, 4);
     for (size_t node = 0; node < count; node++) {
         char name[16];
         put_bytes(name, (size_t)snprintf(name, sizeof name, "n%06zu", node));
     }
     put_stat(count);
-    hand_in(client);
+    hand_in_reply(client);
 }
 
 static void check(enum dw_result result, const char *what) {

@@ -43,3 +43,47 @@ impl Signal {
         }
     }
 }
+
+#[cfg(test)]
+mod tests {
+    use super::Signal;
+    use std::sync::atomic::Ordering;
+    use std::sync::Mutex;
+    use std::thread;
+    use std::time::{Duration, Instant};
+
+    /// How long what is awaited may take.
+    const PATIENCE: Duration = Duration::from_secs(10);
+
+    #[test]
+    fn each_that_waits_is_woken() {
+        for count in [1, 2] {
+            let (lock, signal) = (Mutex::new(()), Signal::default());
+            thread::scope(|scope| {
+                let wait = || {
+                    let begun = Instant::now();
+                    drop(signal.wait(lock.lock().unwrap(), Some(PATIENCE)));
+                    begun.elapsed()
+                };
+                let waits: Vec<_> = (0..count).map(|_| scope.spawn(wait)).collect();
+                while signal.waiting.load(Ordering::Relaxed) < count {
+                    thread::yield_now();
+                }
+                drop(lock.lock().unwrap());
+                signal.tell_all();
+                for wait in waits {
+                    assert!(wait.join().unwrap() < PATIENCE, "of {count}");
+                }
+            });
+            assert_eq!(signal.waiting.load(Ordering::Relaxed), 0);
+        }
+    }
+
+    #[test]
+    fn a_wait_ends_at_its_limit() {
+        let (lock, signal) = (Mutex::new(()), Signal::default());
+        let begun = Instant::now();
+        drop(signal.wait(lock.lock().unwrap(), Some(Duration::from_millis(1))));
+        assert!(begun.elapsed() < PATIENCE);
+    }
+}

@@ -21,7 +21,7 @@ fn session_at(server: &Server, timeout_ms: u64) -> Session {
 }
 
 /// The first event of this kind. Those before it are skipped.
-fn wait_for(session: &Session, is_awaited: impl Fn(&Event) -> bool) -> Event {
+pub fn wait_for(session: &Session, is_awaited: impl Fn(&Event) -> bool) -> Event {
     let until = Instant::now() + PATIENCE;
     loop {
         let event = session.next_event(Some(until)).unwrap();
@@ -32,7 +32,7 @@ fn wait_for(session: &Session, is_awaited: impl Fn(&Event) -> bool) -> Event {
     }
 }
 
-fn wait_for_state(session: &Session, state: State) {
+pub fn wait_for_state(session: &Session, state: State) {
     wait_for(session, |event| *event == Event::State(state));
 }
 

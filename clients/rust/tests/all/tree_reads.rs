@@ -121,13 +121,18 @@ fn refuse_once(code: i32) -> (Duration, Vec<String>) {
     let session = Session::open(partner.address, TIMEOUT).unwrap();
     let tree = session.tree("/t").unwrap();
     let mut told = Vec::new();
-    for news in tree.snapshots() {
-        match news {
+    let mut snapshots = tree.snapshots();
+    loop {
+        let news = snapshots.next_within(PATIENCE);
+        match news.expect("the session lives") {
             Ok(snapshot) => {
                 assert_eq!(snapshot.len(), 2);
                 break;
             }
-            Err(trouble) => told.push(trouble.to_string()),
+            Err(trouble) => {
+                assert_ne!(trouble.kind(), &ErrorKind::NotWhole);
+                told.push(trouble.to_string());
+            }
         }
     }
     let [first, second] = [(); 2].map(|()| reads.recv_timeout(PATIENCE).unwrap());
@@ -289,7 +294,7 @@ fn a_read_that_was_lost_is_made_again_at_once() {
     let (sender, times) = mpsc::channel();
     let partner = Partner::start(move |number, mut line| match number {
         0 => drop(end_at_the_child(&mut line)),
-        1 | 2 => drop(sender.send(end_at_the_child(&mut line))),
+        1..=3 => drop(sender.send(end_at_the_child(&mut line))),
         _ => serve(&mut line, |_, _| false),
     });
     let session = Session::open(partner.address, TIMEOUT).unwrap();
@@ -297,7 +302,7 @@ fn a_read_that_was_lost_is_made_again_at_once() {
     let whole = tree.wait_for(PATIENCE);
     assert_eq!(whole.map(|all| all.len()), Ok(2), "no loss is told");
     let least = times.try_iter().flatten().min().unwrap();
-    assert!(least < Duration::from_millis(400), "{least:?}");
+    assert!(least < Duration::from_millis(500), "{least:?}");
 }
 
 #[test]
