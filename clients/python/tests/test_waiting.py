@@ -82,7 +82,7 @@ class WatchersTest(unittest.TestCase):
         def one(_: Any) -> None: ...
         def other(_: Any) -> None: ...
 
-        for function in (one, one, other, one, print):
+        for function in list[Any]((one, one, other, one, print)):
             watchers.add(Watcher("/a", DATA_SIDE, function))
         watchers.add(Watcher("/a", CHILDREN_SIDE, other))
         watchers.add(Watcher("/b", DATA_SIDE, other))
