@@ -8,6 +8,7 @@ import functools
 import logging
 import os
 import ssl
+import weakref
 from typing import Any, Callable, Optional, cast
 
 from dirwolleu._clock import moment as moment
@@ -36,13 +37,24 @@ def _words_of(error: Optional[BaseException]) -> str:
     return str(error or "no connection in time")
 
 
+_rooms: weakref.WeakKeyDictionary[asyncio.AbstractEventLoop, memoryview] = weakref.WeakKeyDictionary()
+
+
+def _room_of(loop: asyncio.AbstractEventLoop) -> memoryview:
+    """Where the connections of a loop read what comes, one after the other: each takes it out at once."""
+    room = _rooms.get(loop)
+    if room is None:
+        room = _rooms[loop] = memoryview(bytearray(ROOM))
+    return room
+
+
 class Link(asyncio.BufferedProtocol):
-    """One connection to a server, from the moment that it is dialled. What comes is read into one buffer."""
+    """One connection to a server, from the moment that it is dialled."""
 
     def __init__(self, driver: Driver) -> None:
         self.transport: Optional[asyncio.Transport] = None
         self._driver = driver
-        self._room = memoryview(bytearray(ROOM))
+        self._room = _room_of(asyncio.get_running_loop())
         self._is_over = False
 
     def connection_made(self, transport: asyncio.BaseTransport) -> None:

@@ -66,7 +66,7 @@ class Loop(threading.Thread):
     def __init__(self, driver: Driver) -> None:
         super().__init__(name="dirwolleu", daemon=True)
         self._driver = driver
-        self._waiting = _Waiting(lambda: self._loop.call_soon(driver.act))
+        self._waiting = _Waiting(self._act)
         try:
             self._loop = asyncio.SelectorEventLoop(self._waiting)
         except BaseException:
@@ -85,6 +85,13 @@ class Loop(threading.Thread):
     def act(self) -> None:
         """Lets the driver do what was asked."""
         self._waiting.ask()
+
+    def _act(self) -> None:
+        """Does what was asked, within a turn of the loop."""
+        try:
+            self._driver.act()
+        except Exception as error:
+            self._loop.call_exception_handler({"message": "what was asked has failed", "exception": error})
 
     def later(self, seconds: float, function: Callable[[], object]) -> None:
         """Calls a function after this many seconds, in this thread. Where it ends before, it does not."""

@@ -43,11 +43,11 @@ class News:
         return self._lack.acquire(timeout=-1 if timeout is None else min(max(timeout, 0), threading.TIMEOUT_MAX))
 
 
-class Waiter:
+class Waiter(News):
     """One thread that waits for an answer. What is said of `News` holds here too."""
 
     def __init__(self) -> None:
-        self._news = News()
+        super().__init__()
         self._answer: Optional[tuple[Any, Optional[BaseException]]] = None
         self._is_given_up = False
 
@@ -63,14 +63,14 @@ class Waiter:
 
     def set_result(self, result: Any) -> None:
         self._answer = result, None
-        self._news.set()
+        self.set()
 
     def set_exception(self, error: BaseException) -> None:
         self._answer = None, error
-        self._news.set()
+        self.set()
 
     def result(self, timeout: Optional[float]) -> Any:
-        self._news.wait(timeout)
+        self.wait(timeout)
         if self._answer is None:
             raise TimeoutError
         result, error = self._answer

@@ -273,15 +273,15 @@ class BehindTest(UntimedCase):
         """After an expiry too: a request for a new session says what the old one has seen."""
 
         async def run() -> None:
-            first, behind = await self.a_partner(), await self.a_partner()
+            first, late = await self.a_partner(), await self.a_partner()
             for command in ("create /a one", "set /a two", "set /a three"):
                 await first.obey(command)
             async with self.client(first.port, timeout=6.0) as client:
                 await client.get("/a")
-                client.set_hosts(f"127.0.0.1:{behind.port},127.0.0.1:{first.port}")
+                client.set_hosts(f"127.0.0.1:{late.port},127.0.0.1:{first.port}")
                 await first.obey("expire")
                 await self.until(lambda: client.stats().expiries == 1 and client.connected, 30.0)
-                self.assertEqual(behind.sessions, {})
+                self.assertEqual(late.sessions, {})
                 self.assertEqual((await client.get("/a"))[0], b"three")
 
         self.run_in_loop(run())

@@ -1,0 +1,118 @@
+"""Tests of how the loop of a client is woken, and of which functions wait for watches."""
+
+from __future__ import annotations
+
+import collections
+import os
+import threading
+import time
+import unittest
+from typing import Any
+
+import support  # noqa: F401  # for the place of the package
+
+from dirwolleu._library import CHILDREN_SIDE, DATA_SIDE
+from dirwolleu._process import this_process
+from dirwolleu._registry import Watchers
+from dirwolleu._requests import Watcher
+from dirwolleu._threads import _Waiting
+
+
+class WaitingTest(unittest.TestCase):
+    def setUp(self) -> None:
+        self.handed = collections.deque[int]()
+        self.taken = list[int]()
+        self.waiting = _Waiting(self.take)
+        self.addCleanup(self.waiting.close)
+
+    def take(self) -> None:
+        while self.handed:
+            self.taken.append(self.handed.popleft())
+
+    def ask(self, number: int) -> None:
+        self.handed.append(number)
+        self.waiting.ask()
+
+    def test_what_is_asked_before_is_done_without_a_wait(self) -> None:
+        self.ask(1)
+        self.assertEqual((self.waiting.select(None), self.taken), ([], [1]))
+
+    def test_it_waits_where_nothing_is_asked(self) -> None:
+        began = time.monotonic()
+        self.assertEqual(self.waiting.select(0.1), [])
+        self.assertGreaterEqual(time.monotonic() - began, 0.09)
+
+    def test_what_is_asked_meanwhile_wakes_it(self) -> None:
+        threading.Timer(0.1, self.ask, (1,)).start()
+        self.assertEqual((self.waiting.select(support.WAIT), self.taken), ([], [1]))
+
+    def test_nothing_is_lost_where_many_ask(self) -> None:
+        """Each wait ends long before its bound: else something that was asked has woken nobody."""
+
+        def ask(first: int) -> None:
+            for number in range(first, first + 5000):
+                self.ask(number)
+                if number % 50 == 0:
+                    time.sleep(0.0005)  # so that it also waits
+
+        threads = [threading.Thread(target=ask, args=(first,)) for first in (0, 5000, 10000)]
+        for thread in threads:
+            thread.start()
+        longest = 0.0
+        while len(self.taken) < 15000 and longest < 3 * support.WAIT:
+            began = time.monotonic()
+            self.assertEqual(self.waiting.select(3 * support.WAIT), [])
+            longest = max(longest, time.monotonic() - began)
+        for thread in threads:
+            thread.join()
+        self.assertLess(longest, 3 * support.WAIT)
+        self.assertEqual(sorted(self.taken), list(range(15000)))
+
+    def test_who_asks_after_its_end_is_no_harm(self) -> None:
+        self.waiting.close()
+        self.waiting._waits = True
+        self.ask(1)
+        self.assertEqual(self.taken, [])
+
+
+class WatchersTest(unittest.TestCase):
+    def test_each_function_waits_once_and_for_its_side(self) -> None:
+        watchers = Watchers()
+
+        def one(_: Any) -> None: ...
+        def other(_: Any) -> None: ...
+
+        for function in list[Any]((one, one, other, one, print)):
+            watchers.add(Watcher("/a", DATA_SIDE, function))
+        watchers.add(Watcher("/a", CHILDREN_SIDE, other))
+        watchers.add(Watcher("/b", DATA_SIDE, other))
+        self.assertEqual((watchers.has("/a"), watchers.has("/c")), (True, False))
+        self.assertEqual(
+            set(watchers.all()),
+            {
+                Watcher("/a", DATA_SIDE, one),
+                Watcher("/a", DATA_SIDE, other),
+                Watcher("/a", DATA_SIDE, print),
+                Watcher("/a", CHILDREN_SIDE, other),
+                Watcher("/b", DATA_SIDE, other),
+            },
+        )
+        self.assertEqual(list(watchers.take("/a", DATA_SIDE)), [one, other, print])
+        self.assertEqual(list(watchers.take("/a", DATA_SIDE)), [])
+        self.assertEqual(list(watchers.take("/a", CHILDREN_SIDE)), [other])
+        self.assertEqual(list(watchers.take("/b", CHILDREN_SIDE)), [])
+        watchers.clear()
+        self.assertEqual(watchers.all(), [])
+
+
+class ProcessTest(unittest.TestCase):
+    def test_a_forked_child_is_another_process(self) -> None:
+        self.assertEqual(this_process(), os.getpid())
+        child = os.fork()
+        if child == 0:
+            os._exit(0 if this_process() == os.getpid() else 1)
+        self.assertEqual(os.waitstatus_to_exitcode(os.waitpid(child, 0)[1]), 0)
+
+
+if __name__ == "__main__":
+    unittest.main()
