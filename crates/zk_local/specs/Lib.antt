@@ -1,0 +1,3 @@
+pub mod LocalSteps
+pub mod LocalServed
+pub mod LocalHeadline

@@ -1,0 +1,46 @@
+-- Servers that keep to the model at some paths: what they answer there, what they tell there, and which watches they set there. At
+-- other paths they may answer and tell anything.
+use Rattle.std.specs.Prelude.{ℕ, ◌≡◌, ◌≢◌, ◌<◌, ◌≤◌, List, [], length}
+use Rattle.zk_nodes.specs.Path.{Text}
+use Rattle.zk_nodes.specs.History.{History}
+use Rattle.zk_conversation.specs.Calls as call
+use Rattle.zk_conversation.specs.Calls.{Call}
+use Rattle.zk_conversation.specs.Results.{Result}
+use Rattle.zk_turns.specs.Meaning.{Among}
+use Rattle.zk_laws.specs.Flight.{HasCode}
+use Rattle.zk_laws.specs.Server.{Notice, times, fires_all, tree_held, Gives, part_tells}
+use Rattle.zk_laws.specs.Messages.{Request, Restore, Ask}
+use Rattle.zk_laws.specs.ServerSteps.{Waiting, Serving, Ended, ServerEnd, ServerStep, Advances, Answers, Restores, IsNext, changes_next, MayDo}
+
+-- the call is about one of these paths
+abbrev pub IsAbout : (Text → Type 0) → Call → Type 0
+IsAbout P (call.Exists path watch) = P path
+IsAbout P (call.GetData path watch) = P path
+IsAbout P (call.GetChildren path watch) = P path
+IsAbout P (call.SetData path content version) = P path
+IsAbout P (call.Create path content mode) = P path
+IsAbout P (call.Delete path version) = P path
+IsAbout P call.Close = ⊥
+
+-- A call about one of these paths is answered as by the model. Any other may have any result: where that is a code, it is neither 0
+-- nor -101, since with these another result is read.
+abbrev pub GivesAt : (Text → Type 0) → History → ℕ → Call → Result → Type 0
+GivesAt P h place call result = HasCode result × (IsAbout P call → Gives h place call result)
+
+-- What is fired at these paths is sent, once or as often as it is fired, and nothing else about them.
+abbrev pub AreSentAt : (Text → Type 0) → List Notice → List Notice → Type 0
+AreSentAt P fired sent = (notice : Notice) → P notice.path → (times notice sent ≤ times notice fired) × (0 < times notice fired → 0 < times notice sent)
+
+-- none of the notices is about one of these paths
+abbrev pub AreElsewhere : (Text → Type 0) → List Notice → Type 0
+AreElsewhere P sent = (notice : Notice) → Among notice sent → P notice.path → ⊥
+
+-- The steps that a server may take that keeps to the model at these paths. What it sends and where it stands then is by the same
+-- `messages_by` and `end_after`: so each reply has the zxid of the transactions that the server holds, whatever it is about.
+abbrev pub MayDoAt : (Text → Type 0) → History → ServerStep → ServerEnd → List Request → Type 0
+MayDoAt P h (Advances sent) server requests =
+    (server.stage ≢ Ended) × (server.place < length h.transactions) × AreSentAt P (fires_all (changes_next h server.place) server.watches) sent × (server.stage ≡ Waiting → sent ≡ [])
+MayDoAt P h (Answers call result) server requests = (server.stage ≡ Serving) × IsNext (Ask call) requests × GivesAt P h server.place call result
+MayDoAt P h (Restores is_last relative part sent) server requests =
+    (server.stage ≡ Serving) × IsNext (Restore is_last relative part) requests × AreSentAt P (part_tells relative (tree_held h server.place) part) sent
+MayDoAt P h step server requests = MayDo h step server requests
