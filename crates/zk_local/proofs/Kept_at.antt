@@ -15,11 +15,13 @@ use Rattle.zk_watches.specs.Lists.{Lists}
 use Rattle.zk_turns.specs.Turns.{IsAskable}
 use Rattle.zk_laws.specs.Server.{Notice, Watches, fires_all, leaves_set_all, sets, tree_held, zxid_held, part_tells, part_sets, both}
 use Rattle.zk_laws.specs.Messages.{Message, Accepted, Expired, Replies, Watches_set, Notifies, Pong, Request, Connect, Restore, Ask, Ping}
-use Rattle.zk_laws.specs.Log.{Item, Forgets, Took, zxid_in, last, good, left_by, AreParts}
-use Rattle.zk_laws.specs.Steps.{is_behind, restores}
-use Rattle.zk_laws.specs.ServerSteps.{Stage, Waiting, Serving, Ended, changes_next}
+use Rattle.zk_laws.specs.Log.{Item, Starts, Forgets, Took, zxid_in, last, good, left_by, AreParts}
+use Rattle.zk_laws.specs.Steps.{is_behind, restores, Connection, Up, World, By_server, served}
+use Rattle.zk_laws.specs.Run.{Goes}
+use Rattle.zk_laws.proofs.Whole.{move_kept}
+use Rattle.zk_laws.specs.ServerSteps.{Stage, Waiting, Serving, Ended, Advances, changes_next}
 use Rattle.std.specs.List.{AllByRecursion}
-use Rattle.zk_laws.specs.Invariant.{IsRight, Ahead, IsAwaited, IsSure, IsSettled, IsUnwatched, is_in}
+use Rattle.zk_laws.specs.Invariant.{IsRight, Ahead, IsAwaited, IsSure, IsSettled, IsUnwatched, IsStarting}
 use Rattle.zk_laws.specs.Log.{Answer}
 use Rattle.zk_turns.proofs.Ranged.{all_append}
 use Rattle.zk_laws.proofs.Stamps.{IsNextAt, next_at}
@@ -292,3 +294,45 @@ module _ (P : Text → Type 0) (h : History) where
           ahead = λ side path p. next_at_path h is P side path p requests place watches x next sent (subst (λ cs. AreSentAt P (fires_all cs watches) sent) e at) messages log (t.ahead side path p);
         } in
         subst (λ cs. IsTalkingAt log requests (messages ++ map Notifies sent) (suc place) (leaves_set_all cs watches) stage) (sym e) now
+
+    -- where nothing is watched, the next transaction fires nothing
+    unwatched_next : (place : ℕ) (watches : Watches) → place < length h.transactions → IsUnwatched watches → (fires_all (changes_next h place) watches ≡ []) × IsUnwatched (leaves_set_all (changes_next h place) watches)
+    unwatched_next place watches room un =
+        let fired : List Notice = fires_all (changes_next h place) watches in
+        let c : Connection = record { requests = Connect 0 ∷ []; messages = []; place = place; watches = watches; stage = Waiting; talking = false } in
+        let w : World = record { log = Starts 0 ∷ []; link = Up c } in
+        let start : IsStarting h w.log c = record { right = λ side path answer e. absurd cc; unwatched = un; opening = (refl, refl) } in
+        let after : IsStarting h w.log (served h (Advances fired) c) = move_kept h is (Goes (By_server (Advances fired))) w (λ e. cc, room, λ notice. (omega arith, λ some. some)) start in
+        (no_notices fired after.opening.1, after.unwatched)
+      where
+        no_notices : (ns : List Notice) → map Notifies ns ≡ [] → ns ≡ []
+        no_notices [] e = refl
+        no_notices (n ∷ ns) e = absurd cc
+
+    next_opening : (log : List Item) (requests : List Request) (messages : List Message) (place : ℕ) (stage : Stage) (sent : List Notice) → zxid_held h place ≤ zxid_held h (suc place) → AreAway sent → stage ≢ Ended
+        → (stage ≡ Waiting → sent ≡ []) → IsOpeningAt log requests messages place stage → IsOpeningAt log requests (messages ++ map Notifies sent) (suc place) stage
+    next_opening log requests messages place Waiting sent le away going quiet o = (o.0, ap (λ ns. messages ++ map Notifies ns) (quiet refl) ∙ append-nil messages ∙ o.1)
+    next_opening log requests messages place Serving sent le away going quiet o = (o.0, told_accepted messages sent o.1 away, let low = o.2 in omega arith)
+    next_opening log requests messages place Ended sent le away going quiet o = absurd (going refl)
+
+    start_advances : (log : List Item) (requests : List Request) (messages : List Message) (place : ℕ) (watches : Watches) (stage : Stage) (sent : List Notice) → place < length h.transactions → stage ≢ Ended
+        → AreSentAt P (fires_all (changes_next h place) watches) sent → (stage ≡ Waiting → sent ≡ []) → IsStartingAt log requests messages place watches stage
+        → IsStartingAt log requests (messages ++ map Notifies sent) (suc place) (leaves_set_all (changes_next h place) watches) stage
+    start_advances log requests messages place watches stage sent room going at quiet s =
+        let none = unwatched_next place watches room s.unwatched in
+        let found = next_at h place is room in
+        let above = found.1.above in
+        let zxid = found.1.zxid in
+        let away : AreAway sent = (λ side path p. none_told P side path sent p (subst (λ fired. AreSentAt P fired sent) none.0 at)) in
+        record { right = s.right; unwatched = none.1; opening = next_opening log requests messages place stage sent (omega arith) away going quiet s.opening }
+
+    pub kept_advances : (b : Bool) (log : List Item) (requests : List Request) (messages : List Message) (place : ℕ) (watches : Watches) (stage : Stage) (sent : List Notice) → place < length h.transactions → stage ≢ Ended
+        → AreSentAt P (fires_all (changes_next h place) watches) sent → (stage ≡ Waiting → sent ≡ []) → IsKeptAt b log requests messages place watches stage
+        → IsKeptAt b log requests (messages ++ map Notifies sent) (suc place) (leaves_set_all (changes_next h place) watches) stage
+    kept_advances true log requests messages place watches stage sent room going at quiet t = talk_advances log requests messages place watches stage sent room at t
+    kept_advances false log requests messages place watches stage sent room going at quiet s = start_advances log requests messages place watches stage sent room going at quiet s
+
+  pub kept_tells : (b : Bool) (log : List Item) (requests : List Request) (messages : List Message) (place : ℕ) (watches : Watches) (sent : List Notice) → AreElsewhere P sent
+      → IsKeptAt b log requests messages place watches Serving → IsKeptAt b log requests (messages ++ map Notifies sent) place watches Serving
+  kept_tells true log requests messages place watches sent e t = talk_tells log requests messages place watches Serving sent (λ side path p. elsewhere_told P side path sent p e) t
+  kept_tells false log requests messages place watches sent e s = start_tells log requests messages place watches sent (λ side path p. elsewhere_told P side path sent p e) s

@@ -1,2 +1,3 @@
 pub mod Elsewhere
 pub mod Kept_at
+pub mod Flow

@@ -1,0 +1,135 @@
+-- What is between a client and servers that keep to the model at some paths: letters in flight, and after them, where a part of setWatches
+-- was answered with an error, bytes that nobody reads.
+use Rattle.std.proofs.Common.{◌≡◌, ℕ, ◌^◌, ◌≤◌, ◌<◌, ℤ, pos, Bool, true, false, cond, List, [], ◌∷◌, ◌++◌, map, length, refl, sym, ap, subst, ◌∙◌, arith, inl, inr, ◌⊎◌, append_assoc, Ok, Err}
+use Rattle.std.specs.Prelude.{◌≢◌}
+use Rattle.std.specs.List.{AllByRecursion}
+use Rattle.std.specs.Ordering.{int_eq}
+use Rattle.std.proofs.lemmas.Bool.Decides.{Decides-int_eq}
+use Rattle.zk_nodes.specs.Path.{Text}
+use Rattle.zk_nodes.specs.History.{History}
+use Rattle.zk_jute.specs.Laws.{reads}
+use Rattle.zk_jute.specs.Reading.{reading as jute_reading}
+use Rattle.zk_records.specs.Layouts.{reply_header}
+use Rattle.zk_conversation.specs.Calls.{Call, part_xid}
+use Rattle.zk_conversation.specs.Questions.{Question, question_of}
+use Rattle.zk_conversation.specs.Pending.{Pending, part_waits}
+use Rattle.zk_conversation.specs.Arriving.{arriving, later_arriving}
+use Rattle.zk_conversation.specs.Results.{Result}
+use Rattle.zk_frames.specs.Frame.{frame}
+use Rattle.zk_frames.specs.declared.fault.FrameFault.TheVariants.{TooLong}
+use Rattle.zk_limits.specs.declared.limits.TheConstants.{LONGEST_INCOMING}
+use Rattle.zk_session.specs.declared.states.State.TheVariants.{Connected}
+use Rattle.zk_turns.specs.Turns.{Framed, Talked, Silent, WatchesRefused, Fault, Start}
+use Rattle.zk_turns.specs.Past.{Asking, For_part, For_call, awaited, Past, Dropped, is_talking, state_of, held_of, answered, questions, Took as Takes_in, Replies as Answers_call, Watches_set as Sets_watches}
+use Rattle.zk_turns.specs.Spelled.{IsHeaded}
+use Rattle.zk_turns.specs.Taken.{reading, taken_of}
+use Rattle.zk_laws.specs.Server.{zxid_held}
+use Rattle.zk_laws.specs.Messages.{Message, Replies, Watches_set, Request, from_zero}
+use Rattle.zk_laws.specs.Log.{Item}
+use Rattle.zk_laws.specs.ServerSteps.{Stage, Ended, ServerEnd}
+use Rattle.zk_laws.specs.Seen.{seen}
+use Rattle.zk_laws.specs.Served.{Sent, requests, unread, Wire, is_going, IsPayload}
+use Rattle.zk_laws.specs.Flight.{Letter, frames, messages, answers, AreLater, Owes}
+use Rattle.zk_local.specs.LocalSteps.{GivesAt}
+use Rattle.zk_local.proofs.Kept_at.{AreRight, IsKeptAt}
+
+-- what comes after the letters: nothing, or the reply with an error and any bytes
+pub data Tail : Type 0 where
+  Nothing_more : Tail
+  Failure : (payload : List ℕ) → (rest : List ℕ) → Tail
+
+abbrev pub tail_bytes : Tail → List ℕ
+tail_bytes Nothing_more = []
+tail_bytes (Failure payload rest) = frame payload ++ rest
+
+-- the payload says that a part of setWatches is refused
+pub record IsRefusal (payload : List ℕ) : Type 0 where
+  pub zxid : ℤ
+  pub code : ℤ
+  pub behind : List ℕ
+  pub other : code ≢ pos 0
+  pub headed : IsHeaded part_xid zxid code payload behind
+
+-- Why a connection was given up.
+abbrev pub IsDue : (List ℕ → Type 0) → Fault → Type 0
+IsDue Was fault =
+    (fault ≡ Silent) ⊎ ((fault ≡ Framed TooLong) × ((payload : List ℕ) × Was payload × (LONGEST_INCOMING < length payload)))
+    ⊎ ((code : ℤ) × (fault ≡ WatchesRefused code) × (code ≢ pos 0))
+
+module _ (P : Text → Type 0) (h : History) where
+  -- a server gave this result, with the zxid of where it stood
+  abbrev pub IsGivenAt : Call → ℕ → Result → Type 0
+  IsGivenAt call zxid result = (place : ℕ) × (zxid ≡ zxid_held h place) × GivesAt P h place call result
+
+  -- what was asked for the message, under the xid of its request
+  abbrev pub IsForAt : ℤ → Message → List Asking → Type 0
+  IsForAt xid (Replies question zxid result) asked = (ticket : ℕ) × (n : ℕ) × (call : Call) × (xid ≡ pos n) × (question_of call ≡ question) × (asked ≡ For_call n ticket call ∷ []) × IsGivenAt call zxid result
+  IsForAt xid (Watches_set is_last zxid) asked = (xid ≡ part_xid) × (asked ≡ For_part is_last ∷ [])
+  IsForAt xid _ asked = asked ≡ []
+
+  -- the reply is to the call that waits first
+  abbrev pub AnswersFirstAt : ℕ → Question → ℕ → Result → List Asking → Type 0
+  AnswersFirstAt ticket question zxid result (For_call xid other call ∷ more) = (other ≡ ticket) × (question_of call ≡ question) × IsGivenAt call zxid result
+  AnswersFirstAt ticket question zxid result _ = ⊥
+
+  module _ (start : Start) (Was : List ℕ → Type 0) where
+    -- the payload was sent and spells the message
+    pub record IsLetterAt (l : Letter) : Type 0 where
+      pub was_sent : Was l.payload
+      pub short : length l.payload < 2 ^ 31
+      pub spelt : IsPayload l.xid l.message l.payload
+      pub is_for : IsForAt l.xid l.message l.asked
+
+    -- where a part was refused, the server has ended, and the part waits first after the letters
+    abbrev pub IsTail : Tail → Stage → List Asking → Type 0
+    IsTail Nothing_more stage owed = Unit {0}
+    IsTail (Failure payload rest) stage owed = Was payload × (length payload < 2 ^ 31) × IsRefusal payload × (stage ≡ Ended) × (b : Bool) × (more : List Asking) × (owed ≡ For_part b ∷ more)
+
+    -- the invariant between messages, where the client and its server stand
+    abbrev pub IsKeptFor : Past → ServerEnd → List Request → List Message → Type 0
+    IsKeptFor past server rs ms = IsKeptAt P h (is_talking (state_of past)) (seen start past) rs ms server.place server.watches server.stage
+
+    -- an open connection
+    pub record IsFlow (past : Past) (wire : Wire) (letters : List Letter) (tail : Tail) : Type 0 where
+      pub enough : wire.processed ≤ length (requests start past)
+      pub are : AllByRecursion IsLetterAt letters
+      pub bytes : held_of past ++ wire.coming ≡ frames letters ++ tail_bytes tail
+      pub owed : List Asking
+      pub owes : Owes (unread start past wire) owed
+      pub pending : awaited past ≡ answers letters ++ owed
+      pub later : is_talking (state_of past) ≡ true → AreLater (messages letters)
+      pub ended : IsTail tail wire.server.stage owed
+      pub kept : IsKeptFor past wire.server (map (λ s. s.request) (unread start past wire)) (messages letters)
+
+    -- the reply was the first awaited, with a zxid from 0 that is not below the one that the client began with
+    abbrev pub IsAnswered : ℕ → Question → ℤ → Result → Past → Type 0
+    IsAnswered ticket question zxid result past = (zxid ≡ pos (from_zero zxid)) × (from_zero start.last ≤ from_zero zxid) × AnswersFirstAt ticket question (from_zero zxid) result (awaited past)
+
+    -- what was dropped and answered so far had its reason
+    abbrev pub IsCalmAt : Past → Type 0
+    IsCalmAt [] = Unit {0}
+    IsCalmAt (Dropped fault ∷ past) = IsDue Was fault × IsCalmAt past
+    IsCalmAt (Takes_in (Answers_call ticket question zxid result) ∷ past) = IsAnswered ticket question zxid result past × IsCalmAt past
+    IsCalmAt (_ ∷ past) = IsCalmAt past
+
+    -- The invariant.
+    pub record Stands_at (past : Past) (wire : Wire) : Type 0 where
+      pub right : AreRight P h (seen start past)
+      pub going : is_going past ≡ true → (letters : List Letter) × (tail : Tail) × IsFlow past wire letters tail
+      pub calm : IsCalmAt past
+      pub counted : answered past ≤ length (questions past)
+
+-- a part that is refused ends the connection
+pub reads_refusal : (ps : List Pending) (last : ℤ) (b : Bool) (p : List ℕ) (r : IsRefusal p) → reading Connected (part_waits b ∷ ps) last p ≡ Dropped (WatchesRefused r.code)
+unfolding arriving
+reads_refusal ps last b p r =
+    let found = ap (jute_reading reply_header (length p)) r.headed.whole ∙ (reads reply_header (length p)).again (part_xid, (r.zxid, r.code)) r.behind r.headed.fits in
+    ap (λ x. elim (later_arriving (part_waits b ∷ ps) (length p) x) [ Ok arrived ↦ taken_of last arrived | Err fault ↦ Dropped (Talked fault) ]) found
+    ∙ ap (λ t. cond t (Takes_in (Sets_watches b r.zxid)) (Dropped (WatchesRefused r.code))) (no r.code r.other)
+  where
+    no : (code : ℤ) → code ≢ pos 0 → int_eq code (pos 0) ≡ false
+    no code n = by (int_eq code (pos 0)) refl
+      where
+        by : (t : Bool) → int_eq code (pos 0) ≡ t → t ≡ false
+        by true e = absurd (n ((Decides-int_eq code (pos 0)).0 e))
+        by false e = refl
