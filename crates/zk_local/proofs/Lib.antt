@@ -1,3 +1,6 @@
 pub mod Elsewhere
 pub mod Kept_at
 pub mod Flow
+pub mod Taking_at
+pub mod Meeting_at
+pub mod Moving_at
