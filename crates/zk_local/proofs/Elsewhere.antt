@@ -80,7 +80,7 @@ those_times b path n (one ∷ ns) = go (those_times b path n ns) (same_notice n 
         let q : agree b (bytes_eq one.path path) ≡ agree b (bytes_eq n.path path) = ap (λ t. agree b (bytes_eq t path)) (sym p) in
         ap (λ d. times n (cond d (one ∷ those b path ns) (those b path ns))) q ∙ like (agree b (bytes_eq n.path path)) ih
 
-times_append : (n : Notice) (a b : List Notice) → times n (a ++ b) ≡ times n a + times n b
+pub times_append : (n : Notice) (a b : List Notice) → times n (a ++ b) ≡ times n a + times n b
 times_append n [] b = omega arith
 times_append n (one ∷ a) b = let ih = times_append n a b in omega (arith, ih)
 
@@ -258,8 +258,7 @@ module _ (h : History) (is : IsHistory h) (P : Text → Type 0) (side : Side) (p
       let early : is_behind log (Replies (question_of q) z r) ≡ false = and_right (is_some (left_by (question_of q) r)) (nat_lt z (last log)) (grind (arith, nat_tests)) in
       let watched : both watches (sets (question_of q) refused) side (path_of path) ≡ true → both watches (sets (question_of q) r) side (path_of path) ≡ true =
       (λ w. or_left (watches side (path_of path)) (sets (question_of q) r side (path_of path)) (sym (or_false (watches side (path_of path))) ∙ ap (λ t. watches side (path_of path) || t) (sym (sets_refused (question_of q) (pos 1) side (path_of path))) ∙ w)) in
-      let sure = sure_watched h side path rest place (both watches (sets (question_of q) refused)) (both watches (sets (question_of q) r)) (last (Took (Replies (question_of q) z refused) ∷ log)) (good side path (Took (Replies (question_of q) z refused) ∷ log)) watched f.2.1.1 in
-      (
+      let sure = sure_watched h side path rest place (both watches (sets (question_of q) refused)) (both watches (sets (question_of q) r)) (last (Took (Replies (question_of q) z refused) ∷ log)) (good side path (Took (Replies (question_of q) z refused) ∷ log)) watched f.2.1.1 in (
         right,
         early,
         (

@@ -13,7 +13,7 @@ use Rattle.zk_conversation.specs.Pending.{closes}
 use Rattle.zk_conversation.specs.Results.{Result}
 use Rattle.zk_watches.specs.Lists.{Lists}
 use Rattle.zk_turns.specs.Turns.{IsAskable}
-use Rattle.zk_laws.specs.Server.{Notice, Watches, fires_all, leaves_set_all, sets, tree_held, zxid_held, part_tells, part_sets, both}
+use Rattle.zk_laws.specs.Server.{Notice, Watches, AreSent, fires_all, leaves_set_all, sets, tree_held, zxid_held, part_tells, part_sets, both}
 use Rattle.zk_laws.specs.Messages.{Message, Accepted, Expired, Replies, Watches_set, Notifies, Pong, Request, Connect, Restore, Ask, Ping}
 use Rattle.zk_laws.specs.Log.{Item, Starts, Forgets, Took, zxid_in, last, good, left_by, AreParts}
 use Rattle.zk_laws.specs.Steps.{is_behind, restores, Connection, Up, World, By_server, served}
@@ -24,6 +24,7 @@ use Rattle.std.specs.List.{AllByRecursion}
 use Rattle.zk_laws.specs.Invariant.{IsRight, Ahead, IsAwaited, IsSure, IsSettled, IsUnwatched, IsStarting}
 use Rattle.zk_laws.specs.Log.{Answer}
 use Rattle.zk_turns.proofs.Ranged.{all_append}
+use Rattle.zk_laws.proofs.Basics.{none_sent}
 use Rattle.zk_laws.proofs.Stamps.{IsNextAt, next_at}
 use Rattle.zk_laws.proofs.Ahead.{ahead_right, ahead_map, ahead_same, right_less, max_zero}
 use Rattle.zk_laws.proofs.Serving.{pong_ahead}
@@ -316,7 +317,7 @@ module _ (P : Text → Type 0) (h : History) where
     next_opening log requests messages place Ended sent le away going quiet o = absurd (going refl)
 
     start_advances : (log : List Item) (requests : List Request) (messages : List Message) (place : ℕ) (watches : Watches) (stage : Stage) (sent : List Notice) → place < length h.transactions → stage ≢ Ended
-        → AreSentAt P (fires_all (changes_next h place) watches) sent → (stage ≡ Waiting → sent ≡ []) → IsStartingAt log requests messages place watches stage
+        → AreSentAt P (fires_all (changes_next h place) watches) sent → (stage ≡ Waiting → AreSent (fires_all (changes_next h place) watches) sent) → IsStartingAt log requests messages place watches stage
         → IsStartingAt log requests (messages ++ map Notifies sent) (suc place) (leaves_set_all (changes_next h place) watches) stage
     start_advances log requests messages place watches stage sent room going at quiet s =
         let none = unwatched_next place watches room s.unwatched in
@@ -324,10 +325,10 @@ module _ (P : Text → Type 0) (h : History) where
         let above = found.1.above in
         let zxid = found.1.zxid in
         let away : AreAway sent = (λ side path p. none_told P side path sent p (subst (λ fired. AreSentAt P fired sent) none.0 at)) in
-        record { right = s.right; unwatched = none.1; opening = next_opening log requests messages place stage sent (omega arith) away going quiet s.opening }
+        record { right = s.right; unwatched = none.1; opening = next_opening log requests messages place stage sent (omega arith) away going (λ w. none_sent sent (subst (λ fired. AreSent fired sent) none.0 (quiet w))) s.opening }
 
     pub kept_advances : (b : Bool) (log : List Item) (requests : List Request) (messages : List Message) (place : ℕ) (watches : Watches) (stage : Stage) (sent : List Notice) → place < length h.transactions → stage ≢ Ended
-        → AreSentAt P (fires_all (changes_next h place) watches) sent → (stage ≡ Waiting → sent ≡ []) → IsKeptAt b log requests messages place watches stage
+        → AreSentAt P (fires_all (changes_next h place) watches) sent → (stage ≡ Waiting → AreSent (fires_all (changes_next h place) watches) sent) → IsKeptAt b log requests messages place watches stage
         → IsKeptAt b log requests (messages ++ map Notifies sent) (suc place) (leaves_set_all (changes_next h place) watches) stage
     kept_advances true log requests messages place watches stage sent room going at quiet t = talk_advances log requests messages place watches stage sent room at t
     kept_advances false log requests messages place watches stage sent room going at quiet s = start_advances log requests messages place watches stage sent room going at quiet s

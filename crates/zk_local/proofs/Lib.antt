@@ -4,3 +4,5 @@ pub mod Flow
 pub mod Taking_at
 pub mod Meeting_at
 pub mod Moving_at
+pub mod Headlines_at
+pub mod Following

@@ -1,6 +1,6 @@
 -- Servers that keep to the model at some paths: what they answer there, what they tell there, and which watches they set there. At
 -- other paths they may answer and tell anything.
-use Rattle.std.specs.Prelude.{ℕ, ◌≡◌, ◌≢◌, ◌<◌, ◌≤◌, List, [], length}
+use Rattle.std.specs.Prelude.{ℕ, ◌≡◌, ◌≢◌, ◌<◌, ◌≤◌, Bool, true, List, length}
 use Rattle.zk_nodes.specs.Path.{Text}
 use Rattle.zk_nodes.specs.History.{History}
 use Rattle.zk_conversation.specs.Calls as call
@@ -8,9 +8,13 @@ use Rattle.zk_conversation.specs.Calls.{Call}
 use Rattle.zk_conversation.specs.Results.{Result}
 use Rattle.zk_turns.specs.Meaning.{Among}
 use Rattle.zk_laws.specs.Flight.{HasCode}
-use Rattle.zk_laws.specs.Server.{Notice, times, fires_all, tree_held, Gives, part_tells}
+use Rattle.zk_laws.specs.Server.{Notice, times, AreSent, fires_all, tree_held, Gives, part_tells}
 use Rattle.zk_laws.specs.Messages.{Request, Restore, Ask}
 use Rattle.zk_laws.specs.ServerSteps.{Waiting, Serving, Ended, ServerEnd, ServerStep, Advances, Answers, Restores, IsNext, changes_next, MayDo}
+
+-- the path is one of those for which the test is true
+abbrev pub IsOf : (Text → Bool) → Text → Type 0
+IsOf paths path = paths path ≡ true
 
 -- the call is about one of these paths
 abbrev pub IsAbout : (Text → Type 0) → Call → Type 0
@@ -36,10 +40,12 @@ abbrev pub AreElsewhere : (Text → Type 0) → List Notice → Type 0
 AreElsewhere P sent = (notice : Notice) → Among notice sent → P notice.path → ⊥
 
 -- The steps that a server may take that keeps to the model at these paths. What it sends and where it stands then is by the same
--- `messages_by` and `end_after`: so each reply has the zxid of the transactions that the server holds, whatever it is about.
+-- `messages_by` and `end_after`: so each reply has the zxid of the transactions that the server holds, whatever it is about. Before it
+-- admits the client it keeps to the model at all paths: there nothing is watched, and it tells nothing.
 abbrev pub MayDoAt : (Text → Type 0) → History → ServerStep → ServerEnd → List Request → Type 0
 MayDoAt P h (Advances sent) server requests =
-    (server.stage ≢ Ended) × (server.place < length h.transactions) × AreSentAt P (fires_all (changes_next h server.place) server.watches) sent × (server.stage ≡ Waiting → sent ≡ [])
+    (server.stage ≢ Ended) × (server.place < length h.transactions) × AreSentAt P (fires_all (changes_next h server.place) server.watches) sent
+    × (server.stage ≡ Waiting → AreSent (fires_all (changes_next h server.place) server.watches) sent)
 MayDoAt P h (Answers call result) server requests = (server.stage ≡ Serving) × IsNext (Ask call) requests × GivesAt P h server.place call result
 MayDoAt P h (Restores is_last relative part sent) server requests =
     (server.stage ≡ Serving) × IsNext (Restore is_last relative part) requests × AreSentAt P (part_tells relative (tree_held h server.place) part) sent

@@ -2,10 +2,57 @@
 //! The functions have empty bodies: their contracts are the laws.
 #![tactic(auto)]
 
-ghost use Rattle.std.specs.Prelude.{◌≡◌};
+ghost use Rattle.std.specs.Prelude.{ℕ, ◌≡◌, Bool, true, List, map, ◌++◌};
 ghost use Rattle.zk_nodes.specs.Path.{Text};
+ghost use Rattle.zk_nodes.specs.History.{History, IsHistory, Tree};
+ghost use Rattle.zk_conversation.specs.Calls.{Call};
+ghost use Rattle.zk_conversation.specs.Results.{Result};
+ghost use Rattle.zk_turns.specs.Turns.{Start, Item as Client_item};
+ghost use Rattle.zk_turns.specs.View.{View, Cache};
+ghost use Rattle.zk_turns.specs.Rule.{Stands};
+ghost use Rattle.zk_laws.specs.Server.{Notice};
+ghost use Rattle.zk_laws.specs.Messages.{Request, Ask};
+ghost use Rattle.zk_laws.specs.ServerSteps.{ServerEnd, Serving, Answers, IsNext};
+ghost use Rattle.zk_laws.specs.Served.{Entry, items_in, wire_of, IsServing, Served};
+ghost use Rattle.zk_laws.specs.Flight.{HasCode};
+ghost use Rattle.zk_laws.specs.Headline.{IsTrueOf};
+ghost use Rattle.zk_local.specs.LocalSteps.{IsOf, IsAbout, AreSentAt, AreElsewhere, MayDoAt};
+ghost use Rattle.zk_local.specs.LocalServed.{LocalEntry, items_at, wire_at, local_of, IsServingAt, ServedAt};
+ghost use Rattle.zk_local.specs.LocalHeadline.{IsTrueAt, IsCoherentAt, IsQuietAfter, tree_after, HeadlineAt};
 
-/// Nothing yet.
-pub fn nothing()
-    ensures { (path : Text) → path ≡ path }
+/// The headline at some paths: what servers answer and tell elsewhere does not touch what is good there, nor which answers are true there.
+pub fn local_headline()
+    ensures { (paths : Text → Bool) (h : History) → IsHistory h → (start : Start) (items : List Client_item) (view : View) → Stands start items view
+        → (served : ServedAt (IsOf paths) h start items) → HeadlineAt (IsOf paths) h start items view served.entries }
+{}
+
+/// Each answer about one of these paths that is marked good is the history's answer at the client's last seen zxid.
+pub fn local_coherence()
+    ensures { (paths : Text → Bool) (h : History) → IsHistory h → (start : Start) (items : List Client_item) (view : View) → Stands start items view → ServedAt (IsOf paths) h start items → IsCoherentAt (IsOf paths) h view }
+{}
+
+/// Where the client has taken all that the server of its connection sent, and no watches are still to be set again, each good answer
+/// about one of these paths is also what that server would answer where it stands.
+pub fn local_quiet()
+    ensures { (paths : Text → Bool) (h : History) → IsHistory h → (start : Start) (entries : List LocalEntry) (view : View) → IsServingAt (IsOf paths) h start entries → Stands start (items_at entries) view
+        → IsQuietAfter h start entries → IsTrueAt (IsOf paths) (tree_after h entries) view.cache }
+{}
+
+/// Servers that keep to the model keep to it at any paths (`serving`, `served`), with the same items and the same server; fewer paths
+/// ask less (`fewer`); and what is true at all paths is true as `headline` of `zk_laws` says it (`everywhere`). So that is the case of
+/// all paths.
+pub fn model_is_local()
+    ensures serving { (paths : Text → Bool) (h : History) (start : Start) (entries : List Entry) → IsServing h start entries → IsServingAt (IsOf paths) h start (map local_of entries) }
+    ensures served { (paths : Text → Bool) (h : History) (start : Start) (items : List Client_item) → Served h start items → ServedAt (IsOf paths) h start items }
+    ensures items { (entries : List Entry) → items_at (map local_of entries) ≡ items_in entries }
+    ensures wire { (h : History) (entries : List Entry) → wire_at h (map local_of entries) ≡ wire_of h entries }
+    ensures fewer { (paths some : Text → Bool) (h : History) (start : Start) (entries : List LocalEntry) → ((path : Text) → IsOf some path → IsOf paths path) → IsServingAt (IsOf paths) h start entries → IsServingAt (IsOf some) h start entries }
+    ensures everywhere { (paths : Text → Bool) (tree : Tree) (cache : Cache) → ((path : Text) → IsOf paths path) → IsTrueAt (IsOf paths) tree cache → IsTrueOf tree cache }
+{}
+
+/// A call about another path may have any result, and beside what is sent about these paths anything may be told of others.
+pub fn elsewhere_is_free()
+    ensures answers { (paths : Text → Bool) (h : History) (server : ServerEnd) (requests : List Request) (call : Call) (result : Result) → server.stage ≡ Serving → IsNext (Ask call) requests → HasCode result → (IsAbout (IsOf paths) call → ⊥)
+        → MayDoAt (IsOf paths) h (Answers call result) server requests }
+    ensures notices { (paths : Text → Bool) (fired sent more : List Notice) → AreSentAt (IsOf paths) fired sent → AreElsewhere (IsOf paths) more → AreSentAt (IsOf paths) fired (sent ++ more) }
 {}
