@@ -1,5 +1,5 @@
 -- What is told and answered about other paths changes nothing of what is ahead of a path.
-use Rattle.std.proofs.Common.{ℕ, pos, ◌≡◌, ◌<◌, ◌≤◌, Bool, true, false, ◌&&◌, ◌||◌, List, [], ◌∷◌, ◌++◌, refl, ap, sym, ◌∙◌, subst, inl, inr, arith, Option, Some, None, is_some, cond, map, suc, nat_lt, append-nil}
+use Rattle.std.proofs.Common.{ℕ, pos, ◌≡◌, ◌<◌, ◌≤◌, Bool, true, false, ◌&&◌, ◌||◌, List, [], ◌∷◌, ◌++◌, refl, ap, sym, ◌∙◌, subst, inl, inr, ◌⊎◌, arith, Option, Some, None, is_some, cond, map, suc, nat_lt, append-nil}
 use Rattle.std.proofs.lemmas.Bool.Decides.{nat_tests}
 use Rattle.std.proofs.lemmas.Bool.{and_parts, and_from, and_right, or_left, or_right, or_cases}
 use Rattle.std.specs.Prelude.{ℤ, ◌+◌, bytes_eq}
@@ -18,13 +18,13 @@ use Rattle.zk_turns.specs.Turns.{IsAskable}
 use Rattle.zk_turns.specs.Meaning.{Among}
 use Rattle.zk_laws.specs.Server.{Notice, Watches, times, AreSent, fires_all, leaves_set_all, sets, tree_held, zxid_held, part_tells, part_sets, both, same_side, IsOther}
 use Rattle.zk_laws.specs.Messages.{Message, Replies, Watches_set, Notifies, Request, Restore, Ask}
-use Rattle.zk_laws.specs.Log.{Item, Took, last, good, left_by, leaves, tells_of, Answer}
+use Rattle.zk_laws.specs.Log.{Item, Took, last, good, left_by, leaves, tells_of, Answer, refreshed, answer_of}
 use Rattle.zk_laws.specs.Steps.{is_behind}
-use Rattle.zk_laws.specs.Invariant.{IsRight, Ahead, IsSure, IsSettled}
+use Rattle.zk_laws.specs.Invariant.{IsRight, Ahead, IsCovered, IsSure, IsSettled}
 use Rattle.zk_laws.proofs.Basics.{text_eq-true, text_eq_from, none_sent}
 use Rattle.zk_laws.proofs.Seeing.{text_same}
 use Rattle.zk_laws.proofs.Stamps.{IsNextAt}
-use Rattle.zk_laws.proofs.Ahead.{ahead_more, ahead_right, ahead_same, right_less, told_log, told_less, notices_ahead}
+use Rattle.zk_laws.proofs.Ahead.{ahead_more, ahead_right, ahead_same, right_less, told_log, told_less, notices_ahead, max_zero}
 use Rattle.zk_laws.proofs.Serving.{next_ahead, answer_ahead, part_ahead}
 use Rattle.zk_laws.proofs.Moving.{refusal}
 use Rattle.zk_local.specs.LocalSteps.{IsAbout, GivesAt, AreSentAt, AreElsewhere}
@@ -277,3 +277,39 @@ module _ (h : History) (is : IsHistory h) (P : Text → Type 0) (side : Side) (p
       go true e = answer_ahead h is side path rest place watches q r asked (gives.1 (about P q r side path e p)) ms log a
       go false e = ahead_more h side path ms (Replies (question_of q) (zxid_held h place) r ∷ []) log (IsSettled h side path (Ask q ∷ rest) place watches) (IsSettled h side path rest place (both watches (sets (question_of q) r))) a
           (λ l right end. other_reply rest place watches q r asked e l right end)
+
+-- ---- a reply with the zxid 0 that refuses a call
+
+pub left_refused : (q : Question) (code : ℤ) → left_by q (Refused code) ≡ None
+left_refused (Exists at true) code = refl
+left_refused (GetData at true) code = refl
+left_refused (GetChildren at true) code = refl
+left_refused _ code = refl
+
+module _ (h : History) (side : Side) (path : Text) (rest : List Request) (place : ℕ) (watches : Watches) (q : Call) (code : ℤ) where
+  denied_good : (log : List Item) → (good side path (Took (Replies (question_of q) 0 (Refused code)) ∷ log) ≡ None) ⊎ (good side path (Took (Replies (question_of q) 0 (Refused code)) ∷ log) ≡ good side path log)
+  denied_good log = by (closes (question_of q)) (leaves (question_of q) (Refused code) side path) (leaves_refused (question_of q) code side path)
+    where
+      by : (b d : Bool) → d ≡ false → (cond b None (cond d (Some (refreshed (answer_of (Refused code)) (good side path log))) (good side path log)) ≡ None)
+          ⊎ (cond b None (cond d (Some (refreshed (answer_of (Refused code)) (good side path log))) (good side path log)) ≡ good side path log)
+      by true d e = inl refl
+      by false true e = absurd cc
+      by false false e = inr refl
+
+  denied_sure : (z y : ℕ) (k new : Option Answer) → IsSure h side path (Ask q ∷ rest) place watches z k → (new ≡ None) ⊎ (new ≡ k) → IsSure h side path rest place watches y new
+  denied_sure z y k None s e = tt
+  denied_sure z y k (Some a) s (inl e) = absurd cc
+  denied_sure z y None (Some a) s (inr e) = absurd cc
+  denied_sure z y (Some b) (Some a) (inl c) (inr e) = let same : b ≡ a = cc in inl (subst (λ t. IsCovered h side (path_of path) place watches t) same c)
+  denied_sure z y (Some b) (Some a) (inr w) (inr e) = absurd w
+
+  pub denied_ahead : (ms : List Message) (log : List Item) → Ahead h side path ms log (IsSettled h side path (Ask q ∷ rest) place watches)
+      → Ahead h side path (ms ++ Replies (question_of q) 0 (Refused code) ∷ []) log (IsSettled h side path rest place watches)
+  denied_ahead ms log a = ahead_more h side path ms (Replies (question_of q) 0 (Refused code) ∷ []) log (IsSettled h side path (Ask q ∷ rest) place watches) (IsSettled h side path rest place watches) a (λ l right end.
+      let new : List Item = Took (Replies (question_of q) 0 (Refused code)) ∷ l in
+      let less = denied_good l in
+      let low = end.0 in (
+        right,
+        ap (λ o. is_some o && nat_lt 0 (last l)) (left_refused (question_of q) code),
+        (right_less h side path new l (max_zero (last l), less) right, (omega arith, denied_sure (last l) (last new) (good side path l) (good side path new) end.1 less)),
+      ))

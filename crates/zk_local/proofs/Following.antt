@@ -25,7 +25,7 @@ use Rattle.zk_laws.specs.Headline.{IsTrueOf}
 use Rattle.zk_laws.proofs.Basics.{text_eq-true}
 use Rattle.zk_laws.proofs.Moving.{refusal}
 use Rattle.zk_local.specs.LocalSteps.{IsAbout, GivesAt, AreSentAt, AreElsewhere, MayDoAt}
-use Rattle.zk_local.specs.LocalServed.{LocalEntry, Goes, Steps, Tells, Fails, items_at, wire_at, MayStepAt, MayTell, MayFail, MayEnterAt, IsServingAt, ServedAt, local_of}
+use Rattle.zk_local.specs.LocalServed.{LocalEntry, Goes, Steps, Tells, Denies, Fails, items_at, wire_at, MayStepAt, MayTell, MayFail, MayEnterAt, IsServingAt, ServedAt, local_of}
 use Rattle.zk_local.specs.LocalHeadline.{IsTrueAt}
 use Rattle.zk_local.proofs.Elsewhere.{times_append}
 
@@ -94,6 +94,7 @@ module _ (P Q : Text → Type 0) (fewer : (path : Text) → Q path → P path) (
   entry_fewer start (Goes place item) past wire may = may
   entry_fewer start (Steps step payloads) past wire may = record { going = may.going; may = step_fewer step wire.server (map (λ sent. sent.request) (unread start past wire)) may.may; told = may.told }
   entry_fewer start (Tells sent payloads) past wire may = record { going = may.going; serving = may.serving; elsewhere = λ notice among q. may.elsewhere notice among (fewer notice.path q); told = may.told }
+  entry_fewer start (Denies call payload) past wire may = may
   entry_fewer start (Fails payload rest) past wire may = may
 
   pub serving_fewer : (start : Start) (entries : List LocalEntry) → IsServingAt P h start entries → IsServingAt Q h start entries

@@ -7,8 +7,10 @@ use Rattle.zk_nodes.specs.DataStats.{data_stat_of}
 use Rattle.zk_nodes.specs.declared.side.Side.{Side}
 use Rattle.zk_nodes.specs.declared.side.Side.TheVariants.{Data, Child}
 use Rattle.zk_conversation.specs.Calls.{Call, Exists, GetData, GetChildren}
+use Rattle.zk_conversation.specs.Calls as Calls
+use Rattle.zk_conversation.specs.Questions as Questions
 use Rattle.zk_conversation.specs.Questions.{question_of, Question}
-use Rattle.zk_conversation.specs.Results.{Result, NoNode, Found, Read, Listing}
+use Rattle.zk_conversation.specs.Results.{Result, NoNode, Refused, Found, Read, Listing}
 use Rattle.zk_cache.specs.declared.held.Kept.{Kept}
 use Rattle.zk_cache.specs.Kept.{Answer as Kept_answer, Absent as Kept_absent, Known as Kept_known, Full as Kept_full}
 use Rattle.zk_cache.specs.declared.held.Mark.TheVariants.{Good}
@@ -36,8 +38,8 @@ use Rattle.zk_laws.proofs.Seeing.{last_is, good_node, good_names}
 use Rattle.zk_laws.proofs.Stamps.{tree_at_held}
 use Rattle.zk_local.specs.LocalSteps.{IsAbout}
 use Rattle.zk_local.specs.LocalServed.{LocalEntry, items_at, wire_at, WasSentAt, IsServingAt, ServedAt}
-use Rattle.zk_local.specs.LocalHeadline.{IsTrueAt, IsCoherentAt, IsQuietAfter, tree_after, IsDueAt, HeadlineAt}
-use Rattle.zk_local.proofs.Flow.{Tail, Nothing_more, Failure, tail_bytes, IsDue, IsGivenAt, AnswersFirstAt, IsAnswered, IsCalmAt, IsFlow, Stands_at}
+use Rattle.zk_local.specs.LocalHeadline.{IsDenial, IsTrueAt, IsCoherentAt, IsQuietAfter, tree_after, IsDueAt, HeadlineAt}
+use Rattle.zk_local.proofs.Flow.{Tail, Nothing_more, Failure, tail_bytes, IsDue, IsGivenAt, IsAnsweredFor, AnswersFirstAt, IsAnswered, IsCalmAt, IsFlow, Stands_at}
 use Rattle.zk_local.proofs.Taking_at.{talking_of}
 use Rattle.zk_local.proofs.Moving_at.{schedule_at}
 
@@ -111,6 +113,22 @@ given_true h is n (GetChildren p w) (Listing ns z) g =
     subst (λ t. FitsNames (names_of ns z) (to_see Child t (path_of p)) × Suits (Known (data_stat_of z)) (to_see Data t (path_of p))) (sym (tree_at_held h n is)) g
 given_true h is n _ _ g = tt
 
+-- a refusal says nothing
+refused_read : (tree : Tree) (q : Question) (code : ℤ) → Reads tree q (Refused code)
+refused_read tree (Questions.Exists at b) code = tt
+refused_read tree (Questions.GetData at b) code = tt
+refused_read tree (Questions.GetChildren at b) code = tt
+refused_read tree _ code = tt
+
+refused_write : (h : History) (call : Call) (z : ℕ) (code : ℤ) → IsTrueWrite h call z (Refused code)
+refused_write h call z code = by call
+  where
+    by : (call : Call) → IsTrueWrite h call z (Refused code)
+    by (Calls.SetData path content version) = tt
+    by (Calls.Create path content mode) = tt
+    by (Calls.Delete path version) = tt
+    by _ = tt
+
 not_awaited : (side : Side) (path : Text) (a : Answer) (z : ℕ) (requests : List Request) → AreRestored requests → IsAwaited side path a z requests → ⊥
 not_awaited side path a z [] r w = w
 not_awaited side path a z (Restore b x p ∷ rest) r w = r
@@ -176,14 +194,14 @@ module _ (P : Text → Type 0) (h : History) (is : IsHistory h) (start : Start) 
 
   -- the call of a reply, and where its server stood
   abbrev CallAt : Past → ℕ → Question → ℤ → Result → Type 0
-  CallAt past ticket q z r = (call : Call) × Among (Asked ticket call) past × (question_of call ≡ q) × IsGivenAt P h call (from_zero z) r × (from_zero start.last ≤ from_zero z) × (z ≡ pos (from_zero z))
+  CallAt past ticket q z r = (call : Call) × Among (Asked ticket call) past × (question_of call ≡ q) × IsAnsweredFor P h start (λ payload. ⊥) call z r
 
-  first_asked : (Was : List ℕ → Type 0) (past : Past) (ticket : ℕ) (q : Question) (z : ℤ) (r : Result) (asked : List Asking) → awaited past ≡ asked → (z ≡ pos (from_zero z)) × (from_zero start.last ≤ from_zero z) × AnswersFirstAt P h ticket q (from_zero z) r asked
+  first_asked : (Was : List ℕ → Type 0) (past : Past) (ticket : ℕ) (q : Question) (z : ℤ) (r : Result) (asked : List Asking) → awaited past ≡ asked → AnswersFirstAt P h start Was ticket q z r asked
       → CallAt past ticket q z r
-  first_asked Was past ticket q z r [] e a = absurd a.2
-  first_asked Was past ticket q z r (For_part b ∷ more) e a = absurd a.2
+  first_asked Was past ticket q z r [] e a = absurd a
+  first_asked Was past ticket q z r (For_part b ∷ more) e a = absurd a
   first_asked Was past ticket q z r (For_call xid other call ∷ more) e a =
-      (call, subst (λ t. Among (Asked t call) past) a.2.0 (awaited_asked xid other call past (subst (λ l. Among (For_call xid other call) l) (sym e) (inl refl))), a.2.1, a.2.2, a.1, a.0)
+      (call, subst (λ t. Among (Asked t call) past) a.0 (awaited_asked xid other call past (subst (λ l. Among (For_call xid other call) l) (sym e) (inl refl))), a.1, a.2)
 
   calm_rest : (Was : List ℕ → Type 0) (x : Happening) (past : Past) → IsCalmAt P h start Was (x ∷ past) → IsCalmAt P h start Was past
   calm_rest Was (Dropped fault) past c = c.1
@@ -201,11 +219,11 @@ module _ (P : Text → Type 0) (h : History) (is : IsHistory h) (start : Start) 
   call_at Was (x ∷ past) c ticket q z r (inl e) = more (first_asked Was past ticket q z r (awaited past) refl (subst (λ y. IsCalmAt P h start Was (y ∷ past)) (sym e) c).0)
     where
       more : CallAt past ticket q z r → CallAt (x ∷ past) ticket q z r
-      more c = (c.0, inr c.1, c.2, c.3, c.4, c.5)
+      more c = (c.0, inr c.1, c.2, c.3)
   call_at Was (x ∷ past) c ticket q z r (inr a) = more (call_at Was past (calm_rest Was x past c) ticket q z r a)
     where
       more : CallAt past ticket q z r → CallAt (x ∷ past) ticket q z r
-      more c = (c.0, inr c.1, c.2, c.3, c.4, c.5)
+      more c = (c.0, inr c.1, c.2, c.3)
 
   drop_at : (Was : List ℕ → Type 0) (past : Past) → IsCalmAt P h start Was past → (fault : Fault) → Among (Dropped fault) past → IsDue Was fault
   drop_at Was [] c fault a = absurd a
@@ -213,10 +231,17 @@ module _ (P : Text → Type 0) (h : History) (is : IsHistory h) (start : Start) 
   drop_at Was (x ∷ past) c fault (inr a) = drop_at Was past (calm_rest Was x past c) fault a
 
   -- what is true of an answer about one of these paths
-  true_at : (call : Call) (q : Question) (z : ℕ) (r : Result) → question_of call ≡ q → IsGivenAt P h call z r → IsAbout P call → Reads (tree_at h z) (question_of call) r × IsTrueWrite h call z r
-  true_at call q z r e g about =
+  true_at : (call : Call) (z : ℤ) (r : Result) → IsAnsweredFor P h start (λ payload. ⊥) call z r → IsAbout P call → Reads (tree_at h (from_zero z)) (question_of call) r × IsTrueWrite h call (from_zero z) r
+  true_at call z r (inl a) about =
+      let g = a.2 in
       let gives = g.2.1 about in
       (subst (λ n. Reads (tree_at h n) (question_of call) r) (sym g.1) (given_true h is g.0 call r gives), subst (λ n. IsTrueWrite h call n r) (sym g.1) (given_write h g.0 call r gives))
+  true_at call z (Refused code) (inr d) about = (refused_read (tree_at h (from_zero z)) (question_of call) code, refused_write h call (from_zero z) code)
+  true_at call z _ (inr d) about = absurd d
+
+  above_at : (call : Call) (z : ℤ) (r : Result) → IsAnsweredFor P h start (λ payload. ⊥) call z r → ((from_zero start.last ≤ from_zero z) × (z ≡ pos (from_zero z))) ⊎ IsDenial z r
+  above_at call z r (inl a) = inl (a.1, a.0)
+  above_at call z r (inr d) = inr d
 
   pub headline_at : (items : List Item) (view : View) → Stands start items view → (served : ServedAt P h start items) → HeadlineAt P h start items view served.entries
   headline_at items view s served =
@@ -226,6 +251,6 @@ module _ (P : Text → Type 0) (h : History) (is : IsHistory h) (start : Start) 
         answers = λ ticket zxid result a.
             let t = given_answers ticket zxid result start items view s a in
             let c = call_at (WasSentAt served.entries) (past_of start items) stands.calm ticket t.0 zxid result t.1 in
-            (c.0, c.1, subst (λ q. Among (Takes_in (Answers_call ticket q zxid result)) (past_of start items)) (sym c.2) t.1, true_at c.0 t.0 (from_zero zxid) result c.2 c.3, c.4, c.5);
+            (c.0, c.1, subst (λ q. Among (Takes_in (Answers_call ticket q zxid result)) (past_of start items)) (sym c.2) t.1, true_at c.0 zxid result c.3, above_at c.0 zxid result c.3);
         drops = λ fault a. drop_at (WasSentAt served.entries) (past_of start items) stands.calm fault (given_drops fault start items view s a);
       }

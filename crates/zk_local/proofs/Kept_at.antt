@@ -1,5 +1,5 @@
 -- The invariant of a client whose servers keep to the model at some paths, and the steps that keep it.
-use Rattle.std.proofs.Common.{ℕ, ◌≡◌, ◌<◌, ◌≤◌, max, Bool, true, false, ◌&&◌, List, [], ◌∷◌, ◌++◌, refl, ap, sym, ◌∙◌, subst, inl, inr, arith, Option, Some, None, is_some, cond, map, length, suc, nat_lt, append-nil}
+use Rattle.std.proofs.Common.{ℕ, ◌≡◌, ◌<◌, ◌≤◌, max, Bool, true, false, ◌&&◌, List, [], ◌∷◌, ◌++◌, refl, ap, sym, ◌∙◌, subst, inl, inr, ◌⊎◌, ℤ, arith, Option, Some, None, is_some, cond, map, length, suc, nat_lt, append-nil}
 use Rattle.std.proofs.lemmas.Bool.Decides.{nat_tests}
 use Rattle.std.proofs.lemmas.Bool.{and_right}
 use Rattle.std.proofs.lemmas.List.{map-append}
@@ -10,10 +10,10 @@ use Rattle.zk_nodes.specs.declared.side.Side.{Side}
 use Rattle.zk_conversation.specs.Calls.{Call}
 use Rattle.zk_conversation.specs.Questions.{question_of}
 use Rattle.zk_conversation.specs.Pending.{closes}
-use Rattle.zk_conversation.specs.Results.{Result}
+use Rattle.zk_conversation.specs.Results.{Result, Refused}
 use Rattle.zk_watches.specs.Lists.{Lists}
 use Rattle.zk_turns.specs.Turns.{IsAskable}
-use Rattle.zk_laws.specs.Server.{Notice, Watches, AreSent, fires_all, leaves_set_all, sets, tree_held, zxid_held, part_tells, part_sets, both}
+use Rattle.zk_laws.specs.Server.{Notice, Watches, IsOther, AreSent, fires_all, leaves_set_all, sets, tree_held, zxid_held, part_tells, part_sets, both}
 use Rattle.zk_laws.specs.Messages.{Message, Accepted, Expired, Replies, Watches_set, Notifies, Pong, Request, Connect, Restore, Ask, Ping}
 use Rattle.zk_laws.specs.Log.{Item, Starts, Forgets, Took, zxid_in, last, good, left_by, AreParts}
 use Rattle.zk_laws.specs.Steps.{is_behind, restores, Connection, Up, World, By_server, served}
@@ -30,13 +30,18 @@ use Rattle.zk_laws.proofs.Ahead.{ahead_right, ahead_map, ahead_same, right_less,
 use Rattle.zk_laws.proofs.Serving.{pong_ahead}
 use Rattle.zk_laws.proofs.Joining.{joined}
 use Rattle.zk_local.specs.LocalSteps.{GivesAt, AreSentAt, AreElsewhere}
-use Rattle.zk_local.proofs.Elsewhere.{any_tells, any_append, none_told, elsewhere_told, told_elsewhere, next_at_path, part_at_path, answer_at_path}
+use Rattle.zk_local.proofs.Elsewhere.{any_tells, any_append, none_told, elsewhere_told, told_elsewhere, next_at_path, part_at_path, answer_at_path, left_refused, denied_ahead}
 
 -- ---- zxids rise
 
--- a reply is not below
+-- a call is refused, with the zxid 0
+abbrev pub IsLow : ℕ → Result → Type 0
+IsLow z (Refused code) = (z ≡ 0) × IsOther code
+IsLow z _ = ⊥
+
+-- a reply is not below, or is such a refusal
 abbrev IsAbove : ℕ → Message → Type 0
-IsAbove low (Replies q z r) = low ≤ z
+IsAbove low (Replies q z r) = (low ≤ z) ⊎ IsLow z r
 IsAbove low _ = Unit {0}
 
 -- No reply in flight is below the zxid that was seen last by then, and that is not above the server's.
@@ -56,7 +61,15 @@ rises_told : (low top next : ℕ) (ms : List Message) (ns : List Notice) → top
 rises_told low top next ms ns le r = rises_more low top next ms (map Notifies ns) r (λ l k. subst (λ new. Rises l new next) (append-nil (map Notifies ns)) (rises_notices l next ns [] (omega arith)))
 
 pub not_behind : (log : List Item) (m : Message) (ms : List Message) (top : ℕ) → Rises (last log) (m ∷ ms) top → is_behind log m ≡ false
-not_behind log (Replies q z r) ms top rises = let le = rises.0 in and_right (is_some (left_by q r)) (nat_lt z (last log)) (grind (arith, nat_tests))
+not_behind log (Replies q z r) ms top rises = early r rises.0
+  where
+    above : (r : Result) → last log ≤ z → is_behind log (Replies q z r) ≡ false
+    above r le = and_right (is_some (left_by q r)) (nat_lt z (last log)) (grind (arith, nat_tests))
+
+    early : (r : Result) → (last log ≤ z) ⊎ IsLow z r → is_behind log (Replies q z r) ≡ false
+    early (Refused code) e = ap (λ o. is_some o && nat_lt z (last log)) (left_refused q code)
+    early r (inl le) = above r le
+    early r (inr low) = absurd low
 not_behind log Accepted ms top rises = refl
 not_behind log Expired ms top rises = refl
 not_behind log (Watches_set b z) ms top rises = refl
@@ -236,6 +249,15 @@ module _ (P : Text → Type 0) (h : History) where
             (joined h side path log parts place watches are (s.right side path p) low)));
       }
 
+  pub talk_denies : (log : List Item) (q : Call) (code : ℤ) (rest : List Request) (messages : List Message) (place : ℕ) (watches : Watches) (stage : Stage) → IsOther code
+      → IsTalkingAt log (Ask q ∷ rest) messages place watches stage → IsTalkingAt log rest (messages ++ Replies (question_of q) 0 (Refused code) ∷ []) place watches stage
+  talk_denies log q code rest messages place watches stage other t = record {
+    stage_is = t.stage_is;
+    askable = t.askable.1;
+    rises = rises_more (last log) (zxid_held h place) (zxid_held h place) messages (Replies (question_of q) 0 (Refused code) ∷ []) t.rises (λ l le. (inr (refl, other), omega arith));
+    ahead = λ side path p. denied_ahead h side path rest place watches q code messages log (t.ahead side path p);
+  }
+
   -- ---- steps of the server while the client talks
 
   module _ (is : IsHistory h) where
@@ -245,7 +267,7 @@ module _ (P : Text → Type 0) (h : History) where
     talk_answers log q r rest messages place watches gives t = record {
       stage_is = on (closes (question_of q));
       askable = t.askable.1;
-      rises = rises_more (last log) (zxid_held h place) (zxid_held h place) messages (Replies (question_of q) (zxid_held h place) r ∷ []) t.rises (λ l le. (le, omega arith));
+      rises = rises_more (last log) (zxid_held h place) (zxid_held h place) messages (Replies (question_of q) (zxid_held h place) r ∷ []) t.rises (λ l le. (inl le, omega arith));
       ahead = λ side path p. answer_at_path h is P side path p rest place watches q r t.askable.0 gives messages log (t.ahead side path p);
     }
       where

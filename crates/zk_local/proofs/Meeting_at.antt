@@ -4,10 +4,10 @@ use Rattle.zk_frames.specs.declared.fault.FrameFault.{FrameFault}
 use Rattle.zk_frames.specs.Frame.{frame}
 use Rattle.zk_conversation.specs.Calls.{Call as Asked_call, part_xid}
 use Rattle.zk_conversation.specs.Pending.{Call_waits}
-use Rattle.zk_turns.specs.Past.{is_open, Asking, For_call, For_part, parts_asked, awaited, pending_for, Happening, Past, Came, Dropped, Pinged, Ticked, is_talking, state_of, has_halted, held_of, pending_of, lists_of, last_of, Took as Takes_in, Lost as Loses_it, Accepted as Accepts, Expiry}
+use Rattle.zk_turns.specs.Past.{is_open, Asking, For_call, For_part, parts_asked, awaited, pending_for, Happening, Past, Came, Dropped, Pinged, Ticked, is_talking, state_of, has_halted, held_of, pending_of, lists_of, last_of, Took as Takes_in, Lost as Loses_it, Accepted as Accepts, Expiry, Replies as Answers_call}
 use Rattle.zk_watches.specs.Lists.{Lists}
 use Rattle.zk_watches.specs.Parts.{parts}
-use Rattle.std.proofs.Common.{◌≡◌, ℕ, zero, suc, ◌≤◌, ◌<◌, ◌^◌, ℤ, pos, Bool, true, false, cond, ◌&&◌, List, [], ◌∷◌, ◌++◌, map, drop, length, refl, sym, ap, subst, ◌∙◌, arith, inl, inr, Option, Some, None, append_assoc}
+use Rattle.std.proofs.Common.{◌≡◌, ℕ, zero, suc, ◌≤◌, ◌<◌, ◌^◌, ℤ, pos, Bool, true, false, cond, ◌&&◌, List, [], ◌∷◌, ◌++◌, map, drop, length, refl, sym, ap, subst, ◌∙◌, arith, inl, inr, ◌⊎◌, Option, Some, None, append_assoc}
 use Rattle.std.specs.Prelude.{⊤, nat_lt, nat_le, is_some, if◌then◌else◌, not, ◌*◌, ◌-◌, max}
 use Rattle.std.specs.List.{AllByRecursion}
 use Rattle.std.proofs.lemmas.List.{length-append, map-append}
@@ -34,8 +34,13 @@ use Rattle.zk_laws.proofs.Seeing.{last_is}
 use Rattle.zk_laws.proofs.Ordering.{are_parts}
 use Rattle.zk_laws.proofs.Framed.{taken_first, first_too_long, none_cut, reads_notice, reads_pong, reads_part, reads_reply, reads_accepted, reads_expired}
 use Rattle.zk_laws.proofs.Flight.{owes_parts, requests_parts, unread_more}
-use Rattle.zk_local.proofs.Kept_at.{AreRight, IsOpeningAt, IsStartingAt, IsTalkingAt, IsKeptAt, not_behind, start_joins, talking_right}
-use Rattle.zk_local.proofs.Flow.{Tail, Nothing_more, Failure, tail_bytes, IsDue, IsForAt, IsLetterAt, IsFlow, IsTail, AnswersFirstAt, IsAnswered, IsCalmAt, Stands_at, reads_refusal}
+use Rattle.zk_local.proofs.Kept_at.{AreRight, IsOpeningAt, IsStartingAt, IsTalkingAt, IsKeptAt, IsLow, not_behind, start_joins, talking_right}
+use Rattle.zk_local.proofs.Flow.{Tail, Nothing_more, Failure, tail_bytes, IsDue, IsForAt, IsLetterAt, IsFlow, IsTail, IsSpelt, IsGivenAt, IsAnsweredFor, AnswersFirstAt, IsAnswered, IsCalmAt, Stands_at, reads_refusal, reads_denial}
+use Rattle.zk_local.specs.LocalHeadline.{IsDenial}
+use Rattle.zk_laws.specs.Flight.{HasCode}
+use Rattle.zk_turns.specs.Spelled.{IsHeaded}
+use Rattle.zk_conversation.specs.Questions.{Question}
+use Rattle.zk_conversation.specs.Results.{Result, NoNode, Refused, Found, Read, Listing, Made, Done}
 use Rattle.zk_local.proofs.Taking_at.{ticked, denied, came, lost, dropped, began, asked, pinged, still, talking_of, took_notice, took_pong, took_part, took_reply, and_false}
 
 and_two : (a b : Bool) → (a && b) ≡ true → (a ≡ true) × (b ≡ true)
@@ -164,6 +169,64 @@ module _ (P : Text → Type 0) (h : History) (start : Start) (Was : List ℕ →
       from_start [] = omega arith
       from_start (x ∷ past) = item_low (item_of x) (seen start past) (from_zero start.last) (from_start past)
 
+  denial_of : (z : ℕ) (r : Result) → IsLow z r → IsDenial (pos z) r
+  denial_of z (Refused code) low = low.0
+  denial_of z _ low = absurd low
+
+  coded_of : (call : Asked_call) (z : ℕ) (r : Result) → IsGivenAt P h call z r ⊎ IsLow z r → HasCode r
+  coded_of call z r (inl given) = given.2.0
+  coded_of call z (Refused code) (inr low) = low.1
+  coded_of call z _ (inr low) = absurd low
+
+  -- a reply whose zxid is from 0
+  told_of : (past : Past) (call : Asked_call) (z : ℕ) (r : Result) → (last (seen start past) ≤ z) ⊎ IsLow z r → IsGivenAt P h call z r ⊎ IsLow z r → IsAnsweredFor P h start Was call (pos z) r
+  told_of past call z r (inl le) (inl given) = let began = began_low past in inl (refl, omega arith, given)
+  told_of past call z r (inr low) given = inr (denial_of z r low)
+  told_of past call z r (inl le) (inr low) = inr (denial_of z r low)
+
+  module _ (past : Past) (wire : Wire) (q : Question) (z : ℕ) (res : Result) (xid : ℤ) (p : List ℕ) (ps : List Asking) (ls : List Letter) (tail : Tail) (talks : is_talking (state_of past) ≡ true)
+      (g : IsFlow P h start Was past wire (record { message = Replies q z res; payload = p; xid = xid; asked = ps } ∷ ls) tail)
+      (calm : IsCalmAt P h start Was past) (counted : Counted past) (coming : wire.coming ≡ frames ls ++ tail_bytes tail) where
+    -- the reply is read with this zxid
+    reply_taken : (zxid : ℤ) → from_zero zxid ≡ z → IsAnsweredFor P h start Was g.are.0.is_for.2 zxid res
+        → reading Connected (record { xid = pos g.are.0.is_for.1; waiting = Call_waits g.are.0.is_for.0 q } ∷ map pending_for (answers ls ++ g.owed)) (last_of start past) p ≡ Takes_in (Answers_call g.are.0.is_for.0 q zxid res)
+        → Stands_at P h start Was (reading Connected (pending_of past) (last_of start past) p ∷ past) wire
+    reply_taken zxid same told read =
+        let f = g.are.0.is_for in
+        let x : Asking = For_call f.1 f.0 f.2 in
+        let first : awaited past ≡ x ∷ (answers ls ++ g.owed) = g.pending ∙ ap (λ l. l ++ answers ls ++ g.owed) f.5 in
+        let mine : pending_of past ≡ record { xid = pos f.1; waiting = Call_waits f.0 q } ∷ map pending_for (answers ls ++ g.owed) =
+        ap (map pending_for) first ∙ ap (λ t. record { xid = pos f.1; waiting = Call_waits f.0 t } ∷ map pending_for (answers ls ++ g.owed)) f.4 in
+        let holds : IsAnswered P h start Was f.0 q zxid res past = subst (λ l. AnswersFirstAt P h start Was f.0 q zxid res l) (sym first) (refl, f.4, told) in
+        subst (λ t. Stands_at P h start Was (t ∷ past) wire) (sym (ap (λ l. reading Connected l (last_of start past) p) mine ∙ read))
+        (took_reply P h start Was past wire q z zxid same res xid p ps ls tail talks g calm counted coming f.0 x first holds)
+
+    -- the payload is the message's
+    reply_plain : IsPayload xid (Replies q z res) p → Stands_at P h start Was (reading Connected (pending_of past) (last_of start past) p ∷ past) wire
+    reply_plain s =
+        let f = g.are.0.is_for in
+        let spelt : IsPayload (pos f.1) (Replies q z res) p = subst (λ t. IsPayload t (Replies q z res) p) f.3 s in
+        let t = talking_of P h start Was past wire (record { message = Replies q z res; payload = p; xid = xid; asked = ps } ∷ ls) tail talks g in
+        let behind : is_behind (seen start past) (Replies q z res) ≡ false = not_behind (seen start past) (Replies q z res) (messages ls) _ t.rises in
+        reply_taken (pos z) refl (told_of past f.2 z res t.rises.0 f.6)
+        (reads_reply (map pending_for (answers ls ++ g.owed)) (last_of start past) f.1 f.0 q z res p (coded_of f.2 z res f.6) spelt (ap (λ t. is_some (left_by q res) && nat_lt z t) (sym (last_is start past)) ∙ behind))
+
+  reply_read : (past : Past) (wire : Wire) (q : Question) (z : ℕ) (res : Result) (xid : ℤ) (p : List ℕ) (ps : List Asking) (ls : List Letter) (tail : Tail) → is_talking (state_of past) ≡ true
+      → IsFlow P h start Was past wire (record { message = Replies q z res; payload = p; xid = xid; asked = ps } ∷ ls) tail
+      → IsCalmAt P h start Was past → Counted past → wire.coming ≡ frames ls ++ tail_bytes tail → IsSpelt xid (Replies q z res) p
+      → Stands_at P h start Was (reading Connected (pending_of past) (last_of start past) p ∷ past) wire
+  reply_read past wire q z (Refused code) xid p ps ls tail talks g calm counted coming (inl s) = reply_plain past wire q z (Refused code) xid p ps ls tail talks g calm counted coming s
+  reply_read past wire q z (Refused code) xid p ps ls tail talks g calm counted coming (inr d) =
+      let f = g.are.0.is_for in
+      reply_taken past wire q z (Refused code) xid p ps ls tail talks g calm counted coming d.1 (d.3 ∙ sym d.0) (inr d.3)
+      (reads_denial (map pending_for (answers ls ++ g.owed)) (last_of start past) f.1 f.0 q d.1 code p d.2 d.4 (subst (λ t. IsHeaded t d.1 code p d.2) f.3 d.5))
+  reply_read past wire q z NoNode xid p ps ls tail talks g calm counted coming s = reply_plain past wire q z NoNode xid p ps ls tail talks g calm counted coming s
+  reply_read past wire q z (Found stat) xid p ps ls tail talks g calm counted coming s = reply_plain past wire q z (Found stat) xid p ps ls tail talks g calm counted coming s
+  reply_read past wire q z (Read b stat) xid p ps ls tail talks g calm counted coming s = reply_plain past wire q z (Read b stat) xid p ps ls tail talks g calm counted coming s
+  reply_read past wire q z (Listing ns stat) xid p ps ls tail talks g calm counted coming s = reply_plain past wire q z (Listing ns stat) xid p ps ls tail talks g calm counted coming s
+  reply_read past wire q z (Made at) xid p ps ls tail talks g calm counted coming s = reply_plain past wire q z (Made at) xid p ps ls tail talks g calm counted coming s
+  reply_read past wire q z Done xid p ps ls tail talks g calm counted coming s = reply_plain past wire q z Done xid p ps ls tail talks g calm counted coming s
+
   -- a later payload
   talking_read : (past : Past) (wire : Wire) (m : Message) (xid : ℤ) (p : List ℕ) (ps : List Asking) (ls : List Letter) (tail : Tail) → is_talking (state_of past) ≡ true
       → IsFlow P h start Was past wire (record { message = m; payload = p; xid = xid; asked = ps } ∷ ls) tail
@@ -182,22 +245,7 @@ module _ (P : Text → Type 0) (h : History) (start : Start) (Was : List ℕ →
       subst (λ t. Stands_at P h start Was (t ∷ past) wire)
       (sym (ap (λ l. reading Connected (map pending_for l) (last_of start past) p) first ∙ reads_part (map pending_for (answers ls ++ g.owed)) (last_of start past) b z p spelt))
       (took_part P h start Was past wire b z xid p ps ls tail talks g calm counted coming)
-  talking_read past wire (Replies q z res) xid p ps ls tail talks g calm counted coming =
-      let f = g.are.0.is_for in
-      let x : Asking = For_call f.1 f.0 f.2 in
-      let first : awaited past ≡ x ∷ (answers ls ++ g.owed) = g.pending ∙ ap (λ l. l ++ answers ls ++ g.owed) f.5 in
-      let spelt : IsPayload (pos f.1) (Replies q z res) p = subst (λ t. IsPayload t (Replies q z res) p) f.3 g.are.0.spelt in
-      let mine : pending_of past ≡ record { xid = pos f.1; waiting = Call_waits f.0 q } ∷ map pending_for (answers ls ++ g.owed) =
-      ap (map pending_for) first ∙ ap (λ t. record { xid = pos f.1; waiting = Call_waits f.0 t } ∷ map pending_for (answers ls ++ g.owed)) f.4 in
-      let t = talking_of P h start Was past wire (record { message = Replies q z res; payload = p; xid = xid; asked = ps } ∷ ls) tail talks g in
-      let behind : is_behind (seen start past) (Replies q z res) ≡ false = not_behind (seen start past) (Replies q z res) (messages ls) _ t.rises in
-      let above : last (seen start past) ≤ z = t.rises.0 in
-      let began = began_low past in
-      let holds : IsAnswered P h start Was f.0 q (pos z) res past = (refl, omega arith, subst (λ l. AnswersFirstAt P h f.0 q z res l) (sym first) (refl, f.4, f.6)) in
-      subst (λ t. Stands_at P h start Was (t ∷ past) wire)
-      (sym (ap (λ l. reading Connected l (last_of start past) p) mine
-      ∙ reads_reply (map pending_for (answers ls ++ g.owed)) (last_of start past) f.1 f.0 q z res p f.6.2.0 spelt (ap (λ t. is_some (left_by q res) && nat_lt z t) (sym (last_is start past)) ∙ behind)))
-      (took_reply P h start Was past wire q z res xid p ps ls tail talks g calm counted coming f.0 x first holds)
+  talking_read past wire (Replies q z res) xid p ps ls tail talks g calm counted coming = reply_read past wire q z res xid p ps ls tail talks g calm counted coming g.are.0.spelt
 
   state_read : (past : Past) (wire : Wire) (l : Letter) (ls : List Letter) (tail : Tail) (st : State) → state_of past ≡ st → is_open st ≡ true
       → IsFlow P h start Was past wire (l ∷ ls) tail → IsCalmAt P h start Was past → Counted past → wire.coming ≡ frames ls ++ tail_bytes tail

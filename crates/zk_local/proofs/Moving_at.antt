@@ -9,7 +9,7 @@ use Rattle.zk_watches.specs.Lists.{Lists}
 use Rattle.zk_conversation.specs.Calls.{Call}
 use Rattle.zk_conversation.specs.Pending.{closes}
 use Rattle.zk_conversation.specs.Questions.{question_of}
-use Rattle.zk_conversation.specs.Results.{Result}
+use Rattle.zk_conversation.specs.Results.{Result, Refused}
 use Rattle.zk_frames.specs.Frame.{frame}
 use Rattle.zk_turns.specs.Rule.{AllAsked}
 use Rattle.zk_turns.specs.Turns.{IsAsked, Start, Turned, Forgets as Forgets_now, Halts as Halts_here}
@@ -17,7 +17,7 @@ use Rattle.zk_turns.specs.Past.{Asking, For_part, Past, is_talking, state_of, he
 use Rattle.zk_turns.specs.Taken.{past_of}
 use Rattle.zk_turns.specs.Meaning.{Among}
 use Rattle.zk_turns.proofs.Ranged.{all_append}
-use Rattle.zk_laws.specs.Server.{Notice, Watches, fires_all, leaves_set_all, sets, tree_held, zxid_held, part_tells, part_sets, both}
+use Rattle.zk_laws.specs.Server.{Notice, Watches, IsOther, fires_all, leaves_set_all, sets, tree_held, zxid_held, part_tells, part_sets, both}
 use Rattle.zk_laws.specs.Messages.{Message, Accepted, Replies, Watches_set, Notifies, Pong, Request, Connect, Restore, Ask, Ping, Expired as Expires}
 use Rattle.zk_laws.specs.Log.{Item}
 use Rattle.zk_laws.specs.Steps.{rest_of}
@@ -28,9 +28,9 @@ use Rattle.zk_laws.specs.Flight.{Letter, frames, messages, answers, AreLater, Wa
 use Rattle.zk_laws.proofs.Flight.{drop_one}
 use Rattle.zk_laws.proofs.Whole.{next_is}
 use Rattle.zk_local.specs.LocalSteps.{GivesAt, AreSentAt, MayDoAt}
-use Rattle.zk_local.specs.LocalServed.{LocalEntry, Goes, Steps, Tells, Fails, items_at, wire_at, WasSentAt, MayFail, MayTell, MayEnterAt, IsServingAt}
-use Rattle.zk_local.proofs.Kept_at.{IsStartingAt, IsTalkingAt, IsKeptAt, start_admits, start_refuses, talk_ends, talk_answers, talk_restores, talk_pongs, kept_advances, kept_tells}
-use Rattle.zk_local.proofs.Flow.{Tail, Nothing_more, Failure, tail_bytes, IsForAt, IsLetterAt, IsFlow, IsTail, IsKeptFor, Stands_at}
+use Rattle.zk_local.specs.LocalServed.{LocalEntry, Goes, Steps, Tells, Denies, Fails, items_at, wire_at, WasSentAt, MayFail, MayDeny, MayTell, MayEnterAt, IsServingAt}
+use Rattle.zk_local.proofs.Kept_at.{IsStartingAt, IsTalkingAt, IsKeptAt, start_admits, start_refuses, talk_ends, talk_answers, talk_restores, talk_pongs, talk_denies, kept_advances, kept_tells}
+use Rattle.zk_local.proofs.Flow.{Tail, Nothing_more, Failure, tail_bytes, IsForAt, spelt_by, IsLetterAt, IsFlow, IsTail, IsKeptFor, Stands_at}
 use Rattle.zk_local.proofs.Taking_at.{forgot, halted}
 use Rattle.zk_local.proofs.Meeting_at.{first_at, turned_at, later_notices}
 
@@ -89,7 +89,7 @@ module _ (P : Text → Type 0) (h : History) where
           l ∷ more.0,
           record {
             told = ap (λ t. m ∷ t) more.1.told;
-            are = (record { was_sent = w.0; short = a.0; spelt = a.1; is_for = f.0 }, more.1.are);
+            are = (record { was_sent = w.0; short = a.0; spelt = spelt_by xid m p a.1; is_for = f.0 }, more.1.are);
             bytes = ap (λ t. frame p ++ t) more.1.bytes;
             ask = ap (λ t. mine_of mine m ++ t) more.1.ask;
           },
@@ -104,12 +104,11 @@ module _ (P : Text → Type 0) (h : History) where
     Flows past wire = (letters : List Letter) × (tail : Tail) × IsFlow P h start Was past wire letters tail
 
     -- messages are sent
-    serve_going : (past : Past) (wire other : Wire) (letters : List Letter) (xid : ℤ) (mine owed : List Asking) (ms : List Message) (payloads : List (List ℕ))
-        → (g : IsFlow P h start Was past wire letters Nothing_more) → AllByRecursion Was payloads → ArePayloads xid ms payloads → AllFor xid mine ms → other.coming ≡ wire.coming ++ flat_map frame payloads
+    serve_going : (past : Past) (wire other : Wire) (letters : List Letter) (mine owed : List Asking) (ms : List Message) (payloads : List (List ℕ))
+        → (g : IsFlow P h start Was past wire letters Nothing_more) → ((ls : List Letter) × AreTheLetters mine ms payloads ls) → other.coming ≡ wire.coming ++ flat_map frame payloads
         → other.processed ≤ length (requests start past) → Owes (unread start past other) owed → g.owed ≡ flat_map (mine_of mine) ms ++ owed → (is_talking (state_of past) ≡ true → AreLater ms)
         → IsKeptFor P h start Was past other.server (map (λ s. s.request) (unread start past other)) (messages letters ++ ms) → Flows past other
-    serve_going past wire other letters xid mine owed ms payloads g was a f coming enough owes split later kept =
-        let found = letters_for xid mine ms payloads was a f in
+    serve_going past wire other letters mine owed ms payloads g found coming enough owes split later kept =
         let new : List Letter = found.0 in
         let n = found.1 in
         let told : messages (letters ++ new) ≡ messages letters ++ ms = map-append (λ l. l.message) letters new ∙ ap (λ l. messages letters ++ l) n.told in (
@@ -131,12 +130,12 @@ module _ (P : Text → Type 0) (h : History) where
         )
 
     -- one request is processed
-    serve_one : (past : Past) (wire other : Wire) (letters : List Letter) (r : Request) (ms : List Message) (payloads : List (List ℕ))
-        → (g : IsFlow P h start Was past wire letters Nothing_more) → AllByRecursion Was payloads → IsNext r (map (λ s. s.request) (unread start past wire)) → ArePayloads (first_xid (unread start past wire)) ms payloads
-        → ((xid : ℤ) (mine : List Asking) → WaitsFor xid r mine → AllFor xid mine ms × (flat_map (mine_of mine) ms ≡ mine))
+    serve_next : (past : Past) (wire other : Wire) (letters : List Letter) (r : Request) (ms : List Message) (payloads : List (List ℕ))
+        → (g : IsFlow P h start Was past wire letters Nothing_more) → IsNext r (map (λ s. s.request) (unread start past wire))
+        → ((mine : List Asking) → WaitsFor (first_xid (unread start past wire)) r mine → ((ls : List Letter) × AreTheLetters mine ms payloads ls) × (flat_map (mine_of mine) ms ≡ mine))
         → other.processed ≡ wire.processed + 1 → other.coming ≡ wire.coming ++ flat_map frame payloads → (is_talking (state_of past) ≡ true → AreLater ms)
         → IsKeptFor P h start Was past other.server (rest_of (map (λ s. s.request) (unread start past wire))) (messages letters ++ ms) → Flows past other
-    serve_one past wire other letters r ms payloads g was next a for processed coming later kept =
+    serve_next past wire other letters r ms payloads g next for processed coming later kept =
         let n = next_sent r (unread start past wire) next in
         let s : Sent = n.0 in
         let ss : List Sent = n.1 in
@@ -145,10 +144,19 @@ module _ (P : Text → Type 0) (h : History) where
         let le = d.1 in
         let o : Owes (s ∷ ss) g.owed = subst (λ l. Owes l g.owed) n.2 g.owes in
         let w : WaitsFor s.xid r o.0 = subst (λ t. WaitsFor s.xid t o.0) (sym n.3) o.2 in
-        let f = for s.xid o.0 w in
-        let a' : ArePayloads s.xid ms payloads = subst (λ l. ArePayloads (first_xid l) ms payloads) n.2 a in
-        serve_going past wire other letters s.xid o.0 o.1 ms payloads g was a' f.0 coming (subst (λ m. m ≤ length (requests start past)) (sym processed) le) (subst (λ l. Owes l o.1) (sym here) o.4) (o.3 ∙ ap (λ l. l ++ o.1) (sym f.1)) later
+        let f = for o.0 (subst (λ l. WaitsFor (first_xid l) r o.0) (sym n.2) w) in
+        serve_going past wire other letters o.0 o.1 ms payloads g f.0 coming (subst (λ m. m ≤ length (requests start past)) (sym processed) le) (subst (λ l. Owes l o.1) (sym here) o.4) (o.3 ∙ ap (λ l. l ++ o.1) (sym f.1)) later
         (subst (λ l. IsKeptFor P h start Was past other.server l (messages letters ++ ms)) (ap (λ l. rest_of (map (λ s. s.request) l)) n.2 ∙ ap (λ l. map (λ s. s.request) l) (sym here)) kept)
+
+    -- the messages have these payloads
+    serve_one : (past : Past) (wire other : Wire) (letters : List Letter) (r : Request) (ms : List Message) (payloads : List (List ℕ))
+        → (g : IsFlow P h start Was past wire letters Nothing_more) → AllByRecursion Was payloads → IsNext r (map (λ s. s.request) (unread start past wire)) → ArePayloads (first_xid (unread start past wire)) ms payloads
+        → ((xid : ℤ) (mine : List Asking) → WaitsFor xid r mine → AllFor xid mine ms × (flat_map (mine_of mine) ms ≡ mine))
+        → other.processed ≡ wire.processed + 1 → other.coming ≡ wire.coming ++ flat_map frame payloads → (is_talking (state_of past) ≡ true → AreLater ms)
+        → IsKeptFor P h start Was past other.server (rest_of (map (λ s. s.request) (unread start past wire))) (messages letters ++ ms) → Flows past other
+    serve_one past wire other letters r ms payloads g was next a for processed coming later kept =
+        serve_next past wire other letters r ms payloads g next
+        (λ mine w. let f = for (first_xid (unread start past wire)) mine w in (letters_for (first_xid (unread start past wire)) mine ms payloads was a f.0, f.1)) processed coming later kept
 
     module _ (is : IsHistory h) (log : List Item) (rs : List Request) (ms : List Message) (place : ℕ) (watches : Watches) (stage : Stage) where
       -- before the client has the acceptance nothing is asked
@@ -185,6 +193,11 @@ module _ (P : Text → Type 0) (h : History) where
       kept_pongs true e next k = talk_pongs P h is log (rest_of rs) ms place watches stage (subst (λ l. IsTalkingAt P h log l ms place watches stage) (next_is Ping rs next) k)
       kept_pongs false e next k = absurd (unasked Ping e next k)
 
+      kept_denies : (b : Bool) (q : Call) (code : ℤ) → IsOther code → stage ≡ Serving → IsNext (Ask q) rs → IsKeptAt P h b log rs ms place watches stage
+          → IsKeptAt P h b log (rest_of rs) (ms ++ Replies (question_of q) 0 (Refused code) ∷ []) place watches stage
+      kept_denies true q code other e next k = talk_denies P h log q code (rest_of rs) ms place watches stage other (subst (λ l. IsTalkingAt P h log l ms place watches stage) (next_is (Ask q) rs next) k)
+      kept_denies false q code other e next k = absurd (unasked (Ask q) e next k)
+
       kept_fails : (b : Bool) (x : Request) → stage ≡ Serving → IsNext x rs → IsKeptAt P h b log rs ms place watches stage → IsKeptAt P h b log rs ms place watches Ended
       kept_fails true x e next k = talk_ends P h log rs ms place watches stage k
       kept_fails false x e next k = absurd (unasked x e next k)
@@ -204,7 +217,7 @@ module _ (P : Text → Type 0) (h : History) where
           let same : other.processed ≡ wire.processed = omega arith in
           let back : unread start past other ≡ unread start past wire = ap (λ m. drop m (requests start past)) same in
           let rs : List Request = map (λ s. s.request) (unread start past wire) in
-          serve_going past wire other letters (first_xid (unread start past wire)) [] g.owed (map Notifies sent) payloads g was a (notices_for (first_xid (unread start past wire)) [] sent) refl
+          serve_going past wire other letters [] g.owed (map Notifies sent) payloads g (letters_for (first_xid (unread start past wire)) [] (map Notifies sent) payloads was a (notices_for (first_xid (unread start past wire)) [] sent)) refl
           (subst (λ m. m ≤ length (requests start past)) (sym same) g.enough) (subst (λ l. Owes l g.owed) (sym back) g.owes) (ap (λ l. l ++ g.owed) (sym (notices_mine [] sent))) (λ t. later_notices sent)
           (subst (λ l. IsKeptFor P h start Was past other.server (map (λ s. s.request) l) (messages letters ++ map Notifies sent)) (sym back)
           (kept_advances P h is (is_talking (state_of past)) (seen start past) rs (messages letters) wire.server.place wire.server.watches wire.server.stage sent may.1 may.0 may.2 may.3 g.kept))
@@ -226,7 +239,7 @@ module _ (P : Text → Type 0) (h : History) where
           stays false t e k = cc
       serve_by (Answers q r) payloads past wire letters g was may a =
           serve_one past wire (wire_on h (Answers q r) payloads wire) letters (Ask q) (Replies (question_of q) (zxid_held h wire.server.place) r ∷ []) payloads g was may.1 a
-          (λ xid mine w. (((w.0, w.1, q, w.2, refl, w.3, (wire.server.place, refl, may.2)), tt), append-nil mine)) refl refl (λ t. tt)
+          (λ xid mine w. (((w.0, w.1, q, w.2, refl, w.3, inl (wire.server.place, refl, may.2)), tt), append-nil mine)) refl refl (λ t. tt)
           (kept_answers is (seen start past) (map (λ s. s.request) (unread start past wire)) (messages letters) wire.server.place wire.server.watches wire.server.stage (is_talking (state_of past)) q r may.0 may.1 may.2 g.kept)
       serve_by (Restores b z part sent) payloads past wire letters g was may a =
           serve_one past wire (wire_on h (Restores b z part sent) payloads wire) letters (Restore b z part) (map Notifies sent ++ Watches_set b (zxid_held h wire.server.place) ∷ []) payloads g was may.1 a
@@ -258,8 +271,31 @@ module _ (P : Text → Type 0) (h : History) where
           (λ stage e f. subst (λ st. IsKeptAt P h (is_talking (state_of past)) (seen start past) rs (messages letters ++ map Notifies sent) wire.server.place wire.server.watches st) (sym (e ∙ f))
           (kept_tells P h (is_talking (state_of past)) (seen start past) rs (messages letters) wire.server.place wire.server.watches sent may.elsewhere
           (subst (λ st. IsKeptAt P h (is_talking (state_of past)) (seen start past) rs (messages letters) wire.server.place wire.server.watches st) (e ∙ f) g.kept))) in
-          serve_going past wire (record wire { coming = wire.coming ++ flat_map frame payloads }) letters (pos 0) [] g.owed (map Notifies sent) payloads g was may.told (notices_for (pos 0) [] sent) refl g.enough g.owes
+          serve_going past wire (record wire { coming = wire.coming ++ flat_map frame payloads }) letters [] g.owed (map Notifies sent) payloads g (letters_for (pos 0) [] (map Notifies sent) payloads was may.told (notices_for (pos 0) [] sent)) refl g.enough g.owes
           (ap (λ l. l ++ g.owed) (sym (notices_mine [] sent))) (λ t. later_notices sent) (at wire.server.stage refl may.serving)
+
+      -- A call is refused, with the zxid 0 or one below.
+      deny_by : (q : Call) (payload : List ℕ) (past : Past) (wire : Wire) (letters : List Letter) → (g : IsFlow P h start Was past wire letters Nothing_more) → Was payload → (may : MayDeny start q payload past wire)
+          → Flows past (record wire { processed = wire.processed + 1; coming = wire.coming ++ frame payload })
+      deny_by q payload past wire letters g was may =
+          let d = may.error in
+          let m : Message = Replies (question_of q) 0 (Refused d.1) in
+          let xid : ℤ = first_xid (unread start past wire) in
+          serve_next past wire (record wire { processed = wire.processed + 1; coming = wire.coming ++ frame payload }) letters (Ask q) (m ∷ []) (payload ∷ []) g may.next
+          (λ mine w. (
+            (
+              record { message = m; payload = payload; xid = xid; asked = mine } ∷ [],
+              record {
+                told = refl;
+                are = (record { was_sent = was; short = may.short; spelt = inr (refl, d.0, d.2, d.3, d.4, d.5); is_for = (w.0, w.1, q, w.2, refl, w.3, inr (refl, d.4)) }, tt);
+                bytes = refl;
+                ask = refl;
+              },
+            ),
+            append-nil mine,
+          ))
+          refl (ap (λ l. wire.coming ++ l) (sym (append-nil (frame payload)))) (λ t. tt)
+          (kept_denies is (seen start past) (map (λ s. s.request) (unread start past wire)) (messages letters) wire.server.place wire.server.watches wire.server.stage (is_talking (state_of past)) q d.1 d.4 may.serving may.next g.kept)
 
       -- A part is refused.
       fail_by : (payload rest : List ℕ) (past : Past) (wire : Wire) (letters : List Letter) → (g : IsFlow P h start Was past wire letters Nothing_more) → Was payload → (may : MayFail start payload past wire)
@@ -294,6 +330,7 @@ abbrev Sends : (List ℕ → Type 0) → LocalEntry → Type 0
 Sends Was (Goes place item) = Unit {0}
 Sends Was (Steps step payloads) = AllByRecursion Was payloads
 Sends Was (Tells sent payloads) = AllByRecursion Was payloads
+Sends Was (Denies call payload) = Was payload
 Sends Was (Fails payload rest) = Was payload
 
 -- what a caller asks at an entry is about paths
@@ -309,12 +346,14 @@ entry_sends : (Was : List ℕ → Type 0) (entry : LocalEntry) (earlier : List L
 entry_sends Was (Goes place item) earlier all = tt
 entry_sends Was (Steps step payloads) earlier all = all_among Was payloads (λ p a. all p (inl a))
 entry_sends Was (Tells sent payloads) earlier all = all_among Was payloads (λ p a. all p (inl a))
+entry_sends Was (Denies call payload) earlier all = all payload (inl refl)
 entry_sends Was (Fails payload rest) earlier all = all payload (inl refl)
 
 still_sent : (entry : LocalEntry) (earlier : List LocalEntry) (p : List ℕ) → WasSentAt earlier p → WasSentAt (entry ∷ earlier) p
 still_sent (Goes place item) earlier p w = w
 still_sent (Steps step payloads) earlier p w = inr w
 still_sent (Tells sent payloads) earlier p w = inr w
+still_sent (Denies call payload) earlier p w = inr w
 still_sent (Fails payload rest) earlier p w = inr w
 
 asked_now : (entry : LocalEntry) (earlier : List LocalEntry) → AllAsked (items_at (entry ∷ earlier)) → Asks_paths entry
@@ -323,6 +362,7 @@ asked_now (Goes place Forgets_now) earlier a = tt
 asked_now (Goes place Halts_here) earlier a = tt
 asked_now (Steps step payloads) earlier a = tt
 asked_now (Tells sent payloads) earlier a = tt
+asked_now (Denies call payload) earlier a = tt
 asked_now (Fails payload rest) earlier a = tt
 
 asked_before : (entry : LocalEntry) (earlier : List LocalEntry) → AllAsked (items_at (entry ∷ earlier)) → AllAsked (items_at earlier)
@@ -331,6 +371,7 @@ asked_before (Goes place Forgets_now) earlier a = a
 asked_before (Goes place Halts_here) earlier a = a
 asked_before (Steps step payloads) earlier a = a
 asked_before (Tells sent payloads) earlier a = a
+asked_before (Denies call payload) earlier a = a
 asked_before (Fails payload rest) earlier a = a
 
 module _ (P : Text → Type 0) (h : History) (is : IsHistory h) (start : Start) (Was : List ℕ → Type 0) where
@@ -359,6 +400,12 @@ module _ (P : Text → Type 0) (h : History) (is : IsHistory h) (start : Start) 
       let g = s.going may.going in
       served_on past wire (record wire { coming = wire.coming ++ flat_map frame payloads }) s
       (tell_by P h start Was is sent payloads past wire g.0 (nothing_refused past wire g.0 g.1 (not_ended P h start Was wire.server.stage may.serving) g.2) was may)
+  entered (Denies call payload) earlier was ask may s =
+      let past : Past = past_of start (items_at earlier) in
+      let wire : Wire = wire_at h earlier in
+      let g = s.going may.going in
+      served_on past wire (record wire { processed = wire.processed + 1; coming = wire.coming ++ frame payload }) s
+      (deny_by P h start Was is call payload past wire g.0 (nothing_refused past wire g.0 g.1 (not_ended P h start Was wire.server.stage may.serving) g.2) was may)
   entered (Fails payload rest) earlier was ask may s =
       let past : Past = past_of start (items_at earlier) in
       let wire : Wire = wire_at h earlier in

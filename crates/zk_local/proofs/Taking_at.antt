@@ -271,17 +271,18 @@ module _ (P : Text → Type 0) (h : History) (start : Start) (Was : List ℕ →
       (awaited_less (is_talking (state_of past)) (answered past) (questions past) x (answers ls ++ g.owed) first) coming (g.later talks) calm
       (counted_next (Takes_in (Sets_watches b (pos z))) past (waits_there past x (answers ls ++ g.owed) first) counted)
 
-  pub took_reply : (past : Past) (wire : Wire) (q : Question) (z : ℕ) (res : Result) (xid : ℤ) (p : List ℕ) (ps : List Asking) (ls : List Letter) (tail : Tail) → is_talking (state_of past) ≡ true
+  pub took_reply : (past : Past) (wire : Wire) (q : Question) (z : ℕ) (zxid : ℤ) (same : from_zero zxid ≡ z) (res : Result) (xid : ℤ) (p : List ℕ) (ps : List Asking) (ls : List Letter) (tail : Tail) → is_talking (state_of past) ≡ true
       → (g : IsFlow P h start Was past wire (record { message = Replies q z res; payload = p; xid = xid; asked = ps } ∷ ls) tail)
-      → IsCalmAt P h start Was past → Counted past → wire.coming ≡ frames ls ++ tail_bytes tail → (ticket : ℕ) (x : Asking) → awaited past ≡ x ∷ (answers ls ++ g.owed) → IsAnswered P h start Was ticket q (pos z) res past
-      → Stands_at P h start Was (Takes_in (Answers_call ticket q (pos z) res) ∷ past) wire
-  took_reply past wire Close z res xid p ps ls tail talks g calm counted coming ticket x first holds =
+      → IsCalmAt P h start Was past → Counted past → wire.coming ≡ frames ls ++ tail_bytes tail → (ticket : ℕ) (x : Asking) → awaited past ≡ x ∷ (answers ls ++ g.owed) → IsAnswered P h start Was ticket q zxid res past
+      → Stands_at P h start Was (Takes_in (Answers_call ticket q zxid res) ∷ past) wire
+  took_reply past wire Close z zxid same res xid p ps ls tail talks g calm counted coming ticket x first holds =
       let rs : List Request = map (λ s. s.request) (unread start past wire) in
       let t = talk_takes P h (seen start past) rs (Replies Close z res) (messages ls) wire.server.place wire.server.watches wire.server.stage (talking_of past wire (record { message = Replies Close z res; payload = p; xid = xid; asked = ps } ∷ ls) tail talks g) in
-      over_by (Takes_in (Answers_call ticket Close (pos z) res) ∷ past) wire
-      (talking_right P h (Took (Replies Close z res) ∷ seen start past) rs (messages ls) wire.server.place wire.server.watches wire.server.stage t)
-      (holds, calm) (counted_next (Takes_in (Answers_call ticket Close (pos z) res)) past (waits_there past x (answers ls ++ g.owed) first) counted) refl
-  took_reply past wire q z res xid p ps ls tail talks g calm counted coming ticket x first holds =
-      took_by past (Takes_in (Answers_call ticket q (pos z) res) ∷ past) wire (Replies q z res) xid p ps ls tail talks g refl refl refl refl
+      over_by (Takes_in (Answers_call ticket Close zxid res) ∷ past) wire
+      (subst (λ n. AreRight P h (Took (Replies Close n res) ∷ seen start past)) (sym same)
+      (talking_right P h (Took (Replies Close z res) ∷ seen start past) rs (messages ls) wire.server.place wire.server.watches wire.server.stage t))
+      (holds, calm) (counted_next (Takes_in (Answers_call ticket Close zxid res)) past (waits_there past x (answers ls ++ g.owed) first) counted) refl
+  took_reply past wire q z zxid same res xid p ps ls tail talks g calm counted coming ticket x first holds =
+      took_by past (Takes_in (Answers_call ticket q zxid res) ∷ past) wire (Replies q z res) xid p ps ls tail talks g (ap (λ n. Took (Replies q n res) ∷ seen start past) same) refl refl refl
       (awaited_less (is_talking (state_of past)) (answered past) (questions past) x (answers ls ++ g.owed) first) coming (g.later talks) (holds, calm)
-      (counted_next (Takes_in (Answers_call ticket q (pos z) res)) past (waits_there past x (answers ls ++ g.owed) first) counted)
+      (counted_next (Takes_in (Answers_call ticket q zxid res)) past (waits_there past x (answers ls ++ g.owed) first) counted)

@@ -4,7 +4,7 @@ use Rattle.zk_nodes.specs.Path.{Text, path_of}
 use Rattle.zk_nodes.specs.History.{Tree, History, tree_at, view as to_see}
 use Rattle.zk_conversation.specs.Calls.{Call}
 use Rattle.zk_conversation.specs.Questions.{question_of}
-use Rattle.zk_conversation.specs.Results.{Result}
+use Rattle.zk_conversation.specs.Results.{Result, Refused}
 use Rattle.zk_nodes.specs.declared.side.Side.TheVariants.{Data, Child}
 use Rattle.zk_frames.specs.declared.fault.FrameFault.TheVariants.{TooLong}
 use Rattle.zk_cache.specs.declared.held.Kept.{Kept}
@@ -51,12 +51,18 @@ IsDueAt entries fault =
     (fault ≡ Silent) ⊎ ((fault ≡ Framed TooLong) × ((payload : List ℕ) × WasSentAt entries payload × (LONGEST_INCOMING < length payload)))
     ⊎ ((code : ℤ) × (fault ≡ WatchesRefused code) × (code ≢ pos 0))
 
+-- the reply refuses a call, with the zxid 0 or one below
+abbrev pub IsDenial : ℤ → Result → Type 0
+IsDenial zxid (Refused code) = from_zero zxid ≡ 0
+IsDenial zxid _ = ⊥
+
 -- All of it at once: what is good at these paths is the history's at the last seen zxid; each Answer with a reply's zxid is of a reply
--- that was taken, not below the zxid that the client began with, to a call that was asked with its ticket, and true where that is about
--- one of these paths; each Drop has its reason.
+-- that was taken, to a call that was asked with its ticket, true where that is about one of these paths, and not below the zxid that the
+-- client began with, unless it is such a refusal; each Drop has its reason.
 pub record HeadlineAt (P : Text → Type 0) (h : History) (start : Start) (items : List Item) (view : View) (entries : List LocalEntry) : Type 0 where
   pub coherent : IsCoherentAt P h view
   pub answers : (ticket : ℕ) (zxid : ℤ) (result : Result) → Among (Answers ticket (Replied zxid result)) (outputs_of items)
       → (call : Call) × Among (Asked ticket call) (past_of start items) × Among (Takes_in (Answers_call ticket (question_of call) zxid result)) (past_of start items)
-      × (IsAbout P call → Reads (tree_at h (from_zero zxid)) (question_of call) result × IsTrueWrite h call (from_zero zxid) result) × (from_zero start.last ≤ from_zero zxid) × (zxid ≡ pos (from_zero zxid))
+      × (IsAbout P call → Reads (tree_at h (from_zero zxid)) (question_of call) result × IsTrueWrite h call (from_zero zxid) result)
+      × (((from_zero start.last ≤ from_zero zxid) × (zxid ≡ pos (from_zero zxid))) ⊎ IsDenial zxid result)
   pub drops : (fault : Fault) → Among (Drop fault) (outputs_of items) → IsDueAt entries fault
