@@ -1,6 +1,6 @@
 -- The schedule that departs elsewhere is one, what it leads to is computed, and no history explains it by servers of the model.
 use Rattle.std.proofs.lemmas.Int.{ints}
-use Rattle.std.proofs.Common.{◌≡◌, ℕ, ℤ, pos, negsuc, List, [], ◌∷◌, ◌++◌, refl, arith, Option, Some, None, ap, inl, inr}
+use Rattle.std.proofs.Common.{◌≡◌, ℕ, pos, negsuc, List, [], ◌∷◌, ◌++◌, refl, arith, Option, Some, None, ap, inl}
 use Rattle.std.specs.Str.{is_utf8, chars}
 use lib.Utf8.{encode}
 use Rattle.zk_jute.specs.Layout.{Value}
@@ -16,9 +16,9 @@ use Rattle.zk_conversation.specs.Arriving.{arriving}
 use Rattle.zk_conversation.specs.Calls.{connect_payload, call_payload, part_payload, part_xid}
 use Rattle.zk_conversation.specs.Results.{record_of}
 use Rattle.zk_turns.specs.Spelled.{IsHeaded, HasRecord}
-use Rattle.zk_turns.specs.Turns.{Start, WatchesRefused}
+use Rattle.zk_turns.specs.Turns.{WatchesRefused}
 use Rattle.zk_turns.specs.Past.{kept_data, last_of, Dropped, Took as Takes_in, Replies as Answers_call}
-use Rattle.zk_turns.specs.View.{View, view_at}
+use Rattle.zk_turns.specs.View.{view_at}
 use Rattle.zk_turns.specs.Taken.{cut, past_of}
 use Rattle.zk_turns.specs.Rule.{Stands}
 use Rattle.zk_turns.specs.Meaning.{Among}

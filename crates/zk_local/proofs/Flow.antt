@@ -1,6 +1,6 @@
 -- What is between a client and servers that keep to the model at some paths: letters in flight, and after them, where a part of setWatches
 -- was answered with an error, bytes that nobody reads.
-use Rattle.std.proofs.Common.{◌≡◌, ℕ, ◌^◌, ◌≤◌, ◌<◌, ℤ, pos, negsuc, Bool, true, false, cond, List, [], ◌∷◌, ◌++◌, map, length, refl, sym, ap, subst, ◌∙◌, arith, inl, inr, ◌⊎◌, append_assoc, Ok, Err}
+use Rattle.std.proofs.Common.{◌≡◌, ℕ, ◌^◌, ◌≤◌, ◌<◌, ℤ, pos, negsuc, Bool, true, false, cond, List, [], ◌∷◌, ◌++◌, map, length, refl, ap, ◌∙◌, inl, ◌⊎◌, Ok, Err}
 use Rattle.std.specs.Prelude.{◌≢◌, ◌&&◌, int_lt, is_some, if◌then◌else◌}
 use Rattle.std.specs.List.{AllByRecursion}
 use Rattle.std.specs.Ordering.{int_eq}
@@ -26,10 +26,9 @@ use Rattle.zk_turns.specs.Spelled.{IsHeaded}
 use Rattle.zk_turns.specs.Taken.{reading, taken_of}
 use Rattle.zk_laws.specs.Server.{zxid_held, IsOther}
 use Rattle.zk_laws.specs.Messages.{Message, Replies, Watches_set, Request, from_zero}
-use Rattle.zk_laws.specs.Log.{Item}
 use Rattle.zk_laws.specs.ServerSteps.{Stage, Ended, ServerEnd}
 use Rattle.zk_laws.specs.Seen.{seen}
-use Rattle.zk_laws.specs.Served.{Sent, requests, unread, Wire, is_going, IsPayload}
+use Rattle.zk_laws.specs.Served.{requests, unread, Wire, is_going, IsPayload}
 use Rattle.zk_laws.specs.Flight.{Letter, frames, messages, answers, AreLater, Owes}
 use Rattle.zk_local.specs.LocalSteps.{GivesAt}
 use Rattle.zk_local.specs.LocalHeadline.{IsDenial}

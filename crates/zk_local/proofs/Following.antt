@@ -1,33 +1,25 @@
 -- Servers that keep to the model keep to it at each set of paths; what is free elsewhere.
-use Rattle.std.proofs.Common.{◌≡◌, ℕ, ◌+◌, ◌<◌, ◌≤◌, ℤ, List, [], ◌∷◌, ◌++◌, map, drop, length, refl, sym, ap, subst, ◌∙◌, arith, inl, inr, ◌⊎◌, Some, Bool, true, false, cond, ◌&&◌}
-use Rattle.std.specs.Prelude.{bytes_eq}
-use Rattle.std.specs.List.{flat_map}
-use Rattle.std.specs.Ordering.{int_eq}
-use Rattle.std.proofs.lemmas.Bool.{and_parts}
+use Rattle.std.proofs.Common.{◌≡◌, ℕ, List, [], ◌∷◌, ◌++◌, map, refl, sym, ap, subst, ◌∙◌}
 use Rattle.zk_nodes.specs.Path.{Text}
 use Rattle.zk_nodes.specs.History.{Tree, History}
 use Rattle.zk_conversation.specs.Calls as call
 use Rattle.zk_conversation.specs.Calls.{Call}
 use Rattle.zk_conversation.specs.Results.{Result, Refused}
-use Rattle.zk_frames.specs.Frame.{frame}
-use Rattle.zk_records.specs.Events.{event_number}
 use Rattle.zk_turns.specs.Turns.{Start, Item}
 use Rattle.zk_turns.specs.Past.{Past}
 use Rattle.zk_turns.specs.Taken.{past_of}
-use Rattle.zk_turns.specs.View.{View, Cache}
-use Rattle.zk_turns.specs.Meaning.{Among}
-use Rattle.zk_laws.specs.Server.{Notice, times, AreSent, Gives}
+use Rattle.zk_turns.specs.View.{Cache}
+use Rattle.zk_laws.specs.Server.{Notice, AreSent, Gives, fires_all, part_tells, tree_held}
 use Rattle.zk_laws.specs.Messages.{Request}
-use Rattle.zk_laws.specs.ServerSteps.{ServerEnd, ServerStep, Advances, Admits, Refuses, Answers, Restores, Pongs, MayDo}
-use Rattle.zk_laws.specs.Served.{Wire, Entry, Goes_on, Serves, items_in, wire_of, unread, MayServe, MayEnter, IsServing, Served, wire_past, wire_on}
+use Rattle.zk_laws.specs.ServerSteps.{ServerEnd, ServerStep, Advances, Admits, Refuses, Answers, Restores, Pongs, MayDo, changes_next}
+use Rattle.zk_laws.specs.Served.{Wire, Entry, Goes_on, Serves, items_in, wire_of, unread, MayEnter, IsServing, Served, wire_past, wire_on}
 use Rattle.zk_laws.specs.Flight.{HasCode}
 use Rattle.zk_laws.specs.Headline.{IsTrueOf}
-use Rattle.zk_laws.proofs.Basics.{text_eq-true}
+use Rattle.zk_laws.proofs.Basics.{sent_among, Among-left}
 use Rattle.zk_laws.proofs.Moving.{refusal}
-use Rattle.zk_local.specs.LocalSteps.{IsAbout, GivesAt, AreSentAt, AreElsewhere, MayDoAt}
-use Rattle.zk_local.specs.LocalServed.{LocalEntry, Goes, Steps, Tells, Denies, Fails, items_at, wire_at, MayStepAt, MayTell, MayFail, MayEnterAt, IsServingAt, ServedAt, local_of}
+use Rattle.zk_local.specs.LocalSteps.{IsAbout, AreToldAt, MayDoAt}
+use Rattle.zk_local.specs.LocalServed.{LocalEntry, Goes, Steps, Tells, Denies, Fails, items_at, wire_at, MayEnterAt, IsServingAt, ServedAt, local_of}
 use Rattle.zk_local.specs.LocalHeadline.{IsTrueAt}
-use Rattle.zk_local.proofs.Elsewhere.{times_append}
 
 -- ---- the model
 
@@ -47,12 +39,15 @@ module _ (h : History) where
   local_wire (Serves step payloads ∷ earlier) = ap (λ w. wire_on h step payloads w) (local_wire earlier)
 
   module _ (P : Text → Type 0) where
+    sent_told : (fired sent : List Notice) → AreSent fired sent → AreToldAt P fired sent
+    sent_told fired sent all side notice p among concerned = (notice, sent_among fired sent notice all among, concerned, refl)
+
     local_step : (step : ServerStep) (server : ServerEnd) (requests : List Request) → MayDo h step server requests → MayDoAt P h step server requests
-    local_step (Advances sent) server requests may = (may.0, may.1, λ notice p. may.2 notice, λ w. may.2)
+    local_step (Advances sent) server requests may = (may.0, may.1, sent_told (fires_all (changes_next h server.place) server.watches) sent may.2, λ w. may.2)
     local_step (Admits z) server requests may = may
     local_step (Refuses z) server requests may = may
     local_step (Answers q r) server requests may = (may.0, may.1, (coded h server.place q r may.2, λ about. may.2))
-    local_step (Restores b z part sent) server requests may = (may.0, may.1, λ notice p. may.2 notice)
+    local_step (Restores b z part sent) server requests may = (may.0, may.1, sent_told (part_tells z (tree_held h server.place) part) sent may.2)
     local_step Pongs server requests may = may
 
     local_entry : (start : Start) (entry : Entry) (past : Past) (wire : Wire) → MayEnter h start entry past wire → MayEnterAt P h start (local_of entry) past wire
@@ -83,17 +78,17 @@ module _ (P Q : Text → Type 0) (fewer : (path : Text) → Q path → P path) (
   about_fewer call.Close a = a
 
   step_fewer : (step : ServerStep) (server : ServerEnd) (requests : List Request) → MayDoAt P h step server requests → MayDoAt Q h step server requests
-  step_fewer (Advances sent) server requests may = (may.0, may.1, λ notice q. may.2 notice (fewer notice.path q), may.3)
+  step_fewer (Advances sent) server requests may = (may.0, may.1, λ side notice q. may.2 side notice (fewer notice.path q), may.3)
   step_fewer (Admits z) server requests may = may
   step_fewer (Refuses z) server requests may = may
   step_fewer (Answers q r) server requests may = (may.0, may.1, (may.2.0, λ about. may.2.1 (about_fewer q about)))
-  step_fewer (Restores b z part sent) server requests may = (may.0, may.1, λ notice q. may.2 notice (fewer notice.path q))
+  step_fewer (Restores b z part sent) server requests may = (may.0, may.1, λ side notice q. may.2 side notice (fewer notice.path q))
   step_fewer Pongs server requests may = may
 
   entry_fewer : (start : Start) (entry : LocalEntry) (past : Past) (wire : Wire) → MayEnterAt P h start entry past wire → MayEnterAt Q h start entry past wire
   entry_fewer start (Goes place item) past wire may = may
   entry_fewer start (Steps step payloads) past wire may = record { going = may.going; may = step_fewer step wire.server (map (λ sent. sent.request) (unread start past wire)) may.may; told = may.told }
-  entry_fewer start (Tells sent payloads) past wire may = record { going = may.going; serving = may.serving; elsewhere = λ notice among q. may.elsewhere notice among (fewer notice.path q); told = may.told }
+  entry_fewer start (Tells sent payloads) past wire may = may
   entry_fewer start (Denies call payload) past wire may = may
   entry_fewer start (Fails payload rest) past wire may = may
 
@@ -103,22 +98,8 @@ module _ (P Q : Text → Type 0) (fewer : (path : Text) → Q path → P path) (
 
 -- ---- what is free
 
--- a notice about another path is not counted at these
-not_among : (P : Text → Type 0) (notice : Notice) (ns : List Notice) → P notice.path → AreElsewhere P ns → times notice ns ≡ 0
-not_among P notice [] p e = refl
-not_among P notice (one ∷ ns) p e = go (int_eq (event_number notice.event) (event_number one.event) && bytes_eq notice.path one.path) refl (not_among P notice ns p (λ n among. e n (inr among)))
-  where
-    go : (b : Bool) → (int_eq (event_number notice.event) (event_number one.event) && bytes_eq notice.path one.path) ≡ b → times notice ns ≡ 0 → cond b 1 0 + times notice ns ≡ 0
-    go true t ih = absurd (e one (inl refl) (subst P (text_eq-true notice.path one.path (and_parts (int_eq (event_number notice.event) (event_number one.event)) (bytes_eq notice.path one.path) t).1) p))
-    go false t ih = omega (arith, ih)
-
-pub more_sent : (P : Text → Type 0) (fired sent more : List Notice) → AreSentAt P fired sent → AreElsewhere P more → AreSentAt P fired (sent ++ more)
-more_sent P fired sent more at away notice p =
-    let here = at notice p in
-    let none = not_among P notice more p away in
-    let sum = times_append notice sent more in
-    let low = here.0 in
-    (omega (arith, none, sum), λ some. let k = here.1 some in omega (arith, none, sum))
+pub more_told : (P : Text → Type 0) (fired sent more : List Notice) → AreToldAt P fired sent → AreToldAt P fired (sent ++ more)
+more_told P fired sent more at side notice p among concerned = let one = at side notice p among concerned in (one.0, Among-left one.0 sent more one.1, one.2, one.3)
 
 -- ---- all paths
 

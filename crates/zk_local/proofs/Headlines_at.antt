@@ -1,5 +1,5 @@
 -- The laws of a client whose servers keep to the model at some paths.
-use Rattle.std.proofs.Common.{◌≤◌, drop, suc, zero, ◌<◌, pos, ◌≡◌, ℕ, ℤ, Bool, true, false, cond, List, [], ◌∷◌, ◌++◌, map, length, refl, sym, ap, subst, ◌∙◌, arith, inl, inr, ◌⊎◌, Some, None}
+use Rattle.std.proofs.Common.{◌≤◌, drop, suc, zero, pos, ◌≡◌, ℕ, ℤ, Bool, true, false, cond, List, [], ◌∷◌, ◌++◌, map, length, refl, sym, ap, subst, ◌∙◌, arith, inl, inr, ◌⊎◌, Some}
 use Rattle.std.proofs.lemmas.List.{length-append}
 use Rattle.zk_nodes.specs.Path.{Text, path_of}
 use Rattle.zk_nodes.specs.History.{Tree, History, IsHistory, tree_at, View as SeenView, view as to_see}
@@ -21,7 +21,7 @@ use Rattle.zk_turns.specs.Turns.{Start, Item, Fault}
 use Rattle.zk_turns.specs.View.{View}
 use Rattle.zk_turns.specs.Taken.{past_of}
 use Rattle.zk_turns.specs.Meaning.{Among}
-use Rattle.zk_turns.specs.Past.{Asking, For_part, For_call, parts_asked, questions, awaited, answered, is_talking, state_of, xid_of, names_of, Asked, Began, lists_of, Happening, Dropped, Past, Skipped, Expiry, held_of, kept_data, kept_names, last_of, Took as Takes_in, Accepted as Accepts, Replies as Answers_call, Watches_set as Sets_watches, Notifies as Tells_of, Pong as Echo}
+use Rattle.zk_turns.specs.Past.{Asking, For_part, For_call, parts_asked, questions, awaited, answered, is_talking, state_of, xid_of, names_of, Asked, Began, lists_of, Happening, Dropped, Past, Skipped, Expiry, held_of, kept_data, kept_names, Took as Takes_in, Accepted as Accepts, Replies as Answers_call, Watches_set as Sets_watches, Notifies as Tells_of, Pong as Echo}
 use Rattle.zk_turns.proofs.Pieces.{length-frame}
 use Rattle.zk_frames.specs.Frame.{frame}
 use Rattle.zk_laws.specs.Server.{Fits, FitsNames, Reads, tree_held, zxid_held, Gives}
@@ -38,8 +38,8 @@ use Rattle.zk_laws.proofs.Seeing.{last_is, good_node, good_names}
 use Rattle.zk_laws.proofs.Stamps.{tree_at_held}
 use Rattle.zk_local.specs.LocalSteps.{IsAbout}
 use Rattle.zk_local.specs.LocalServed.{LocalEntry, items_at, wire_at, WasSentAt, IsServingAt, ServedAt}
-use Rattle.zk_local.specs.LocalHeadline.{IsDenial, IsTrueAt, IsCoherentAt, IsQuietAfter, tree_after, IsDueAt, HeadlineAt}
-use Rattle.zk_local.proofs.Flow.{Tail, Nothing_more, Failure, tail_bytes, IsDue, IsGivenAt, IsAnsweredFor, AnswersFirstAt, IsAnswered, IsCalmAt, IsFlow, Stands_at}
+use Rattle.zk_local.specs.LocalHeadline.{IsDenial, IsTrueAt, IsCoherentAt, IsQuietAfter, tree_after, HeadlineAt}
+use Rattle.zk_local.proofs.Flow.{Tail, tail_bytes, IsDue, IsAnsweredFor, AnswersFirstAt, IsCalmAt, IsFlow, Stands_at}
 use Rattle.zk_local.proofs.Taking_at.{talking_of}
 use Rattle.zk_local.proofs.Moving_at.{schedule_at}
 

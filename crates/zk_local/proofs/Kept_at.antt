@@ -3,9 +3,9 @@ use Rattle.std.proofs.Common.{ℕ, ◌≡◌, ◌<◌, ◌≤◌, max, Bool, tru
 use Rattle.std.proofs.lemmas.Bool.Decides.{nat_tests}
 use Rattle.std.proofs.lemmas.Bool.{and_right}
 use Rattle.std.proofs.lemmas.List.{map-append}
-use Rattle.std.specs.Prelude.{◌≢◌, ◌||◌}
+use Rattle.std.specs.Prelude.{◌≢◌}
 use Rattle.zk_nodes.specs.Path.{Text}
-use Rattle.zk_nodes.specs.History.{Change, Transaction, History, IsHistory}
+use Rattle.zk_nodes.specs.History.{Transaction, History, IsHistory}
 use Rattle.zk_nodes.specs.declared.side.Side.{Side}
 use Rattle.zk_conversation.specs.Calls.{Call}
 use Rattle.zk_conversation.specs.Questions.{question_of}
@@ -29,8 +29,8 @@ use Rattle.zk_laws.proofs.Stamps.{IsNextAt, next_at}
 use Rattle.zk_laws.proofs.Ahead.{ahead_right, ahead_map, ahead_same, right_less, max_zero}
 use Rattle.zk_laws.proofs.Serving.{pong_ahead}
 use Rattle.zk_laws.proofs.Joining.{joined}
-use Rattle.zk_local.specs.LocalSteps.{GivesAt, AreSentAt, AreElsewhere}
-use Rattle.zk_local.proofs.Elsewhere.{any_tells, any_append, none_told, elsewhere_told, told_elsewhere, next_at_path, part_at_path, answer_at_path, left_refused, denied_ahead}
+use Rattle.zk_local.specs.LocalSteps.{GivesAt, AreToldAt}
+use Rattle.zk_local.proofs.Elsewhere.{told_more, next_at_path, part_at_path, answer_at_path, left_refused, denied_ahead}
 
 -- ---- zxids rise
 
@@ -108,14 +108,10 @@ module _ (P : Text → Type 0) (h : History) where
   abbrev pub AreRight : List Item → Type 0
   AreRight log = (side : Side) (path : Text) → P path → IsRight h side path log
 
-  -- the notices tell of none of these paths
-  abbrev pub AreAway : List Notice → Type 0
-  AreAway ns = (side : Side) (path : Text) → P path → any_tells side path ns ≡ false
-
   -- a connection on which the acceptance was not taken yet
   abbrev pub IsOpeningAt : List Item → List Request → List Message → ℕ → Stage → Type 0
   IsOpeningAt log requests messages place Waiting = (requests ≡ Connect (last log) ∷ []) × (messages ≡ [])
-  IsOpeningAt log requests messages place Serving = (requests ≡ []) × ((ns : List Notice) × (messages ≡ Accepted ∷ map Notifies ns) × AreAway ns) × (last log ≤ zxid_held h place)
+  IsOpeningAt log requests messages place Serving = (requests ≡ []) × ((ns : List Notice) × (messages ≡ Accepted ∷ map Notifies ns)) × (last log ≤ zxid_held h place)
   IsOpeningAt log requests messages place Ended = (requests ≡ []) × (messages ≡ Expired ∷ [])
 
   pub record IsStartingAt (log : List Item) (requests : List Request) (messages : List Message) (place : ℕ) (watches : Watches) (stage : Stage) : Type 0 where
@@ -164,13 +160,13 @@ module _ (P : Text → Type 0) (h : History) where
   pub talk_ends : (log : List Item) (requests : List Request) (messages : List Message) (place : ℕ) (watches : Watches) (stage : Stage) → IsTalkingAt log requests messages place watches stage → IsTalkingAt log requests messages place watches Ended
   talk_ends log requests messages place watches stage t = record { stage_is = λ e. cc; askable = t.askable; rises = t.rises; ahead = t.ahead }
 
-  pub talk_tells : (log : List Item) (requests : List Request) (messages : List Message) (place : ℕ) (watches : Watches) (stage : Stage) (sent : List Notice) → AreAway sent
+  pub talk_tells : (log : List Item) (requests : List Request) (messages : List Message) (place : ℕ) (watches : Watches) (stage : Stage) (sent : List Notice)
       → IsTalkingAt log requests messages place watches stage → IsTalkingAt log requests (messages ++ map Notifies sent) place watches stage
-  talk_tells log requests messages place watches stage sent away t = record {
+  talk_tells log requests messages place watches stage sent t = record {
     stage_is = t.stage_is;
     askable = t.askable;
     rises = rises_told (last log) (zxid_held h place) (zxid_held h place) messages sent (omega arith) t.rises;
-    ahead = λ side path p. told_elsewhere h side path requests place watches messages sent log (away side path p) (t.ahead side path p);
+    ahead = λ side path p. told_more h side path requests place watches messages sent log (t.ahead side path p);
   }
 
   pub talk_takes : (log : List Item) (requests : List Request) (m : Message) (messages : List Message) (place : ℕ) (watches : Watches) (stage : Stage)
@@ -206,7 +202,7 @@ module _ (P : Text → Type 0) (h : History) where
       let f : Connect seen ∷ rest ≡ Connect (last log) ∷ [] = sym e ∙ s.opening.0 in
       let same : seen ≡ last log = cc in
       let none : rest ≡ [] = cc in
-      record { right = s.right; unwatched = s.unwatched; opening = (none, ([], ap (λ ms. ms ++ Accepted ∷ []) s.opening.1, λ side path p. refl), omega arith) }
+      record { right = s.right; unwatched = s.unwatched; opening = (none, ([], ap (λ ms. ms ++ Accepted ∷ []) s.opening.1), omega arith) }
 
   pub start_refuses : (log : List Item) (requests : List Request) (messages : List Message) (place : ℕ) (watches : Watches) (seen : ℕ) (rest : List Request) → requests ≡ Connect seen ∷ rest
       → IsStartingAt log requests messages place watches Waiting → IsStartingAt log rest (messages ++ Expired ∷ []) place watches Ended
@@ -215,18 +211,14 @@ module _ (P : Text → Type 0) (h : History) where
       let none : rest ≡ [] = cc in
       record { right = s.right; unwatched = s.unwatched; opening = (none, ap (λ ms. ms ++ Expired ∷ []) s.opening.1) }
 
-  away_more : (a b : List Notice) → AreAway a → AreAway b → AreAway (a ++ b)
-  away_more a b x y side path p = any_append side path a b ∙ ap (λ t. t || any_tells side path b) (x side path p) ∙ y side path p
-
   -- more notices after the acceptance
-  told_accepted : (messages : List Message) (sent : List Notice) → ((ns : List Notice) × (messages ≡ Accepted ∷ map Notifies ns) × AreAway ns) → AreAway sent
-      → (ns : List Notice) × (messages ++ map Notifies sent ≡ Accepted ∷ map Notifies ns) × AreAway ns
-  told_accepted messages sent o away = (o.0 ++ sent, ap (λ ms. ms ++ map Notifies sent) o.1 ∙ ap (λ ms. Accepted ∷ ms) (sym (map-append Notifies o.0 sent)), away_more o.0 sent o.2 away)
+  told_accepted : (messages : List Message) (sent : List Notice) → ((ns : List Notice) × (messages ≡ Accepted ∷ map Notifies ns)) → (ns : List Notice) × (messages ++ map Notifies sent ≡ Accepted ∷ map Notifies ns)
+  told_accepted messages sent o = (o.0 ++ sent, ap (λ ms. ms ++ map Notifies sent) o.1 ∙ ap (λ ms. Accepted ∷ ms) (sym (map-append Notifies o.0 sent)))
 
-  pub start_tells : (log : List Item) (requests : List Request) (messages : List Message) (place : ℕ) (watches : Watches) (sent : List Notice) → AreAway sent
+  pub start_tells : (log : List Item) (requests : List Request) (messages : List Message) (place : ℕ) (watches : Watches) (sent : List Notice)
       → IsStartingAt log requests messages place watches Serving → IsStartingAt log requests (messages ++ map Notifies sent) place watches Serving
-  start_tells log requests messages place watches sent away s =
-      record { right = s.right; unwatched = s.unwatched; opening = (s.opening.0, told_accepted messages sent s.opening.1 away, s.opening.2) }
+  start_tells log requests messages place watches sent s =
+      record { right = s.right; unwatched = s.unwatched; opening = (s.opening.0, told_accepted messages sent s.opening.1, s.opening.2) }
 
   -- the acceptance is taken
   pub start_joins : (log : List Item) (requests : List Request) (messages : List Message) (place : ℕ) (watches : Watches) (stage : Stage) (parts : List Lists) → AreParts log parts
@@ -244,7 +236,7 @@ module _ (P : Text → Type 0) (h : History) where
         rises = subst (λ ms. Rises (last (Took Accepted ∷ log)) ms (zxid_held h place)) (sym told) rises;
         ahead = λ side path p.
             subst (λ ms. Ahead h side path ms (Took Accepted ∷ log) (IsSettled h side path (requests ++ restores (last log) parts) place watches)) (sym told)
-            (told_elsewhere h side path (requests ++ restores (last log) parts) place watches [] o.1.0 (Took Accepted ∷ log) (o.1.2 side path p)
+            (told_more h side path (requests ++ restores (last log) parts) place watches [] o.1.0 (Took Accepted ∷ log)
             (subst (λ rs. Ahead h side path [] (Took Accepted ∷ log) (IsSettled h side path (rs ++ restores (last log) parts) place watches)) (sym o.0)
             (joined h side path log parts place watches are (s.right side path p) low)));
       }
@@ -280,7 +272,7 @@ module _ (P : Text → Type 0) (h : History) where
     part_rises false z l le = omega arith
 
     pub talk_restores : (log : List Item) (b : Bool) (relative : ℕ) (part : Lists) (sent : List Notice) (rest : List Request) (messages : List Message) (place : ℕ) (watches : Watches)
-        → AreSentAt P (part_tells relative (tree_held h place) part) sent → IsTalkingAt log (Restore b relative part ∷ rest) messages place watches Serving
+        → AreToldAt P (part_tells relative (tree_held h place) part) sent → IsTalkingAt log (Restore b relative part ∷ rest) messages place watches Serving
         → IsTalkingAt log rest (messages ++ (map Notifies sent ++ Watches_set b (zxid_held h place) ∷ [])) place (both watches (part_sets relative (tree_held h place) part)) Serving
     talk_restores log b relative part sent rest messages place watches at t = record {
       stage_is = t.stage_is;
@@ -300,7 +292,7 @@ module _ (P : Text → Type 0) (h : History) where
     }
 
     pub talk_advances : (log : List Item) (requests : List Request) (messages : List Message) (place : ℕ) (watches : Watches) (stage : Stage) (sent : List Notice) → place < length h.transactions
-        → AreSentAt P (fires_all (changes_next h place) watches) sent → IsTalkingAt log requests messages place watches stage
+        → AreToldAt P (fires_all (changes_next h place) watches) sent → IsTalkingAt log requests messages place watches stage
         → IsTalkingAt log requests (messages ++ map Notifies sent) (suc place) (leaves_set_all (changes_next h place) watches) stage
     talk_advances log requests messages place watches stage sent room at t =
         let found = next_at h place is room in
@@ -314,7 +306,7 @@ module _ (P : Text → Type 0) (h : History) where
           stage_is = t.stage_is;
           askable = t.askable;
           rises = rises_told (last log) (zxid_held h place) (zxid_held h (suc place)) messages sent (omega arith) t.rises;
-          ahead = λ side path p. next_at_path h is P side path p requests place watches x next sent (subst (λ cs. AreSentAt P (fires_all cs watches) sent) e at) messages log (t.ahead side path p);
+          ahead = λ side path p. next_at_path h is P side path p requests place watches x next sent (subst (λ cs. AreToldAt P (fires_all cs watches) sent) e at) messages log (t.ahead side path p);
         } in
         subst (λ cs. IsTalkingAt log requests (messages ++ map Notifies sent) (suc place) (leaves_set_all cs watches) stage) (sym e) now
 
@@ -332,30 +324,29 @@ module _ (P : Text → Type 0) (h : History) where
         no_notices [] e = refl
         no_notices (n ∷ ns) e = absurd cc
 
-    next_opening : (log : List Item) (requests : List Request) (messages : List Message) (place : ℕ) (stage : Stage) (sent : List Notice) → zxid_held h place ≤ zxid_held h (suc place) → AreAway sent → stage ≢ Ended
+    next_opening : (log : List Item) (requests : List Request) (messages : List Message) (place : ℕ) (stage : Stage) (sent : List Notice) → zxid_held h place ≤ zxid_held h (suc place) → stage ≢ Ended
         → (stage ≡ Waiting → sent ≡ []) → IsOpeningAt log requests messages place stage → IsOpeningAt log requests (messages ++ map Notifies sent) (suc place) stage
-    next_opening log requests messages place Waiting sent le away going quiet o = (o.0, ap (λ ns. messages ++ map Notifies ns) (quiet refl) ∙ append-nil messages ∙ o.1)
-    next_opening log requests messages place Serving sent le away going quiet o = (o.0, told_accepted messages sent o.1 away, let low = o.2 in omega arith)
-    next_opening log requests messages place Ended sent le away going quiet o = absurd (going refl)
+    next_opening log requests messages place Waiting sent le going quiet o = (o.0, ap (λ ns. messages ++ map Notifies ns) (quiet refl) ∙ append-nil messages ∙ o.1)
+    next_opening log requests messages place Serving sent le going quiet o = (o.0, told_accepted messages sent o.1, let low = o.2 in omega arith)
+    next_opening log requests messages place Ended sent le going quiet o = absurd (going refl)
 
     start_advances : (log : List Item) (requests : List Request) (messages : List Message) (place : ℕ) (watches : Watches) (stage : Stage) (sent : List Notice) → place < length h.transactions → stage ≢ Ended
-        → AreSentAt P (fires_all (changes_next h place) watches) sent → (stage ≡ Waiting → AreSent (fires_all (changes_next h place) watches) sent) → IsStartingAt log requests messages place watches stage
+        → AreToldAt P (fires_all (changes_next h place) watches) sent → (stage ≡ Waiting → AreSent (fires_all (changes_next h place) watches) sent) → IsStartingAt log requests messages place watches stage
         → IsStartingAt log requests (messages ++ map Notifies sent) (suc place) (leaves_set_all (changes_next h place) watches) stage
     start_advances log requests messages place watches stage sent room going at quiet s =
         let none = unwatched_next place watches room s.unwatched in
         let found = next_at h place is room in
         let above = found.1.above in
         let zxid = found.1.zxid in
-        let away : AreAway sent = (λ side path p. none_told P side path sent p (subst (λ fired. AreSentAt P fired sent) none.0 at)) in
-        record { right = s.right; unwatched = none.1; opening = next_opening log requests messages place stage sent (omega arith) away going (λ w. none_sent sent (subst (λ fired. AreSent fired sent) none.0 (quiet w))) s.opening }
+        record { right = s.right; unwatched = none.1; opening = next_opening log requests messages place stage sent (omega arith) going (λ w. none_sent sent (subst (λ fired. AreSent fired sent) none.0 (quiet w))) s.opening }
 
     pub kept_advances : (b : Bool) (log : List Item) (requests : List Request) (messages : List Message) (place : ℕ) (watches : Watches) (stage : Stage) (sent : List Notice) → place < length h.transactions → stage ≢ Ended
-        → AreSentAt P (fires_all (changes_next h place) watches) sent → (stage ≡ Waiting → AreSent (fires_all (changes_next h place) watches) sent) → IsKeptAt b log requests messages place watches stage
+        → AreToldAt P (fires_all (changes_next h place) watches) sent → (stage ≡ Waiting → AreSent (fires_all (changes_next h place) watches) sent) → IsKeptAt b log requests messages place watches stage
         → IsKeptAt b log requests (messages ++ map Notifies sent) (suc place) (leaves_set_all (changes_next h place) watches) stage
     kept_advances true log requests messages place watches stage sent room going at quiet t = talk_advances log requests messages place watches stage sent room at t
     kept_advances false log requests messages place watches stage sent room going at quiet s = start_advances log requests messages place watches stage sent room going at quiet s
 
-  pub kept_tells : (b : Bool) (log : List Item) (requests : List Request) (messages : List Message) (place : ℕ) (watches : Watches) (sent : List Notice) → AreElsewhere P sent
+  pub kept_tells : (b : Bool) (log : List Item) (requests : List Request) (messages : List Message) (place : ℕ) (watches : Watches) (sent : List Notice)
       → IsKeptAt b log requests messages place watches Serving → IsKeptAt b log requests (messages ++ map Notifies sent) place watches Serving
-  kept_tells true log requests messages place watches sent e t = talk_tells log requests messages place watches Serving sent (λ side path p. elsewhere_told P side path sent p e) t
-  kept_tells false log requests messages place watches sent e s = start_tells log requests messages place watches sent (λ side path p. elsewhere_told P side path sent p e) s
+  kept_tells true log requests messages place watches sent t = talk_tells log requests messages place watches Serving sent t
+  kept_tells false log requests messages place watches sent s = start_tells log requests messages place watches sent s

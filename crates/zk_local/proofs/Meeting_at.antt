@@ -7,7 +7,7 @@ use Rattle.zk_conversation.specs.Pending.{Call_waits}
 use Rattle.zk_turns.specs.Past.{is_open, Asking, For_call, For_part, parts_asked, awaited, pending_for, Happening, Past, Came, Dropped, Pinged, Ticked, is_talking, state_of, has_halted, held_of, pending_of, lists_of, last_of, Took as Takes_in, Lost as Loses_it, Accepted as Accepts, Expiry, Replies as Answers_call}
 use Rattle.zk_watches.specs.Lists.{Lists}
 use Rattle.zk_watches.specs.Parts.{parts}
-use Rattle.std.proofs.Common.{◌≡◌, ℕ, zero, suc, ◌≤◌, ◌<◌, ◌^◌, ℤ, pos, Bool, true, false, cond, ◌&&◌, List, [], ◌∷◌, ◌++◌, map, drop, length, refl, sym, ap, subst, ◌∙◌, arith, inl, inr, ◌⊎◌, Option, Some, None, append_assoc}
+use Rattle.std.proofs.Common.{◌≡◌, ℕ, zero, suc, ◌≤◌, ℤ, pos, Bool, true, false, cond, ◌&&◌, List, [], ◌∷◌, ◌++◌, map, drop, length, refl, sym, ap, subst, ◌∙◌, arith, inl, inr, ◌⊎◌, Option, Some, None, append_assoc}
 use Rattle.std.specs.Prelude.{⊤, nat_lt, nat_le, is_some, if◌then◌else◌, not, ◌*◌, ◌-◌, max}
 use Rattle.std.specs.List.{AllByRecursion}
 use Rattle.std.proofs.lemmas.List.{length-append, map-append}
@@ -24,7 +24,7 @@ use Rattle.zk_nodes.specs.Path.{Text}
 use Rattle.zk_nodes.specs.History.{History}
 use Rattle.zk_laws.specs.Server.{Notice}
 use Rattle.zk_laws.specs.Messages.{Message, Accepted, Replies, Watches_set, Notifies, Pong, Request, Expired as Expires, from_zero}
-use Rattle.zk_laws.specs.Log.{Item as Log_item, Starts, Took, last, left_by}
+use Rattle.zk_laws.specs.Log.{Item as Log_item, Took, last, left_by}
 use Rattle.zk_laws.specs.Steps.{is_behind, restores}
 use Rattle.zk_laws.specs.ServerSteps.{Stage, Waiting, Serving, Ended}
 use Rattle.zk_laws.specs.Seen.{seen, item_of}
@@ -34,8 +34,8 @@ use Rattle.zk_laws.proofs.Seeing.{last_is}
 use Rattle.zk_laws.proofs.Ordering.{are_parts}
 use Rattle.zk_laws.proofs.Framed.{taken_first, first_too_long, none_cut, reads_notice, reads_pong, reads_part, reads_reply, reads_accepted, reads_expired}
 use Rattle.zk_laws.proofs.Flight.{owes_parts, requests_parts, unread_more}
-use Rattle.zk_local.proofs.Kept_at.{AreRight, IsOpeningAt, IsStartingAt, IsTalkingAt, IsKeptAt, IsLow, not_behind, start_joins, talking_right}
-use Rattle.zk_local.proofs.Flow.{Tail, Nothing_more, Failure, tail_bytes, IsDue, IsForAt, IsLetterAt, IsFlow, IsTail, IsSpelt, IsGivenAt, IsAnsweredFor, AnswersFirstAt, IsAnswered, IsCalmAt, Stands_at, reads_refusal, reads_denial}
+use Rattle.zk_local.proofs.Kept_at.{IsOpeningAt, IsStartingAt, IsTalkingAt, IsKeptAt, IsLow, not_behind, start_joins, talking_right}
+use Rattle.zk_local.proofs.Flow.{Tail, Nothing_more, Failure, tail_bytes, IsForAt, IsLetterAt, IsFlow, IsTail, IsSpelt, IsGivenAt, IsAnsweredFor, AnswersFirstAt, IsAnswered, IsCalmAt, Stands_at, reads_refusal, reads_denial}
 use Rattle.zk_local.specs.LocalHeadline.{IsDenial}
 use Rattle.zk_laws.specs.Flight.{HasCode}
 use Rattle.zk_turns.specs.Spelled.{IsHeaded}

@@ -1,5 +1,5 @@
 -- Each move of a server that keeps to the model at some paths keeps what is between it and the client; and so does each schedule.
-use Rattle.std.proofs.Common.{◌≡◌, ℕ, suc, ◌+◌, ◌≤◌, ◌<◌, ◌^◌, ℤ, pos, Bool, true, false, cond, List, [], ◌∷◌, ◌++◌, map, drop, length, refl, sym, ap, subst, ◌∙◌, arith, append_assoc, inl, inr, ◌⊎◌}
+use Rattle.std.proofs.Common.{◌≡◌, ℕ, ◌+◌, ◌≤◌, ℤ, pos, Bool, true, false, cond, List, [], ◌∷◌, ◌++◌, map, drop, length, refl, sym, ap, subst, ◌∙◌, arith, append_assoc, inl, inr}
 use Rattle.std.specs.Prelude.{◌≢◌}
 use Rattle.std.specs.List.{flat_map, AllByRecursion}
 use Rattle.std.proofs.lemmas.List.{append-nil, map-append}
@@ -13,24 +13,24 @@ use Rattle.zk_conversation.specs.Results.{Result, Refused}
 use Rattle.zk_frames.specs.Frame.{frame}
 use Rattle.zk_turns.specs.Rule.{AllAsked}
 use Rattle.zk_turns.specs.Turns.{IsAsked, Start, Turned, Forgets as Forgets_now, Halts as Halts_here}
-use Rattle.zk_turns.specs.Past.{Asking, For_part, Past, is_talking, state_of, held_of}
+use Rattle.zk_turns.specs.Past.{Asking, Past, is_talking, state_of, held_of}
 use Rattle.zk_turns.specs.Taken.{past_of}
 use Rattle.zk_turns.specs.Meaning.{Among}
 use Rattle.zk_turns.proofs.Ranged.{all_append}
-use Rattle.zk_laws.specs.Server.{Notice, Watches, IsOther, fires_all, leaves_set_all, sets, tree_held, zxid_held, part_tells, part_sets, both}
+use Rattle.zk_laws.specs.Server.{Notice, Watches, IsOther, sets, tree_held, zxid_held, part_tells, part_sets, both}
 use Rattle.zk_laws.specs.Messages.{Message, Accepted, Replies, Watches_set, Notifies, Pong, Request, Connect, Restore, Ask, Ping, Expired as Expires}
 use Rattle.zk_laws.specs.Log.{Item}
 use Rattle.zk_laws.specs.Steps.{rest_of}
-use Rattle.zk_laws.specs.ServerSteps.{Stage, ServerStep, messages_by, changes_next, Waiting, Serving, Ended, Advances, Admits, Refuses, Answers, Restores, Pongs, IsNext}
+use Rattle.zk_laws.specs.ServerSteps.{Stage, ServerStep, messages_by, Waiting, Serving, Ended, Advances, Admits, Refuses, Answers, Restores, Pongs, IsNext}
 use Rattle.zk_laws.specs.Seen.{seen}
 use Rattle.zk_laws.specs.Served.{Sent, requests, unread, Wire, ArePayloads, first_xid, wire_on}
 use Rattle.zk_laws.specs.Flight.{Letter, frames, messages, answers, AreLater, WaitsFor, Owes}
 use Rattle.zk_laws.proofs.Flight.{drop_one}
 use Rattle.zk_laws.proofs.Whole.{next_is}
-use Rattle.zk_local.specs.LocalSteps.{GivesAt, AreSentAt, MayDoAt}
+use Rattle.zk_local.specs.LocalSteps.{GivesAt, AreToldAt, MayDoAt}
 use Rattle.zk_local.specs.LocalServed.{LocalEntry, Goes, Steps, Tells, Denies, Fails, items_at, wire_at, WasSentAt, MayFail, MayDeny, MayTell, MayEnterAt, IsServingAt}
 use Rattle.zk_local.proofs.Kept_at.{IsStartingAt, IsTalkingAt, IsKeptAt, start_admits, start_refuses, talk_ends, talk_answers, talk_restores, talk_pongs, talk_denies, kept_advances, kept_tells}
-use Rattle.zk_local.proofs.Flow.{Tail, Nothing_more, Failure, tail_bytes, IsForAt, spelt_by, IsLetterAt, IsFlow, IsTail, IsKeptFor, Stands_at}
+use Rattle.zk_local.proofs.Flow.{Tail, Nothing_more, Failure, IsForAt, spelt_by, IsLetterAt, IsFlow, IsTail, IsKeptFor, Stands_at}
 use Rattle.zk_local.proofs.Taking_at.{forgot, halted}
 use Rattle.zk_local.proofs.Meeting_at.{first_at, turned_at, later_notices}
 
@@ -182,7 +182,7 @@ module _ (P : Text → Type 0) (h : History) where
       kept_answers true q r e next gives k = talk_answers P h is log q r (rest_of rs) ms place watches gives (talks_next (Ask q) e next k)
       kept_answers false q r e next gives k = absurd (unasked (Ask q) e next k)
 
-      kept_restores : (b l : Bool) (z : ℕ) (part : Lists) (sent : List Notice) → stage ≡ Serving → IsNext (Restore l z part) rs → AreSentAt P (part_tells z (tree_held h place) part) sent → IsKeptAt P h b log rs ms place watches stage
+      kept_restores : (b l : Bool) (z : ℕ) (part : Lists) (sent : List Notice) → stage ≡ Serving → IsNext (Restore l z part) rs → AreToldAt P (part_tells z (tree_held h place) part) sent → IsKeptAt P h b log rs ms place watches stage
           → IsKeptAt P h b log (rest_of rs) (ms ++ (map Notifies sent ++ Watches_set l (zxid_held h place) ∷ [])) place (both watches (part_sets z (tree_held h place) part)) stage
       kept_restores true l z part sent e next at k =
           subst (λ st. IsTalkingAt P h log (rest_of rs) (ms ++ (map Notifies sent ++ Watches_set l (zxid_held h place) ∷ [])) place (both watches (part_sets z (tree_held h place) part)) st) (sym e)
@@ -264,12 +264,12 @@ module _ (P : Text → Type 0) (h : History) where
 
       -- Notices about other paths.
       tell_by : (sent : List Notice) (payloads : List (List ℕ)) (past : Past) (wire : Wire) (letters : List Letter) → (g : IsFlow P h start Was past wire letters Nothing_more)
-          → AllByRecursion Was payloads → MayTell P sent payloads past wire → Flows past (record wire { coming = wire.coming ++ flat_map frame payloads })
+          → AllByRecursion Was payloads → MayTell sent payloads past wire → Flows past (record wire { coming = wire.coming ++ flat_map frame payloads })
       tell_by sent payloads past wire letters g was may =
           let rs : List Request = map (λ s. s.request) (unread start past wire) in
           let at : (stage : Stage) → wire.server.stage ≡ stage → stage ≡ Serving → IsKeptFor P h start Was past wire.server rs (messages letters ++ map Notifies sent) =
           (λ stage e f. subst (λ st. IsKeptAt P h (is_talking (state_of past)) (seen start past) rs (messages letters ++ map Notifies sent) wire.server.place wire.server.watches st) (sym (e ∙ f))
-          (kept_tells P h (is_talking (state_of past)) (seen start past) rs (messages letters) wire.server.place wire.server.watches sent may.elsewhere
+          (kept_tells P h (is_talking (state_of past)) (seen start past) rs (messages letters) wire.server.place wire.server.watches sent
           (subst (λ st. IsKeptAt P h (is_talking (state_of past)) (seen start past) rs (messages letters) wire.server.place wire.server.watches st) (e ∙ f) g.kept))) in
           serve_going past wire (record wire { coming = wire.coming ++ flat_map frame payloads }) letters [] g.owed (map Notifies sent) payloads g (letters_for (pos 0) [] (map Notifies sent) payloads was may.told (notices_for (pos 0) [] sent)) refl g.enough g.owes
           (ap (λ l. l ++ g.owed) (sym (notices_mine [] sent))) (λ t. later_notices sent) (at wire.server.stage refl may.serving)

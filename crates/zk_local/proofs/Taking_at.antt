@@ -1,7 +1,6 @@
 -- Each happening of a client keeps what is between it and its servers.
-use Rattle.std.proofs.Common.{◌≡◌, ℕ, ◌^◌, ◌≤◌, ◌<◌, ℤ, pos, negsuc, max, Bool, true, false, cond, ◌&&◌, List, [], ◌∷◌, ◌++◌, map, drop, length, refl, sym, ap, subst, ◌∙◌, arith, append_assoc, inl, inr}
+use Rattle.std.proofs.Common.{◌≡◌, ℕ, ◌≤◌, ◌<◌, ℤ, pos, negsuc, Bool, true, false, ◌&&◌, List, [], ◌∷◌, ◌++◌, map, drop, length, refl, sym, ap, subst, ◌∙◌, arith, append_assoc}
 use Rattle.std.proofs.lemmas.List.{length-append, append-nil, map-append}
-use Rattle.std.specs.List.{AllByRecursion}
 use Rattle.zk_nodes.specs.Path.{Text}
 use Rattle.zk_nodes.specs.History.{History}
 use Rattle.zk_conversation.specs.Calls.{Call, call_payload, ping_payload}
@@ -20,8 +19,8 @@ use Rattle.zk_laws.specs.Flight.{Letter, frames, messages, answers, AreLater, Ow
 use Rattle.zk_laws.proofs.Ahead.{max_zero}
 use Rattle.zk_laws.proofs.Seeing.{last_is}
 use Rattle.zk_laws.proofs.Flight.{awaited_less, awaited_more, owes_append, owes_one, unread_more}
-use Rattle.zk_local.proofs.Kept_at.{AreRight, IsAskableRequest, IsTalkingAt, IsKeptAt, kept_right_at, talking_right, right_still, talk_requests, talk_takes, kept_forgets}
-use Rattle.zk_local.proofs.Flow.{Tail, Nothing_more, Failure, tail_bytes, IsDue, IsFlow, IsTail, IsKeptFor, IsAnswered, IsCalmAt, Stands_at}
+use Rattle.zk_local.proofs.Kept_at.{AreRight, IsAskableRequest, IsTalkingAt, IsKeptAt, talking_right, right_still, talk_requests, talk_takes, kept_forgets}
+use Rattle.zk_local.proofs.Flow.{Tail, Nothing_more, Failure, tail_bytes, IsDue, IsFlow, IsTail, IsAnswered, IsCalmAt, Stands_at}
 
 module _ (P : Text → Type 0) (h : History) (start : Start) (Was : List ℕ → Type 0) where
   -- ---- happenings that leave no item

@@ -1,6 +1,6 @@
 -- A schedule whose server departs from the model at another path: an unwatched read of /zookeeper/config is answered with the version -1.
 -- Then /a is read with a watch, the connection is cut, and on the next one the part of setWatches is refused with -112.
-use Rattle.std.specs.Prelude.{ℕ, pos, negsuc, Bool, true, false, List, [], ◌∷◌, ◌++◌, map, drop, Some, bytes_eq}
+use Rattle.std.specs.Prelude.{ℕ, pos, negsuc, Bool, false, List, [], ◌∷◌, ◌++◌, map, drop, Some, bytes_eq}
 use Rattle.zk_nodes.specs.Path.{Text}
 use Rattle.zk_nodes.specs.declared.stat.Stat.{Stat}
 use Rattle.zk_conversation.specs.Calls.{Call as Asked_call, GetData}

@@ -15,10 +15,10 @@ use Rattle.zk_laws.specs.Server.{Notice, IsOther}
 use Rattle.zk_laws.specs.Messages.{Restore, Ask, Notifies, from_zero}
 use Rattle.zk_laws.specs.ServerSteps.{ServerStep, Serving, Ended, IsNext, messages_by}
 use Rattle.zk_laws.specs.Served.{Entry, Goes_on, Serves, MayEnter, Wire, no_wire, unread, first_xid, is_going, ArePayloads, wire_past, wire_on}
-use Rattle.zk_local.specs.LocalSteps.{MayDoAt, AreElsewhere}
+use Rattle.zk_local.specs.LocalSteps.{MayDoAt}
 
--- An entry of a schedule: an item of the client, or a server's move. Beside the steps of the model a server tells anything about
--- other paths at any moment; refuses a call, whatever it is about, in a reply with the zxid 0 or one below; or answers a part of
+-- An entry of a schedule: an item of the client, or a server's move. Beside the steps of the model a server tells anything at
+-- any moment; refuses a call, whatever it is about, in a reply with the zxid 0 or one below; or answers a part of
 -- setWatches with an error: what it sends on that connection from then on may be any bytes.
 pub data LocalEntry : Type 0 where
   Goes : (place : ℕ) → Item → LocalEntry
@@ -58,11 +58,10 @@ pub record MayStepAt (P : Text → Type 0) (h : History) (start : Start) (step :
   pub may : MayDoAt P h step wire.server (map (λ sent. sent.request) (unread start past wire))
   pub told : ArePayloads (first_xid (unread start past wire)) (messages_by h step wire.server.place) payloads
 
--- Notices about other paths, to a client that was admitted.
-pub record MayTell (P : Text → Type 0) (sent : List Notice) (payloads : List (List ℕ)) (past : Past) (wire : Wire) : Type 0 where
+-- Any notices, to a client that was admitted.
+pub record MayTell (sent : List Notice) (payloads : List (List ℕ)) (past : Past) (wire : Wire) : Type 0 where
   pub going : is_going past ≡ true
   pub serving : wire.server.stage ≡ Serving
-  pub elsewhere : AreElsewhere P sent
   pub told : ArePayloads (pos 0) (map Notifies sent) payloads
 
 -- A reply with a code that is neither 0 nor -101, and with the zxid 0 or one below, where a call comes next.
@@ -85,7 +84,7 @@ pub record MayFail (start : Start) (payload : List ℕ) (past : Past) (wire : Wi
 abbrev pub MayEnterAt : (Text → Type 0) → History → Start → LocalEntry → Past → Wire → Type 0
 MayEnterAt P h start (Goes place item) past wire = MayEnter h start (Goes_on place item) past wire
 MayEnterAt P h start (Steps step payloads) past wire = MayStepAt P h start step payloads past wire
-MayEnterAt P h start (Tells sent payloads) past wire = MayTell P sent payloads past wire
+MayEnterAt P h start (Tells sent payloads) past wire = MayTell sent payloads past wire
 MayEnterAt P h start (Denies call payload) past wire = MayDeny start call payload past wire
 MayEnterAt P h start (Fails payload rest) past wire = MayFail start payload past wire
 

@@ -1,14 +1,16 @@
--- Servers that keep to the model at some paths: what they answer there, what they tell there, and which watches they set there. At
--- other paths they may answer and tell anything.
-use Rattle.std.specs.Prelude.{ℕ, ◌≡◌, ◌≢◌, ◌<◌, ◌≤◌, Bool, true, List, length}
+-- Servers that keep to the model at some paths: what they answer there, that they tell there what is to be told, and which watches they
+-- set there. At other paths they may answer anything, and tell it or not.
+use Rattle.std.specs.Prelude.{ℕ, ◌≡◌, ◌≢◌, ◌<◌, Bool, true, List, length}
 use Rattle.zk_nodes.specs.Path.{Text}
 use Rattle.zk_nodes.specs.History.{History}
+use Rattle.zk_nodes.specs.declared.side.Side.{Side}
+use Rattle.zk_records.specs.Events.{concerns}
 use Rattle.zk_conversation.specs.Calls as call
 use Rattle.zk_conversation.specs.Calls.{Call}
 use Rattle.zk_conversation.specs.Results.{Result}
 use Rattle.zk_turns.specs.Meaning.{Among}
 use Rattle.zk_laws.specs.Flight.{HasCode}
-use Rattle.zk_laws.specs.Server.{Notice, times, AreSent, fires_all, tree_held, Gives, part_tells}
+use Rattle.zk_laws.specs.Server.{Notice, AreSent, fires_all, tree_held, Gives, part_tells}
 use Rattle.zk_laws.specs.Messages.{Request, Restore, Ask}
 use Rattle.zk_laws.specs.ServerSteps.{Waiting, Serving, Ended, ServerEnd, ServerStep, Advances, Answers, Restores, IsNext, changes_next, MayDo}
 
@@ -31,22 +33,19 @@ IsAbout P call.Close = ⊥
 abbrev pub GivesAt : (Text → Type 0) → History → ℕ → Call → Result → Type 0
 GivesAt P h place call result = HasCode result × (IsAbout P call → Gives h place call result)
 
--- What is fired at these paths is sent, once or as often as it is fired, and nothing else about them.
-abbrev pub AreSentAt : (Text → Type 0) → List Notice → List Notice → Type 0
-AreSentAt P fired sent = (notice : Notice) → P notice.path → (times notice sent ≤ times notice fired) × (0 < times notice fired → 0 < times notice sent)
-
--- none of the notices is about one of these paths
-abbrev pub AreElsewhere : (Text → Type 0) → List Notice → Type 0
-AreElsewhere P sent = (notice : Notice) → Among notice sent → P notice.path → ⊥
+-- Each side of one of these paths of which something is fired is told of. More may be told, of any path: it makes an answer stale at most.
+abbrev pub AreToldAt : (Text → Type 0) → List Notice → List Notice → Type 0
+AreToldAt P fired sent =
+    (side : Side) (notice : Notice) → P notice.path → Among notice fired → concerns notice.event side ≡ true → (one : Notice) × Among one sent × (concerns one.event side ≡ true) × (one.path ≡ notice.path)
 
 -- The steps that a server may take that keeps to the model at these paths. What it sends and where it stands then is by the same
 -- `messages_by` and `end_after`: so each reply has the zxid of the transactions that the server holds, whatever it is about. Before it
 -- admits the client it keeps to the model at all paths: there nothing is watched, and it tells nothing.
 abbrev pub MayDoAt : (Text → Type 0) → History → ServerStep → ServerEnd → List Request → Type 0
 MayDoAt P h (Advances sent) server requests =
-    (server.stage ≢ Ended) × (server.place < length h.transactions) × AreSentAt P (fires_all (changes_next h server.place) server.watches) sent
+    (server.stage ≢ Ended) × (server.place < length h.transactions) × AreToldAt P (fires_all (changes_next h server.place) server.watches) sent
     × (server.stage ≡ Waiting → AreSent (fires_all (changes_next h server.place) server.watches) sent)
 MayDoAt P h (Answers call result) server requests = (server.stage ≡ Serving) × IsNext (Ask call) requests × GivesAt P h server.place call result
 MayDoAt P h (Restores is_last relative part sent) server requests =
-    (server.stage ≡ Serving) × IsNext (Restore is_last relative part) requests × AreSentAt P (part_tells relative (tree_held h server.place) part) sent
+    (server.stage ≡ Serving) × IsNext (Restore is_last relative part) requests × AreToldAt P (part_tells relative (tree_held h server.place) part) sent
 MayDoAt P h step server requests = MayDo h step server requests

@@ -23,7 +23,7 @@ ghost use Rattle.zk_laws.specs.Flight.{HasCode};
 ghost use Rattle.zk_laws.specs.Example.{two_changes, at_a, fields_at_five};
 ghost use Rattle.zk_laws.specs.Meeting_example.{new_client};
 ghost use Rattle.zk_laws.specs.Headline.{IsTrueOf};
-ghost use Rattle.zk_local.specs.LocalSteps.{IsOf, IsAbout, AreSentAt, AreElsewhere, MayDoAt};
+ghost use Rattle.zk_local.specs.LocalSteps.{IsOf, IsAbout, AreToldAt, MayDoAt};
 ghost use Rattle.zk_local.specs.LocalServed.{LocalEntry, items_at, wire_at, local_of, IsServingAt, ServedAt};
 ghost use Rattle.zk_local.specs.LocalHeadline.{IsTrueAt, IsCoherentAt, IsQuietAfter, tree_after, HeadlineAt};
 ghost use Rattle.zk_local.specs.Departure_example.{only_a, until_config, until_refused};
@@ -58,11 +58,11 @@ pub fn model_is_local()
     ensures everywhere { (paths : Text → Bool) (tree : Tree) (cache : Cache) → ((path : Text) → IsOf paths path) → IsTrueAt (IsOf paths) tree cache → IsTrueOf tree cache }
 {}
 
-/// A call about another path may have any result, and beside what is sent about these paths anything may be told of others.
+/// A call about another path may have any result, and more may be told than what is fired, of any path.
 pub fn elsewhere_is_free()
     ensures answers { (paths : Text → Bool) (h : History) (server : ServerEnd) (requests : List Request) (call : Call) (result : Result) → server.stage ≡ Serving → IsNext (Ask call) requests → HasCode result → (IsAbout (IsOf paths) call → ⊥)
         → MayDoAt (IsOf paths) h (Answers call result) server requests }
-    ensures notices { (paths : Text → Bool) (fired sent more : List Notice) → AreSentAt (IsOf paths) fired sent → AreElsewhere (IsOf paths) more → AreSentAt (IsOf paths) fired (sent ++ more) }
+    ensures notices { (paths : Text → Bool) (fired sent more : List Notice) → AreToldAt (IsOf paths) fired sent → AreToldAt (IsOf paths) fired (sent ++ more) }
 {}
 
 /// A schedule whose server departs from the model at another path meets the premise at /a, and so its client has what `local_headline`
