@@ -1,6 +1,9 @@
 -- Servers that keep to the model keep to it at each set of paths; what is free elsewhere.
-use Rattle.std.proofs.Common.{◌≡◌, ℕ, List, [], ◌∷◌, ◌++◌, map, refl, sym, ap, subst, ◌∙◌}
+use Rattle.std.proofs.Common.{true, inl, inr, ◌≡◌, ℕ, List, [], ◌∷◌, ◌++◌, map, refl, sym, ap, subst, ◌∙◌}
 use Rattle.zk_nodes.specs.Path.{Text}
+use Rattle.zk_nodes.specs.declared.side.Side.TheVariants.{Data, Child}
+use Rattle.zk_records.specs.declared.event.Event.TheVariants.{Created, DataChanged}
+use Rattle.zk_records.specs.Events.{concerns}
 use Rattle.zk_nodes.specs.History.{Tree, History}
 use Rattle.zk_conversation.specs.Calls as call
 use Rattle.zk_conversation.specs.Calls.{Call}
@@ -100,6 +103,12 @@ module _ (P Q : Text → Type 0) (fewer : (path : Text) → Q path → P path) (
 
 pub more_told : (P : Text → Type 0) (fired sent more : List Notice) → AreToldAt P fired sent → AreToldAt P fired (sent ++ more)
 more_told P fired sent more at side notice p among concerned = let one = at side notice p among concerned in (one.0, Among-left one.0 sent more one.1, one.2, one.3)
+
+-- the same side by another event
+pub other_event : (P : Text → Type 0) (path : Text) → AreToldAt P (record { event = DataChanged; path = path } ∷ []) (record { event = Created; path = path } ∷ [])
+other_event P path Data notice p (inl e) c = (record { event = Created; path = path }, inl refl, refl, ap (λ n. n.path) (sym e))
+other_event P path Child notice p (inl e) c = absurd (let f : concerns DataChanged Child ≡ true = subst (λ n. concerns n.event Child ≡ true) e c in cc)
+other_event P path side notice p (inr a) c = absurd a
 
 -- ---- all paths
 

@@ -2,29 +2,32 @@
 //! The functions have empty bodies: their contracts are the laws.
 #![tactic(auto)]
 
-ghost use Rattle.std.specs.Prelude.{ℕ, ◌≡◌, pos, negsuc, Bool, List, [], ◌∷◌, map, ◌++◌, Some};
+ghost use Rattle.std.specs.Prelude.{◌≢◌, ◌<◌, ◌^◌, ℤ, true, length, ℕ, ◌≡◌, pos, negsuc, Bool, List, [], ◌∷◌, map, ◌++◌, Some};
 ghost use Rattle.zk_nodes.specs.Path.{Text};
 ghost use Rattle.zk_nodes.specs.History.{History, IsHistory, Tree};
-ghost use Rattle.zk_conversation.specs.Calls.{Call};
+ghost use Rattle.zk_records.specs.declared.event.Event.TheVariants.{Created, DataChanged};
+ghost use Rattle.zk_watches.specs.Lists.{Lists};
+ghost use Rattle.zk_conversation.specs.Calls.{Call, part_xid};
 ghost use Rattle.zk_conversation.specs.Results.{Result};
 ghost use Rattle.zk_turns.specs.Turns.{Start, WatchesRefused, Item as Client_item};
 ghost use Rattle.zk_turns.specs.View.{View, Cache, view_at};
-ghost use Rattle.zk_turns.specs.Past.{kept_data, last_of, Dropped};
+ghost use Rattle.zk_turns.specs.Past.{Past, kept_data, last_of, Dropped};
 ghost use Rattle.zk_turns.specs.Taken.{past_of};
+ghost use Rattle.zk_turns.specs.Spelled.{IsHeaded};
 ghost use Rattle.zk_turns.specs.Meaning.{Among};
 ghost use Rattle.zk_cache.specs.Kept.{Full};
 ghost use Rattle.zk_cache.specs.declared.held.Mark.TheVariants.{Good};
 ghost use Rattle.zk_turns.specs.Rule.{Stands};
-ghost use Rattle.zk_laws.specs.Server.{Notice};
-ghost use Rattle.zk_laws.specs.Messages.{Request, Ask};
+ghost use Rattle.zk_laws.specs.Server.{Notice, IsOther};
+ghost use Rattle.zk_laws.specs.Messages.{Request, Ask, Restore, Notifies};
 ghost use Rattle.zk_laws.specs.ServerSteps.{ServerEnd, Serving, Answers, IsNext};
-ghost use Rattle.zk_laws.specs.Served.{Entry, items_in, wire_of, IsServing, Served};
+ghost use Rattle.zk_laws.specs.Served.{Entry, items_in, wire_of, IsServing, Served, Wire, unread, first_xid, is_going, ArePayloads};
 ghost use Rattle.zk_laws.specs.Flight.{HasCode};
 ghost use Rattle.zk_laws.specs.Example.{two_changes, at_a, fields_at_five};
 ghost use Rattle.zk_laws.specs.Meeting_example.{new_client};
 ghost use Rattle.zk_laws.specs.Headline.{IsTrueOf};
 ghost use Rattle.zk_local.specs.LocalSteps.{IsOf, IsAbout, AreToldAt, MayDoAt};
-ghost use Rattle.zk_local.specs.LocalServed.{LocalEntry, items_at, wire_at, local_of, IsServingAt, ServedAt};
+ghost use Rattle.zk_local.specs.LocalServed.{LocalEntry, Tells, Denies, Fails, MayEnterAt, items_at, wire_at, local_of, IsServingAt, ServedAt};
 ghost use Rattle.zk_local.specs.LocalHeadline.{IsTrueAt, IsCoherentAt, IsQuietAfter, tree_after, HeadlineAt};
 ghost use Rattle.zk_local.specs.Departure_example.{only_a, until_config, until_refused};
 
@@ -58,11 +61,22 @@ pub fn model_is_local()
     ensures everywhere { (paths : Text → Bool) (tree : Tree) (cache : Cache) → ((path : Text) → IsOf paths path) → IsTrueAt (IsOf paths) tree cache → IsTrueOf tree cache }
 {}
 
-/// A call about another path may have any result, and more may be told than what is fired, of any path.
+/// What servers may do beside the model: give a call about another path any result (`answers`); tell more than what is fired
+/// (`notices`), or of the same side by another event (`events`); tell anything at any moment (`tells`); refuse a call with a zxid below
+/// 0 (`denials`); answer a part of setWatches with an error, and send any bytes after it (`errors`).
 pub fn elsewhere_is_free()
     ensures answers { (paths : Text → Bool) (h : History) (server : ServerEnd) (requests : List Request) (call : Call) (result : Result) → server.stage ≡ Serving → IsNext (Ask call) requests → HasCode result → (IsAbout (IsOf paths) call → ⊥)
         → MayDoAt (IsOf paths) h (Answers call result) server requests }
     ensures notices { (paths : Text → Bool) (fired sent more : List Notice) → AreToldAt (IsOf paths) fired sent → AreToldAt (IsOf paths) fired (sent ++ more) }
+    ensures events { (paths : Text → Bool) (path : Text) → AreToldAt (IsOf paths) (record { event = DataChanged; path = path } ∷ []) (record { event = Created; path = path } ∷ []) }
+    ensures tells { (paths : Text → Bool) (h : History) (start : Start) (sent : List Notice) (payloads : List (List ℕ)) (past : Past) (wire : Wire) → is_going past ≡ true → wire.server.stage ≡ Serving → ArePayloads (pos 0) (map Notifies sent) payloads
+        → MayEnterAt (IsOf paths) h start (Tells sent payloads) past wire }
+    ensures denials { (paths : Text → Bool) (h : History) (start : Start) (call : Call) (n : ℕ) (code : ℤ) (payload behind : List ℕ) (past : Past) (wire : Wire) → is_going past ≡ true → wire.server.stage ≡ Serving
+        → IsNext (Ask call) (map (λ sent. sent.request) (unread start past wire)) → length payload < 2 ^ 31 → IsOther code → IsHeaded (first_xid (unread start past wire)) (negsuc n) code payload behind
+        → MayEnterAt (IsOf paths) h start (Denies call payload) past wire }
+    ensures errors { (paths : Text → Bool) (h : History) (start : Start) (is_last : Bool) (relative : ℕ) (part : Lists) (zxid code : ℤ) (payload behind rest : List ℕ) (past : Past) (wire : Wire) → is_going past ≡ true → wire.server.stage ≡ Serving
+        → IsNext (Restore is_last relative part) (map (λ sent. sent.request) (unread start past wire)) → length payload < 2 ^ 31 → code ≢ pos 0 → IsHeaded part_xid zxid code payload behind
+        → MayEnterAt (IsOf paths) h start (Fails payload rest) past wire }
 {}
 
 /// A schedule whose server departs from the model at another path meets the premise at /a, and so its client has what `local_headline`
