@@ -2,6 +2,7 @@
 use Rattle.std.proofs.Common.{true, inl, inr, ◌≡◌, ℕ, List, [], ◌∷◌, ◌++◌, map, refl, sym, ap, subst, ◌∙◌}
 use Rattle.zk_nodes.specs.Path.{Text}
 use Rattle.zk_nodes.specs.declared.side.Side.TheVariants.{Data, Child}
+use Rattle.zk_records.specs.declared.event.Event.{Event}
 use Rattle.zk_records.specs.declared.event.Event.TheVariants.{Created, DataChanged}
 use Rattle.zk_records.specs.Events.{concerns}
 use Rattle.zk_nodes.specs.History.{Tree, History}
@@ -103,6 +104,11 @@ module _ (P Q : Text → Type 0) (fewer : (path : Text) → Q path → P path) (
 
 pub more_told : (P : Text → Type 0) (fired sent more : List Notice) → AreToldAt P fired sent → AreToldAt P fired (sent ++ more)
 more_told P fired sent more at side notice p among concerned = let one = at side notice p among concerned in (one.0, Among-left one.0 sent more one.1, one.2, one.3)
+
+-- of another path nothing need be told
+pub nothing_told : (P : Text → Type 0) (event : Event) (path : Text) → (P path → ⊥) → AreToldAt P (record { event = event; path = path } ∷ []) []
+nothing_told P event path elsewhere side notice p (inl e) c = absurd (elsewhere (subst (λ n. P n.path) e p))
+nothing_told P event path elsewhere side notice p (inr a) c = absurd a
 
 -- the same side by another event
 pub other_event : (P : Text → Type 0) (path : Text) → AreToldAt P (record { event = DataChanged; path = path } ∷ []) (record { event = Created; path = path } ∷ [])

@@ -5,6 +5,7 @@
 ghost use Rattle.std.specs.Prelude.{◌≢◌, ◌<◌, ◌^◌, ℤ, true, length, ℕ, ◌≡◌, pos, negsuc, Bool, List, [], ◌∷◌, map, ◌++◌, Some};
 ghost use Rattle.zk_nodes.specs.Path.{Text};
 ghost use Rattle.zk_nodes.specs.History.{History, IsHistory, Tree};
+ghost use Rattle.zk_records.specs.declared.event.Event.{Event};
 ghost use Rattle.zk_records.specs.declared.event.Event.TheVariants.{Created, DataChanged};
 ghost use Rattle.zk_watches.specs.Lists.{Lists};
 ghost use Rattle.zk_conversation.specs.Calls.{Call, part_xid};
@@ -61,12 +62,13 @@ pub fn model_is_local()
     ensures everywhere { (paths : Text → Bool) (tree : Tree) (cache : Cache) → ((path : Text) → IsOf paths path) → IsTrueAt (IsOf paths) tree cache → IsTrueOf tree cache }
 {}
 
-/// What servers may do beside the model: give a call about another path any result (`answers`); tell more than what is fired
-/// (`notices`), or of the same side by another event (`events`); tell anything at any moment (`tells`); refuse a call with a zxid below
+/// What servers may do beside the model: give a call about another path any result (`answers`), and tell nothing of it (`silence`); tell
+/// more than what is fired (`notices`), or of the same side by another event (`events`); tell anything at any moment (`tells`); refuse a call with a zxid below
 /// 0 (`denials`); answer a part of setWatches with an error, and send any bytes after it (`errors`).
 pub fn elsewhere_is_free()
     ensures answers { (paths : Text → Bool) (h : History) (server : ServerEnd) (requests : List Request) (call : Call) (result : Result) → server.stage ≡ Serving → IsNext (Ask call) requests → HasCode result → (IsAbout (IsOf paths) call → ⊥)
         → MayDoAt (IsOf paths) h (Answers call result) server requests }
+    ensures silence { (paths : Text → Bool) (event : Event) (path : Text) → (IsOf paths path → ⊥) → AreToldAt (IsOf paths) (record { event = event; path = path } ∷ []) [] }
     ensures notices { (paths : Text → Bool) (fired sent more : List Notice) → AreToldAt (IsOf paths) fired sent → AreToldAt (IsOf paths) fired (sent ++ more) }
     ensures events { (paths : Text → Bool) (path : Text) → AreToldAt (IsOf paths) (record { event = DataChanged; path = path } ∷ []) (record { event = Created; path = path } ∷ []) }
     ensures tells { (paths : Text → Bool) (h : History) (start : Start) (sent : List Notice) (payloads : List (List ℕ)) (past : Past) (wire : Wire) → is_going past ≡ true → wire.server.stage ≡ Serving → ArePayloads (pos 0) (map Notifies sent) payloads
