@@ -7,3 +7,4 @@ pub mod Moving_at
 pub mod Headlines_at
 pub mod Following
 pub mod Departure_shown
+pub mod Everywhere

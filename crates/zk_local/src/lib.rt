@@ -26,7 +26,7 @@ ghost use Rattle.zk_laws.specs.Served.{Entry, items_in, wire_of, IsServing, Serv
 ghost use Rattle.zk_laws.specs.Flight.{HasCode};
 ghost use Rattle.zk_laws.specs.Example.{two_changes, at_a, fields_at_five};
 ghost use Rattle.zk_laws.specs.Meeting_example.{new_client};
-ghost use Rattle.zk_laws.specs.Headline.{IsTrueOf};
+ghost use Rattle.zk_laws.specs.Headline.{IsTrueOf, IsCoherentWith, IsQuietAt, tree_of};
 ghost use Rattle.zk_local.specs.LocalSteps.{IsOf, IsAbout, AreToldAt, MayDoAt};
 ghost use Rattle.zk_local.specs.LocalServed.{LocalEntry, Tells, Denies, Fails, MayEnterAt, items_at, wire_at, local_of, IsServingAt, ServedAt};
 ghost use Rattle.zk_local.specs.LocalHeadline.{IsTrueAt, IsCoherentAt, IsQuietAfter, tree_after, HeadlineAt};
@@ -51,14 +51,16 @@ pub fn local_quiet()
 {}
 
 /// Servers that keep to the model keep to it at any paths (`serving`, `served`), with the same items and the same server; fewer paths
-/// ask less (`fewer`); and what is true at all paths is true as `headline` of `zk_laws` says it (`everywhere`). So that is the case of
-/// all paths.
+/// ask less (`fewer`); and what is true at all paths is true as `zk_laws` says it (`everywhere`). So `coherence` and `quiet_client` of
+/// `zk_laws` are the case of all paths, and follow (`coherence`, `quiet`).
 pub fn model_is_local()
     ensures serving { (paths : Text → Bool) (h : History) (start : Start) (entries : List Entry) → IsServing h start entries → IsServingAt (IsOf paths) h start (map local_of entries) }
     ensures served { (paths : Text → Bool) (h : History) (start : Start) (items : List Client_item) → Served h start items → ServedAt (IsOf paths) h start items }
     ensures items { (entries : List Entry) → items_at (map local_of entries) ≡ items_in entries }
     ensures wire { (h : History) (entries : List Entry) → wire_at h (map local_of entries) ≡ wire_of h entries }
     ensures fewer { (paths some : Text → Bool) (h : History) (start : Start) (entries : List LocalEntry) → ((path : Text) → IsOf some path → IsOf paths path) → IsServingAt (IsOf paths) h start entries → IsServingAt (IsOf some) h start entries }
+    ensures coherence { (h : History) → IsHistory h → (start : Start) (items : List Client_item) (view : View) → Stands start items view → Served h start items → IsCoherentWith h view }
+    ensures quiet { (h : History) → IsHistory h → (start : Start) (entries : List Entry) (view : View) → IsServing h start entries → Stands start (items_in entries) view → IsQuietAt h start entries → IsTrueOf (tree_of h entries) view.cache }
     ensures everywhere { (paths : Text → Bool) (tree : Tree) (cache : Cache) → ((path : Text) → IsOf paths path) → IsTrueAt (IsOf paths) tree cache → IsTrueOf tree cache }
 {}
 
