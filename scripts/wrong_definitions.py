@@ -39,10 +39,10 @@ sys.dont_write_bytecode = True
 from edits import crates_listed  # noqa: E402
 
 TOP = Path(__file__).resolve().parent.parent
-TURNS, LAWS = "zk_turns", "zk_laws"
+TURNS, LAWS, LOCAL = "zk_turns", "zk_laws", "zk_local"
 KINDS = ("weaker", "narrower", "wrong")
 # the crates of laws above one
-ABOVE = {TURNS: ["zk_rules"], LAWS: ["zk_serving", "zk_receptive"], "zk_conclusions": ["zk_witnesses"]}
+ABOVE = {TURNS: ["zk_rules"], LAWS: ["zk_serving", "zk_receptive"], LOCAL: [], "zk_conclusions": ["zk_witnesses"]}
 # the sections of docs/DEFINITIONS.md whose definitions have edits; and section 18, of which STATEMENTS.md has the definitions
 SECTIONS = [*range(1, 7), *range(10, 16)]
 
@@ -51,7 +51,7 @@ TABLE = "it is a table of the protocol, by which the code writes and reads: test
 OUTSIDES = "it says what a run's outside tells of its turns, and nothing of servers: wrong_bodies/zk_client turns it"
 # definitions of these sections that have no such edit
 EXCEPTIONS = {
-    **dict.fromkeys("Notice Watches Message Request Stage ServerEnd ServerStep Sent Wire Entry".split(), DATA),
+    **dict.fromkeys("Notice Watches Message Request Stage ServerEnd ServerStep Sent Wire Entry LocalEntry".split(), DATA),
     **dict.fromkeys("Text Name NodePath Node Change Tree Transaction History View Names Layout Value Response Call Question Result".split(), DATA),
     **dict.fromkeys("Waiting Pending Talk Arrived Welcome Saved Moments SessionView Lists Watch Answer".split(), DATA),
     **dict.fromkeys("Outcome Fault Input Item Output Signal Start Turn".split(), DATA),
