@@ -1,282 +1,523 @@
-//! A lock between sessions: each makes a node that goes with it, and the one with the first of them holds. The holder acts with a token,
-//! the zxid at which its node was made, and what the lock protects refuses a token below one that it has seen. So a session that has lost
-//! the lock and does not know it yet does no harm.
+//! A lock between sessions, by the recipe of ZooKeeper: each makes an ephemeral sequential node, and the one with the first number holds. Each
+//! other one watches the node before its own alone. The holder acts with a token, the zxid at which its node was made, and what the lock
+//! protects refuses a token below one that it has taken. So a session that has lost the lock and does not know it yet does no harm.
 
 mod memory;
-mod store;
 
 use anyhow::{Result, bail};
 pub use memory::run_in_memory;
 use std::alloc::Global;
 use std::io::Write;
-use store::Store;
-use zk_client::{Call, CallResult, Client, Code, CreateMode, Mark, Outcome, Output, Path, State};
-use zk_conclusions::Holder;
-use zk_link::{Clock, Dial, Link};
+use zk_client::{Call, CallResult, Client, Code, CreateMode, Outcome, Path, Side, State};
+use zk_conclusions::{Kind, Listing, Standing, Tagged};
+use zk_driver::{Action, Driver};
+use zk_fence::Fence;
+use zk_link::{Clock, Dial};
 
-/// The timeout to ask for, in milliseconds.
-const TIMEOUT_MS: i32 = 9_000;
+/// The markers of the nodes that are waited for: those of Curator's locks and of kazoo's.
+static RIVALS: [&str; 2] = ["-lock-", "__lock__"];
 
-/// How the names of the nodes of those who wait begin.
-const PREFIX: &str = "n-";
-
-/// How long it may take until the node is deleted at the end, in milliseconds.
+/// How long leaving may take, in milliseconds.
 const LEAVE_MS: u64 = 2_000;
 
-/// The tickets of the calls.
-const MAKE: u64 = 1;
-
-const NAMES: u64 = 2;
-
-const OWN: u64 = 3;
-
-const LEAVE: u64 = 4;
+/// What is to be done next.
+#[derive(Clone, Copy, PartialEq, Eq)]
+enum Due {
+    /// Nothing, until a server has accepted the session.
+    Begin,
+    /// Make a node. It may be that an earlier one was made, and the answer was lost.
+    Make,
+    /// List the directory.
+    List,
+    /// Delete a node that was made too much.
+    Remove,
+    /// Watch the node before the session's own.
+    Watch,
+    /// Nothing, until something changes.
+    Rest,
+    /// Delete the session's own node.
+    Leave,
+    /// Nothing any more.
+    End,
+}
 
 /// What was told last.
 #[derive(Clone, Copy, PartialEq, Eq)]
 enum Told {
     Nothing,
+    Removes,
     Waits,
     Holds(i64),
     Refused(i64),
     Expired,
+    Leaves,
+    LeavesToExpire,
 }
 
-/// A session, the node that it waits by, and whether a call is on its way: there is one at a time.
+/// What a session does next by a listing: its node, and the node that is to be removed or watched.
 #[derive(Drop)]
-pub struct Contender<'a, D: Dial + Drop, C: Clock + Drop> {
+struct Place {
+    own: Path,
+    due: Due,
+    other: Option<Path>,
+}
+
+/// A session that wants the lock of a directory, what it knows of its place there, and what it does next.
+#[derive(Drop)]
+pub struct Contender<'a> {
     alloc: Global,
     name: &'a str,
-    link: Link<'a, Global, D, C>,
+    marker: &'a str,
     directory: Path,
-    own: Option<Path>,
-    is_asked: bool,
+    // How the names of this session's nodes begin, and no others.
+    tag: String,
+    // The zxid at which the last node was made.
+    made: i64,
+    // This session's node, and the ticket by which it is followed.
+    own: Option<(u64, Path)>,
+    // The last listing.
+    names: Vec<String>,
+    zxid: i64,
+    // The node to remove or to watch.
+    other: Option<Path>,
+    due: Due,
+    asked: Option<u64>,
+    ticket: u64,
+    is_changed: bool,
     is_leaving: bool,
     told: Told,
 }
 
-/// Whether what is kept of the node is good.
-fn is_node_known(client: &Client, node: &Path) -> bool {
-    matches!(client.peek_data(node), Some((_, Mark::Good)))
+/// What is due once the node is not there that a call was about.
+fn due_without(due: Due) -> Due {
+    match due {
+        Due::Remove | Due::Watch => Due::List,
+        Due::Leave => Due::End,
+        due => due,
+    }
 }
 
-/// Whether the names that are kept below the node are good.
-fn are_names_known(client: &Client, node: &Path) -> bool {
-    matches!(client.peek_children(node), Some((_, Mark::Good)))
+/// How the names begin of the nodes that a session makes.
+fn tag_of(alloc: Global, name: &str, session: i64, marker: &str) -> Result<String> {
+    Ok(format!(in alloc; "{name}-{session:x}{marker}")?)
 }
 
-impl<'a, D: Dial + Drop, C: Clock + Drop> Contender<'a, D, C> {
-    /// A session over these addresses that is to have the lock of the directory, which is there. The name is for what is told of it.
-    pub fn new(
-        alloc: Global,
-        name: &'a str,
-        directory: Path,
-        dial: D,
-        mut clock: C,
-        addresses: &'a [&'a str],
-    ) -> Contender<'a, D, C> {
-        let client = Client::new(alloc, TIMEOUT_MS);
-        let seed = clock.now();
+/// Of some names the first that is to be removed.
+fn surplus_of<'a>(tagged: &Tagged<'_>, names: &'a [String]) -> Option<&'a str> {
+    for name in names {
+        if tagged.is_surplus(name.as_str()) {
+            return Some(name.as_str());
+        }
+    }
+    None
+}
+
+/// What a listing says of a session's nodes, none where it has none of them: the first stays, the others are removed, one after the other, and
+/// then the node before it is watched.
+fn place_in(
+    alloc: Global,
+    listing: &Listing<'_>,
+    kind: &Kind<'_>,
+    tag: &str,
+    made: i64,
+) -> Result<Option<Place>> {
+    let Some(tagged) = Tagged::of(listing, tag, made) else {
+        return Ok(None);
+    };
+    let (due, other) = match surplus_of(&tagged, listing.names) {
+        Some(name) => (Due::Remove, Some(name)),
+        None => match listing.predecessor(kind, tagged.least()) {
+            Some(name) => (Due::Watch, Some(name)),
+            None => (Due::Rest, None),
+        },
+    };
+    let other = match other {
+        Some(name) => Some(listing.directory.join(alloc, name)?),
+        None => None,
+    };
+    let own = listing.directory.join(alloc, tagged.least())?;
+    Ok(Some(Place { own, due, other }))
+}
+
+impl<'a> Contender<'a> {
+    /// A session that is to have the lock of the directory, which is there. The names of its nodes begin with this one; the marker is Curator's,
+    /// `-lock-`, or kazoo's, `__lock__`.
+    pub fn new(alloc: Global, name: &'a str, marker: &'a str, directory: Path) -> Contender<'a> {
         Contender {
             alloc,
             name,
-            link: Link::new(alloc, client, dial, clock, addresses, seed),
+            marker,
             directory,
+            tag: String::new(alloc),
+            made: 0,
             own: None,
-            is_asked: false,
+            names: Vec::new(alloc),
+            zxid: 0,
+            other: None,
+            due: Due::Begin,
+            asked: None,
+            ticket: 0,
+            is_changed: false,
             is_leaving: false,
             told: Told::Nothing,
         }
     }
 
-    /// The moment of the link's clock.
-    pub fn now(&mut self) -> u64 {
-        self.link.now()
-    }
-
-    /// The node that this session waits by.
-    pub fn own(&self) -> Option<&Path> {
-        self.own.as_ref()
-    }
-
-    /// From now on the session wants the lock no more: its node is deleted.
-    pub fn leave(&mut self) {
-        self.is_leaving = true;
-    }
-
-    /// Goes on until this moment. After each thing that happens it writes to the store, where it shows that it holds.
-    pub fn act<W: Write>(&mut self, until: u64, store: &mut Store, out: &mut W) -> Result<()> {
+    /// Waits for the lock, holds it for this many seconds, and leaves it.
+    pub fn hold<D: Dial + Drop, C: Clock + Drop, W: Write>(
+        &mut self,
+        driver: &mut Driver<'_, Global, D, C>,
+        seconds: u64,
+        out: &mut W,
+    ) -> Result<()> {
+        let mut store = Fence::new();
         for _ in 0..u64::MAX {
-            self.ask(out)?;
-            self.work(store, out)?;
-            if until <= self.link.now() {
-                return Ok(());
+            if matches!(self.told, Told::Holds(_)) {
+                break;
             }
-            let mut outputs = Vec::new(self.alloc);
-            self.link.go_on(until, &mut outputs)?;
-            self.note(outputs.as_slice(), out)?;
+            self.turn(driver, u64::MAX, &mut store, out)?;
         }
-        Ok(())
+        let until = driver.now().saturating_add(seconds.saturating_mul(1_000));
+        self.act(driver, until, &mut store, out)?;
+        self.leave(out)?;
+        let end = driver.now().saturating_add(LEAVE_MS.saturating_mul(2));
+        self.act(driver, end, &mut store, out)
     }
 
-    /// Wants the lock for this many seconds, and leaves it then.
-    pub fn hold<W: Write>(&mut self, seconds: u64, out: &mut W) -> Result<()> {
-        let mut store = Store::new();
-        let until = self.now().saturating_add(seconds.saturating_mul(1_000));
-        self.act(until, &mut store, out)?;
-        self.leave();
-        self.act(until.saturating_add(LEAVE_MS), &mut store, out)
-    }
-
-    /// Asks for what is due, where nothing is asked.
-    fn ask<W: Write>(&mut self, out: &mut W) -> Result<()> {
-        if self.is_asked || self.link.client().state() != State::Connected {
-            return Ok(());
-        }
-        let Some((ticket, call)) = self.next_call()? else {
-            return Ok(());
-        };
-        self.is_asked = true;
-        let mut outputs = Vec::new(self.alloc);
-        self.link.ask(ticket, call, &mut outputs)?;
-        self.note(outputs.as_slice(), out)
-    }
-
-    /// What is due: to make its own node or to delete it, and else to read, with a watch, what is not known.
-    fn next_call(&self) -> Result<Option<(u64, Call)>> {
-        match &self.own {
-            None if self.is_leaving => Ok(None),
-            None => self.call_to_make(),
-            Some(own) if self.is_leaving => self.call_to_leave(own),
-            Some(own) => self.call_to_read(own),
-        }
-    }
-
-    /// Makes a node that goes with the session, and whose name has the next number.
-    fn call_to_make(&self) -> Result<Option<(u64, Call)>> {
-        let path = self.directory.join(self.alloc, PREFIX)?;
-        let mode = CreateMode::EphemeralSequential;
-        let call = Call::Create {
-            path,
-            bytes: None,
-            mode,
-        };
-        Ok(Some((MAKE, call)))
-    }
-
-    fn call_to_leave(&self, own: &Path) -> Result<Option<(u64, Call)>> {
-        let path = Path::new(self.alloc, own.as_str())?;
-        Ok(Some((LEAVE, Call::Delete { path, version: -1 })))
-    }
-
-    /// Reads the names of the directory, and then the owner of this session's node.
-    fn call_to_read(&self, own: &Path) -> Result<Option<(u64, Call)>> {
-        let client = self.link.client();
-        if !are_names_known(client, &self.directory) {
-            let path = Path::new(self.alloc, self.directory.as_str())?;
-            return Ok(Some((NAMES, Call::GetChildren { path, watch: true })));
-        }
-        if !is_node_known(client, own) {
-            let path = Path::new(self.alloc, own.as_str())?;
-            return Ok(Some((OWN, Call::Exists { path, watch: true })));
-        }
-        Ok(None)
-    }
-
-    /// Takes in what was answered, and that the session is over.
-    fn note<W: Write>(&mut self, outputs: &[Output], out: &mut W) -> Result<()> {
-        for output in outputs {
-            match output {
-                Output::Answer { ticket, outcome } => self.hear(*ticket, outcome)?,
-                Output::State(State::Expired) => self.lose(out)?,
-                _ => {}
+    /// Goes on until this moment, or until it has left. After each thing that happens it writes to the store, where it shows that it holds.
+    pub fn act<D: Dial + Drop, C: Clock + Drop, W: Write>(
+        &mut self,
+        driver: &mut Driver<'_, Global, D, C>,
+        until: u64,
+        store: &mut Fence,
+        out: &mut W,
+    ) -> Result<()> {
+        for _ in 0..u64::MAX {
+            if !self.turn(driver, until, store, out)? {
+                break;
             }
         }
         Ok(())
     }
 
-    /// Takes in an answer. Where that to the making is lost the node may be there under a name that nobody told, so the session is left,
-    /// with which the node goes.
-    fn hear(&mut self, ticket: u64, outcome: &Outcome) -> Result<()> {
-        self.is_asked = false;
-        match outcome {
-            Outcome::Replied { result: reply, .. } => self.take_in(ticket, reply),
-            Outcome::ConnectionLoss if ticket == MAKE => {
-                self.begin_anew()?;
+    /// From now on the session wants the lock no more.
+    pub fn leave<W: Write>(&mut self, out: &mut W) -> Result<()> {
+        self.is_leaving = true;
+        if self.due == Due::Begin {
+            self.due = Due::End;
+        }
+        self.tell(Told::Leaves, out)
+    }
+
+    /// Asks for what is due, works, and takes in what happens next. Whether something did by this moment.
+    fn turn<D: Dial + Drop, C: Clock + Drop, W: Write>(
+        &mut self,
+        driver: &mut Driver<'_, Global, D, C>,
+        until: u64,
+        store: &mut Fence,
+        out: &mut W,
+    ) -> Result<bool> {
+        self.ask(driver)?;
+        self.work(driver.client(), store, out)?;
+        if self.due == Due::End {
+            return Ok(false);
+        }
+        let Some(action) = driver.next(until)? else {
+            return Ok(false);
+        };
+        self.hear(driver, action, out)?;
+        Ok(true)
+    }
+
+    /// Asks for what is due, where nothing is asked. Who leaves does not wait for long.
+    fn ask<D: Dial + Drop, C: Clock + Drop>(
+        &mut self,
+        driver: &mut Driver<'_, Global, D, C>,
+    ) -> Result<()> {
+        if self.asked.is_some() {
+            return Ok(());
+        }
+        self.wake();
+        let Some(call) = self.call()? else {
+            return Ok(());
+        };
+        let limit = driver.now().saturating_add(LEAVE_MS);
+        let ticket = self.next_ticket();
+        self.asked = Some(ticket);
+        Ok(driver.ask(ticket, call, self.is_leaving.then_some(limit))?)
+    }
+
+    /// A ticket that was not used.
+    fn next_ticket(&mut self) -> u64 {
+        self.ticket = self.ticket.saturating_add(1);
+        self.ticket
+    }
+
+    /// Who rests leaves, if that is wanted, and lists again once something has changed.
+    fn wake(&mut self) {
+        if self.due != Due::Rest {
+            return;
+        }
+        if self.is_leaving {
+            self.due = Due::Leave;
+        } else if self.is_changed {
+            self.is_changed = false;
+            self.due = Due::List;
+        }
+    }
+
+    /// The call that is due.
+    fn call(&self) -> Result<Option<Call>> {
+        if self.due == Due::Make {
+            let path = self.directory.join(self.alloc, self.tag.as_str())?;
+            let (bytes, mode) = (None, CreateMode::EphemeralSequential);
+            return Ok(Some(Call::Create { path, bytes, mode }));
+        }
+        let Some(node) = self.node() else {
+            return Ok(None);
+        };
+        let path = Path::new(self.alloc, node.as_str())?;
+        Ok(Some(match self.due {
+            Due::List => Call::GetChildren { path, watch: false },
+            Due::Watch => Call::GetData { path, watch: true },
+            _ => Call::Delete { path, version: -1 },
+        }))
+    }
+
+    /// The node that what is due is about.
+    fn node(&self) -> Option<&Path> {
+        match self.due {
+            Due::List => Some(&self.directory),
+            Due::Remove | Due::Watch => self.other.as_ref(),
+            Due::Leave => Some(&self.own.as_ref()?.1),
+            _ => None,
+        }
+    }
+
+    /// Takes in what happens.
+    fn hear<D: Dial + Drop, C: Clock + Drop, W: Write>(
+        &mut self,
+        driver: &mut Driver<'_, Global, D, C>,
+        action: Action,
+        out: &mut W,
+    ) -> Result<()> {
+        match action {
+            Action::Answer { outcome, .. } => self.answer(driver, outcome),
+            Action::TimedOut { .. } => {
+                self.due = Due::End;
+                self.tell(Told::LeavesToExpire, out)
+            }
+            Action::Report { .. } => {
+                self.is_changed = true;
                 Ok(())
             }
+            Action::State(State::Connected) => self.begin(driver.client()),
+            Action::Renewed => self.lose(driver, out),
             _ => Ok(()),
         }
     }
 
-    /// Takes in a reply.
-    fn take_in(&mut self, ticket: u64, reply: &CallResult) -> Result<()> {
-        match reply {
-            CallResult::Created(path) => self.own = Some(Path::new(self.alloc, path.as_str())?),
-            CallResult::Done => self.own = None,
-            CallResult::Code(Code::NoNode) if ticket == OWN || ticket == LEAVE => self.own = None,
-            CallResult::Code(code) => bail!(
-                "the lock at {} answers {code:?}",
-                self.directory.as_str()
-            ),
+    /// A server has accepted the session: its nodes have names of their own.
+    fn begin(&mut self, client: &Client) -> Result<()> {
+        if self.due == Due::Begin {
+            self.tag = tag_of(self.alloc, self.name, client.saved().session, self.marker)?;
+            self.due = Due::Make;
+        }
+        Ok(())
+    }
+
+    /// The session has expired, and with it the lock is lost.
+    fn lose<D: Dial + Drop, C: Clock + Drop, W: Write>(
+        &mut self,
+        driver: &mut Driver<'_, Global, D, C>,
+        out: &mut W,
+    ) -> Result<()> {
+        self.forget(driver)?;
+        self.names.clear();
+        self.due = if self.is_leaving {
+            Due::End
+        } else {
+            Due::Begin
+        };
+        self.tell(Told::Expired, out)
+    }
+
+    /// Takes in an answer. What had none is due still: a call that was lost is asked once more, with the same tag.
+    fn answer<D: Dial + Drop, C: Clock + Drop>(
+        &mut self,
+        driver: &mut Driver<'_, Global, D, C>,
+        outcome: Outcome,
+    ) -> Result<()> {
+        self.asked = None;
+        match outcome {
+            Outcome::Replied { zxid, result } => self.take(driver, zxid, result)?,
+            Outcome::SessionExpired => self.due = Due::Begin,
             _ => {}
         }
         Ok(())
     }
 
-    /// A session with no node yet.
-    fn begin_anew(&mut self) -> Result<()> {
-        self.own = None;
-        self.is_asked = false;
-        Ok(self.link.renew(TIMEOUT_MS)?)
+    /// Takes in a reply.
+    fn take<D: Dial + Drop, C: Clock + Drop>(
+        &mut self,
+        driver: &mut Driver<'_, Global, D, C>,
+        zxid: i64,
+        reply: CallResult,
+    ) -> Result<()> {
+        match reply {
+            CallResult::Created(_) => {
+                self.made = zxid;
+                self.due = Due::List;
+            }
+            CallResult::Names { names, .. } => {
+                self.names = names;
+                self.zxid = zxid;
+                self.settle(driver)?;
+            }
+            CallResult::Code(code) => self.refuse(code)?,
+            CallResult::Done => self.due = due_without(self.due),
+            _ => self.due = Due::Rest,
+        }
+        Ok(())
     }
 
-    /// The session has expired, and with it the lock is lost.
-    fn lose<W: Write>(&mut self, out: &mut W) -> Result<()> {
-        self.begin_anew()?;
-        self.tell(Told::Expired, out)
+    /// Takes in a code. After one that says that the session is not the server's own, the driver dials another one.
+    fn refuse(&mut self, code: Code) -> Result<()> {
+        match code {
+            Code::SessionExpired | Code::SessionMoved => {}
+            Code::NoNode if due_without(self.due) != self.due => self.due = due_without(self.due),
+            code => bail!(
+                "the lock at {} answers {}",
+                self.directory.as_str(),
+                code.number()
+            ),
+        }
+        Ok(())
+    }
+
+    /// Decides by the listing that has come.
+    fn settle<D: Dial + Drop, C: Clock + Drop>(
+        &mut self,
+        driver: &mut Driver<'_, Global, D, C>,
+    ) -> Result<()> {
+        let listing = Listing {
+            directory: &self.directory,
+            names: self.names.as_slice(),
+            zxid: self.zxid,
+        };
+        let place = place_in(
+            self.alloc,
+            &listing,
+            &self.kind(),
+            self.tag.as_str(),
+            self.made,
+        );
+        let Listing {
+            directory: _directory,
+            names: _names,
+            zxid: _zxid,
+        } = listing;
+        let Some(place) = place? else {
+            self.due = Due::Make;
+            return Ok(());
+        };
+        self.due = place.due;
+        self.other = place.other;
+        self.stand_by(driver, place.own)
+    }
+
+    fn kind(&self) -> Kind<'a> {
+        Kind {
+            own: self.marker,
+            against: &RIVALS,
+        }
+    }
+
+    /// The session stands by this node, which is followed.
+    fn stand_by<D: Dial + Drop, C: Clock + Drop>(
+        &mut self,
+        driver: &mut Driver<'_, Global, D, C>,
+        node: Path,
+    ) -> Result<()> {
+        if let Some((_, own)) = &self.own {
+            if own.as_str() == node.as_str() {
+                return Ok(());
+            }
+        }
+        self.forget(driver)?;
+        let ticket = self.next_ticket();
+        driver.follow(ticket, Side::Data, Path::new(self.alloc, node.as_str())?)?;
+        self.own = Some((ticket, node));
+        Ok(())
+    }
+
+    /// The session stands by no node.
+    fn forget<D: Dial + Drop, C: Clock + Drop>(
+        &mut self,
+        driver: &mut Driver<'_, Global, D, C>,
+    ) -> Result<()> {
+        if let Some((ticket, _)) = self.own.take() {
+            driver.unfollow(ticket)?;
+        }
+        Ok(())
     }
 
     /// Writes to the store, where the session shows that it holds, and says how it stands.
-    fn work<W: Write>(&mut self, store: &mut Store, out: &mut W) -> Result<()> {
-        let told = self.stand(store);
-        if told == Told::Nothing || told == self.told {
+    fn work<W: Write>(&mut self, client: &Client, store: &mut Fence, out: &mut W) -> Result<()> {
+        let told = self.stand(client, store);
+        if self.is_leaving || told == Told::Nothing || told == self.told {
             return Ok(());
         }
         self.tell(told, out)
     }
 
-    /// How the session stands by what its client shows.
-    fn stand(&self, store: &mut Store) -> Told {
-        let Some(own) = &self.own else {
+    /// The token of the session, where its client shows that it holds.
+    fn token(&self, client: &Client, own: &Path) -> Option<i64> {
+        let listing = Listing {
+            directory: &self.directory,
+            names: self.names.as_slice(),
+            zxid: self.zxid,
+        };
+        let token = match Standing::of(client, &listing, &self.kind(), own) {
+            Some(standing) => Some(standing.token()),
+            None => None,
+        };
+        let Listing {
+            directory: _directory,
+            names: _names,
+            zxid: _zxid,
+        } = listing;
+        token
+    }
+
+    /// How the session stands.
+    fn stand(&self, client: &Client, store: &mut Fence) -> Told {
+        let Some((_, own)) = &self.own else {
             return Told::Nothing;
         };
-        let client = self.link.client();
-        if let Some(holder) = Holder::of(client, &self.directory, PREFIX, own) {
-            let token = holder.token();
-            return if store.write(token) {
-                Told::Holds(token)
-            } else {
-                Told::Refused(token)
-            };
-        }
-        if are_names_known(client, &self.directory) && is_node_known(client, own) {
-            Told::Waits
-        } else {
-            Told::Nothing
+        match self.token(client, own) {
+            Some(token) if store.admit(token) => Told::Holds(token),
+            Some(token) => Told::Refused(token),
+            None if self.due == Due::Remove => Told::Removes,
+            None if self.due == Due::Rest && self.other.is_some() => Told::Waits,
+            None => Told::Nothing,
         }
     }
 
-    /// Says something of the session.
+    /// Says something of the session, in one write.
     fn tell<W: Write>(&mut self, told: Told, out: &mut W) -> Result<()> {
-        let name = self.name;
-        match told {
-            Told::Nothing => {}
-            Told::Waits => writeln!(out, "{name} waits")?,
-            Told::Holds(token) => writeln!(out, "{name} holds {token}")?,
-            Told::Refused(token) => writeln!(out, "{name} is refused with {token}")?,
-            Told::Expired => writeln!(out, "{name} has lost its session")?,
-        }
+        let (alloc, name) = (self.alloc, self.name);
+        let line = match told {
+            Told::Nothing => return Ok(()),
+            Told::Removes => format!(in alloc; "{name} removes its second node\n")?,
+            Told::Waits => format!(in alloc; "{name} waits\n")?,
+            Told::Holds(token) => format!(in alloc; "{name} holds {token}\n")?,
+            Told::Refused(token) => format!(in alloc; "{name} is refused with {token}\n")?,
+            Told::Expired => format!(in alloc; "{name} has lost its session\n")?,
+            Told::Leaves => format!(in alloc; "{name} leaves\n")?,
+            Told::LeavesToExpire => format!(in alloc; "{name} leaves its node to expire\n")?,
+        };
+        out.write_all(line.as_str().as_bytes())?;
         out.flush()?;
         self.told = told;
         Ok(())

@@ -1,79 +1,81 @@
-//! Two programs that act on what several answers show together: [`snapshot`], a configuration of several nodes, and [`lock`], a lock
+//! Two programs over a driver that act on what several answers say together: [`tree`], a configuration of many nodes, and [`lock`], a lock
 //! between sessions. Without words both run over servers in memory.
 #![tactic(auto)]
 
 mod lock;
-mod snapshot;
+mod tree;
 
 use anyhow::Result;
 use lock::Contender;
-use snapshot::{Follower, TIMEOUT_MS, nodes_of};
 use std::io::Write;
 use std::process::ExitCode;
-use zk_client::{Client, Path};
-use zk_link::{Clock, Link, SystemClock, Tcp};
+use tree::Tree;
+use zk_client::Path;
+use zk_driver::Driver;
+use zk_link::{SystemClock, Tcp};
+
+/// The timeout to ask for, in milliseconds.
+const TIMEOUT_MS: i32 = 9_000;
 
 /// What the words are to be.
 const USAGE: &str =
-    "usage: conclusions_example [snapshot SECONDS PATH PATH PATH IP:PORT.. | lock NAME DIRECTORY SECONDS IP:PORT..]";
+    "usage: conclusions_example [tree SECONDS PATH IP:PORT.. | lock SECONDS NAME MARKER DIRECTORY IP:PORT..]";
 
-/// Follows three nodes of real servers for this many seconds. Whether the words say which.
-fn run_snapshot<W: Write>(rt: &HostRuntime, words: &[&str], out: &mut W) -> Result<bool> {
-    let [seconds, first, second, third, addresses @ ..] = words else {
-        return Ok(false);
-    };
-    let Ok(seconds) = seconds.parse::<u64>() else {
-        return Ok(false);
-    };
-    let (nodes, readings) = nodes_of(rt.alloc(), &[*first, *second, *third])?;
-    let client = Client::new(rt.alloc(), TIMEOUT_MS);
-    let (dial, mut clock) = (Tcp::new(rt), SystemClock::new(rt));
-    let seed = clock.now();
-    let link = Link::new(rt.alloc(), client, dial, clock, addresses, seed);
-    let mut follower = Follower::new(rt.alloc(), link, nodes, readings);
-    let until = follower.now().saturating_add(seconds.saturating_mul(1_000));
-    let followed = follower.follow(until, out);
-    drop(follower);
-    followed?;
-    Ok(true)
+/// Follows the nodes at and below a root of real servers.
+fn follow_tree<W: Write>(
+    rt: &HostRuntime,
+    seconds: u64,
+    root: &str,
+    addresses: &[&str],
+    out: &mut W,
+) -> Result<()> {
+    let mut tree = Tree::new(rt.alloc(), Path::new(rt.alloc(), root)?);
+    let (dial, clock) = (Tcp::new(rt), SystemClock::new(rt));
+    let mut driver = Driver::begin(rt.alloc(), TIMEOUT_MS, dial, clock, addresses)?;
+    let until = driver.now().saturating_add(seconds.saturating_mul(1_000));
+    let followed = tree.follow(&mut driver, until, out);
+    drop(driver);
+    followed
 }
 
-/// Wants the lock of a directory of real servers for this many seconds. Whether the words say which.
-fn run_lock<W: Write>(rt: &HostRuntime, words: &[&str], out: &mut W) -> Result<bool> {
-    let [name, directory, seconds, addresses @ ..] = words else {
-        return Ok(false);
-    };
-    let Ok(seconds) = seconds.parse::<u64>() else {
-        return Ok(false);
-    };
-    let directory = Path::new(rt.alloc(), directory)?;
+/// Holds a lock of real servers.
+fn hold_lock<W: Write>(
+    rt: &HostRuntime,
+    seconds: u64,
+    mut contender: Contender<'_>,
+    addresses: &[&str],
+    out: &mut W,
+) -> Result<()> {
     let (dial, clock) = (Tcp::new(rt), SystemClock::new(rt));
-    let mut session = Contender::new(rt.alloc(), name, directory, dial, clock, addresses);
-    let held = session.hold(seconds, out);
-    drop(session);
-    held?;
-    Ok(true)
+    let mut driver = Driver::begin(rt.alloc(), TIMEOUT_MS, dial, clock, addresses)?;
+    let held = contender.hold(&mut driver, seconds, out);
+    drop(driver);
+    held
 }
 
 /// Both programs, over servers in memory.
-fn run_in_memory<W: Write>(rt: &HostRuntime, out: &mut W) -> Result<bool> {
-    writeln!(out, "# snapshot")?;
-    snapshot::run_in_memory(rt.alloc(), out)?;
+fn run_in_memory<W: Write>(rt: &HostRuntime, out: &mut W) -> Result<()> {
+    writeln!(out, "# tree")?;
+    tree::run_in_memory(rt.alloc(), out)?;
     writeln!(out, "# lock")?;
-    lock::run_in_memory(rt.alloc(), out)?;
-    Ok(true)
+    lock::run_in_memory(rt.alloc(), out)
 }
 
 /// Does what the words ask for, of which the first is the program's name. Whether they ask for something.
 fn run<W: Write>(rt: &HostRuntime, words: &[&str], out: &mut W) -> Result<bool> {
-    let [_, command, words @ ..] = words else {
-        return run_in_memory(rt, out);
-    };
-    match *command {
-        "snapshot" => run_snapshot(rt, words, out),
-        "lock" => run_lock(rt, words, out),
-        _ => Ok(false),
+    match words {
+        [] | [_] => run_in_memory(rt, out)?,
+        [_, "tree", seconds, root, addresses @ ..] => {
+            follow_tree(rt, seconds.parse()?, root, addresses, out)?;
+        }
+        [_, "lock", seconds, name, marker, directory, addresses @ ..] => {
+            let directory = Path::new(rt.alloc(), directory)?;
+            let contender = Contender::new(rt.alloc(), name, marker, directory);
+            hold_lock(rt, seconds.parse()?, contender, addresses, out)?;
+        }
+        _ => return Ok(false),
     }
+    Ok(true)
 }
 
 fn main(rt: HostRuntime) -> Result<ExitCode> {

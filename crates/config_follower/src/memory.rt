@@ -17,15 +17,15 @@ static ADDRESSES: [&str; 1] = ["memory"];
 
 /// What happens, and when, in milliseconds.
 static PLAN: [(u64, Event); 9] = [
-    (1_000, Event::Edits(Edit::Makes(NODE, "one", 0))),
-    (2_000, Event::Edits(Edit::Sets(NODE, "two"))),
+    (1_000, Event::Edits(&[Edit::Makes(NODE, "one", 0)])),
+    (2_000, Event::Edits(&[Edit::Sets(NODE, "two")])),
     (3_000, Event::Parts),
-    (3_100, Event::Edits(Edit::Sets(NODE, "three"))),
+    (3_100, Event::Edits(&[Edit::Sets(NODE, "three")])),
     (3_200, Event::Joins),
     (6_000, Event::Parts),
     (6_100, Event::Expires),
     (6_200, Event::Joins),
-    (10_000, Event::Edits(Edit::Deletes(NODE))),
+    (10_000, Event::Edits(&[Edit::Deletes(NODE)])),
 ];
 
 /// The moment at which the program ends.

@@ -20,12 +20,8 @@ pub enum Edit {
 /// What happens between two moments.
 #[derive(Clone, Copy)]
 pub enum Event {
-    /// Another session makes a transaction of one edit, and the server takes it.
-    Edits(Edit),
-    /// The server takes the next transaction of the history that it was made over.
-    Takes,
-    /// From now on the server takes one after each request.
-    IsBusy,
+    /// Another session makes these edits, each by a transaction of its own, and the server takes them.
+    Edits(&'static [Edit]),
     /// The connection is cut, and none can be made.
     Parts,
     /// A connection can be made again.
@@ -63,6 +59,14 @@ pub fn add_transaction(alloc: Global, edits: &[Edit], history: &mut History<Glob
     Ok(())
 }
 
+/// Another session makes these edits.
+fn edit_all(alloc: Global, edits: &[Edit], world: &mut World) -> Result<()> {
+    for edit in edits {
+        world.change(edit.change(alloc)?)?;
+    }
+    Ok(())
+}
+
 impl Event {
     /// It happens to the world.
     pub fn happen(self, alloc: Global, world: &RefCell<World>) -> Result<()> {
@@ -70,9 +74,7 @@ impl Event {
             return Ok(());
         };
         match self {
-            Event::Edits(edit) => world.change(edit.change(alloc)?)?,
-            Event::Takes => world.take()?,
-            Event::IsBusy => world.be_busy(),
+            Event::Edits(edits) => edit_all(alloc, edits, &mut world)?,
             Event::Parts => world.part(),
             Event::Joins => world.join(),
             Event::Expires => world.expire(),

@@ -43,11 +43,6 @@ impl World {
         self.bench.history()
     }
 
-    /// The server takes the next transaction of the history, if there is one, and tells those who watch.
-    pub fn take(&mut self) -> Result<(), AllocError> {
-        self.bench.take(1)
-    }
-
     /// From now on the server takes a transaction after each request, so that what is asked at once is answered from several trees.
     pub fn be_busy(&mut self) {
         self.is_busy = true;

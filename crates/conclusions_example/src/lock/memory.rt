@@ -1,211 +1,118 @@
-//! Two sessions and a lock, over servers in memory. Each session has a server of its own, and what one writes is told to the other.
+//! The same over a server in memory, with contenders of other libraries.
 
+use crate::TIMEOUT_MS;
 use crate::lock::Contender;
-use crate::lock::store::Store;
 use anyhow::Result;
-use example_world::{Change, History, Moments, Shared, World};
+use example_world::{Edit, Event, History, Moments, Shared, World};
 use std::alloc::Global;
 use std::cell::RefCell;
 use std::io::Write;
 use zk_client::Path;
+use zk_driver::Driver;
+use zk_fence::Fence;
 
 /// The directory of the lock.
 const DIRECTORY: &str = "/lock";
 
-/// A server calls its own client's session 1, and the other one's so.
-const OTHER: i64 = 2;
+/// The sessions of the other contenders. A server in memory calls its client's session 1.
+const KAZOO: i64 = 2;
+
+const CURATOR: i64 = 3;
 
 /// What is dialled.
 static ADDRESSES: [&str; 1] = ["memory"];
 
-/// The sessions act in turns of this many milliseconds.
-const TURN_MS: u64 = 100;
-
-/// What happens to the sessions.
+/// What happens to a contender.
 #[derive(Clone, Copy)]
-enum Event {
-    /// The first one's connection is cut, and it makes no other.
-    Parts,
-    /// The first one's session expires: its node goes.
-    Expires,
-    /// The first one can connect again.
-    Joins,
-    /// The second one wants the lock no more.
+enum Step {
+    /// Something happens to its world.
+    World(Event),
+    /// Another holder writes to the store with this token.
+    Writes(i64),
+    /// It wants the lock no more.
     Leaves,
     /// Nothing.
     Ends,
 }
 
-/// What happens, and when, in milliseconds.
-static PLAN: [(u64, Event); 5] = [
-    (2_000, Event::Parts),
-    (4_000, Event::Expires),
-    (6_000, Event::Joins),
-    (20_000, Event::Leaves),
-    (22_000, Event::Ends),
+/// What happens, and when, in milliseconds. The zxid of each edit and of each write of the contender is one above the one before.
+type Plan<'a> = &'a [(u64, Step)];
+
+/// It waits for kazoo's, and holds; loses its session, while Curator's holds; makes two nodes since an answer is lost, and removes one; waits,
+/// holds, and leaves.
+static LONG: [(u64, Step); 11] = [
+    (
+        0,
+        Step::World(Event::Edits(&[Edit::Makes("/lock/8f__lock__0000000000", "", KAZOO)])),
+    ),
+    (
+        1_000,
+        Step::World(Event::Edits(&[Edit::Deletes("/lock/8f__lock__0000000000")])),
+    ),
+    (2_000, Step::World(Event::Parts)),
+    (4_000, Step::World(Event::Expires)),
+    (
+        4_000,
+        Step::World(Event::Edits(&[
+            Edit::Deletes("/lock/one-1-lock-0000000001"),
+            Edit::Makes("/lock/_c_9-lock-0000000002", "", CURATOR),
+        ])),
+    ),
+    (4_000, Step::Writes(5)),
+    (5_000, Step::World(Event::Loses)),
+    (6_000, Step::World(Event::Joins)),
+    (
+        12_000,
+        Step::World(Event::Edits(&[Edit::Deletes("/lock/_c_9-lock-0000000002")])),
+    ),
+    (13_000, Step::Leaves),
+    (14_000, Step::Ends),
 ];
 
-/// A session in memory.
-type Session<'a> = Contender<'a, Shared<'a, World>, Shared<'a, World>>;
+/// It holds at once, and leaves while there is no connection.
+static SHORT: [(u64, Step); 3] = [
+    (1_000, Step::World(Event::Parts)),
+    (1_000, Step::Leaves),
+    (5_000, Step::Ends),
+];
 
-/// What there is at first.
-fn history(alloc: Global) -> Result<History<Global>> {
-    let mut history = History::new(alloc);
-    history.node(Path::new(alloc, DIRECTORY)?, None, 0)?;
-    Ok(history)
-}
-
-/// The change as the other session's server has it.
-fn told(alloc: Global, change: &Change<Global>) -> Result<Change<Global>> {
-    Ok(match change {
-        Change::Create(path, _, owner) => {
-            let owner = if *owner == 0 { 0 } else { OTHER };
-            Change::Create(Path::new(alloc, path.as_str())?, None, owner)
-        }
-        Change::Set(path, _) => Change::Set(Path::new(alloc, path.as_str())?, None),
-        Change::Delete(path) => Change::Delete(Path::new(alloc, path.as_str())?),
-    })
-}
-
-/// How many transactions there are.
-fn count(history: &History<Global>) -> usize {
-    (0..usize::MAX)
-        .find(|n| history.transaction(*n).is_none())
-        .unwrap_or(usize::MAX)
-}
-
-/// Tells one server what is written at the other.
-fn pass(alloc: Global, from: &RefCell<World>, to: &RefCell<World>) -> Result<()> {
-    let (Ok(from), Ok(mut to)) = (from.try_borrow(), to.try_borrow_mut()) else {
-        return Ok(());
-    };
-    for n in count(to.history())..usize::MAX {
-        let Some((_, _, changes)) = from.history().transaction(n) else {
-            return Ok(());
-        };
-        for change in changes {
-            to.change(told(alloc, change)?)?;
-        }
-    }
-    Ok(())
-}
-
-/// Lets an event happen.
-fn happen(
-    alloc: Global,
-    event: Event,
-    world: &RefCell<World>,
-    first: &Session<'_>,
-    second: &mut Session<'_>,
-) -> Result<()> {
-    let Ok(mut world) = world.try_borrow_mut() else {
-        return Ok(());
-    };
-    match event {
-        Event::Parts => world.part(),
-        Event::Expires => {
-            world.expire();
-            if let Some(own) = first.own() {
-                world.change(Change::Delete(Path::new(alloc, own.as_str())?))?;
-            }
-        }
-        Event::Joins => world.join(),
-        Event::Leaves => second.leave(),
-        Event::Ends => {}
-    }
-    Ok(())
-}
-
-/// A session acts for a turn, and what it writes is told to the other's server.
-fn act<W: Write>(
-    alloc: Global,
-    session: &mut Session<'_>,
-    worlds: [&RefCell<World>; 2],
-    store: &mut Store,
-    out: &mut W,
-) -> Result<()> {
-    let until = session.now().saturating_add(TURN_MS);
-    session.act(until, store, out)?;
-    let [own, other] = worlds;
-    pass(alloc, own, other)
-}
-
-/// The two sessions act in turns until this moment.
+/// Goes through a plan.
 fn play<W: Write>(
     alloc: Global,
-    until: u64,
-    first: &mut Session<'_>,
-    second: &mut Session<'_>,
-    worlds: [&RefCell<World>; 2],
-    store: &mut Store,
+    plan: Plan<'_>,
+    driver: &mut Driver<'_, Global, Shared<'_, World>, Shared<'_, World>>,
+    world: &RefCell<World>,
     out: &mut W,
 ) -> Result<()> {
-    let [one, other] = worlds;
-    for _ in 0..until / TURN_MS {
-        if until <= first.now() {
-            break;
+    let mut one = Contender::new(alloc, "one", "-lock-", Path::new(alloc, DIRECTORY)?);
+    let mut store = Fence::new();
+    for (moment, step) in plan {
+        one.act(driver, *moment, &mut store, out)?;
+        match *step {
+            Step::World(event) => event.happen(alloc, world)?,
+            Step::Writes(token) => writeln!(out, "another writes: {}", store.admit(token))?,
+            Step::Leaves => one.leave(out)?,
+            Step::Ends => {}
         }
-        act(alloc, first, [one, other], store, out)?;
-        act(alloc, second, [other, one], store, out)?;
     }
     Ok(())
 }
 
-/// The two sessions, until the plan is at its end.
-fn play_plan<W: Write>(
-    alloc: Global,
-    first: &mut Session<'_>,
-    second: &mut Session<'_>,
-    worlds: [&RefCell<World>; 2],
-    out: &mut W,
-) -> Result<()> {
-    let mut store = Store::new();
-    let [one, other] = worlds;
-    for (moment, event) in &PLAN {
-        play(alloc, *moment, first, second, worlds, &mut store, out)?;
-        happen(alloc, *event, one, first, second)?;
-        pass(alloc, one, other)?;
-    }
-    Ok(())
-}
-
-/// A session over a server in memory.
-fn session<'a>(
-    alloc: Global,
-    name: &'a str,
-    path: Path,
-    world: &'a RefCell<World>,
-    moments: &'a Moments,
-) -> Session<'a> {
-    let (dial, clock) = (Shared::new(world, moments), Shared::new(world, moments));
-    Contender::new(alloc, name, path, dial, clock, &ADDRESSES)
-}
-
-/// Two sessions over these servers, each with the path of the lock.
-fn play_sessions<'a, W: Write>(
-    alloc: Global,
-    paths: (Path, Path),
-    worlds: [&'a RefCell<World>; 2],
-    moments: &'a Moments,
-    out: &mut W,
-) -> Result<()> {
-    let mut first = session(alloc, "first", paths.0, worlds[0], moments);
-    let mut second = session(alloc, "second", paths.1, worlds[1], moments);
-    let played = play_plan(alloc, &mut first, &mut second, worlds, out);
-    drop(first);
-    drop(second);
-    played
-}
-
-/// The two sessions, each over a server of its own.
-pub fn run_in_memory<W: Write>(alloc: Global, out: &mut W) -> Result<()> {
-    let paths = (Path::new(alloc, DIRECTORY)?, Path::new(alloc, DIRECTORY)?);
-    let (first, second) = (history(alloc)?, history(alloc)?);
-    let one = RefCell::new(World::new(alloc, first, usize::MAX));
-    let other = RefCell::new(World::new(alloc, second, usize::MAX));
+/// A contender over a server in memory, and what happens to it.
+fn run<W: Write>(alloc: Global, plan: Plan<'_>, out: &mut W) -> Result<()> {
+    let mut history = History::new(alloc);
+    history.node(Path::new(alloc, DIRECTORY)?, None, 0)?;
+    let world = RefCell::new(World::new(alloc, history, usize::MAX));
     let moments = Moments::new();
-    let played = play_sessions(alloc, paths, [&one, &other], &moments, out);
-    drop(one);
-    drop(other);
+    let (dial, clock) = (Shared::new(&world, &moments), Shared::new(&world, &moments));
+    let mut driver = Driver::begin(alloc, TIMEOUT_MS, dial, clock, &ADDRESSES)?;
+    let played = play(alloc, plan, &mut driver, &world, out);
+    drop(driver);
     played
+}
+
+/// A contender goes through each plan, over a server of its own.
+pub fn run_in_memory<W: Write>(alloc: Global, out: &mut W) -> Result<()> {
+    run(alloc, &LONG, out)?;
+    run(alloc, &SHORT, out)
 }
