@@ -3,75 +3,83 @@
 #![tactic(auto)]
 
 mod lock;
+mod memory;
 mod tree;
 
 use anyhow::Result;
 use lock::Contender;
+use std::alloc::Global;
 use std::io::Write;
 use std::process::ExitCode;
 use tree::Tree;
 use zk_client::Path;
 use zk_driver::Driver;
-use zk_link::{SystemClock, Tcp};
+use zk_fence::Fence;
+use zk_link::{Clock, Dial, SystemClock, Tcp};
 
 /// The timeout to ask for, in milliseconds.
 const TIMEOUT_MS: i32 = 9_000;
 
 /// What the words are to be.
 const USAGE: &str =
-    "usage: conclusions_example [tree SECONDS PATH IP:PORT.. | lock SECONDS NAME MARKER DIRECTORY IP:PORT..]";
+    "usage: conclusions_example [tree SECONDS ROOT IP:PORT.. | lock MILLISECONDS NAME MARKER DIRECTORY IP:PORT..]\n";
 
-/// Follows the nodes at and below a root of real servers.
-fn follow_tree<W: Write>(
+/// A program over a driver.
+pub trait Program {
+    /// Goes on until this moment, or to its end. What it concludes it hands on, with a token, to a store that refuses what is older.
+    fn act<D: Dial + Drop, C: Clock + Drop, W: Write>(
+        &mut self,
+        driver: &mut Driver<'_, Global, D, C>,
+        until: u64,
+        store: &mut Fence,
+        out: &mut W,
+    ) -> Result<()>;
+}
+
+/// Runs a program over real servers, for this many seconds at most.
+fn serve<P: Program + Drop, W: Write>(
     rt: &HostRuntime,
+    mut program: P,
     seconds: u64,
-    root: &str,
     addresses: &[&str],
     out: &mut W,
 ) -> Result<()> {
-    let mut tree = Tree::new(rt.alloc(), Path::new(rt.alloc(), root)?);
     let (dial, clock) = (Tcp::new(rt), SystemClock::new(rt));
     let mut driver = Driver::begin(rt.alloc(), TIMEOUT_MS, dial, clock, addresses)?;
     let until = driver.now().saturating_add(seconds.saturating_mul(1_000));
-    let followed = tree.follow(&mut driver, until, out);
+    let served = program.act(&mut driver, until, &mut Fence::new(), out);
     drop(driver);
-    followed
+    served
 }
 
-/// Holds a lock of real servers.
-fn hold_lock<W: Write>(
+/// Follows the nodes at and below a root.
+fn follow<W: Write>(
     rt: &HostRuntime,
     seconds: u64,
-    mut contender: Contender<'_>,
+    root: Path,
     addresses: &[&str],
     out: &mut W,
 ) -> Result<()> {
-    let (dial, clock) = (Tcp::new(rt), SystemClock::new(rt));
-    let mut driver = Driver::begin(rt.alloc(), TIMEOUT_MS, dial, clock, addresses)?;
-    let held = contender.hold(&mut driver, seconds, out);
-    drop(driver);
-    held
-}
-
-/// Both programs, over servers in memory.
-fn run_in_memory<W: Write>(rt: &HostRuntime, out: &mut W) -> Result<()> {
-    writeln!(out, "# tree")?;
-    tree::run_in_memory(rt.alloc(), out)?;
-    writeln!(out, "# lock")?;
-    lock::run_in_memory(rt.alloc(), out)
+    serve(rt, Tree::new(rt.alloc(), root), seconds, addresses, out)
 }
 
 /// Does what the words ask for, of which the first is the program's name. Whether they ask for something.
 fn run<W: Write>(rt: &HostRuntime, words: &[&str], out: &mut W) -> Result<bool> {
     match words {
-        [] | [_] => run_in_memory(rt, out)?,
+        [] | [_] => memory::run_in_memory(rt.alloc(), out)?,
         [_, "tree", seconds, root, addresses @ ..] => {
-            follow_tree(rt, seconds.parse()?, root, addresses, out)?;
+            follow(
+                rt,
+                seconds.parse()?,
+                Path::new(rt.alloc(), root)?,
+                addresses,
+                out,
+            )?;
         }
-        [_, "lock", seconds, name, marker, directory, addresses @ ..] => {
-            let directory = Path::new(rt.alloc(), directory)?;
-            let contender = Contender::new(rt.alloc(), name, marker, directory);
-            hold_lock(rt, seconds.parse()?, contender, addresses, out)?;
+        [_, "lock", ms, name, marker, directory, addresses @ ..] => {
+            let (ms, directory) = (ms.parse()?, Path::new(rt.alloc(), directory)?);
+            let one = Contender::new(rt.alloc(), name, marker, directory, ms);
+            serve(rt, one, u64::MAX, addresses, out)?;
         }
         _ => return Ok(false),
     }
@@ -85,6 +93,6 @@ fn main(rt: HostRuntime) -> Result<ExitCode> {
     if run(&rt, texts.as_slice(), &mut out)? {
         return Ok(ExitCode::SUCCESS);
     }
-    writeln!(out, "{USAGE}")?;
+    out.write_all(USAGE.as_bytes())?;
     Ok(ExitCode::from(2))
 }

@@ -1,16 +1,15 @@
 //! Follows a configuration, the nodes at and below a root, which come and go: prints all of it as it was at one moment, each time that this is
 //! known again and is something else than before. A transaction of another session is seen whole or not at all.
 
-mod memory;
-
+use crate::Program;
 use anyhow::Result;
-pub use memory::run_in_memory;
 use std::alloc::Global;
 use std::collections::BTreeMap;
 use std::io::Write;
 use zk_client::{Client, DataAnswer, Event, Mark, Path, Side};
 use zk_conclusions::{Lacking, NoSubtree, Subtree};
 use zk_driver::{Action, Driver};
+use zk_fence::Fence;
 use zk_link::{Clock, Dial};
 
 /// The most nodes that there may be.
@@ -38,24 +37,24 @@ fn is_absent(client: &Client, node: &Path) -> bool {
     )
 }
 
-/// Adds a node: its path, and its data if there are some.
-fn put(node: &Path, answer: &DataAnswer, line: &mut Vec<u8>) -> Result<()> {
-    line.push(b' ')?;
-    line.extend_from_slice(node.as_str().as_bytes())?;
-    if let DataAnswer::Full(Some(bytes), _) = answer {
-        line.push(b'=')?;
-        line.extend_from_slice(bytes.as_slice())?;
+/// Adds each of these.
+fn put(parts: &[&[u8]], line: &mut Vec<u8>) -> Result<()> {
+    for part in parts {
+        line.extend_from_slice(part)?;
     }
     Ok(())
 }
 
-/// All nodes, each before those below it.
-fn line_of(alloc: Global, subtree: &Subtree<'_>) -> Result<Vec<u8>> {
-    let mut line = Vec::new(alloc);
+/// Adds all nodes, each before those below it: the path, and the data if there are some.
+fn put_all(subtree: &Subtree<'_>, line: &mut Vec<u8>) -> Result<()> {
     for (place, node) in subtree.paths().iter().enumerate() {
-        put(node, subtree.data(place), &mut line)?;
+        let path = node.as_str().as_bytes();
+        match subtree.data(place) {
+            DataAnswer::Full(Some(bytes), _) => put(&[b" ", path, b"=", bytes.as_slice()], line)?,
+            _ => put(&[b" ", path], line)?,
+        }
     }
-    Ok(line)
+    Ok(())
 }
 
 impl Tree {
@@ -68,22 +67,6 @@ impl Tree {
             ticket: 0,
             line: Vec::new(alloc),
         }
-    }
-
-    /// Goes on until this moment.
-    pub fn follow<D: Dial + Drop, C: Clock + Drop, W: Write>(
-        &mut self,
-        driver: &mut Driver<'_, Global, D, C>,
-        until: u64,
-        out: &mut W,
-    ) -> Result<()> {
-        for _ in 0..u64::MAX {
-            self.look(driver, out)?;
-            if !self.hear_all(driver, until, out)? {
-                break;
-            }
-        }
-        Ok(())
     }
 
     /// Waits for an action until this moment, and takes in all that come with it. Whether there was one.
@@ -116,100 +99,91 @@ impl Tree {
                 path,
                 event: Event::Deleted,
                 ..
-            } => self.let_go(driver, path.as_str())?,
+            } => self.let_go(driver, path.as_str()),
             Action::Renewed => {
                 self.line.clear();
-                writeln!(out, "another session")?;
+                Ok(out.write_all(b"another session\n")?)
             }
-            _ => {}
+            _ => Ok(()),
         }
-        Ok(())
-    }
-
-    /// Prints the nodes, if they are known, takes on what is lacking, and lets go what is gone.
-    fn look<D: Dial + Drop, C: Clock + Drop, W: Write>(
-        &mut self,
-        driver: &mut Driver<'_, Global, D, C>,
-        out: &mut W,
-    ) -> Result<()> {
-        if let Some(line) = self.shown(driver.client())? {
-            self.tell(driver.client().last_zxid(), line, out)?;
-        }
-        let lacking = Lacking::of(driver.client(), self.alloc, &self.root, MOST_NODES)?;
-        self.take_on_all(driver, lacking.data.as_slice())?;
-        self.take_on_all(driver, lacking.names.as_slice())?;
-        self.let_go_all(driver)
     }
 
     /// The nodes as they are at the last zxid that was seen, if all of them are known.
     fn shown(&self, client: &Client) -> Result<Option<Vec<u8>>> {
+        let mut line = Vec::new(self.alloc);
         if is_absent(client, &self.root) {
-            return Ok(Some(Vec::from_slice(self.alloc, b" no node")?));
+            put(&[b" no node"], &mut line)?;
+            return Ok(Some(line));
         }
         match Subtree::of(client, self.alloc, &self.root, MOST_NODES) {
-            Ok(subtree) => Ok(Some(line_of(self.alloc, &subtree)?)),
-            Err(NoSubtree::NotWhole) => Ok(None),
-            Err(why) => Err(why.into()),
+            Ok(subtree) => put_all(&subtree, &mut line)?,
+            Err(NoSubtree::NotWhole) => return Ok(None),
+            Err(why) => return Err(why.into()),
         }
+        Ok(Some(line))
     }
 
-    /// Prints the nodes, if they are others than before.
-    fn tell<W: Write>(&mut self, zxid: i64, line: Vec<u8>, out: &mut W) -> Result<()> {
+    /// Prints the nodes, if they are known and others than before, and the store takes their zxid.
+    fn tell<W: Write>(&mut self, client: &Client, store: &mut Fence, out: &mut W) -> Result<()> {
+        let Some(line) = self.shown(client)? else {
+            return Ok(());
+        };
         if line.as_slice() == self.line.as_slice() {
             return Ok(());
         }
         self.line = line;
+        self.print(client.last_zxid(), store, out)
+    }
+
+    fn print<W: Write>(&self, zxid: i64, store: &mut Fence, out: &mut W) -> Result<()> {
+        if !store.admit(zxid) {
+            return Ok(());
+        }
         write!(out, "at {zxid}")?;
         out.write_all(self.line.as_slice())?;
-        out.write_all(b"\n")?;
-        Ok(out.flush()?)
+        out.write_all(b"\n").map_err(From::from)
     }
 
-    /// Follows each of these that is not followed.
-    fn take_on_all<D: Dial + Drop, C: Clock + Drop>(
-        &mut self,
-        driver: &mut Driver<'_, Global, D, C>,
-        nodes: &[Path],
-    ) -> Result<()> {
-        for node in nodes {
-            if !self.followed.contains_key(node.as_str()) {
-                self.take_on(driver, node)?;
-            }
-        }
-        Ok(())
-    }
-
-    /// Follows a node: its data, and the names below it.
+    /// Follows each of these that is not followed: its data, and the names below it.
     fn take_on<D: Dial + Drop, C: Clock + Drop>(
         &mut self,
         driver: &mut Driver<'_, Global, D, C>,
-        node: &Path,
+        nodes: Vec<Path>,
     ) -> Result<()> {
-        let (data, names) = (self.ticket, self.ticket.saturating_add(1));
-        self.ticket = names.saturating_add(1);
-        let text = String::from_str(self.alloc, node.as_str())?;
-        self.followed.insert(text, data)?;
-        driver.follow(data, Side::Data, Path::new(self.alloc, node.as_str())?)?;
-        driver.follow(names, Side::Child, Path::new(self.alloc, node.as_str())?)?;
+        for node in nodes {
+            if self.followed.contains_key(node.as_str()) {
+                continue;
+            }
+            let data = self.ticket;
+            self.ticket = data.saturating_add(2);
+            let text = String::from_str(self.alloc, node.as_str())?;
+            self.followed.insert(text, data)?;
+            let names = Path::new(self.alloc, node.as_str())?;
+            driver.follow(data, Side::Data, node)?;
+            driver.follow(data.saturating_add(1), Side::Child, names)?;
+        }
         Ok(())
     }
 
-    /// Follows those no more that are known to be gone.
-    fn let_go_all<D: Dial + Drop, C: Clock + Drop>(
+    /// Follows what is lacking.
+    fn take_on_all<D: Dial + Drop, C: Clock + Drop>(
         &mut self,
         driver: &mut Driver<'_, Global, D, C>,
     ) -> Result<()> {
-        let mut gone = Vec::new(self.alloc);
+        let lacking = Lacking::of(driver.client(), self.alloc, &self.root, MOST_NODES)?;
+        self.take_on(driver, lacking.data)?;
+        self.take_on(driver, lacking.names)
+    }
+
+    /// Of the nodes that are followed one that is known to be gone, if there is one.
+    fn gone(&self, client: &Client) -> Result<Option<Path>> {
         for text in self.followed.keys() {
             let node = Path::new(self.alloc, text.as_str())?;
-            if is_absent(driver.client(), &node) {
-                gone.push(node)?;
+            if text.as_str() != self.root.as_str() && is_absent(client, &node) {
+                return Ok(Some(node));
             }
         }
-        for node in &gone {
-            self.let_go(driver, node.as_str())?;
-        }
-        Ok(())
+        Ok(None)
     }
 
     /// Follows a node no more, unless it is the root.
@@ -224,6 +198,28 @@ impl Tree {
         if let Some(data) = self.followed.remove(node) {
             driver.unfollow(data)?;
             driver.unfollow(data.saturating_add(1))?;
+        }
+        Ok(())
+    }
+}
+
+impl Program for Tree {
+    fn act<D: Dial + Drop, C: Clock + Drop, W: Write>(
+        &mut self,
+        driver: &mut Driver<'_, Global, D, C>,
+        until: u64,
+        store: &mut Fence,
+        out: &mut W,
+    ) -> Result<()> {
+        for _ in 0..u64::MAX {
+            self.tell(driver.client(), store, out)?;
+            self.take_on_all(driver)?;
+            if let Some(node) = self.gone(driver.client())? {
+                self.let_go(driver, node.as_str())?;
+            }
+            if !self.hear_all(driver, until, out)? {
+                break;
+            }
         }
         Ok(())
     }
