@@ -51,7 +51,7 @@ enum Step {
 type Plan<'a> = &'a [(u64, Step)];
 
 /// Nodes of a configuration change, come and go, while there is no connection too; the session expires; all of it goes and comes again.
-static TREE: [(u64, Step); 11] = [
+static TREE: [(u64, Step); 12] = [
     (
         1_000,
         Step::World(Event::Edits(&[Edit::Sets("/config/host", "beta")])),
@@ -72,11 +72,14 @@ static TREE: [(u64, Step); 11] = [
     (3_200, Step::World(Event::Joins)),
     (6_000, Step::World(Event::Parts)),
     (6_100, Step::World(Event::Expires)),
+    (
+        6_150,
+        Step::World(Event::Edits(&[Edit::Deletes("/config/workers/two")])),
+    ),
     (6_200, Step::World(Event::Joins)),
     (
         10_000,
         Step::World(Event::Edits(&[
-            Edit::Deletes("/config/workers/two"),
             Edit::Deletes("/config/workers"),
             Edit::Deletes("/config/port"),
             Edit::Deletes("/config/host"),
