@@ -15,11 +15,8 @@ use zk_link::{Clock, Dial};
 /// The most nodes that there may be.
 const MOST_NODES: usize = 10_000;
 
-/// The most actions that are taken in before the nodes are looked at.
-const MOST_ACTIONS: usize = 10_000;
-
-/// The nodes that a driver follows, each by its path with the ticket of its data, which is one below that of its names; and what was printed
-/// last.
+/// The nodes that a driver follows, each by its path with the ticket of its data, which is one below that of its names; and what was known
+/// last of all of them, at which zxid.
 #[derive(Drop)]
 pub struct Tree {
     alloc: Global,
@@ -27,6 +24,7 @@ pub struct Tree {
     followed: BTreeMap<String, u64>,
     ticket: u64,
     line: Vec<u8>,
+    zxid: Option<i64>,
 }
 
 /// Whether it is known that there is no node.
@@ -66,45 +64,7 @@ impl Tree {
             followed: BTreeMap::new(alloc),
             ticket: 0,
             line: Vec::new(alloc),
-        }
-    }
-
-    /// Waits for an action until this moment, and takes in all that come with it. Whether there was one.
-    fn hear_all<D: Dial + Drop, C: Clock + Drop, W: Write>(
-        &mut self,
-        driver: &mut Driver<'_, Global, D, C>,
-        until: u64,
-        out: &mut W,
-    ) -> Result<bool> {
-        let mut moment = until;
-        for count in 0..MOST_ACTIONS {
-            let Some(action) = driver.next(moment)? else {
-                return Ok(0 < count);
-            };
-            self.hear(driver, action, out)?;
-            moment = 0;
-        }
-        Ok(true)
-    }
-
-    /// Takes an action in: a node that is deleted is let go, and in another session all is printed again.
-    fn hear<D: Dial + Drop, C: Clock + Drop, W: Write>(
-        &mut self,
-        driver: &mut Driver<'_, Global, D, C>,
-        action: Action,
-        out: &mut W,
-    ) -> Result<()> {
-        match action {
-            Action::Report {
-                path,
-                event: Event::Deleted,
-                ..
-            } => self.let_go(driver, path.as_str()),
-            Action::Renewed => {
-                self.line.clear();
-                Ok(out.write_all(b"another session\n")?)
-            }
-            _ => Ok(()),
+            zxid: None,
         }
     }
 
@@ -123,22 +83,41 @@ impl Tree {
         Ok(Some(line))
     }
 
-    /// Prints the nodes, if they are known and others than before, and the store takes their zxid.
-    fn tell<W: Write>(&mut self, client: &Client, store: &mut Fence, out: &mut W) -> Result<()> {
-        let Some(line) = self.shown(client)? else {
+    /// Looks at what is known, unless all of it was known at this zxid already: then it is the same.
+    fn look<D: Dial + Drop, C: Clock + Drop, W: Write>(
+        &mut self,
+        driver: &mut Driver<'_, Global, D, C>,
+        store: &mut Fence,
+        out: &mut W,
+    ) -> Result<()> {
+        let zxid = driver.client().last_zxid();
+        if self.zxid == Some(zxid) {
             return Ok(());
+        }
+        let Some(line) = self.shown(driver.client())? else {
+            return self.take_on_all(driver);
         };
-        if line.as_slice() == self.line.as_slice() {
+        self.zxid = Some(zxid);
+        self.tell(line, zxid, store, out)?;
+        self.let_go_one(driver)
+    }
+
+    /// Prints the nodes, if they are others than before.
+    fn tell<W: Write>(
+        &mut self,
+        line: Vec<u8>,
+        zxid: i64,
+        store: &mut Fence,
+        out: &mut W,
+    ) -> Result<()> {
+        if line.as_slice() == self.line.as_slice() || !store.admit(zxid) {
             return Ok(());
         }
         self.line = line;
-        self.print(client.last_zxid(), store, out)
+        self.print(zxid, out)
     }
 
-    fn print<W: Write>(&self, zxid: i64, store: &mut Fence, out: &mut W) -> Result<()> {
-        if !store.admit(zxid) {
-            return Ok(());
-        }
+    fn print<W: Write>(&self, zxid: i64, out: &mut W) -> Result<()> {
         write!(out, "at {zxid}")?;
         out.write_all(self.line.as_slice())?;
         out.write_all(b"\n").map_err(From::from)
@@ -186,6 +165,17 @@ impl Tree {
         Ok(None)
     }
 
+    /// Follows no more one that is known to be gone: it went before it was read, or between two sessions.
+    fn let_go_one<D: Dial + Drop, C: Clock + Drop>(
+        &mut self,
+        driver: &mut Driver<'_, Global, D, C>,
+    ) -> Result<()> {
+        match self.gone(driver.client())? {
+            Some(node) => self.let_go(driver, node.as_str()),
+            None => Ok(()),
+        }
+    }
+
     /// Follows a node no more, unless it is the root.
     fn let_go<D: Dial + Drop, C: Clock + Drop>(
         &mut self,
@@ -211,14 +201,24 @@ impl Program for Tree {
         store: &mut Fence,
         out: &mut W,
     ) -> Result<()> {
+        self.take_on_all(driver)?;
         for _ in 0..u64::MAX {
-            self.tell(driver.client(), store, out)?;
-            self.take_on_all(driver)?;
-            if let Some(node) = self.gone(driver.client())? {
-                self.let_go(driver, node.as_str())?;
-            }
-            if !self.hear_all(driver, until, out)? {
-                break;
+            match driver.next(until)? {
+                Some(Action::Shown { .. }) => self.look(driver, store, out)?,
+                Some(
+                    Action::Report {
+                        path,
+                        event: Event::Deleted,
+                        ..
+                    },
+                ) => self.let_go(driver, path.as_str())?,
+                Some(Action::Renewed) => {
+                    self.zxid = None;
+                    self.line.clear();
+                    out.write_all(b"another session\n")?;
+                }
+                Some(_) => {}
+                None => break,
             }
         }
         Ok(())
