@@ -313,26 +313,36 @@ impl<'a> Contender<'a> {
         }
     }
 
-    /// Takes in a reply. After a code that says that the session is not the server's own, the driver dials another one.
+    /// Takes in a reply.
     fn take(&mut self, zxid: i64, reply: CallResult) -> Result<()> {
         match reply {
-            CallResult::Created(_) => self.made = Some(zxid),
-            CallResult::Names { names, .. } => {
-                self.names = names;
-                self.zxid = zxid;
-                self.settle()?;
-            }
+            CallResult::Created(_path) => self.made = Some(zxid),
+            CallResult::Names { names, stat: _stat } => return self.settle(zxid, names),
             CallResult::Done => self.finish(),
-            CallResult::Code(Code::SessionExpired | Code::SessionMoved) => {}
-            CallResult::Code(Code::NoNode) if self.place.is_some() => self.place = None,
-            CallResult::Code(code) => bail!("the lock answers with code {}", code.number()),
-            _ => {}
+            CallResult::Code(code) => return self.refuse(code),
+            CallResult::Stat(_stat) => {}
+            CallResult::Data {
+                bytes: _bytes,
+                stat: _stat,
+            } => {}
+        }
+        Ok(())
+    }
+
+    /// Takes in a code. After one that says that the session is not the server's own, the driver dials another one.
+    fn refuse(&mut self, code: Code) -> Result<()> {
+        match code {
+            Code::SessionExpired | Code::SessionMoved => {}
+            Code::NoNode if self.place.is_some() => self.place = None,
+            code => bail!("the lock answers with code {}", code.number()),
         }
         Ok(())
     }
 
     /// Finds the place of the session by a new listing. Where it has none, its node is gone.
-    fn settle(&mut self) -> Result<()> {
+    fn settle(&mut self, zxid: i64, names: Vec<String>) -> Result<()> {
+        self.names = names;
+        self.zxid = zxid;
         if let Some(made) = self.made {
             self.place = self.find_place(made)?;
         }

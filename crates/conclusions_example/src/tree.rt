@@ -35,22 +35,21 @@ fn is_absent(client: &Client, node: &Path) -> bool {
     )
 }
 
-/// Adds each of these.
-fn put(parts: &[&[u8]], line: &mut Vec<u8>) -> Result<()> {
-    for part in parts {
-        line.extend_from_slice(part)?;
+/// Adds the data of a node, if there are some.
+fn put_data(answer: &DataAnswer, line: &mut Vec<u8>) -> Result<()> {
+    if let DataAnswer::Full(Some(bytes), _) = answer {
+        line.push(b'=')?;
+        line.extend_from_slice(bytes.as_slice())?;
     }
     Ok(())
 }
 
-/// Adds all nodes, each before those below it: the path, and the data if there are some.
+/// Adds all nodes with their data, each before those below it.
 fn put_all(subtree: &Subtree<'_>, line: &mut Vec<u8>) -> Result<()> {
     for (place, node) in subtree.paths().iter().enumerate() {
-        let path = node.as_str().as_bytes();
-        match subtree.data(place) {
-            DataAnswer::Full(Some(bytes), _) => put(&[b" ", path, b"=", bytes.as_slice()], line)?,
-            _ => put(&[b" ", path], line)?,
-        }
+        line.push(b' ')?;
+        line.extend_from_slice(node.as_str().as_bytes())?;
+        put_data(subtree.data(place), line)?;
     }
     Ok(())
 }
@@ -72,7 +71,7 @@ impl Tree {
     fn shown(&self, client: &Client) -> Result<Option<Vec<u8>>> {
         let mut line = Vec::new(self.alloc);
         if is_absent(client, &self.root) {
-            put(&[b" no node"], &mut line)?;
+            line.extend_from_slice(b" no node")?;
             return Ok(Some(line));
         }
         match Subtree::of(client, self.alloc, &self.root, MOST_NODES) {
