@@ -522,7 +522,7 @@ run_together() {
     end_by_force together
 }
 
-# Makes a tree of 100 nodes below /grove, and then so many transactions, at about 100 a second. Each sets the root and three other nodes, and
+# Makes a tree of 100 nodes below /grove, and then this many transactions, at about 100 a second. Each sets the root and three other nodes, and
 # makes a leaf or deletes one. What the tree is after each is written as the example prints it, without the zxid.
 change_grove() {
     /usr/bin/python3 - "$@" <<'EOF' 2>>"$folder/outside.log" >"$folder/grove.states" || fail "another client's transactions in a tree"
@@ -571,7 +571,7 @@ client.stop()
 EOF
 }
 
-# A tree that another client changes in so many transactions: each line is a state of it, and later than the line before; and there are so many
+# A tree that another client changes in this many transactions: each line is a state of it, and later than the line before; and there are this many at least
 # lines.
 run_grove() {
     begin grove "$conclusions" tree 900 /grove "127.0.0.1:$1"
@@ -665,7 +665,7 @@ has_curator() {
 }
 
 # A lock that twenty contend for: ten of the example, with these two markers, and ten that this command begins. Each holds so often. They write
-# into one file, whose lines stand in the order in which they were written: no two hold at once, and the tokens rise.
+# into one file, whose lines are in the order in which they were written: no two hold at once, and the tokens rise.
 run_contest() {
     local number
     local -a waits=()
