@@ -319,8 +319,10 @@ run_alone() {
     run_idle "$port"
     run_expired "$port"
     run_closed "$port"
-    run_snapshot "$port"
+    run_together "$port"
+    run_grove "$port" 1000 100
     run_lock "$port"
+    run_contests "$port" 3
     run_follower "$port"
     stop_server one
 }
@@ -505,20 +507,86 @@ EOF
 
 # A configuration of three nodes while another client changes all of them in one transaction, 500 times: each line is of one transaction,
 # and later than the line before.
-run_snapshot() {
+run_together() {
     set_together "$1" 0 0
-    begin together "$conclusions" snapshot 60 /together/a /together/b /together/c "127.0.0.1:$1"
-    sees together <<<'at @together 0 0 0'
+    begin together "$conclusions" tree 60 /together "127.0.0.1:$1"
+    sees together <<<'at @together /together= /together/a=0 /together/b=0 /together/c=0'
     set_together "$1" 1 500
-    within 20 grep -q '^at .* 500 500 500$' "$folder/together.out" || fail "the last change is not told"
-    awk 'BEGIN { value = -1 }
-        /^changing$/ { next }
-        $1 != "at" || NF != 5 || $3 != $4 || $4 != $5 || $2 <= last || $3 <= value { wrong = 1; exit }
-        { last = $2; value = $3; count++ }
-        END { exit wrong || count < 10 }' "$folder/together.out" ||
+    within 20 grep -q '/together/c=500$' "$folder/together.out" || fail "the last change is not told"
+    sed 's/=/ /g' "$folder/together.out" | awk 'BEGIN { value = -1 }
+        $1 != "at" || NF != 9 || $5 != $7 || $7 != $9 || $2 <= last || $5 <= value { wrong = 1; exit }
+        { last = $2; value = $5; count++ }
+        END { exit wrong || count < 10 }' ||
         fail "not each line is of one transaction, and later: $(cat "$folder/together.out")"
     seen[together]=$(wc -l <"$folder/together.out")
     end_by_force together
+}
+
+# Makes a tree of 100 nodes below /grove, and then this many transactions, at about 100 a second. Each sets the root and three other nodes, and
+# makes a leaf or deletes one. What the tree is after each is written as the example prints it, without the zxid.
+change_grove() {
+    /usr/bin/python3 - "$@" <<'EOF' 2>>"$folder/outside.log" >"$folder/grove.states" || fail "another client's transactions in a tree"
+import random, sys, time
+from kazoo.client import KazooClient
+
+port, count = map(int, sys.argv[1:])
+client = KazooClient(hosts=f"127.0.0.1:{port}")
+client.start(timeout=20)
+branches = [f"/grove/b{number}" for number in range(9)]
+leaves = [f"{branch}/l{number:02}" for number in range(20) for branch in branches]
+nodes = {path: "0" for path in ["/grove", *branches, *leaves[:90]]}
+
+
+def tell():
+    print("".join(f" {path}={nodes[path]}" for path in sorted(nodes, key=lambda path: (path.count("/"), path))), flush=True)
+
+
+def change(number):
+    transaction = client.transaction()
+    leaf = random.choice(leaves)
+    others = [path for path in nodes if path not in ("/grove", leaf)]
+    for path in ["/grove", *random.sample(others, 3)]:
+        transaction.set_data(path, str(number).encode())
+        nodes[path] = str(number)
+    if nodes.pop(leaf, None):
+        transaction.delete(leaf)
+    else:
+        transaction.create(leaf, str(number).encode())
+        nodes[leaf] = str(number)
+    if any(isinstance(one, Exception) for one in transaction.commit()):
+        sys.exit("a transaction is refused")
+
+
+first = client.transaction()
+for path in nodes:
+    first.create(path, b"0")
+first.commit()
+tell()
+begun = time.monotonic()
+for number in range(1, count + 1):
+    change(number)
+    tell()
+    time.sleep(max(0.0, begun + number / 100 - time.monotonic()))
+client.stop()
+EOF
+}
+
+# A tree that another client changes in this many transactions: each line is a state of it, and later than the line before; and there are this many at least
+# lines.
+run_grove() {
+    begin grove "$conclusions" tree 900 /grove "127.0.0.1:$1"
+    sees grove <<<'at @ no node'
+    change_grove "$1" "$2"
+    within 20 grep -q " /grove=$2 " "$folder/grove.out" || fail "the last state of the tree is not told"
+    awk -v least="$3" 'FNR == NR { states[$0] = ++count; next }
+        FNR == 1 { next }
+        { line = $0; sub(/^at [0-9]+/, "", line) }
+        !(line in states) || $2 <= last || states[line] <= state { print "line " FNR ": " $0; wrong = 1; exit }
+        { last = $2; state = states[line]; shown++ }
+        END { print "grove: " shown " of " count " states shown"; exit wrong || shown < least }' \
+        "$folder/grove.states" "$folder/grove.out" || fail "not each tree that is shown is a state of it, and later"
+    seen[grove]=$(wc -l <"$folder/grove.out")
+    end_by_force grove
 }
 
 # Two sessions that want one lock. The first is stopped until its session has expired and the second holds; it goes on, finds that out and
@@ -526,9 +594,9 @@ run_snapshot() {
 run_lock() {
     local at=127.0.0.1:$1
     outside "$1" create /lock x
-    begin first "$conclusions" lock first /lock 90 "$at"
+    begin first "$conclusions" lock 600000 first -lock- /lock "$at"
     sees first <<<'first holds @token-1'
-    begin second "$conclusions" lock second /lock 35 "$at"
+    begin second "$conclusions" lock 20000 second -lock- /lock "$at"
     sees second <<<'second waits'
     kill -STOP "${begun[first]}"
     sees second <<<'second holds @token-2'
@@ -538,9 +606,98 @@ first has lost its session
 first waits
 first holds @token-3
 EOF
+    sees second <<<'second leaves'
     ends second
     end_by_force first
     rises @token-1 @token-2 @token-3
+}
+
+# A contender of the example that holds so often, each time by a session of its own, for 20 milliseconds.
+contend() {
+    local round
+    for ((round = 1; round <= $4; round++)); do
+        timeout 600 "$conclusions" lock 20 "$2-$round" "$3" /contest "127.0.0.1:$1" >>"$folder/contest.out" 2>>"$folder/contest.err"
+    done
+}
+
+# Ten contenders by kazoo's locks, as it names them, which hold so often.
+contend_by_kazoo() {
+    /usr/bin/python3 - "$1" "$2" "$folder/contest.out" <<'EOF' >>"$folder/outside.log" 2>&1
+import os, sys, threading, time
+from kazoo.client import KazooClient
+
+port, rounds = map(int, sys.argv[1:3])
+out = os.open(sys.argv[3], os.O_WRONLY | os.O_APPEND)
+
+
+def contend(name):
+    client = KazooClient(hosts=f"127.0.0.1:{port}", timeout=20)
+    client.start(timeout=60)
+    for _ in range(rounds):
+        lock = client.Lock("/contest", name, extra_lock_patterns=["-lock-"])
+        with lock:
+            token = client.exists(f"/contest/{lock.node}").czxid
+            os.write(out, f"{name} holds {token}\n".encode())
+            time.sleep(0.02)
+            os.write(out, f"{name} leaves\n".encode())
+    client.stop()
+
+
+threads = [threading.Thread(target=contend, args=(f"kazoo-{number}",)) for number in range(10)]
+for thread in threads:
+    thread.start()
+for thread in threads:
+    thread.join()
+EOF
+}
+
+# Ten contenders by Curator's locks.
+contend_by_curator() {
+    local jar classes=$jars
+    for jar in zookeeper-jute slf4j-api curator-client curator-framework curator-recipes guava netty-all; do
+        classes+=:/usr/share/java/$jar.jar
+    done
+    java -Xmx256m -cp "$classes" "$top/scripts/CuratorContenders.java" "$1" "$2" "$folder/contest.out" >>"$folder/outside.log" 2>&1
+}
+
+has_curator() {
+    command -v javac >/dev/null && [[ -e /usr/share/java/curator-recipes.jar ]]
+}
+
+# A lock that twenty contend for: ten of the example, with these two markers, and ten that this command begins. Each holds so often. They write
+# into one file, whose lines are in the order in which they were written: no two hold at once, and the tokens rise.
+run_contest() {
+    local number
+    local -a waits=()
+    : >"$folder/contest.out"
+    for number in 1 2 3 4 5; do
+        contend "$1" "one-$number" "$3" "$2" &
+        waits+=($!)
+        contend "$1" "two-$number" "$4" "$2" &
+        waits+=($!)
+    done
+    "$5" "$1" "$2" &
+    waits+=($!)
+    for number in "${waits[@]}"; do
+        wait "$number" || fail "a contender: $(cat "$folder/contest.err")"
+    done
+    awk -v wanted=$((20 * $2)) -v name="$5" '$2 == "waits" { next }
+        $2 == "holds" && NF == 3 && holder == "" && $3 > last { holder = $1; last = $3; count++; next }
+        $2 == "leaves" && NF == 2 && holder == $1 { holder = ""; next }
+        { print "line " FNR ": " $0; wrong = 1; exit }
+        END { print name ": " count " held, one after the other"; exit wrong || count != wanted }' "$folder/contest.out" ||
+        fail "two hold a lock at once, or a token does not rise"
+}
+
+# With kazoo's, five of the example have Curator's names and five kazoo's. Curator's take no others for contenders than those of their own names.
+run_contests() {
+    outside "$1" create /contest x
+    run_contest "$1" "$2" -lock- __lock__ contend_by_kazoo
+    if has_curator; then
+        run_contest "$1" "$2" -lock- -lock- contend_by_curator
+    else
+        echo "contend_by_curator: skipped, libcurator-recipes-java or a JDK is missing"
+    fi
 }
 
 # An ensemble of three: the server of the session stops, and the session goes on at the next address that connects.

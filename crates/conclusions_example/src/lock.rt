@@ -1,284 +1,453 @@
-//! A lock between sessions: each makes a node that goes with it, and the one with the first of them holds. The holder acts with a token,
-//! the zxid at which its node was made, and what the lock protects refuses a token below one that it has seen. So a session that has lost
-//! the lock and does not know it yet does no harm.
+//! A lock between sessions, by the recipe of ZooKeeper: each makes an ephemeral sequential node, and the one with the first number holds. Each
+//! other one watches the node before its own alone. The holder acts with a token, the zxid at which its node was made, and what the lock
+//! protects refuses a token below one that it has taken. So a session that has lost the lock and does not know it yet does no harm.
 
-mod memory;
-mod store;
-
+use crate::Program;
 use anyhow::{Result, bail};
-pub use memory::run_in_memory;
 use std::alloc::Global;
 use std::io::Write;
-use store::Store;
-use zk_client::{Call, CallResult, Client, Code, CreateMode, Mark, Outcome, Output, Path, State};
-use zk_conclusions::Holder;
-use zk_link::{Clock, Dial, Link};
+use std::mem;
+use zk_client::{Call, CallResult, Client, Code, CreateMode, Mark, Outcome, Path, State};
+use zk_conclusions::{Kind, Listing, Standing, Tagged};
+use zk_driver::{Action, Driver};
+use zk_fence::Fence;
+use zk_link::{Clock, Dial};
 
-/// The timeout to ask for, in milliseconds.
-const TIMEOUT_MS: i32 = 9_000;
+/// The markers of the nodes that are waited for: those of Curator's locks and of kazoo's.
+static RIVALS: [&str; 2] = ["-lock-", "__lock__"];
 
-/// How the names of the nodes of those who wait begin.
-const PREFIX: &str = "n-";
-
-/// How long it may take until the node is deleted at the end, in milliseconds.
+/// How long leaving may take, in milliseconds.
 const LEAVE_MS: u64 = 2_000;
 
-/// The tickets of the calls.
-const MAKE: u64 = 1;
-
-const NAMES: u64 = 2;
-
-const OWN: u64 = 3;
-
-const LEAVE: u64 = 4;
-
-/// What was told last.
+/// What is told of a session.
 #[derive(Clone, Copy, PartialEq, Eq)]
 enum Told {
     Nothing,
+    Removes,
     Waits,
-    Holds(i64),
-    Refused(i64),
+    Holds,
+    Refused,
     Expired,
+    Leaves,
+    LeavesToExpire,
 }
 
-/// A session, the node that it waits by, and whether a call is on its way: there is one at a time.
+/// What a session is to ask for next.
+#[derive(Clone, Copy)]
+enum Due<'a> {
+    Nothing,
+    Make,
+    List,
+    Read(&'a Path),
+    Delete(&'a Path),
+}
+
+/// What a listing says of a session: the first of its nodes; and another node, which is one too much, or the one before the first.
 #[derive(Drop)]
-pub struct Contender<'a, D: Dial + Drop, C: Clock + Drop> {
+struct Place {
+    own: Path,
+    other: Option<Path>,
+    is_surplus: bool,
+}
+
+/// A session that wants the lock of a directory.
+#[derive(Drop)]
+pub struct Contender<'a> {
     alloc: Global,
     name: &'a str,
-    link: Link<'a, Global, D, C>,
+    marker: &'a str,
     directory: Path,
-    own: Option<Path>,
+    hold_ms: u64,
+    // The moment at which it leaves, once it has held.
+    leave_at: u64,
+    // How the names of this session's nodes begin, and no others; empty while no server has accepted the session.
+    tag: String,
+    // The zxid at which the last node was made.
+    made: Option<i64>,
+    // The last listing, and whether it is of use still.
+    names: Vec<String>,
+    zxid: i64,
+    place: Option<Place>,
+    ticket: u64,
     is_asked: bool,
+    is_changed: bool,
     is_leaving: bool,
-    told: Told,
+    is_over: bool,
+    told: (Told, i64),
 }
 
-/// Whether what is kept of the node is good.
-fn is_node_known(client: &Client, node: &Path) -> bool {
+fn words_of(told: Told) -> &'static str {
+    match told {
+        Told::Nothing => "",
+        Told::Removes => "removes its second node",
+        Told::Waits => "waits",
+        Told::Holds => "holds",
+        Told::Refused => "is refused with",
+        Told::Expired => "has lost its session",
+        Told::Leaves => "leaves",
+        Told::LeavesToExpire => "leaves its node to expire",
+    }
+}
+
+/// Whether the node is read, and watched.
+fn is_watched(client: &Client, node: &Path) -> bool {
     matches!(client.peek_data(node), Some((_, Mark::Good)))
 }
 
-/// Whether the names that are kept below the node are good.
-fn are_names_known(client: &Client, node: &Path) -> bool {
-    matches!(client.peek_children(node), Some((_, Mark::Good)))
+/// Of some names the first that is one too much.
+fn surplus_of<'a>(tagged: &Tagged<'_>, names: &'a [String]) -> Option<&'a str> {
+    for name in names {
+        if tagged.is_surplus(name.as_str()) {
+            return Some(name.as_str());
+        }
+    }
+    None
 }
 
-impl<'a, D: Dial + Drop, C: Clock + Drop> Contender<'a, D, C> {
-    /// A session over these addresses that is to have the lock of the directory, which is there. The name is for what is told of it.
+/// What a listing says of the session whose nodes have this tag; none where it has no node.
+fn place_in(
+    alloc: Global,
+    listing: &Listing<'_>,
+    kind: &Kind<'_>,
+    tag: &str,
+    made: i64,
+) -> Result<Option<Place>> {
+    let Some(tagged) = Tagged::of(listing, tag, made) else {
+        return Ok(None);
+    };
+    let surplus = surplus_of(&tagged, listing.names);
+    let other = match surplus.or(listing.predecessor(kind, tagged.least())) {
+        Some(name) => Some(listing.directory.join(alloc, name)?),
+        None => None,
+    };
+    Ok(Some(Place {
+        own: listing.directory.join(alloc, tagged.least())?,
+        other,
+        is_surplus: surplus.is_some(),
+    }))
+}
+
+impl Place {
+    /// What is to be asked for by it, in turn.
+    fn due(&self, client: &Client) -> Due<'_> {
+        if !is_watched(client, &self.own) {
+            return Due::Read(&self.own);
+        }
+        match &self.other {
+            Some(other) if self.is_surplus => Due::Delete(other),
+            Some(other) if !is_watched(client, other) => Due::Read(other),
+            _ => Due::Nothing,
+        }
+    }
+}
+
+impl<'a> Contender<'a> {
+    /// A session that is to hold the lock of the directory, which is there, for this many milliseconds, and to leave it then. The names of its
+    /// nodes begin with its own; the marker is Curator's, `-lock-`, or kazoo's, `__lock__`.
     pub fn new(
         alloc: Global,
         name: &'a str,
+        marker: &'a str,
         directory: Path,
-        dial: D,
-        mut clock: C,
-        addresses: &'a [&'a str],
-    ) -> Contender<'a, D, C> {
-        let client = Client::new(alloc, TIMEOUT_MS);
-        let seed = clock.now();
+        hold_ms: u64,
+    ) -> Contender<'a> {
         Contender {
             alloc,
             name,
-            link: Link::new(alloc, client, dial, clock, addresses, seed),
+            marker,
             directory,
-            own: None,
+            hold_ms,
+            leave_at: u64::MAX,
+            tag: String::new(alloc),
+            made: None,
+            names: Vec::new(alloc),
+            zxid: 0,
+            place: None,
+            ticket: 0,
             is_asked: false,
+            is_changed: false,
             is_leaving: false,
-            told: Told::Nothing,
+            is_over: false,
+            told: (Told::Nothing, 0),
         }
     }
 
-    /// The moment of the link's clock.
-    pub fn now(&mut self) -> u64 {
-        self.link.now()
+    fn kind(&self) -> Kind<'a> {
+        Kind {
+            own: self.marker,
+            against: &RIVALS,
+        }
     }
 
-    /// The node that this session waits by.
-    pub fn own(&self) -> Option<&Path> {
-        self.own.as_ref()
+    /// Where the session stands by the listing.
+    fn find_place(&self, made: i64) -> Result<Option<Place>> {
+        let listing = Listing {
+            directory: &self.directory,
+            names: self.names.as_slice(),
+            zxid: self.zxid,
+        };
+        let place = place_in(self.alloc, &listing, &self.kind(), self.tag.as_str(), made);
+        let Listing {
+            directory: _directory,
+            names: _names,
+            zxid: _zxid,
+        } = listing;
+        place
     }
 
-    /// From now on the session wants the lock no more: its node is deleted.
-    pub fn leave(&mut self) {
-        self.is_leaving = true;
+    /// The token of the session, where its client shows that it holds.
+    fn token(&self, client: &Client) -> Option<i64> {
+        let place = self.place.as_ref()?;
+        let listing = Listing {
+            directory: &self.directory,
+            names: self.names.as_slice(),
+            zxid: self.zxid,
+        };
+        let standing = Standing::of(client, &listing, &self.kind(), &place.own);
+        let Listing {
+            directory: _directory,
+            names: _names,
+            zxid: _zxid,
+        } = listing;
+        Some(standing?.token())
     }
 
-    /// Goes on until this moment. After each thing that happens it writes to the store, where it shows that it holds.
-    pub fn act<W: Write>(&mut self, until: u64, store: &mut Store, out: &mut W) -> Result<()> {
-        for _ in 0..u64::MAX {
-            self.ask(out)?;
-            self.work(store, out)?;
-            if until <= self.link.now() {
-                return Ok(());
-            }
-            let mut outputs = Vec::new(self.alloc);
-            self.link.go_on(until, &mut outputs)?;
-            self.note(outputs.as_slice(), out)?;
+    /// What is to be asked for. Whoever leaves deletes its node.
+    fn due(&self, client: &Client) -> Due<'_> {
+        match &self.place {
+            Some(place) if self.is_leaving && !place.is_surplus => Due::Delete(&place.own),
+            Some(place) => place.due(client),
+            None if self.made.is_some() => Due::List,
+            None => Due::Make,
+        }
+    }
+
+    /// The call that asks for it.
+    fn call(&self, client: &Client) -> Result<Option<Call>> {
+        let alloc = self.alloc;
+        Ok(Some(match self.due(client) {
+            Due::Nothing => return Ok(None),
+            Due::Make => Call::Create {
+                path: self.directory.join(alloc, self.tag.as_str())?,
+                bytes: None,
+                mode: CreateMode::EphemeralSequential,
+            },
+            Due::List => Call::GetChildren {
+                path: Path::new(alloc, self.directory.as_str())?,
+                watch: false,
+            },
+            Due::Read(node) => Call::GetData {
+                path: Path::new(alloc, node.as_str())?,
+                watch: true,
+            },
+            Due::Delete(node) => Call::Delete {
+                path: Path::new(alloc, node.as_str())?,
+                version: -1,
+            },
+        }))
+    }
+
+    /// Once a server has accepted the session, its nodes have names of their own.
+    fn begin(&mut self, client: &Client) -> Result<()> {
+        if self.tag.is_empty() && client.state() == State::Connected {
+            let (name, session, marker) = (self.name, client.saved().session, self.marker);
+            self.tag = format!(in self.alloc; "{name}-{session:x}{marker}")?;
         }
         Ok(())
     }
 
-    /// Wants the lock for this many seconds, and leaves it then.
-    pub fn hold<W: Write>(&mut self, seconds: u64, out: &mut W) -> Result<()> {
-        let mut store = Store::new();
-        let until = self.now().saturating_add(seconds.saturating_mul(1_000));
-        self.act(until, &mut store, out)?;
-        self.leave();
-        self.act(until.saturating_add(LEAVE_MS), &mut store, out)
-    }
-
-    /// Asks for what is due, where nothing is asked.
-    fn ask<W: Write>(&mut self, out: &mut W) -> Result<()> {
-        if self.is_asked || self.link.client().state() != State::Connected {
+    /// Asks for what is due, one call at a time. Whoever leaves does not wait for long.
+    fn ask<D: Dial + Drop, C: Clock + Drop>(
+        &mut self,
+        driver: &mut Driver<'_, Global, D, C>,
+    ) -> Result<()> {
+        self.begin(driver.client())?;
+        if self.is_asked || self.tag.is_empty() {
             return Ok(());
         }
-        let Some((ticket, call)) = self.next_call()? else {
-            return Ok(());
-        };
+        if mem::take(&mut self.is_changed) {
+            self.place = None;
+        }
+        match self.call(driver.client())? {
+            Some(call) => self.hand_in(driver, call),
+            None => Ok(()),
+        }
+    }
+
+    fn hand_in<D: Dial + Drop, C: Clock + Drop>(
+        &mut self,
+        driver: &mut Driver<'_, Global, D, C>,
+        call: Call,
+    ) -> Result<()> {
         self.is_asked = true;
-        let mut outputs = Vec::new(self.alloc);
-        self.link.ask(ticket, call, &mut outputs)?;
-        self.note(outputs.as_slice(), out)
+        self.ticket = self.ticket.saturating_add(1);
+        let limit = self.leave_at.saturating_add(LEAVE_MS);
+        driver
+            .ask(self.ticket, call, Some(limit))
+            .map_err(From::from)
     }
 
-    /// What is due: to make its own node or to delete it, and else to read, with a watch, what is not known.
-    fn next_call(&self) -> Result<Option<(u64, Call)>> {
-        match &self.own {
-            None if self.is_leaving => Ok(None),
-            None => self.call_to_make(),
-            Some(own) if self.is_leaving => self.call_to_leave(own),
-            Some(own) => self.call_to_read(own),
-        }
-    }
-
-    /// Makes a node that goes with the session, and whose name has the next number.
-    fn call_to_make(&self) -> Result<Option<(u64, Call)>> {
-        let path = self.directory.join(self.alloc, PREFIX)?;
-        let mode = CreateMode::EphemeralSequential;
-        let call = Call::Create {
-            path,
-            bytes: None,
-            mode,
-        };
-        Ok(Some((MAKE, call)))
-    }
-
-    fn call_to_leave(&self, own: &Path) -> Result<Option<(u64, Call)>> {
-        let path = Path::new(self.alloc, own.as_str())?;
-        Ok(Some((LEAVE, Call::Delete { path, version: -1 })))
-    }
-
-    /// Reads the names of the directory, and then the owner of this session's node.
-    fn call_to_read(&self, own: &Path) -> Result<Option<(u64, Call)>> {
-        let client = self.link.client();
-        if !are_names_known(client, &self.directory) {
-            let path = Path::new(self.alloc, self.directory.as_str())?;
-            return Ok(Some((NAMES, Call::GetChildren { path, watch: true })));
-        }
-        if !is_node_known(client, own) {
-            let path = Path::new(self.alloc, own.as_str())?;
-            return Ok(Some((OWN, Call::Exists { path, watch: true })));
-        }
-        Ok(None)
-    }
-
-    /// Takes in what was answered, and that the session is over.
-    fn note<W: Write>(&mut self, outputs: &[Output], out: &mut W) -> Result<()> {
-        for output in outputs {
-            match output {
-                Output::Answer { ticket, outcome } => self.hear(*ticket, outcome)?,
-                Output::State(State::Expired) => self.lose(out)?,
-                _ => {}
+    /// Takes in what happens. After a report the directory is listed again.
+    fn hear<W: Write>(&mut self, action: Action, out: &mut W) -> Result<()> {
+        match action {
+            Action::Answer { outcome, .. } => self.answer(outcome),
+            Action::TimedOut { .. } => {
+                self.is_over = true;
+                self.tell(Told::LeavesToExpire, 0, out)
             }
-        }
-        Ok(())
-    }
-
-    /// Takes in an answer. Where that to the making is lost the node may be there under a name that nobody told, so the session is left,
-    /// with which the node goes.
-    fn hear(&mut self, ticket: u64, outcome: &Outcome) -> Result<()> {
-        self.is_asked = false;
-        match outcome {
-            Outcome::Replied { result: reply, .. } => self.take_in(ticket, reply),
-            Outcome::ConnectionLoss if ticket == MAKE => {
-                self.begin_anew()?;
+            Action::Report { .. } => {
+                self.is_changed = true;
                 Ok(())
             }
+            Action::State(State::Expired) => self.lose(out),
+            _ => Ok(()),
+        }
+    }
+
+    /// Takes in an answer. A call that was lost is due still: a node is made once more, with the same tag.
+    fn answer(&mut self, outcome: Outcome) -> Result<()> {
+        self.is_asked = false;
+        match outcome {
+            Outcome::Replied { zxid, result } => self.take(zxid, result),
             _ => Ok(()),
         }
     }
 
     /// Takes in a reply.
-    fn take_in(&mut self, ticket: u64, reply: &CallResult) -> Result<()> {
+    fn take(&mut self, zxid: i64, reply: CallResult) -> Result<()> {
         match reply {
-            CallResult::Created(path) => self.own = Some(Path::new(self.alloc, path.as_str())?),
-            CallResult::Done => self.own = None,
-            CallResult::Code(Code::NoNode) if ticket == OWN || ticket == LEAVE => self.own = None,
-            CallResult::Code(code) => bail!(
-                "the lock at {} answers {code:?}",
-                self.directory.as_str()
-            ),
-            _ => {}
+            CallResult::Created(_path) => self.made = Some(zxid),
+            CallResult::Names { names, stat: _stat } => return self.settle(zxid, names),
+            CallResult::Done => self.finish(),
+            CallResult::Code(code) => return self.refuse(code),
+            CallResult::Stat(_stat) => {}
+            CallResult::Data {
+                bytes: _bytes,
+                stat: _stat,
+            } => {}
         }
         Ok(())
     }
 
-    /// A session with no node yet.
-    fn begin_anew(&mut self) -> Result<()> {
-        self.own = None;
-        self.is_asked = false;
-        Ok(self.link.renew(TIMEOUT_MS)?)
+    /// Takes in a code. After one that says that the session is not the server's own, the driver dials another one.
+    fn refuse(&mut self, code: Code) -> Result<()> {
+        match code {
+            Code::SessionExpired | Code::SessionMoved => {}
+            Code::NoNode if self.place.is_some() => self.place = None,
+            code => bail!("the lock answers with code {}", code.number()),
+        }
+        Ok(())
+    }
+
+    /// Finds the place of the session by a new listing. Where it has none, its node is gone.
+    fn settle(&mut self, zxid: i64, names: Vec<String>) -> Result<()> {
+        self.names = names;
+        self.zxid = zxid;
+        if let Some(made) = self.made {
+            self.place = self.find_place(made)?;
+        }
+        if self.place.is_none() {
+            self.made = None;
+        }
+        Ok(())
+    }
+
+    /// A node is deleted: one too much, or the session's own, with which it is over.
+    fn finish(&mut self) {
+        self.is_over = matches!(&self.place, Some(place) if !place.is_surplus);
+        self.place = None;
     }
 
     /// The session has expired, and with it the lock is lost.
     fn lose<W: Write>(&mut self, out: &mut W) -> Result<()> {
-        self.begin_anew()?;
-        self.tell(Told::Expired, out)
+        self.tag.clear();
+        self.made = None;
+        self.place = None;
+        self.is_over = self.is_leaving;
+        self.tell(Told::Expired, 0, out)
     }
 
-    /// Writes to the store, where the session shows that it holds, and says how it stands.
-    fn work<W: Write>(&mut self, store: &mut Store, out: &mut W) -> Result<()> {
-        let told = self.stand(store);
-        if told == Told::Nothing || told == self.told {
+    /// Writes to the store, where the session shows that it holds, and says how it stands. Once it has held for long enough it leaves.
+    fn work<W: Write>(
+        &mut self,
+        now: u64,
+        client: &Client,
+        store: &mut Fence,
+        out: &mut W,
+    ) -> Result<()> {
+        if self.is_leaving {
             return Ok(());
         }
-        self.tell(told, out)
+        if self.leave_at <= now {
+            self.is_leaving = true;
+            return self.tell(Told::Leaves, 0, out);
+        }
+        let (told, token) = self.stand(client, store);
+        if told == Told::Holds {
+            self.leave_at = self.leave_at.min(now.saturating_add(self.hold_ms));
+        }
+        if told == Told::Nothing || (told, token) == self.told {
+            return Ok(());
+        }
+        self.tell(told, token, out)
     }
 
-    /// How the session stands by what its client shows.
-    fn stand(&self, store: &mut Store) -> Told {
-        let Some(own) = &self.own else {
-            return Told::Nothing;
-        };
-        let client = self.link.client();
-        if let Some(holder) = Holder::of(client, &self.directory, PREFIX, own) {
-            let token = holder.token();
-            return if store.write(token) {
-                Told::Holds(token)
+    /// How the session stands, and its token where it has one.
+    fn stand(&self, client: &Client, store: &mut Fence) -> (Told, i64) {
+        if let Some(token) = self.token(client) {
+            let told = if store.admit(token) {
+                Told::Holds
             } else {
-                Told::Refused(token)
+                Told::Refused
             };
+            return (told, token);
         }
-        if are_names_known(client, &self.directory) && is_node_known(client, own) {
-            Told::Waits
-        } else {
-            Told::Nothing
-        }
+        let told = match self.due(client) {
+            Due::Nothing => Told::Waits,
+            Due::Delete(_) => Told::Removes,
+            _ => Told::Nothing,
+        };
+        (told, 0)
     }
 
-    /// Says something of the session.
-    fn tell<W: Write>(&mut self, told: Told, out: &mut W) -> Result<()> {
-        let name = self.name;
-        match told {
-            Told::Nothing => {}
-            Told::Waits => writeln!(out, "{name} waits")?,
-            Told::Holds(token) => writeln!(out, "{name} holds {token}")?,
-            Told::Refused(token) => writeln!(out, "{name} is refused with {token}")?,
-            Told::Expired => writeln!(out, "{name} has lost its session")?,
+    /// Says something of the session, in one write.
+    fn tell<W: Write>(&mut self, told: Told, token: i64, out: &mut W) -> Result<()> {
+        self.told = (told, token);
+        let (name, words) = (self.name, words_of(told));
+        let mut line = format!(in self.alloc; "{name} {words}")?;
+        if token != 0 {
+            line.push_str(format!(in self.alloc; " {token}")?.as_str())?;
         }
-        out.flush()?;
-        self.told = told;
+        line.push('\n')?;
+        out.write_all(line.as_str().as_bytes()).map_err(From::from)
+    }
+}
+
+impl<'a> Program for Contender<'a> {
+    fn act<D: Dial + Drop, C: Clock + Drop, W: Write>(
+        &mut self,
+        driver: &mut Driver<'_, Global, D, C>,
+        until: u64,
+        store: &mut Fence,
+        out: &mut W,
+    ) -> Result<()> {
+        for _ in 0..u64::MAX {
+            self.work(driver.now(), driver.client(), store, out)?;
+            if self.is_over {
+                break;
+            }
+            self.ask(driver)?;
+            let moment = if self.is_leaving {
+                until
+            } else {
+                until.min(self.leave_at)
+            };
+            match driver.next(moment)? {
+                Some(action) => self.hear(action, out)?,
+                None if moment == until => break,
+                None => {}
+            }
+        }
         Ok(())
     }
 }

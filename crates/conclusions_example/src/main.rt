@@ -1,79 +1,89 @@
-//! Two programs that act on what several answers show together: [`snapshot`], a configuration of several nodes, and [`lock`], a lock
+//! Two programs over a driver that act on what several answers say together: [`tree`], a configuration of many nodes, and [`lock`], a lock
 //! between sessions. Without words both run over servers in memory.
 #![tactic(auto)]
 
 mod lock;
-mod snapshot;
+mod memory;
+mod tree;
 
 use anyhow::Result;
 use lock::Contender;
-use snapshot::{Follower, TIMEOUT_MS, nodes_of};
+use std::alloc::Global;
 use std::io::Write;
 use std::process::ExitCode;
-use zk_client::{Client, Path};
-use zk_link::{Clock, Link, SystemClock, Tcp};
+use tree::Tree;
+use zk_client::Path;
+use zk_driver::Driver;
+use zk_fence::Fence;
+use zk_link::{Clock, Dial, SystemClock, Tcp};
+
+/// The timeout to ask for, in milliseconds.
+const TIMEOUT_MS: i32 = 9_000;
 
 /// What the words are to be.
 const USAGE: &str =
-    "usage: conclusions_example [snapshot SECONDS PATH PATH PATH IP:PORT.. | lock NAME DIRECTORY SECONDS IP:PORT..]";
+    "usage: conclusions_example [tree SECONDS ROOT IP:PORT.. | lock MILLISECONDS NAME MARKER DIRECTORY IP:PORT..]\n";
 
-/// Follows three nodes of real servers for this many seconds. Whether the words say which.
-fn run_snapshot<W: Write>(rt: &HostRuntime, words: &[&str], out: &mut W) -> Result<bool> {
-    let [seconds, first, second, third, addresses @ ..] = words else {
-        return Ok(false);
-    };
-    let Ok(seconds) = seconds.parse::<u64>() else {
-        return Ok(false);
-    };
-    let (nodes, readings) = nodes_of(rt.alloc(), &[*first, *second, *third])?;
-    let client = Client::new(rt.alloc(), TIMEOUT_MS);
-    let (dial, mut clock) = (Tcp::new(rt), SystemClock::new(rt));
-    let seed = clock.now();
-    let link = Link::new(rt.alloc(), client, dial, clock, addresses, seed);
-    let mut follower = Follower::new(rt.alloc(), link, nodes, readings);
-    let until = follower.now().saturating_add(seconds.saturating_mul(1_000));
-    let followed = follower.follow(until, out);
-    drop(follower);
-    followed?;
-    Ok(true)
+/// A program over a driver.
+pub trait Program {
+    /// Goes on until this moment, or to its end. What it concludes it hands on, with a token, to a store that refuses what is older.
+    fn act<D: Dial + Drop, C: Clock + Drop, W: Write>(
+        &mut self,
+        driver: &mut Driver<'_, Global, D, C>,
+        until: u64,
+        store: &mut Fence,
+        out: &mut W,
+    ) -> Result<()>;
 }
 
-/// Wants the lock of a directory of real servers for this many seconds. Whether the words say which.
-fn run_lock<W: Write>(rt: &HostRuntime, words: &[&str], out: &mut W) -> Result<bool> {
-    let [name, directory, seconds, addresses @ ..] = words else {
-        return Ok(false);
-    };
-    let Ok(seconds) = seconds.parse::<u64>() else {
-        return Ok(false);
-    };
-    let directory = Path::new(rt.alloc(), directory)?;
+/// Runs a program over real servers, for this many seconds at most.
+fn serve<P: Program + Drop, W: Write>(
+    rt: &HostRuntime,
+    mut program: P,
+    seconds: u64,
+    addresses: &[&str],
+    out: &mut W,
+) -> Result<()> {
     let (dial, clock) = (Tcp::new(rt), SystemClock::new(rt));
-    let mut session = Contender::new(rt.alloc(), name, directory, dial, clock, addresses);
-    let held = session.hold(seconds, out);
-    drop(session);
-    held?;
-    Ok(true)
+    let mut driver = Driver::begin(rt.alloc(), TIMEOUT_MS, dial, clock, addresses)?;
+    let until = driver.now().saturating_add(seconds.saturating_mul(1_000));
+    let served = program.act(&mut driver, until, &mut Fence::new(), out);
+    drop(driver);
+    served
 }
 
-/// Both programs, over servers in memory.
-fn run_in_memory<W: Write>(rt: &HostRuntime, out: &mut W) -> Result<bool> {
-    writeln!(out, "# snapshot")?;
-    snapshot::run_in_memory(rt.alloc(), out)?;
-    writeln!(out, "# lock")?;
-    lock::run_in_memory(rt.alloc(), out)?;
-    Ok(true)
+/// Follows the nodes at and below a root.
+fn follow<W: Write>(
+    rt: &HostRuntime,
+    seconds: u64,
+    root: Path,
+    addresses: &[&str],
+    out: &mut W,
+) -> Result<()> {
+    serve(rt, Tree::new(rt.alloc(), root), seconds, addresses, out)
 }
 
 /// Does what the words ask for, of which the first is the program's name. Whether they ask for something.
 fn run<W: Write>(rt: &HostRuntime, words: &[&str], out: &mut W) -> Result<bool> {
-    let [_, command, words @ ..] = words else {
-        return run_in_memory(rt, out);
-    };
-    match *command {
-        "snapshot" => run_snapshot(rt, words, out),
-        "lock" => run_lock(rt, words, out),
-        _ => Ok(false),
+    match words {
+        [] | [_] => memory::run_in_memory(rt.alloc(), out)?,
+        [_, "tree", seconds, root, addresses @ ..] => {
+            follow(
+                rt,
+                seconds.parse()?,
+                Path::new(rt.alloc(), root)?,
+                addresses,
+                out,
+            )?;
+        }
+        [_, "lock", ms, name, marker, directory, addresses @ ..] => {
+            let (ms, directory) = (ms.parse()?, Path::new(rt.alloc(), directory)?);
+            let one = Contender::new(rt.alloc(), name, marker, directory, ms);
+            serve(rt, one, u64::MAX, addresses, out)?;
+        }
+        _ => return Ok(false),
     }
+    Ok(true)
 }
 
 fn main(rt: HostRuntime) -> Result<ExitCode> {
@@ -83,6 +93,6 @@ fn main(rt: HostRuntime) -> Result<ExitCode> {
     if run(&rt, texts.as_slice(), &mut out)? {
         return Ok(ExitCode::SUCCESS);
     }
-    writeln!(out, "{USAGE}")?;
+    out.write_all(USAGE.as_bytes())?;
     Ok(ExitCode::from(2))
 }

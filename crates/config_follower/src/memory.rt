@@ -2,7 +2,7 @@
 
 use crate::{TIMEOUT_MS, add, follow};
 use anyhow::Result;
-use example_world::{Change, History, Moments, Shared, World};
+use example_world::{Edit, Event, History, Moments, Shared, World};
 use std::alloc::Global;
 use std::cell::RefCell;
 use std::io::Write;
@@ -15,68 +15,21 @@ const NODE: &str = "/config";
 /// What is dialled.
 static ADDRESSES: [&str; 1] = ["memory"];
 
-/// What another session does to the node.
-#[derive(Clone, Copy)]
-enum What {
-    Makes(&'static str),
-    Sets(&'static str),
-    Deletes,
-}
-
-/// What happens between two moments.
-#[derive(Clone, Copy)]
-enum Event {
-    /// Another session changes the node.
-    Changes(What),
-    /// The connection is cut, and none can be made.
-    Parts,
-    /// A connection can be made again.
-    Joins,
-    /// The session expires.
-    Expires,
-}
-
 /// What happens, and when, in milliseconds.
 static PLAN: [(u64, Event); 9] = [
-    (1_000, Event::Changes(What::Makes("one"))),
-    (2_000, Event::Changes(What::Sets("two"))),
+    (1_000, Event::Edits(&[Edit::Makes(NODE, "one", 0)])),
+    (2_000, Event::Edits(&[Edit::Sets(NODE, "two")])),
     (3_000, Event::Parts),
-    (3_100, Event::Changes(What::Sets("three"))),
+    (3_100, Event::Edits(&[Edit::Sets(NODE, "three")])),
     (3_200, Event::Joins),
     (6_000, Event::Parts),
     (6_100, Event::Expires),
     (6_200, Event::Joins),
-    (10_000, Event::Changes(What::Deletes)),
+    (10_000, Event::Edits(&[Edit::Deletes(NODE)])),
 ];
 
 /// The moment at which the program ends.
 const END_MS: u64 = 12_000;
-
-/// The change as a server takes it.
-fn change_of(alloc: Global, what: What) -> Result<Change<Global>> {
-    let path = Path::new(alloc, NODE)?;
-    Ok(match what {
-        What::Makes(text) => {
-            Change::Create(path, Some(Vec::from_slice(alloc, text.as_bytes())?), 0)
-        }
-        What::Sets(text) => { Change::Set(path, Some(Vec::from_slice(alloc, text.as_bytes())?)) }
-        What::Deletes => Change::Delete(path),
-    })
-}
-
-/// Lets an event happen.
-fn happen(alloc: Global, event: Event, world: &RefCell<World>) -> Result<()> {
-    let Ok(mut world) = world.try_borrow_mut() else {
-        return Ok(());
-    };
-    match event {
-        Event::Changes(what) => world.change(change_of(alloc, what)?)?,
-        Event::Parts => world.part(),
-        Event::Joins => world.join(),
-        Event::Expires => world.expire(),
-    }
-    Ok(())
-}
 
 /// Follows the node of a server in memory, through what happens.
 fn play<W: Write>(
@@ -88,7 +41,7 @@ fn play<W: Write>(
 ) -> Result<()> {
     for (moment, event) in &PLAN {
         follow(driver, node, *moment, out)?;
-        happen(alloc, *event, world)?;
+        event.happen(alloc, world)?;
     }
     follow(driver, node, END_MS, out)
 }

@@ -5,10 +5,12 @@
 //! program over such a link runs as it would over a network, and prints the same each time.
 #![tactic(auto)]
 
+mod events;
 mod moments;
 mod partner;
 mod world;
 
+pub use events::{Edit, Event, add_transaction};
 pub use moments::Moments;
 pub use partner::{Partner, Server, Shared};
 pub use world::World;

@@ -20,6 +20,7 @@ pub struct World {
     is_closed: bool,
     is_told: bool,
     is_expired: bool,
+    is_losing: bool,
 }
 
 impl World {
@@ -33,17 +34,13 @@ impl World {
             is_closed: false,
             is_told: false,
             is_expired: false,
+            is_losing: false,
         }
     }
 
     /// The history, with all that was written.
     pub fn history(&self) -> &History<Global> {
         self.bench.history()
-    }
-
-    /// The server takes the next transaction of the history, if there is one, and tells those who watch.
-    pub fn take(&mut self) -> Result<(), AllocError> {
-        self.bench.take(1)
     }
 
     /// From now on the server takes a transaction after each request, so that what is asked at once is answered from several trees.
@@ -73,6 +70,20 @@ impl World {
     /// The session expires, which the server says at the next connection. After that it begins new ones.
     pub fn expire(&mut self) {
         self.is_expired = true;
+    }
+
+    /// The next write is made, and the connection ends before its answer comes.
+    pub fn lose(&mut self) {
+        self.is_losing = true;
+    }
+
+    /// The connection ends, where a write after this zxid was made whose answer is to be lost.
+    fn lose_answer(&mut self, before: i64) {
+        if self.is_losing && before < self.bench.history().last_zxid() {
+            self.is_losing = false;
+            self.is_closed = true;
+            self.bench.disconnect();
+        }
     }
 
     /// The server processes what has come.
@@ -118,11 +129,13 @@ impl Server for World {
         if self.is_closed {
             return Err(ErrorKind::BrokenPipe.into());
         }
+        let before = self.bench.history().last_zxid();
         self.bench.receive(bytes)?;
         self.process()?;
         if self.is_busy {
             self.bench.take(1)?;
         }
+        self.lose_answer(before);
         Ok(bytes.len())
     }
 
