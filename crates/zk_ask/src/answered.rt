@@ -1,0 +1,72 @@
+//! A session for one call.
+
+ghost use Rattle.std.specs.Prelude.{None, IfOk, IfSome};
+ghost use Rattle.zk_conversation.specs.Views.{call_view};
+ghost use Rattle.zk_driver.specs.Driving.{course_of};
+ghost use Rattle.zk_ask.specs.Asking.{came_view, ComesOf, Heard};
+
+use crate::came::{Came, hear};
+use std::alloc::Allocator;
+use zk_client::{Call, State};
+use zk_driver::{Driver, Stop};
+use zk_link::{Clock, Dial};
+
+/// The timeout that a session asks for, in milliseconds.
+const TIMEOUT_MS: i32 = 10_000;
+
+/// How long to wait for the end of a session, in milliseconds.
+const CLOSE_MS: u64 = 1_000;
+
+/// The ticket of the call.
+const CALL: u64 = 1;
+
+/// The ticket of the call that ends the session.
+const CLOSE: u64 = 2;
+
+/// Ends the session of a driver, where it is connected, and waits for that a second at most. Whether it ended so is told to nobody.
+fn close<A: Allocator + Copy, D: Dial + Drop, C: Clock + Drop>(driver: &mut Driver<'_, A, D, C>) {
+    if !matches!(driver.client().state(), State::Connected) {
+        return;
+    }
+    let until = driver.now().saturating_add(CLOSE_MS);
+    if driver.ask(CLOSE, Call::Close, Some(until)).is_ok() {
+        let _ = hear(driver, CLOSE, until);
+    }
+}
+
+/// Hands a driver a call, and goes on with it for this many milliseconds at most, until the call is answered.
+fn answered<A: Allocator + Copy, D: Dial + Drop, C: Clock + Drop>(
+    driver: &mut Driver<'_, A, D, C>,
+    call: Call<A>,
+    wait_ms: u64,
+) -> Result<Came<A>, Stop>
+    ensures { IfOk result (λ came. Heard (call_view call) (course_of driver.old.engine None) (came_view came)) }
+{
+    let until = driver.now().saturating_add(wait_ms);
+    driver.ask(CALL, call, Some(until))?;
+    hear(driver, CALL, until)
+}
+
+/// What comes of a call of servers at these addresses within this many milliseconds, in a session of its own. An error says that memory ran
+/// out.
+pub(crate) fn come<A: Allocator + Copy, D: Dial + Drop, C: Clock + Drop>(
+    alloc: A,
+    dial: D,
+    clock: C,
+    addresses: &[&str],
+    call: Call<A>,
+    wait_ms: u64,
+) -> Option<Came<A>>
+    ensures { IfSome result (λ came. ComesOf A (call_view call) (came_view came)) }
+{
+    let Ok(mut driver) = Driver::begin(alloc, TIMEOUT_MS, dial, clock, addresses) else {
+        return None;
+    };
+    let came = answered(&mut driver, call, wait_ms);
+    close(&mut driver);
+    drop(driver);
+    match came {
+        Ok(came) => Some(came),
+        Err(_) => None,
+    }
+}

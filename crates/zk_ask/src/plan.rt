@@ -1,0 +1,30 @@
+//! What is asked, and how its answer is printed.
+
+use std::alloc::Allocator;
+use zk_client::Call;
+
+/// How an answer is printed.
+#[derive(Clone, Copy, Debug, PartialEq, Eq)]
+pub enum Form {
+    /// Data as text where they are text, and else in hex.
+    Plain,
+    /// Data in hex.
+    Hex,
+    /// Neither data nor a Stat.
+    Quiet,
+}
+
+/// A call, and how its answer is printed.
+#[derive(Drop)]
+pub struct Plan<'a, A: Allocator + Copy> {
+    /// Four numbers joined by dots, a colon and a port, each.
+    pub addresses: &'a [&'a str],
+    pub call: Call<A>,
+    /// What the node is named in what is told.
+    pub name: &'a str,
+    /// What a path that is printed is below.
+    pub chroot: &'a str,
+    pub form: Form,
+    /// How long to wait for the answer, in milliseconds.
+    pub wait_ms: u64,
+}
