@@ -1,11 +1,12 @@
 -- Moves of a driver, one after the other.
-use Rattle.std.proofs.Common.{◌≡◌, ◌++◌, List, [], ◌∷◌, refl, sym, subst}
+use Rattle.std.proofs.Common.{◌≡◌, ◌++◌, ◌∙◌, List, [], ◌∷◌, ap, append-nil, append_assoc, refl, sym, subst}
 use Rattle.std.specs.Prelude.{Result, Ok, Err, OnOk}
-use Rattle.std.specs.List.{FoldsTo}
+use Rattle.std.specs.List.{flat_map, FoldsTo}
 use Rattle.zk_client.specs.Clients.{view_of}
 use Rattle.zk_agent.specs.Agents.{IsLed}
 use Rattle.zk_agent.specs.declared.input.Input.{Input}
 use Rattle.zk_driver.specs.Driving.{ChannelView, Course, AreFollowed, Does, Goes, Hands, Meets, Move, Notes, Written, Noted}
+use Rattle.zk_driver.specs.Noting.{notes_by, notes_in, GoesBy, Note}
 
 -- ---- what lasts
 
@@ -46,20 +47,59 @@ pub ok_after : {A X E : Type 0} (result : Result X E) (old between new : Course 
 ok_after (Ok x) old between new first rest = after old between new first rest
 ok_after (Err e) old between new first rest = tt
 
+-- ---- what was told of connections
+
+pub goes : {A : Type 0} (notes : List Note) (old new : Course A) → GoesBy notes old new → Goes old new
+goes notes old new by = record { moves = by.moves; does = by.does; followed = by.followed; led = by.led }
+
+pub ok_goes : {A X E : Type 0} (result : Result X E) (notes : List Note) (old new : Course A) → OnOk result (GoesBy notes old new) → OnOk result (Goes old new)
+ok_goes (Ok x) notes old new by = goes notes old new by
+ok_goes (Err e) notes old new by = tt
+
+come_by : {A : Type 0} (notes : List Note) (moves : List (Move A)) (old new : Course A) → FoldsTo Does old moves new → flat_map notes_by moves ≡ notes → GoesBy notes old new
+come_by notes moves old new does are =
+    record { moves = moves; does = does; are = are; followed = followed_through moves old new does; led = led_through moves old new does }
+
+notes_on : {A : Type 0} (moves more : List (Move A)) → flat_map notes_by (moves ++ more) ≡ flat_map notes_by moves ++ flat_map notes_by more
+notes_on [] more = refl
+notes_on (move ∷ moves) more = ap (λ ns. notes_by move ++ ns) (notes_on moves more) ∙ sym (append_assoc (notes_by move) (flat_map notes_by moves) (flat_map notes_by more))
+
+-- nothing
+pub same_by : {A : Type 0} (old new : Course A) → old ≡ new → GoesBy [] old new
+same_by old new is = come_by [] [] old new is refl
+
+pub written_by : {A : Type 0} (old new : Course A) → Does old Written new → GoesBy [] old new
+written_by old new writes = come_by [] (Written ∷ []) old new (new, writes, refl) refl
+
+-- what comes first, and what comes after it
+pub by_after : {A : Type 0} (notes more : List Note) (old between new : Course A) → GoesBy notes old between → GoesBy more between new → GoesBy (notes ++ more) old new
+by_after notes more old between new first rest =
+    come_by (notes ++ more) (first.moves ++ rest.moves) old new (does_on first.moves rest.moves old between new first.does rest.does)
+    (notes_on first.moves rest.moves ∙ ap (λ ns. ns ++ flat_map notes_by rest.moves) first.are ∙ ap (λ ns. notes ++ ns) rest.are)
+
+pub by_then : {A : Type 0} (notes : List Note) (old between new : Course A) → GoesBy notes old between → GoesBy [] between new → GoesBy notes old new
+by_then notes old between new first rest = subst (λ ns. GoesBy ns old new) (append-nil notes) (by_after notes [] old between new first rest)
+
+pub ok_by_after : {A X E : Type 0} (result : Result X E) (old between new : Course A) → GoesBy [] old between → OnOk result (GoesBy [] between new) → OnOk result (GoesBy [] old new)
+ok_by_after (Ok x) old between new first rest = by_after [] [] old between new first rest
+ok_by_after (Err e) old between new first rest = tt
+
+pub by_same_notes : {A : Type 0} (notes other : List Note) (old new : Course A) → other ≡ notes → GoesBy notes old new → GoesBy other old new
+by_same_notes notes other old new is by = subst (λ ns. GoesBy ns old new) (sym is) by
+
 -- the connection is written to
 pub written : {A : Type 0} (old new : Course A) → Does old Written new → Goes old new
 written old new writes = come (Written ∷ []) old new (new, writes, refl)
 
 -- something happened, and the agent was handed it
-pub noted : {A X E : Type 0} (result : Result X E) (input : Input A) (old new : Course A) (between : ChannelView) → Meets old.channel input between
-    → OnOk result (Hands input (record old { channel = between }) new) → OnOk result (Goes old new)
-noted (Ok x) input old new between meets hands =
-    come (Noted hands.now input ∷ Written ∷ []) old new (hands.between, (between, meets, hands.takes), (new, hands.writes, refl))
-noted (Err e) input old new between meets hands = tt
-
-pub noted_so : {A : Type 0} (input : Input A) (old new : Course A) (between : ChannelView) → Meets old.channel input between → Hands input (record old { channel = between }) new → Goes old new
+pub noted_so : {A : Type 0} (input : Input A) (old new : Course A) (between : ChannelView) → Meets old.channel input between → Hands input (record old { channel = between }) new → GoesBy (notes_in input) old new
 noted_so input old new between meets hands =
-    come (Noted hands.now input ∷ Written ∷ []) old new (hands.between, (between, meets, hands.takes), (new, hands.writes, refl))
+    come_by (notes_in input) (Noted hands.now input ∷ Written ∷ []) old new (hands.between, (between, meets, hands.takes), (new, hands.writes, refl)) (append-nil (notes_in input))
+
+pub noted : {A X E : Type 0} (result : Result X E) (input : Input A) (old new : Course A) (between : ChannelView) → Meets old.channel input between
+    → OnOk result (Hands input (record old { channel = between }) new) → OnOk result (GoesBy (notes_in input) old new)
+noted (Ok x) input old new between meets hands = noted_so input old new between meets hands
+noted (Err e) input old new between meets hands = tt
 
 -- and it was the first thing
 pub first_so : {A : Type 0} (input : Input A) (old new : Course A) (between : ChannelView) → Meets old.channel input between → Hands input (record old { channel = between }) new → Notes input old new
@@ -71,7 +111,7 @@ pub first : {A X E : Type 0} (result : Result X E) (input : Input A) (old new : 
 first (Ok x) input old new between meets hands = first_so input old new between meets hands
 first (Err e) input old new between meets hands = tt
 
-pub first_then : {A X E : Type 0} (result : Result X E) (input : Input A) (old between new : Course A) → Notes input old between → OnOk result (Goes between new) → OnOk result (Notes input old new)
+pub first_then : {A X E : Type 0} (result : Result X E) (input : Input A) (old between new : Course A) → Notes input old between → OnOk result (GoesBy [] between new) → OnOk result (Notes input old new)
 first_then (Ok x) input old between new notes rest =
-    record { now = notes.now; between = notes.between; noted = notes.noted; rest = after notes.between between new notes.rest rest }
+    record { now = notes.now; between = notes.between; noted = notes.noted; rest = after notes.between between new notes.rest (goes [] between new rest) }
 first_then (Err e) input old between new notes rest = tt

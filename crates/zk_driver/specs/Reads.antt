@@ -4,7 +4,9 @@ use Rattle.std.specs.Io.KnownBytes.{Consumes, Keeps}
 use Rattle.std_io.specs.IoError.{error_kind}
 use Rattle.std_io.specs.declared.io.error.Error.{Error}
 use Rattle.std_io.specs.declared.io.kind.ErrorKind.{ErrorKind}
-use Rattle.std_io.specs.declared.io.kind.ErrorKind.TheVariants.{WouldBlock, TimedOut, Interrupted}
+use Rattle.std_io.specs.declared.io.kind.ErrorKind.TheVariants.{WouldBlock, TimedOut, Interrupted, ConnectionRefused, ConnectionReset, HostUnreachable, NetworkUnreachable}
+use Rattle.zk_driver.specs.declared.reason.Reason.{Reason}
+use Rattle.zk_driver.specs.declared.reason.Reason.TheVariants as reason
 use Rattle.zk_link.specs.declared.bring.Brought.{Brought}
 use Rattle.zk_link.specs.declared.bring.Brought.TheVariants as brought
 use Rattle.zk_driver.specs.declared.bring.Reading.{Reading}
@@ -17,10 +19,19 @@ is_late TimedOut = true
 is_late Interrupted = true
 is_late _ = false
 
+-- the reason that an error has
+abbrev pub reason_of : ErrorKind → Reason
+reason_of ConnectionRefused = reason.Refused
+reason_of TimedOut = reason.TimedOut
+reason_of ConnectionReset = reason.Reset
+reason_of HostUnreachable = reason.Unreachable
+reason_of NetworkUnreachable = reason.Unreachable
+reason_of kind = reason.Other
+
 -- What a read has brought. One that failed, and not because it was late, is the end of a connection, as one that has no more bytes.
 abbrev pub reading_of : Result ℕ Error → Reading
-reading_of (Ok count) = if count == 0 then End else Bytes count
-reading_of (Err fault) = if is_late (error_kind fault) then Nothing else End
+reading_of (Ok count) = if count == 0 then End reason.EndOfStream else Bytes count
+reading_of (Err fault) = if is_late (error_kind fault) then Nothing else End (reason_of (error_kind fault))
 
 -- How many bytes a write took, and none where the connection has failed.
 abbrev pub written_by : Result ℕ Error → Option ℕ

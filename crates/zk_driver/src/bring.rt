@@ -3,6 +3,7 @@
 ghost use Rattle.std.specs.Prelude.{◌≡◌, IfOk};
 ghost use Rattle.zk_driver.specs.Reads.{is_late, reading_of, Gives};
 
+use crate::reason::{Reason, reason_of};
 use std::alloc::{AllocError, Allocator};
 use std::io::{self, ErrorKind};
 use zk_link::{Brought, Stream};
@@ -18,7 +19,7 @@ pub(crate) enum Reading {
     /// None in time, or the read was interrupted.
     Nothing,
     /// None any more: the connection has ended, or it has failed.
-    End,
+    End(Reason),
 }
 
 /// Makes room for a piece, where there is none yet.
@@ -44,18 +45,19 @@ fn reading_of(read: io::Result<usize>) -> Reading
     ensures { result ≡ reading_of read }
 {
     match read {
-        Ok(0) => Reading::End,
+        Ok(0) => Reading::End(Reason::EndOfStream),
         Ok(count) => Reading::Bytes(count),
         Err(fault) if is_late(fault.kind()) => Reading::Nothing,
-        Err(_) => Reading::End,
+        Err(fault) => Reading::End(reason_of(fault.kind())),
     }
 }
 
-/// What one read of a connection brings.
+/// What one read of a connection brings. Why it has ended is kept, where it has.
 fn read_once<A: Allocator, S: Stream>(
     alloc: A,
     stream: &mut S,
     room: &mut Vec<u8, A>,
+    why: &mut Reason,
 ) -> Result<Brought<A>, AllocError>
     ensures { IfOk result (λ brought. Gives (S.remaining stream.old) (S.remaining stream.new) brought) }
 {
@@ -65,21 +67,26 @@ fn read_once<A: Allocator, S: Stream>(
             Ok(Brought::Piece(bytes))
         }
         Reading::Nothing => Ok(Brought::Nothing),
-        Reading::End => Ok(Brought::End),
+        Reading::End(reason) => {
+            *why = reason;
+            Ok(Brought::End)
+        }
     }
 }
 
-/// What a connection brings within `ms` milliseconds, at least 1. It ends where it has no more bytes, and where it fails.
+/// What a connection brings within `ms` milliseconds, at least 1. It ends where it has no more bytes, and where it fails: why is kept.
 pub(crate) fn bring<A: Allocator, S: Stream>(
     alloc: A,
     stream: &mut S,
     room: &mut Vec<u8, A>,
     ms: u64,
+    why: &mut Reason,
 ) -> Result<Brought<A>, AllocError>
     ensures { IfOk result (λ brought. (before : S) × Gives (S.remaining before) (S.remaining stream.new) brought) }
 {
     if stream.wait_at_most(ms).is_err() {
+        *why = Reason::Other;
         return Ok(Brought::End);
     }
-    read_once(alloc, stream, room)
+    read_once(alloc, stream, room, why)
 }

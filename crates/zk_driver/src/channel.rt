@@ -2,10 +2,14 @@
 
 ghost use Rattle.std.specs.Prelude.{◌≡◌, ◌++◌, None, Some, IfOk, OnOk, is_some};
 ghost use Rattle.zk_driver.specs.Driving.{channel_view, closed, opened, Writes};
+ghost use Rattle.zk_driver.specs.Noting.{notes_of_event, notes_in};
+ghost use Rattle.zk_driver.specs.Driving.{input_of};
 ghost use Rattle.zk_driver.specs.Reads.{IsBrought};
 
 use crate::bring::{bring, make_room};
+use crate::reason::Reason;
 use crate::send::send;
+use crate::turn::Event;
 use std::alloc::{AllocError, Allocator};
 use zk_link::{Brought, Stream};
 
@@ -19,13 +23,15 @@ pub(crate) struct Attempt {
     pub(crate) within_ms: u64,
 }
 
-/// The connection, if there is one; the address that is to be dialled, if one is; and what is left to be written.
+/// The connection, if there is one; the address that is to be dialled, if one is; what is left to be written; and why the last connection
+/// has ended.
 #[derive(Drop)]
 pub(crate) struct Channel<A: Allocator, S: Drop> {
     pub(crate) stream: Option<S>,
     pub(crate) attempt: Option<Attempt>,
     unsent: Vec<u8, A>,
     room: Vec<u8, A>,
+    why: Reason,
 }
 
 impl<A: Allocator + Copy, S: Stream> Channel<A, S> {
@@ -38,6 +44,7 @@ impl<A: Allocator + Copy, S: Stream> Channel<A, S> {
             attempt: None,
             unsent: Vec::new(alloc),
             room: Vec::new(alloc),
+            why: Reason::Other,
         }
     }
 
@@ -99,6 +106,7 @@ impl<A: Allocator + Copy, S: Stream> Channel<A, S> {
             return Ok(Brought::End);
         };
         if !send(stream, &mut self.unsent) {
+            self.why = Reason::Unwritten;
             return Ok(Brought::End);
         }
         let wait = if self.unsent.is_empty() {
@@ -106,6 +114,16 @@ impl<A: Allocator + Copy, S: Stream> Channel<A, S> {
         } else {
             ms.min(PRESSED_WAIT)
         };
-        bring(alloc, stream, &mut self.room, wait.max(1))
+        bring(alloc, stream, &mut self.room, wait.max(1), &mut self.why)
+    }
+
+    /// What has happened with that.
+    pub(crate) fn event_of(&self, brought: &Brought<A>) -> Event
+        ensures { notes_of_event result ≡ notes_in (input_of brought.now) }
+    {
+        match brought {
+            Brought::End => Event::Ended(self.why),
+            _ => Event::Nothing,
+        }
     }
 }

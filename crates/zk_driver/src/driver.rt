@@ -1,15 +1,18 @@
 //! The driver.
 
-ghost use Rattle.std.specs.Prelude.{◌≡◌, ◌≤◌, ◌<ℤ◌, [], None, is_some, length, pos, true, unsigned_abs, IfNone, IfOk, OnErr, OnOk};
+ghost use Rattle.std.specs.Prelude.{◌≡◌, ◌≢◌, ◌≤◌, ◌<ℤ◌, [], None, is_some, length, pos, false, true, unsigned_abs, IfNone, IfOk, OnErr, OnOk};
 ghost use Rattle.zk_turns.specs.Turns.{new_start};
 ghost use Rattle.zk_turns.specs.View.{view_at};
 ghost use Rattle.zk_client.specs.Clients.{view_of};
 ghost use Rattle.zk_agent.specs.Telling.{told_by};
 ghost use Rattle.zk_agent.specs.declared.input.Input.TheVariants as happens;
 ghost use Rattle.zk_driver.specs.Driving.{channel_view, closed, course_of, AreFollowed, Extends, Goes, Hands};
+ghost use Rattle.zk_driver.specs.Noting.{is_come, notes_of, notes_of_event, passed_in, GoesBy};
 
 use crate::channel::Attempt;
 use crate::engine::Engine;
+use crate::reason::{Reason, reason_of};
+use crate::turn::{Event, Turn};
 use std::alloc::{AllocError, Allocator};
 use zk_agent::{Action, Agent, Input, Settings};
 use zk_client::{Call, Client, Path, Side};
@@ -24,6 +27,8 @@ pub struct Driver<'a, A: Allocator + Copy, D: Dial + Drop, C: Clock + Drop> {
     clock: C,
     addresses: &'a [&'a str],
     latest: u64,
+    place: usize,
+    is_announced: bool,
 }
 
 impl<'a, A: Allocator + Copy, D: Dial + Drop, C: Clock + Drop> Driver<'a, A, D, C> {
@@ -47,6 +52,8 @@ impl<'a, A: Allocator + Copy, D: Dial + Drop, C: Clock + Drop> Driver<'a, A, D, 
             clock,
             addresses,
             latest: 0,
+            place: 0,
+            is_announced: false,
         }
     }
 
@@ -64,6 +71,7 @@ impl<'a, A: Allocator + Copy, D: Dial + Drop, C: Clock + Drop> Driver<'a, A, D, 
         ensures followed { IfOk result (λ driver. AreFollowed driver.engine.agent) }
         ensures channel { IfOk result (λ driver. channel_view driver.engine.channel ≡ closed) }
         ensures waiting { IfOk result (λ driver. driver.engine.waiting.items ≡ []) }
+        ensures subjects { IfOk result (λ driver. driver.engine.agent.asker.follower.subjects.items ≡ []) }
     {
         let settings = Settings {
             timeout_ms,
@@ -167,7 +175,7 @@ impl<'a, A: Allocator + Copy, D: Dial + Drop, C: Clock + Drop> Driver<'a, A, D, 
             if let Some(action) = self.engine.pop() {
                 return Ok(Some(action));
             }
-            if until <= self.round(until)? {
+            if until <= self.round(until)?.0 {
                 return Ok(self.engine.pop());
             }
         }
@@ -175,10 +183,64 @@ impl<'a, A: Allocator + Copy, D: Dial + Drop, C: Clock + Drop> Driver<'a, A, D, 
         Ok(self.engine.pop())
     }
 
-    /// Dials, where an address is to be dialled, and else waits until this moment at most. The answer is the moment that was told.
-    fn round(&mut self, until: u64) -> Result<u64, Stop>
-        ensures goes { OnOk result (Goes (course_of self.old.engine None) (course_of self.new.engine None)) }
-        ensures told { IfOk result (λ moment. moment ≤ self.new.engine.agent.latest) }
+    /// One turn, as [`next`](Driver::next) makes them one after the other: an action that waits, or else what comes of an attempt to connect,
+    /// or of a wait until this moment at most. Of each address it tells that it is dialled, before it is, and what came of that; and of each
+    /// connection that it is over, and why. [`address`](Driver::address) is the address.
+    ///
+    /// An error is that of [`next`](Driver::next).
+    pub fn turn(&mut self, until: u64) -> Result<Turn<A>, Stop>
+        ensures goes { IfOk result (λ turn. GoesBy (notes_of turn) (course_of self.old.engine None) (course_of self.new.engine (passed_in turn))) }
+        ensures come { IfOk result (λ turn. is_come turn ≡ true → until ≤ self.new.engine.agent.latest) }
+        ensures none { IfOk result (λ turn. is_come turn ≡ true → self.new.engine.waiting.items ≡ []) }
+        ensures kept { OnErr result (Extends (told_by self.old.engine.waiting.items) (told_by self.new.engine.waiting.items)) }
+    {
+        if let Some(action) = self.engine.pop() {
+            return Ok(Turn::Told(action));
+        }
+        if self.announces() {
+            return Ok(Turn::Dials);
+        }
+        let (moment, event) = self.round(until)?;
+        if event.is_nothing() && until <= moment && !self.has_told() {
+            return Ok(Turn::Come);
+        }
+        Ok(event.turn())
+    }
+
+    /// Whether an address is to be dialled, and that is not told yet. It counts as told from then on.
+    fn announces(&mut self) -> bool
+        ensures { self.new.engine ≡ self.old.engine }
+    {
+        let Some(attempt) = self.engine.channel.attempt else {
+            return false;
+        };
+        if self.is_announced {
+            return false;
+        }
+        self.place = attempt.place;
+        self.is_announced = true;
+        true
+    }
+
+    /// Whether actions wait for the program.
+    pub fn has_told(&self) -> bool
+        ensures none { result ≡ false → self.now.engine.waiting.items ≡ [] }
+        ensures some { result ≡ true → self.now.engine.waiting.items ≢ [] }
+    {
+        !self.engine.waiting.is_empty()
+    }
+
+    /// The address that was dialled last, or that is dialled next where [`Turn::Dials`] was told last: that of the connection where there is
+    /// one.
+    pub fn address(&self) -> Option<&'a str> {
+        self.addresses.get(self.place).copied()
+    }
+
+    /// Dials, where an address is to be dialled, and else waits until this moment at most. The answer is the moment that was told, and what
+    /// has happened.
+    fn round(&mut self, until: u64) -> Result<(u64, Event), Stop>
+        ensures goes { IfOk result (λ round. GoesBy (notes_of_event round.1) (course_of self.old.engine None) (course_of self.new.engine None)) }
+        ensures told { IfOk result (λ round. round.0 ≤ self.new.engine.agent.latest) }
         ensures kept { Extends (told_by self.old.engine.waiting.items) (told_by self.new.engine.waiting.items) }
     {
         match self.engine.channel.attempt {
@@ -187,35 +249,42 @@ impl<'a, A: Allocator + Copy, D: Dial + Drop, C: Clock + Drop> Driver<'a, A, D, 
         }
     }
 
-    /// A connection to the address at a place of the list, and none where none is made in time, or the list is shorter.
-    fn dial(&mut self, attempt: Attempt) -> Option<D::Stream>
+    /// A connection to the address at a place of the list, or why there is none: none is made in time, or the list is shorter.
+    fn dial(&mut self, attempt: Attempt) -> Result<D::Stream, Reason>
         ensures engine { self.new.engine ≡ self.old.engine }
         ensures latest { self.new.latest ≡ self.old.latest }
     {
-        let address = self.addresses.get(attempt.place)?;
-        self.dial.dial(address, attempt.within_ms.max(1)).ok()
+        self.place = attempt.place;
+        self.is_announced = false;
+        let Some(address) = self.addresses.get(attempt.place) else {
+            return Err(Reason::Other);
+        };
+        match self.dial.dial(address, attempt.within_ms.max(1)) {
+            Ok(stream) => Ok(stream),
+            Err(fault) => Err(reason_of(fault.kind())),
+        }
     }
 
     /// Dials an address, and tells the agent what came of it.
-    fn attempt(&mut self, attempt: Attempt) -> Result<u64, Stop>
+    fn attempt(&mut self, attempt: Attempt) -> Result<(u64, Event), Stop>
         requires { is_some self.old.engine.channel.attempt ≡ true }
-        ensures goes { OnOk result (Goes (course_of self.old.engine None) (course_of self.new.engine None)) }
-        ensures told { IfOk result (λ moment. moment ≤ self.new.engine.agent.latest) }
+        ensures goes { IfOk result (λ round. GoesBy (notes_of_event round.1) (course_of self.old.engine None) (course_of self.new.engine None)) }
+        ensures told { IfOk result (λ round. round.0 ≤ self.new.engine.agent.latest) }
         ensures kept { Extends (told_by self.old.engine.waiting.items) (told_by self.new.engine.waiting.items) }
     {
         let stream = self.dial(attempt);
         let now = self.now();
         match stream {
-            Some(stream) => self.engine.open(now, stream),
-            None => self.engine.fail(now),
+            Ok(stream) => Ok((self.engine.open(now, stream)?, Event::Opened)),
+            Err(why) => Ok((self.engine.fail(now)?, Event::Failed(why))),
         }
     }
 
     /// Listens where there is a connection, and else waits.
-    fn wait(&mut self, until: u64) -> Result<u64, Stop>
+    fn wait(&mut self, until: u64) -> Result<(u64, Event), Stop>
         requires { self.old.engine.channel.attempt ≡ None }
-        ensures goes { OnOk result (Goes (course_of self.old.engine None) (course_of self.new.engine None)) }
-        ensures told { IfOk result (λ moment. moment ≤ self.new.engine.agent.latest) }
+        ensures goes { IfOk result (λ round. GoesBy (notes_of_event round.1) (course_of self.old.engine None) (course_of self.new.engine None)) }
+        ensures told { IfOk result (λ round. round.0 ≤ self.new.engine.agent.latest) }
         ensures kept { Extends (told_by self.old.engine.waiting.items) (told_by self.new.engine.waiting.items) }
     {
         let now = self.now();
@@ -225,21 +294,22 @@ impl<'a, A: Allocator + Copy, D: Dial + Drop, C: Clock + Drop> Driver<'a, A, D, 
         }
         self.clock.pause(ms);
         let now = self.now();
-        self.engine.tell(now)
+        Ok((self.engine.tell(now)?, Event::Nothing))
     }
 
     /// Writes what is left, and tells the agent what the connection brings within `ms` milliseconds, or that it brings nothing.
-    fn listen(&mut self, ms: u64) -> Result<u64, Stop>
+    fn listen(&mut self, ms: u64) -> Result<(u64, Event), Stop>
         requires none { self.old.engine.channel.attempt ≡ None }
         requires open { is_some self.old.engine.channel.stream ≡ true }
-        ensures goes { OnOk result (Goes (course_of self.old.engine None) (course_of self.new.engine None)) }
-        ensures told { IfOk result (λ moment. moment ≤ self.new.engine.agent.latest) }
+        ensures goes { IfOk result (λ round. GoesBy (notes_of_event round.1) (course_of self.old.engine None) (course_of self.new.engine None)) }
+        ensures told { IfOk result (λ round. round.0 ≤ self.new.engine.agent.latest) }
         ensures kept { Extends (told_by self.old.engine.waiting.items) (told_by self.new.engine.waiting.items) }
     {
         let Ok(brought) = self.engine.channel.exchange(self.alloc, ms) else {
             return Err(Stop::Memory);
         };
         let now = self.now();
-        self.engine.take(now, brought)
+        let event = self.engine.channel.event_of(&brought);
+        Ok((self.engine.take(now, brought)?, event))
     }
 }

@@ -6,6 +6,7 @@ ghost use Rattle.zk_agent.specs.Agents.{NothingAt};
 ghost use Rattle.zk_agent.specs.Telling.{action_view, told_by};
 ghost use Rattle.zk_agent.specs.declared.input.Input.TheVariants as happens;
 ghost use Rattle.zk_driver.specs.Driving.{carried, channel_view, closed, course_of, input_of, is_passed, Extends, Goes, Hands, Notes};
+ghost use Rattle.zk_driver.specs.Noting.{notes_in, Made, Missed, Lost, GoesBy};
 
 use crate::channel::{Attempt, Channel};
 use crate::wait::wait_between;
@@ -118,7 +119,7 @@ impl<A: Allocator + Copy, S: Stream> Engine<A, S> {
     /// The connection that was asked for is there.
     pub(crate) fn open(&mut self, now: u64, stream: S) -> Result<u64, Stop>
         requires { is_some self.old.channel.attempt ≡ true }
-        ensures goes { OnOk result (Goes (course_of self.old None) (course_of self.new None)) }
+        ensures goes { OnOk result (GoesBy (Made ∷ []) (course_of self.old None) (course_of self.new None)) }
         ensures notes { OnOk result (Notes happens.Opened (course_of self.old None) (course_of self.new None)) }
         ensures told { IfOk result (λ moment. moment ≤ self.new.agent.latest) }
         ensures kept { Extends (told_by self.old.waiting.items) (told_by self.new.waiting.items) }
@@ -130,7 +131,7 @@ impl<A: Allocator + Copy, S: Stream> Engine<A, S> {
     /// The connection that was asked for could not be made.
     pub(crate) fn fail(&mut self, now: u64) -> Result<u64, Stop>
         requires { is_some self.old.channel.attempt ≡ true }
-        ensures goes { OnOk result (Goes (course_of self.old None) (course_of self.new None)) }
+        ensures goes { OnOk result (GoesBy (Missed ∷ []) (course_of self.old None) (course_of self.new None)) }
         ensures notes { OnOk result (Notes happens.Failed (course_of self.old None) (course_of self.new None)) }
         ensures told { IfOk result (λ moment. moment ≤ self.new.agent.latest) }
         ensures noted { OnOk result (now ≤ self.new.agent.latest) }
@@ -144,7 +145,7 @@ impl<A: Allocator + Copy, S: Stream> Engine<A, S> {
     fn cut(&mut self, now: u64) -> Result<u64, Stop>
         requires none { self.old.channel.attempt ≡ None }
         requires open { is_some self.old.channel.stream ≡ true }
-        ensures goes { OnOk result (Goes (course_of self.old None) (course_of self.new None)) }
+        ensures goes { OnOk result (GoesBy (Lost ∷ []) (course_of self.old None) (course_of self.new None)) }
         ensures notes { OnOk result (Notes happens.Cut (course_of self.old None) (course_of self.new None)) }
         ensures told { IfOk result (λ moment. moment ≤ self.new.agent.latest) }
         ensures kept { Extends (told_by self.old.waiting.items) (told_by self.new.waiting.items) }
@@ -156,7 +157,7 @@ impl<A: Allocator + Copy, S: Stream> Engine<A, S> {
     /// Nothing has come but a moment.
     pub(crate) fn tell(&mut self, now: u64) -> Result<u64, Stop>
         requires { self.old.channel.attempt ≡ None }
-        ensures goes { OnOk result (Goes (course_of self.old None) (course_of self.new None)) }
+        ensures goes { OnOk result (GoesBy [] (course_of self.old None) (course_of self.new None)) }
         ensures notes { OnOk result (Notes happens.Moment (course_of self.old None) (course_of self.new None)) }
         ensures told { IfOk result (λ moment. moment ≤ self.new.agent.latest) }
         ensures noted { OnOk result (now ≤ self.new.agent.latest) }
@@ -196,7 +197,7 @@ impl<A: Allocator + Copy, S: Stream> Engine<A, S> {
     fn bytes(&mut self, now: u64, bytes: Vec<u8, A>) -> Result<u64, Stop>
         requires none { self.old.channel.attempt ≡ None }
         requires open { is_some self.old.channel.stream ≡ true }
-        ensures goes { OnOk result (Goes (course_of self.old None) (course_of self.new None)) }
+        ensures goes { OnOk result (GoesBy [] (course_of self.old None) (course_of self.new None)) }
         ensures notes { OnOk result (Notes (happens.Bytes bytes) (course_of self.old None) (course_of self.new None)) }
         ensures told { IfOk result (λ moment. moment ≤ self.new.agent.latest) }
         ensures kept { Extends (told_by self.old.waiting.items) (told_by self.new.waiting.items) }
@@ -212,7 +213,7 @@ impl<A: Allocator + Copy, S: Stream> Engine<A, S> {
     /// Tells a moment after another one, where nothing is to be dialled.
     fn catch_up(&mut self, now: u64, told: u64) -> Result<u64, Stop>
         requires { told ≤ self.old.agent.latest }
-        ensures goes { OnOk result (Goes (course_of self.old None) (course_of self.new None)) }
+        ensures goes { OnOk result (GoesBy [] (course_of self.old None) (course_of self.new None)) }
         ensures told { IfOk result (λ moment. moment ≤ self.new.agent.latest) }
         ensures kept { Extends (told_by self.old.waiting.items) (told_by self.new.waiting.items) }
     {
@@ -226,7 +227,7 @@ impl<A: Allocator + Copy, S: Stream> Engine<A, S> {
     pub(crate) fn take(&mut self, now: u64, brought: Brought<A>) -> Result<u64, Stop>
         requires none { self.old.channel.attempt ≡ None }
         requires open { is_some self.old.channel.stream ≡ true }
-        ensures goes { OnOk result (Goes (course_of self.old None) (course_of self.new None)) }
+        ensures goes { OnOk result (GoesBy (notes_in (input_of brought)) (course_of self.old None) (course_of self.new None)) }
         ensures notes { OnOk result (Notes (input_of brought) (course_of self.old None) (course_of self.new None)) }
         ensures told { IfOk result (λ moment. moment ≤ self.new.agent.latest) }
         ensures kept { Extends (told_by self.old.waiting.items) (told_by self.new.waiting.items) }

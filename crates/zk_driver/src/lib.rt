@@ -2,17 +2,21 @@
 //!
 //! A [`Driver`] has an agent of `zk_agent`, and does what that says: it dials, hangs up, writes and reads, waits for bytes or for the agent's
 //! deadline, and tells the agent what has happened, with the clock's moment. What else the agent says, [`Driver::next`] gives to the
-//! program, one action after the other.
+//! program, one action after the other; [`Driver::turn`] tells of each connection too.
 #![tactic(auto)]
 
 mod bring;
 mod channel;
 mod driver;
 mod engine;
+mod reason;
 mod send;
+mod turn;
 mod wait;
 
 pub use driver::Driver;
+pub use reason::Reason;
+pub use turn::Turn;
 pub use zk_agent::{Action, Agent, Settings};
 pub use zk_follow::Refusal;
 pub use zk_link::Stop;

@@ -2,8 +2,9 @@ use Rattle.std.proofs.Common.{◌≡◌, None, Option, sym, subst}
 use Rattle.zk_agent.specs.Telling.{told_by}
 use Rattle.zk_agent.specs.declared.action.Action.{Action}
 use Rattle.zk_driver.specs.Driving.{course_of, Course, Extends}
+use Rattle.zk_driver.specs.Noting.{notes_of_event}
 use Rattle.zk_driver.proofs.Carrying.{always_err, extends_on}
-use Rattle.zk_driver.proofs.Going.{after, same}
+use Rattle.zk_driver.proofs.Going.{after, goes, same}
 use Rattle.zk_driver.proofs.driver.Driver.next.Goals as goal
 
 pub loop-preserved : goal.loop-preserved
@@ -14,7 +15,7 @@ loop-preserved g c =
     let new = course_of c.round.new.self.engine None in
     let there : here ≡ so_far = subst (λ (r : Option (Action g.row.A.Denot)). course_of c.pop.new.self r ≡ so_far) c.in_default.is c.pop.ensures.same in
     record {
-      goes = after old so_far new c.loop.invariant.goes (after so_far here new (same so_far here (sym there)) c.in_ok-round.ensures.goes);
+      goes = after old so_far new c.loop.invariant.goes (after so_far here new (same so_far here (sym there)) (goes (notes_of_event c.in_ok-round.field-0.1) here new c.in_ok-round.ensures.goes));
       kept = extends_on old.told so_far.told new.told c.loop.invariant.kept (subst (λ (c : Course g.row.A.Denot). Extends c.told new.told) there c.round.ensures.kept);
     }
 
@@ -26,7 +27,7 @@ returns-then-branch-clause-goes g c =
     let told = course_of c.round.new.self.engine None in
     let new = course_of c.pop-then-branch.new.self c.pop-then-branch.result in
     let there : here ≡ so_far = subst (λ (r : Option (Action g.row.A.Denot)). course_of c.pop.new.self r ≡ so_far) c.in_default.is c.pop.ensures.same in
-    after old told new (after old so_far told c.loop.invariant.goes (after so_far here told (same so_far here (sym there)) c.in_ok-round.ensures.goes))
+    after old told new (after old so_far told c.loop.invariant.goes (after so_far here told (same so_far here (sym there)) (goes (notes_of_event c.in_ok-round.field-0.1) here told c.in_ok-round.ensures.goes)))
     (same told new (sym c.pop-then-branch.ensures.same))
 
 pub returns-clause-goes : goal.returns-clause-goes

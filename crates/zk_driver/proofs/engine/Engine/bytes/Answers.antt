@@ -3,7 +3,7 @@ use Rattle.zk_agent.specs.Telling.{told_by}
 use Rattle.zk_agent.specs.declared.input.Input.TheVariants as happens
 use Rattle.zk_driver.specs.Driving.{channel_view, course_of}
 use Rattle.zk_driver.proofs.Carrying.{extends_on}
-use Rattle.zk_driver.proofs.Going.{first_so, first_then, noted_so, ok_after}
+use Rattle.zk_driver.proofs.Going.{first_so, first_then, noted_so, ok_by_after}
 use Rattle.zk_driver.proofs.engine.Engine.bytes.Goals as goal
 
 pub returns-then-told-now-clause-goes : goal.returns-then-told-now-clause-goes
@@ -15,7 +15,7 @@ pub returns-clause-goes : goal.returns-clause-goes
 returns-clause-goes g c =
     let old = course_of c.args.self.now None in
     let between = course_of c.hand.new.self None in
-    ok_after c.catch_up.result old between (course_of c.catch_up.new.self None)
+    ok_by_after c.catch_up.result old between (course_of c.catch_up.new.self None)
     (noted_so (happens.Bytes c.args.bytes) old between (channel_view c.args.self.now.channel) (c.requires.none, c.requires.open, refl) c.in_ok-told.ensures.hands) c.catch_up.ensures.goes
 
 pub returns-clause-kept : goal.returns-clause-kept
