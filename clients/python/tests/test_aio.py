@@ -80,8 +80,8 @@ class AioTest(unittest.IsolatedAsyncioTestCase, PartnerCase):
     async def test_more_at_once_than_a_session_takes(self) -> None:
         partner = self.partner()
         partner.do("create /a one")
-        client = await self.client(partner, timeout=60)
-        reads = await asyncio.wait_for(asyncio.gather(*(client.get("/a") for _ in range(3000))), 3 * WAIT)
+        client = await self.client(partner, timeout=600)  # so that no busy machine ends a call
+        reads = await asyncio.wait_for(asyncio.gather(*(client.get("/a") for _ in range(3000))), 9 * WAIT)
         self.assertEqual({data for data, _ in reads}, {b"one"})
 
     async def test_watches_and_listeners(self) -> None:
