@@ -2,4 +2,5 @@ pub mod Held
 pub mod Kept
 pub mod Lives
 pub mod Owned
+pub mod Sessions
 pub mod Stood
