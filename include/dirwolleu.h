@@ -466,7 +466,7 @@ enum dw_result dw_forget(dw_client *handle);
  *     }
  * Then it waits until the deadline for its connection, and hands in one of dw_session_opened, _failed, _bytes, _cut and _moment. */
 
-/* Makes a session, which asks for this timeout in milliseconds and has so many addresses to dial. Their order and the pauses between attempts are
+/* Makes a session, which asks for this timeout in milliseconds and has this many addresses to dial. Their order and the pauses between attempts are
  * random by the seed: take one from the system, another in each program. The first step asks for a connection. What the handle held is freed
  * first. DW_OK, DW_BAD_TIMEOUT, DW_NO_MEMORY; where it is not DW_OK, the handle holds nothing. */
 enum dw_result dw_session_open(dw_session *handle, int32_t timeout_ms, size_t addresses, uint64_t seed);

@@ -29,7 +29,7 @@ pub struct AgentDevice {
 }
 
 impl AgentDevice {
-    /// A session of no server yet, which asks for this timeout in milliseconds and has so many addresses. Their order and the pauses are
+    /// A session of no server yet, which asks for this timeout in milliseconds and has this many addresses. Their order and the pauses are
     /// random by the seed. A refusal is `BadTimeout`, else `Memory`.
     pub fn new(
         alloc: Global,

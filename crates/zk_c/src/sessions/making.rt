@@ -30,7 +30,7 @@ fn hold(alloc: Global, handle: &mut DwSession, session: AgentDevice) -> i32
     }
 }
 
-/// Makes a session of no server yet, which asks for this timeout in milliseconds and has so many addresses, in an order that is random by the
+/// Makes a session of no server yet, which asks for this timeout in milliseconds and has this many addresses, in an order that is random by the
 /// seed. What the handle held is freed first.
 #[unsafe(no_mangle)]
 pub extern "C" fn dw_session_open(
