@@ -10,7 +10,7 @@ ghost use Rattle.zk_device.specs.declared.refusal.Refusal.TheVariants as refusal
 ghost use Rattle.zk_device.specs.Codes.{code_of};
 ghost use Rattle.zk_device.specs.Refused.{RefusesMemory, RefusesNothing, RefusesTimeout};
 ghost use Rattle.zk_device.specs.Sessions.{put_start};
-ghost use Rattle.zk_agent_device.specs.Steps.{Addressed, Bytes, Cut, Failed, Moment, Opened, Begins, BeginsWith, Steps, Stopped, Took};
+ghost use Rattle.zk_agent_device.specs.Steps.{Addressed, Bytes, Cut, Failed, Moment, Opened, Begins, BeginsWith, Stepped, Steps, Stopped, happening};
 
 use std::alloc::Global;
 use zk_agent::{Action, Agent, Input, Settings};
@@ -97,7 +97,7 @@ impl AgentDevice {
     /// Takes an input that is noticed at this moment. What was said before is forgotten. The one refusal is `Halted`, which each later step
     /// answers too.
     pub(crate) fn step_at(&mut self, now: u64, input: Input<Global>) -> Result<(), Refusal>
-        ensures took { OnOk result (Took now input self.old self.new) }
+        ensures stepped { OnOk result (Stepped now (happening input) self.old self.new) }
         ensures stopped { IfErr result (λ refusal. (refusal ≡ refusals.Halted) × Stopped self.new) }
     {
         self.said.clear();
