@@ -87,7 +87,7 @@ fn happen(
 
 /// An action that is no frame, with its text.
 fn tell<W: Write>(flat: Flat, text: &[u8], out: &mut W) -> Result<()> {
-    writeln!(
+    Ok(writeln!(
         out,
         "{} {} {} {} number {} place {} sent {} length {}",
         flat.kind,
@@ -98,8 +98,7 @@ fn tell<W: Write>(flat: Flat, text: &[u8], out: &mut W) -> Result<()> {
         flat.names,
         flat.is_null,
         text.len(),
-    )?;
-    Ok(())
+    )?)
 }
 
 /// Tells what the device said at its last step, and gives the server the frames.
