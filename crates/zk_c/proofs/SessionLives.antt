@@ -50,7 +50,7 @@ made Refuses start (negsuc n) after makes session is on = empty_holds_none sessi
 
 resumed : (timeout : ℤ) (saved : List ℕ) (code : ℤ) (before after : Option AgentDevice) (read : Result PutAway SavedFault) → bytes_read saved ≡ read
     → Does before (Resumes timeout saved code) after → Sound after
-resumed timeout saved code before after (Ok put) reads does = made (RefusesTimeout timeout) (put_start timeout put) code after (does.0 put reads)
+resumed timeout saved code before after (Ok put) reads does session is on = made (RefusesTimeout timeout) (put_start timeout put) code after (does.0 put reads) session is on
 resumed timeout saved code before after (Err fault) reads does session is on = empty_holds_none session after (does.1 fault reads) is
 
 stepped : (now : ℕ) (what : Happening) (old session : AgentDevice) → Sound (Some old) → Stepped now what old session → IsSound session
