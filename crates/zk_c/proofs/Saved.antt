@@ -9,7 +9,7 @@ use Rattle.zk_client.specs.declared.saved_fault.SavedFault.{SavedFault}
 use Rattle.zk_client.specs.declared.saved_fault.SavedFault.TheVariants.{NotHex, OddDigits, Unread, BytesBehind, NoPassword, LongPassword, NegativeZxid, Memory}
 use Rattle.zk_limits.specs.declared.limits.TheConstants.{LONGEST_PASSWORD}
 
-is_memory : SavedFault → Bool
+abbrev is_memory : SavedFault → Bool
 is_memory (NotHex place) = false
 is_memory (OddDigits count) = false
 is_memory (Unread fault) = false
@@ -19,7 +19,7 @@ is_memory (LongPassword length) = false
 is_memory (NegativeZxid last) = false
 is_memory Memory = true
 
-wants_memory : Result PutAway SavedFault → Bool
+abbrev wants_memory : Result PutAway SavedFault → Bool
 wants_memory (Ok put) = false
 wants_memory (Err fault) = is_memory fault
 
