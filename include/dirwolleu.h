@@ -4,16 +4,20 @@
  * the moment at which it noticed it, takes the outputs of that step by dw_next, does what they say, and wakes at the latest at
  * dw_deadline.
  *
+ * A dw_session is such a client with what most programs need besides: it says which server is dialled and when, keeps what is followed good, has
+ * calls wait for a connection, and begins another session after an expiry. Its functions are the last ones here.
+ *
  * Moments are milliseconds of a clock that does not go back, from any beginning; one below an earlier one counts as the earlier one.
  *
- * Who owns what: a dw_client owns its memory until dw_close, dw_open or dw_resume of the same handle. What is passed in is copied
+ * Who owns what: a dw_client owns its memory until dw_close, dw_open or dw_resume of the same handle, and a dw_session until dw_session_free,
+ * dw_session_open or dw_session_resume. What is passed in is copied
  * within the call, and what comes out is written into the caller's own structs and buffers: no pointer crosses for longer than a call.
  *
  * What calls cost: a step copies what is passed in, and what of it is kept, once each; dw_next and the look-ups of numbers copy no
  * bytes, and the functions that copy bytes copy as many as are asked for. Memory is taken by steps, by dw_saved, dw_words and dw_peek_*.
  *
  * What the caller promises, and nothing checks:
- *   - a dw_client is all zeros before its first use, and is written by this library alone; it may be moved, but an open one is never
+ *   - a dw_client or dw_session is all zeros before its first use, and is written by this library alone; it may be moved, but an open one is never
  *     copied to be used twice;
  *   - one call at a time uses a handle; it may go to another thread between two calls, where a lock or a join orders them;
  *   - no function is called from a signal handler, or from the forked child of a process with threads;
@@ -27,6 +31,8 @@
  *   - each watch is reported once at most, and the answer that it was left with is stale from then on;
  *   - a reply goes to the call that has waited longest, and each call is answered once, unless the client halts before;
  *   - once the session has expired or is closed, nothing is kept or watched;
+ *   - of a dw_session: each call is answered once or times out once, and each subject that is followed is kept good, or is being read, or its
+ *     read was refused and is made again, or no server has accepted the connection;
  *   - each function returns, whatever bytes a server sends.
  * The first of these rests on servers that hold beginnings of one history, fire watches before replies and admit no client that is
  * ahead of them; all of them on what the caller promises above, on the Rattle toolchain and on the C compiler.
@@ -83,14 +89,34 @@ typedef struct dw_client {
   } slot;
 } dw_client;
 
+/* The handle of a session, in the same way. */
+typedef struct dw_session {
+  bool is_open;
+  struct {
+    uint8_t *at;
+  } slot;
+} dw_session;
+
 /* What is known of a node, as the protocol has it. Times are milliseconds since 1970. */
 typedef struct dw_stat {
   int64_t czxid, mzxid, ctime, mtime, ephemeral_owner, pzxid;
   int32_t version, cversion, aversion, data_length, num_children;
 } dw_stat;
 
-/* Kinds of outputs, and states of a client. */
-enum dw_kind DW_AS_INT32 { DW_KIND_SEND = 1, DW_KIND_ANSWER = 2, DW_KIND_REPORT = 3, DW_KIND_STATE = 4, DW_KIND_DROP = 5 };
+/* Kinds of outputs, of which those from DW_KIND_DIAL on are of a session alone, and states of a client. */
+enum dw_kind DW_AS_INT32 {
+  DW_KIND_SEND = 1,
+  DW_KIND_ANSWER = 2,
+  DW_KIND_REPORT = 3,
+  DW_KIND_STATE = 4,
+  DW_KIND_DROP = 5,
+  DW_KIND_DIAL = 6,
+  DW_KIND_HANG_UP = 7,
+  DW_KIND_TIMED_OUT = 8,
+  DW_KIND_RENEWED = 9,
+  DW_KIND_SHOWN = 10,
+  DW_KIND_REFUSED = 11
+};
 enum dw_state DW_AS_INT32 {
   DW_STATE_IDLE = 0,
   DW_STATE_CONNECTING = 1,
@@ -137,6 +163,14 @@ enum dw_cause DW_AS_INT32 {
   DW_CAUSE_WATCHES_REFUSED = 5
 };
 
+/* Why a session's read of what is followed was refused. */
+enum dw_refusal DW_AS_INT32 {
+  DW_REFUSAL_CODE = 1, /* by the server, with a code */
+  DW_REFUSAL_TOO_MANY_WATCHES = 2, /* 65,536 paths of the side are watched */
+  DW_REFUSAL_TOO_LARGE = 3, /* the path is too long for a request */
+  DW_REFUSAL_CLOSED = 4 /* the session is being closed */
+};
+
 /* Errors of the server. It may answer with a number that this list does not name: so a code is an int32_t. */
 enum dw_code DW_AS_INT32 {
   DW_CODE_CONNECTION_LOSS = -4,
@@ -162,7 +196,16 @@ enum dw_code DW_AS_INT32 {
  *   DW_KIND_REPORT  what was known of a side of a path has ended: event, side; the text is the path.
  *   DW_KIND_STATE   state is the new one. With DW_STATE_EXPIRED and DW_STATE_CLOSED the connection is over: close it.
  *   DW_KIND_DROP    the connection is given up: close it. cause says why; DW_CAUSE_BEHIND has the zxid that came,
- *                   DW_CAUSE_WATCHES_REFUSED the code. The text is the code of the fault, as D1; dw_words has words. */
+ *                   DW_CAUSE_WATCHES_REFUSED the code. The text is the code of the fault, as D1; dw_words has words.
+ * A session says these too, and says by DW_KIND_HANG_UP alone that a connection is to be closed:
+ *   DW_KIND_DIAL      connect to the address at this place of the caller's list, from 0 on; after within_ms milliseconds the attempt will be
+ *                     given up. Hand in dw_session_opened, or dw_session_failed.
+ *   DW_KIND_HANG_UP   close the connection, or give the attempt up. What of it was not yet written is forgotten, and nothing is handed in.
+ *   DW_KIND_TIMED_OUT the limit of the call with this ticket has come, and it waits no more. Where was_sent, it may have happened, or may yet.
+ *   DW_KIND_RENEWED   the session has expired, with its ephemeral nodes, and another one begins. What is followed is read again.
+ *   DW_KIND_SHOWN     what is kept of the subject with this ticket is good: look it up. It was not, or its path was reported since.
+ *   DW_KIND_REFUSED   a read of the subject with this ticket was refused: refusal says why, with the code of DW_REFUSAL_CODE. It is read
+ *                     again after a second, and this is told once for each new reason. */
 typedef struct dw_output {
   enum dw_kind kind;
   union {
@@ -170,17 +213,28 @@ typedef struct dw_output {
     enum dw_event event; /* of a report */
     enum dw_state state; /* of a state */
     enum dw_cause cause; /* of a drop */
+    enum dw_refusal refusal; /* of a refused read */
   };
   union {
     enum dw_reply reply; /* of an answer that is a reply */
     enum dw_side side; /* of a report */
   };
   int32_t code; /* one of enum dw_code, or another number */
-  uint64_t ticket;
+  union {
+    uint64_t ticket; /* of a call, or of a subject */
+    uint64_t within_ms; /* of a dial */
+  };
   int64_t zxid;
   size_t length; /* of the text, which dw_copy gives */
-  size_t names; /* how many there are: dw_name gives each */
-  bool is_null, has_stat;
+  union {
+    size_t names; /* how many there are: dw_name gives each */
+    size_t place; /* of a dial */
+  };
+  union {
+    bool is_null; /* of an answer */
+    bool was_sent; /* of a call that has timed out */
+  };
+  bool has_stat;
   dw_stat stat;
 } dw_output;
 
@@ -400,6 +454,127 @@ enum dw_result dw_holder(dw_client *handle, const char *directory, size_t direct
 
 /* Forgets all stale answers. It takes no memory, and leaves the outputs. DW_OK, DW_CLOSED. */
 enum dw_result dw_forget(dw_client *handle);
+
+/* A session: a client with its dialling, its subjects and its calls. A program has sockets, a clock, and a list of addresses, and decides nothing:
+ * it hands in what happens, does what dw_session_next tells, and wakes at the latest at dw_session_deadline.
+ *   while (dw_session_next(&session, &action) == DW_OK)
+ *     switch (action.kind) {
+ *     case DW_KIND_DIAL: begin_connection(addresses[action.place]); break;
+ *     case DW_KIND_HANG_UP: close_connection(); break;
+ *     case DW_KIND_SEND: write_all(&session, action.length); break;
+ *     case DW_KIND_SHOWN: print_kept(&session, action.ticket); break;
+ *     }
+ * Then it waits until the deadline for its connection, and hands in one of dw_session_opened, _failed, _bytes, _cut and _moment. */
+
+/* Makes a session, which asks for this timeout in milliseconds and has this many addresses to dial. Their order and the pauses between attempts are
+ * random by the seed: take one from the system, another in each program. The first step asks for a connection. What the handle held is freed
+ * first. DW_OK, DW_BAD_TIMEOUT, DW_NO_MEMORY; where it is not DW_OK, the handle holds nothing. */
+enum dw_result dw_session_open(dw_session *handle, int32_t timeout_ms, size_t addresses, uint64_t seed);
+
+/* The same, which first takes up the session that dw_session_saved or dw_saved put away. Also DW_NOT_SAVED. */
+enum dw_result dw_session_resume(dw_session *handle, int32_t timeout_ms, size_t addresses, uint64_t seed, const uint8_t *saved,
+                                 size_t saved_length);
+
+/* Frees the session of a handle, if it has one. It ends no session of the servers: dw_session_close does. */
+void dw_session_free(dw_session *handle);
+
+/* Steps: what happened, at a moment. Each forgets what the step before said, whether it was read or not, and answers DW_OK, DW_HALTED or
+ * DW_CLOSED, and what it says besides. After DW_HALTED nothing is told any more, and each later step answers the same: take dw_session_saved, and
+ * dw_session_resume. */
+
+/* The connection that was asked for is there. One that was not asked for, or no more, is hung up. */
+enum dw_result dw_session_opened(dw_session *handle, uint64_t now_ms);
+
+/* The connection that was asked for could not be made. */
+enum dw_result dw_session_failed(dw_session *handle, uint64_t now_ms);
+
+/* Bytes came from the server, in any pieces. Also DW_NO_MEMORY: no step was made, and the same bytes can be handed in again. */
+enum dw_result dw_session_bytes(dw_session *handle, uint64_t now_ms, const uint8_t *bytes, size_t length);
+
+/* The connection is over: the server closed it, or a read or a write failed. */
+enum dw_result dw_session_cut(dw_session *handle, uint64_t now_ms);
+
+/* A moment, and nothing else: at the latest at dw_session_deadline. */
+enum dw_result dw_session_moment(dw_session *handle, uint64_t now_ms);
+
+/* The list of addresses is another one, of this many, and they are dialled in a new order. A connection that is there stays. */
+enum dw_result dw_session_addresses(dw_session *handle, uint64_t now_ms, size_t count);
+
+/* Calls. Each waits in one line until a server has accepted the connection and fewer than 1,024 are on their way, until the moment until_ms at
+ * most, and without a limit where that is UINT64_MAX. It is answered once, or times out once. A read that is lost with its connection is asked
+ * again, in its place; a write is answered DW_OUTCOME_LOST. No other call or subject has or had the ticket. Each may also answer DW_NO_MEMORY,
+ * DW_NOT_TEXT, DW_NOT_PATH: no step was made. A watch asks to leave one on the path; for what is to be kept good, follow it. */
+enum dw_result dw_session_exists(dw_session *handle, uint64_t now_ms, uint64_t ticket, uint64_t until_ms, const char *path,
+                                 size_t path_length, bool watch);
+enum dw_result dw_session_get_data(dw_session *handle, uint64_t now_ms, uint64_t ticket, uint64_t until_ms, const char *path,
+                                   size_t path_length, bool watch);
+enum dw_result dw_session_get_children(dw_session *handle, uint64_t now_ms, uint64_t ticket, uint64_t until_ms, const char *path,
+                                       size_t path_length, bool watch);
+
+/* As dw_set_data. */
+enum dw_result dw_session_set_data(dw_session *handle, uint64_t now_ms, uint64_t ticket, uint64_t until_ms, const char *path,
+                                   size_t path_length, const uint8_t *bytes, size_t length, bool is_null, int32_t version);
+
+/* As dw_create. Also DW_NO_SUCH_MODE. */
+enum dw_result dw_session_create(dw_session *handle, uint64_t now_ms, uint64_t ticket, uint64_t until_ms, const char *path,
+                                 size_t path_length, const uint8_t *bytes, size_t length, bool is_null, uint32_t mode);
+enum dw_result dw_session_delete(dw_session *handle, uint64_t now_ms, uint64_t ticket, uint64_t until_ms, const char *path,
+                                 size_t path_length, int32_t version);
+
+/* Ends the session of the servers. */
+enum dw_result dw_session_close(dw_session *handle, uint64_t now_ms, uint64_t ticket, uint64_t until_ms);
+
+/* Follows the data of a node, or the names of its children, also of a node that is not there yet: it is read with a watch, and read again after
+ * each report, on each new connection and in each new session. DW_KIND_SHOWN tells that what is kept of it is good. No other call or subject has
+ * or had the ticket. Each may also answer DW_NO_MEMORY, DW_NOT_TEXT, DW_NOT_PATH: no step was made. */
+enum dw_result dw_session_follow_data(dw_session *handle, uint64_t now_ms, uint64_t ticket, const char *path, size_t path_length);
+enum dw_result dw_session_follow_names(dw_session *handle, uint64_t now_ms, uint64_t ticket, const char *path,
+                                       size_t path_length);
+
+/* The subject of this ticket is followed no more. */
+enum dw_result dw_session_unfollow(dw_session *handle, uint64_t now_ms, uint64_t ticket);
+
+/* Writes the next action of the last step. DW_OK, DW_NONE where all were told, DW_CLOSED; then out is as it was. */
+enum dw_result dw_session_next(dw_session *handle, dw_output *out);
+
+/* These give the text, the names and the words of the action that was told last, as dw_copy, dw_name, dw_names and dw_words do. */
+size_t dw_session_copy(dw_session *handle, size_t from, void *out, size_t room);
+size_t dw_session_name(dw_session *handle, size_t index, char *out, size_t room);
+enum dw_result dw_session_names(dw_session *handle, uint8_t *out, size_t room, size_t *count);
+enum dw_result dw_session_words(dw_session *handle, char *out, size_t room, size_t *count);
+
+/* Look-ups of a session. They take no step and leave what it said, and tell what those of a client with their names do. */
+
+int32_t dw_session_state(dw_session *handle);
+int64_t dw_session_last_zxid(dw_session *handle);
+int64_t dw_session_timeout_ms(dw_session *handle);
+
+/* Writes the first moment at which something is due: a ping, the end of an attempt, a dial, a read, a limit. */
+enum dw_result dw_session_deadline(dw_session *handle, uint64_t *first_ms);
+
+/* Writes the moment at which the server was heard last, on any connection. What is kept and good was so at some moment from then on, or was
+ * reported after it. DW_OK, DW_NONE where it was not heard yet, DW_CLOSED; then 0 is written. */
+enum dw_result dw_session_heard_at(dw_session *handle, uint64_t *moment_ms);
+enum dw_result dw_session_saved(dw_session *handle, uint8_t *out, size_t room, size_t *count);
+enum dw_result dw_session_peek_data(dw_session *handle, const char *path, size_t path_length, dw_kept_data *kept, uint8_t *out,
+                                    size_t room);
+enum dw_result dw_session_peek_children(dw_session *handle, const char *path, size_t path_length, dw_kept_names *kept);
+enum dw_result dw_session_peek_name(dw_session *handle, const char *path, size_t path_length, size_t index, char *out,
+                                    size_t room, size_t *count);
+enum dw_result dw_session_peek_names(dw_session *handle, const char *path, size_t path_length, uint8_t *out, size_t room,
+                                     size_t *count);
+enum dw_result dw_session_subtree(dw_session *handle, const char *path, size_t path_length, size_t most, uint8_t *out,
+                                  size_t room, size_t *count);
+enum dw_result dw_session_lacking(dw_session *handle, const char *path, size_t path_length, size_t most, uint8_t *out,
+                                  size_t room, size_t *count);
+enum dw_result dw_session_snapshot(dw_session *handle, const uint8_t *nodes, size_t nodes_length, const uint8_t *parents,
+                                   size_t parents_length, uint8_t *out, size_t room, size_t *count);
+enum dw_result dw_session_standing(dw_session *handle, const char *directory, size_t directory_length, const char *name,
+                                   size_t name_length, const uint8_t *names, size_t names_length, int64_t listed,
+                                   const uint8_t *markers, size_t markers_length, int64_t *token, char *out, size_t room,
+                                   size_t *count);
+enum dw_result dw_session_holder(dw_session *handle, const char *directory, size_t directory_length, const char *prefix,
+                                 size_t prefix_length, const char *path, size_t path_length, int64_t *token);
 
 /* Words for people: what a function answered, why there is no reply, why a connection is given up, and what an error of the server means.
  * They are constant texts with a 0 after them. A number that this header does not have gets words that say so. */

@@ -29,6 +29,12 @@ pub(crate) mod kind {
     pub(crate) const REPORT: i32 = 3;
     pub(crate) const STATE: i32 = 4;
     pub(crate) const DROP: i32 = 5;
+    pub(crate) const DIAL: i32 = 6;
+    pub(crate) const HANG_UP: i32 = 7;
+    pub(crate) const TIMED_OUT: i32 = 8;
+    pub(crate) const RENEWED: i32 = 9;
+    pub(crate) const SHOWN: i32 = 10;
+    pub(crate) const REFUSED: i32 = 11;
 }
 
 pub(crate) mod state {
@@ -77,6 +83,13 @@ pub(crate) mod cause {
     pub(crate) const SILENT: i32 = 3;
     pub(crate) const BEHIND: i32 = 4;
     pub(crate) const WATCHES_REFUSED: i32 = 5;
+}
+
+pub(crate) mod refusal {
+    pub(crate) const READ_CODE: i32 = 1;
+    pub(crate) const READ_TOO_MANY_WATCHES: i32 = 2;
+    pub(crate) const READ_TOO_LARGE: i32 = 3;
+    pub(crate) const READ_CLOSED: i32 = 4;
 }
 
 pub(crate) mod code {

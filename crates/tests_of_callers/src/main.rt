@@ -2,10 +2,12 @@
 //! everything. What is to be printed is in the file `stdout`.
 #![tactic(auto)]
 
+mod agents;
 mod devices;
 mod sizes;
 mod values;
 
+use agents::play_agents;
 use anyhow::Result;
 use devices::play_devices;
 use sizes::try_sizes;
@@ -16,6 +18,8 @@ fn main(rt: HostRuntime) -> Result<()> {
     let mut out = io::writer(&rt);
     writeln!(out, "# devices")?;
     play_devices(rt.alloc(), &mut out)?;
+    writeln!(out, "# agents")?;
+    play_agents(rt.alloc(), &mut out)?;
     writeln!(out, "# values")?;
     tell_values(rt.alloc(), &mut out)?;
     writeln!(out, "# sizes")?;

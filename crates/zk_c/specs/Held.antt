@@ -11,12 +11,12 @@ use Rattle.zk_device.specs.Flats.{flat_of}
 use Rattle.zk_device.specs.Outputs.{read_after}
 use Rattle.zk_device.specs.Steps.{BeginsAt}
 
--- the handle holds a device, of which this is so
-abbrev pub Holds : Option Device → (Device → Type 0) → Type 0
+-- the handle holds a device, or another thing, of which this is so
+abbrev pub Holds : {T : Type 0} → Option T → (T → Type 0) → Type 0
 Holds held P = IsSome held × IfSome held P
 
 -- A handle held nothing, as -3 says, and holds nothing.
-pub record IsClosed (code : ℤ) (held : Option Device) : Type 0 where
+pub record IsClosed {T : Type 0} (code : ℤ) (held : Option T) : Type 0 where
   pub told : code ≡ negsuc 2
   pub empty : held ≡ None
 

@@ -1,10 +1,18 @@
 //! What follows for a whole life of a handle, over definitions alone.
 
 ghost use Rattle.zk_c.specs.Lives.{HoldsForLife};
+ghost use Rattle.zk_c.specs.SessionLives.{SoundForLife};
 
 /// Whoever took a handle of zeros, used it by the functions of this library alone, one after the other and whatever they answered, and has a
 /// client in it has all of [`holds`](zk_client::holds) for the turns that the steps were since the client was made or renewed, with
 /// the outputs that `dw_next` gave: its good answers are the history's, and each notice that ended one was told once.
 pub fn holds_for_life()
     ensures { HoldsForLife }
+{}
+
+/// Whoever took a session's handle of zeros, used it by the functions of this library alone, one after the other and whatever they answered,
+/// and has a session in it within whose steps memory never ran out, has one whose client stands where turns by the rule have led, whose
+/// subjects are good, or being read, or why not, and of whose calls each is on its way, or why not, and none is past its limit.
+pub fn sound_for_life()
+    ensures { SoundForLife }
 {}

@@ -5,6 +5,7 @@ use Rattle.zk_client.specs.FaultText.{fault_words}
 use Rattle.zk_client.specs.Views.{fault_view}
 use Rattle.zk_client.specs.declared.call_result.CallResult.{CallResult}
 use Rattle.zk_client.specs.declared.call_result.CallResult.TheVariants as result
+use Rattle.zk_client.specs.declared.output.Outcome.{Outcome}
 use Rattle.zk_client.specs.declared.output.Outcome.TheVariants as outcome
 use Rattle.zk_client.specs.declared.output.Output.{Output}
 use Rattle.zk_client.specs.declared.output.Output.TheVariants as output
@@ -49,6 +50,11 @@ abbrev pub result_name : {A : Type 0} → (index : ℕ) → CallResult A → Lis
 result_name index (result.Names names stat) = name_if (slice_get names.items index)
 result_name index _ = []
 
+-- the same of an answer
+abbrev pub outcome_name : {A : Type 0} → (index : ℕ) → Outcome A → List ℕ
+outcome_name index (outcome.Replied zxid brought) = result_name index brought
+outcome_name index _ = []
+
 -- the name of this index in a listing, if there is one
 abbrev pub name_of : {A : Type 0} → (index : ℕ) → Option (Output A) → List ℕ
 name_of index (Some (output.Answer ticket (outcome.Replied zxid brought))) = result_name index brought
@@ -62,6 +68,11 @@ told_name index said read = name_of index (told said read)
 abbrev pub result_names : {A : Type 0} → CallResult A → List (List ℕ)
 result_names (result.Names names stat) = map string_bytes names.items
 result_names _ = []
+
+-- the same of an answer
+abbrev pub outcome_names : {A : Type 0} → Outcome A → List (List ℕ)
+outcome_names (outcome.Replied zxid brought) = result_names brought
+outcome_names _ = []
 
 -- the names of a listing, in the order of the reply
 abbrev pub names_in : {A : Type 0} → Option (Output A) → List (List ℕ)

@@ -16,7 +16,8 @@ use std::alloc::Global;
 use zk_client::{Call, CreateMode, Input};
 use zk_nodes::copied_data;
 
-fn set_data(
+/// A call that sets the data of a node, null where there are none. A refusal is as of [`path_of`](crate::path_of).
+pub fn set_data(
     alloc: Global,
     path: &[u8],
     bytes: Option<&[u8]>,
@@ -48,8 +49,10 @@ fn mode_of(number: u32) -> Option<CreateMode>
     }
 }
 
+/// A call that makes a node with these data, null where there are none. A refusal is `NoSuchMode`, else as of
+/// [`path_of`](crate::path_of).
 #[tactic(auto, using(crate::proofs::Refusing::refuses_create))]
-fn create(
+pub fn create(
     alloc: Global,
     path: &[u8],
     bytes: Option<&[u8]>,

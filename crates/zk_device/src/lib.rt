@@ -18,14 +18,18 @@ mod standings;
 mod subtrees;
 mod texts;
 
+pub use calls::{create, set_data};
 pub use copying::copy_into;
 pub use device::Device;
-pub use flat::{Flat, FlatStat};
+pub use flat::{
+    Flat, FlatStat, answer_flat, drop_flat, outcome_text, plain, report_flat, send_flat, state_flat,
+};
 pub use holders::holder;
 pub use kept::{
     FlatDataStat, KeptData, KeptNames, forget_stale, peek_children, peek_data, peek_name,
     peek_names,
 };
+pub use outputs::{outcome_name, outcome_names};
 pub use paths::path_of;
 pub use refusal::{Refusal, code_of};
 pub use sessions::{saved, state};

@@ -5,7 +5,7 @@ ghost use Rattle.std.specs.Option.{option_map};
 ghost use Rattle.std.specs.List.{slice_get};
 ghost use Rattle.zk_device.specs.Flats.{flat_of};
 ghost use Rattle.zk_device.specs.Kept.{WritesText};
-ghost use Rattle.zk_device.specs.Outputs.{names_in, read_after, told, told_name, told_names, told_text, told_words};
+ghost use Rattle.zk_device.specs.Outputs.{names_in, outcome_name, outcome_names, read_after, told, told_name, told_names, told_text, told_words};
 ghost use Rattle.zk_device.specs.Texts.{AreTexts};
 
 use crate::copying::copy_into;
@@ -15,20 +15,41 @@ use crate::texts::spelled_texts;
 use std::alloc::{AllocError, Global};
 use zk_client::{CallResult, Outcome, Output};
 
+/// The names of a listing, each after its length, and nothing where the answer is none. An error says that memory ran out.
+pub fn outcome_names(alloc: Global, outcome: &Outcome<Global>) -> Result<Vec<u8>, AllocError>
+    ensures { IfOk result (λ text. AreTexts (outcome_names outcome.now) text.items) }
+{
+    match outcome {
+        Outcome::Replied {
+            result: CallResult::Names { names, .. },
+            ..
+        } => spelled_texts(alloc, names.as_slice()),
+        _ => Ok(Vec::new(alloc)),
+    }
+}
+
+/// The name of this index in a listing, and nothing where there is none.
+pub fn outcome_name(outcome: &Outcome<Global>, index: usize) -> &[u8]
+    ensures { result.now ≡ outcome_name index outcome.now }
+{
+    match outcome {
+        Outcome::Replied {
+            result: CallResult::Names { names, .. },
+            ..
+        } => match names.as_slice().get(index) {
+            Some(name) => name.as_bytes(),
+            None => b"",
+        },
+        _ => b"",
+    }
+}
+
 // The names of a listing, each after its length, and nothing where it is none.
 fn names_text(alloc: Global, told: Option<&Output<Global>>) -> Result<Vec<u8>, AllocError>
     ensures { IfOk result (λ text. AreTexts (names_in (option_map (λ output. output.now) told.entry)) text.items) }
 {
     match told {
-        Some(
-            Output::Answer {
-                outcome: Outcome::Replied {
-                    result: CallResult::Names { names, .. },
-                    ..
-                },
-                ..
-            },
-        ) => spelled_texts(alloc, names.as_slice()),
+        Some(Output::Answer { outcome, .. }) => outcome_names(alloc, outcome),
         _ => Ok(Vec::new(alloc)),
     }
 }
@@ -96,18 +117,7 @@ impl Device {
         ensures { result.now ≡ told_name index self.now.said.items self.now.read }
     {
         match self.told() {
-            Some(
-                Output::Answer {
-                    outcome: Outcome::Replied {
-                        result: CallResult::Names { names, .. },
-                        ..
-                    },
-                    ..
-                },
-            ) => match names.as_slice().get(index) {
-                Some(name) => name.as_bytes(),
-                None => b"",
-            },
+            Some(Output::Answer { outcome, .. }) => outcome_name(outcome, index),
             _ => b"",
         }
     }

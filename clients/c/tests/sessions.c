@@ -1,0 +1,307 @@
+/* A session by hand, with no socket and no clock: it dials, follows a node that is not there and then is made, loses its connection, lets a call
+ * wait, and is closed. What comes of it is what zookeeper.jute and the header say. */
+#include "dirwolleu.h"
+#include "expect.h"
+#include "frames.h"
+
+#include <string.h>
+
+enum { ASKED_MS = 9000, ADDRESSES = 2, FOLLOWED = 1 };
+
+#define CONFIG "/config", 7
+
+/* The next action is of this kind. */
+static dw_output expect_next(dw_session *session, enum dw_kind kind)
+{
+    dw_output action;
+    EXPECT_NUMBER(DW_OK, dw_session_next(session, &action));
+    EXPECT_NUMBER(kind, action.kind);
+    return action;
+}
+
+static void expect_no_more(dw_session *session)
+{
+    dw_output action;
+    EXPECT_NUMBER(DW_NONE, dw_session_next(session, &action));
+}
+
+/* The next action is a frame of this length. Tells its xid, which stands after the length. */
+static int32_t expect_sent(dw_session *session, size_t length)
+{
+    uint8_t frame[128];
+    EXPECT_NUMBER(length, expect_next(session, DW_KIND_SEND).length);
+    EXPECT_NUMBER(length, dw_session_copy(session, 0, frame, sizeof frame));
+    EXPECT(length >= 8);
+    return (int32_t)((uint32_t)frame[4] << 24 | (uint32_t)frame[5] << 16 | (uint32_t)frame[6] << 8 | frame[7]);
+}
+
+static void expect_text(dw_session *session, const char *wanted)
+{
+    char text[64];
+    size_t length = dw_session_copy(session, 0, text, sizeof text);
+    EXPECT_NUMBER(strlen(wanted), length);
+    EXPECT(memcmp(wanted, text, length) == 0);
+}
+
+static void expect_deadline(dw_session *session, uint64_t wanted_ms)
+{
+    uint64_t first_ms;
+    EXPECT_NUMBER(DW_OK, dw_session_deadline(session, &first_ms));
+    EXPECT_NUMBER(wanted_ms, first_ms);
+}
+
+/* An address is to be dialled now, for so long. */
+static void expect_dial(dw_session *session, uint64_t now_ms, uint64_t within_ms)
+{
+    EXPECT_NUMBER(DW_OK, dw_session_moment(session, now_ms));
+    dw_output dial = expect_next(session, DW_KIND_DIAL);
+    EXPECT(dial.place < ADDRESSES);
+    EXPECT_NUMBER(within_ms, dial.within_ms);
+    expect_no_more(session);
+    expect_deadline(session, now_ms + within_ms);
+}
+
+static void hand_in(dw_session *session, uint64_t now_ms, const struct bytes *bytes)
+{
+    EXPECT_NUMBER(DW_OK, dw_session_bytes(session, now_ms, bytes->at, bytes->length));
+}
+
+/* The connection is there, and a server admits the session. Then this many more actions of the step are the caller's to see. */
+static void connect_session(dw_session *session, uint64_t now_ms)
+{
+    struct bytes response;
+    response.length = 0;
+    add_connected(&response);
+    EXPECT_NUMBER(DW_OK, dw_session_opened(session, now_ms));
+    EXPECT_NUMBER(49, expect_next(session, DW_KIND_SEND).length);
+    EXPECT_NUMBER(DW_STATE_CONNECTING, expect_next(session, DW_KIND_STATE).state);
+    expect_no_more(session);
+    hand_in(session, now_ms, &response);
+    EXPECT_NUMBER(DW_STATE_CONNECTED, expect_next(session, DW_KIND_STATE).state);
+    EXPECT_NUMBER(DW_STATE_CONNECTED, dw_session_state(session));
+    EXPECT_NUMBER(GRANTED_MS, dw_session_timeout_ms(session));
+}
+
+/* A reply without a record. */
+static void answer(dw_session *session, uint64_t now_ms, int32_t xid, int64_t zxid, int32_t code)
+{
+    struct bytes came;
+    came.length = 0;
+    add_header(&came, xid, zxid, code);
+    hand_in(session, now_ms, &came);
+}
+
+/* What is kept of the node that is followed is good. */
+static void expect_shown(dw_session *session, enum dw_kept kind)
+{
+    dw_kept_data kept;
+    uint8_t data[8];
+    EXPECT_NUMBER(FOLLOWED, expect_next(session, DW_KIND_SHOWN).ticket);
+    expect_no_more(session);
+    EXPECT_NUMBER(DW_OK, dw_session_peek_data(session, CONFIG, &kept, data, sizeof data));
+    EXPECT_NUMBER(kind, kept.kind);
+    EXPECT_NUMBER(DW_MARK_GOOD, kept.mark);
+}
+
+/* A read of a path of seven bytes: its length, the xid, the number of the operation, the path after its length, and the watch. */
+enum { READ_LENGTH = 4 + 4 + 4 + 4 + 7 + 1 };
+
+/* There is no node, and that is good; then one is made, and it is read. */
+static void follow_an_absent_node(dw_session *session)
+{
+    dw_stat stat = {6, 6, 1000, 1000, 0, 6, 0, 0, 0, 2, 0};
+    struct bytes came;
+    int32_t xid = expect_sent(session, READ_LENGTH);
+    expect_no_more(session);
+    answer(session, 40, xid, 5, CODE_NO_NODE);
+    xid = expect_sent(session, READ_LENGTH);
+    expect_no_more(session);
+    answer(session, 41, xid, 5, CODE_NO_NODE);
+    expect_shown(session, DW_KEPT_ABSENT);
+    came.length = 0;
+    add_notice(&came, DW_EVENT_CREATED, "/config");
+    hand_in(session, 50, &came);
+    dw_output report = expect_next(session, DW_KIND_REPORT);
+    EXPECT_NUMBER(DW_EVENT_CREATED, report.event);
+    EXPECT_NUMBER(DW_SIDE_DATA, report.side);
+    expect_text(session, "/config");
+    xid = expect_sent(session, READ_LENGTH);
+    expect_no_more(session);
+    came.length = 0;
+    add_data(&came, xid, 6, "up", &stat);
+    hand_in(session, 51, &came);
+    expect_shown(session, DW_KEPT_FULL);
+    EXPECT_NUMBER(6, dw_session_last_zxid(session));
+}
+
+/* The connection is over. A call that is asked then waits until its limit. No address is dialled within 334 ms after the last one was. */
+static void lose_the_connection(dw_session *session)
+{
+    EXPECT_NUMBER(DW_OK, dw_session_cut(session, 60));
+    EXPECT_NUMBER(DW_STATE_IDLE, expect_next(session, DW_KIND_STATE).state);
+    expect_no_more(session);
+    expect_deadline(session, 334);
+    EXPECT_NUMBER(DW_OK, dw_session_set_data(session, 70, 2, 200, CONFIG, (const uint8_t *)"x", 1, false, -1));
+    expect_no_more(session);
+    expect_deadline(session, 200);
+    EXPECT_NUMBER(DW_OK, dw_session_moment(session, 199));
+    expect_no_more(session);
+    EXPECT_NUMBER(DW_OK, dw_session_moment(session, 200));
+    dw_output late = expect_next(session, DW_KIND_TIMED_OUT);
+    EXPECT_NUMBER(2, late.ticket);
+    EXPECT(!late.was_sent);
+    expect_no_more(session);
+}
+
+/* What is kept stays good over a connection that is lost: its watch is set again, by a length, the xid, the number of the operation, the last
+ * zxid, and three lists, of which the first has one path. */
+static void connect_again(dw_session *session)
+{
+    enum { SET_WATCHES_LENGTH = 4 + 4 + 4 + 8 + (4 + 4 + 7) + 4 + 4 };
+    expect_dial(session, 334, GRANTED_MS / 3);
+    EXPECT_NUMBER(DW_OK, dw_session_failed(session, 340));
+    expect_no_more(session);
+    expect_deadline(session, 668);
+    expect_dial(session, 668, GRANTED_MS / 3);
+    connect_session(session, 680);
+    EXPECT_NUMBER(XID_SET_WATCHES, expect_sent(session, SET_WATCHES_LENGTH));
+    expect_no_more(session);
+    answer(session, 690, XID_SET_WATCHES, 6, 0);
+    expect_no_more(session);
+}
+
+/* A call without a limit is answered; then the session is closed, and its connection with it. */
+static void ask_and_close(dw_session *session)
+{
+    dw_stat stat = {6, 6, 1000, 1000, 0, 6, 0, 0, 0, 2, 0};
+    struct bytes came;
+    EXPECT_NUMBER(DW_OK, dw_session_get_data(session, 700, 3, UINT64_MAX, CONFIG, false));
+    came.length = 0;
+    add_data(&came, expect_sent(session, READ_LENGTH), 6, "up", &stat);
+    hand_in(session, 710, &came);
+    dw_output got = expect_next(session, DW_KIND_ANSWER);
+    EXPECT_NUMBER(3, got.ticket);
+    EXPECT_NUMBER(DW_OUTCOME_REPLIED, got.outcome);
+    EXPECT_NUMBER(DW_REPLY_DATA, got.reply);
+    expect_text(session, "up");
+    expect_no_more(session);
+    EXPECT_NUMBER(DW_OK, dw_session_close(session, 720, 4, UINT64_MAX));
+    answer(session, 730, expect_sent(session, 12), 7, 0);
+    got = expect_next(session, DW_KIND_ANSWER);
+    EXPECT_NUMBER(4, got.ticket);
+    EXPECT_NUMBER(DW_REPLY_DONE, got.reply);
+    EXPECT_NUMBER(DW_STATE_CLOSED, expect_next(session, DW_KIND_STATE).state);
+    expect_next(session, DW_KIND_HANG_UP);
+    expect_no_more(session);
+}
+
+/* What is refused is no step: what was said before is still told. */
+static void refuse_arguments(dw_session *session)
+{
+    EXPECT_NUMBER(DW_OK, dw_session_moment(session, 0));
+    EXPECT_NUMBER(DW_NOT_PATH, dw_session_follow_data(session, 1, 9, "config", 6));
+    EXPECT_NUMBER(DW_NOT_TEXT, dw_session_follow_names(session, 1, 9, "/\xff", 2));
+    EXPECT_NUMBER(DW_NO_SUCH_MODE, dw_session_create(session, 1, 9, 2, CONFIG, (const uint8_t *)"x", 1, false, 4));
+    dw_output dial = expect_next(session, DW_KIND_DIAL);
+    EXPECT(dial.place < ADDRESSES);
+    EXPECT_NUMBER(ASKED_MS / 3, dial.within_ms);
+    expect_no_more(session);
+    expect_deadline(session, ASKED_MS / 3);
+}
+
+/* A handle of zeros takes no step, follows and asks nothing. */
+static void expect_closed_steps(dw_session *none)
+{
+    const uint8_t *data = (const uint8_t *)"x";
+    EXPECT_NUMBER(DW_CLOSED, dw_session_opened(none, 1));
+    EXPECT_NUMBER(DW_CLOSED, dw_session_failed(none, 1));
+    EXPECT_NUMBER(DW_CLOSED, dw_session_bytes(none, 1, data, 1));
+    EXPECT_NUMBER(DW_CLOSED, dw_session_cut(none, 1));
+    EXPECT_NUMBER(DW_CLOSED, dw_session_moment(none, 1));
+    EXPECT_NUMBER(DW_CLOSED, dw_session_addresses(none, 1, ADDRESSES));
+    EXPECT_NUMBER(DW_CLOSED, dw_session_exists(none, 1, 2, 3, CONFIG, true));
+    EXPECT_NUMBER(DW_CLOSED, dw_session_get_data(none, 1, 2, 3, CONFIG, true));
+    EXPECT_NUMBER(DW_CLOSED, dw_session_get_children(none, 1, 2, 3, CONFIG, true));
+    EXPECT_NUMBER(DW_CLOSED, dw_session_set_data(none, 1, 2, 3, CONFIG, data, 1, false, -1));
+    EXPECT_NUMBER(DW_CLOSED, dw_session_create(none, 1, 2, 3, CONFIG, data, 1, false, DW_MODE_PERSISTENT));
+    EXPECT_NUMBER(DW_CLOSED, dw_session_delete(none, 1, 2, 3, CONFIG, -1));
+    EXPECT_NUMBER(DW_CLOSED, dw_session_close(none, 1, 2, 3));
+    EXPECT_NUMBER(DW_CLOSED, dw_session_follow_data(none, 1, 2, CONFIG));
+    EXPECT_NUMBER(DW_CLOSED, dw_session_follow_names(none, 1, 2, CONFIG));
+    EXPECT_NUMBER(DW_CLOSED, dw_session_unfollow(none, 1, 2));
+}
+
+/* It says nothing, and shows nothing. What it is asked for is not written, and each count is 0. */
+static void expect_closed_looks(dw_session *none)
+{
+    dw_output action;
+    dw_kept_data data;
+    dw_kept_names names;
+    uint8_t room[8];
+    char text[8];
+    size_t count = 1;
+    int64_t token = 1;
+    uint64_t moment_ms = 1;
+    EXPECT_NUMBER(DW_CLOSED, dw_session_next(none, &action));
+    EXPECT_NUMBER(0, dw_session_copy(none, 0, room, sizeof room));
+    EXPECT_NUMBER(0, dw_session_name(none, 0, text, sizeof text));
+    EXPECT_NUMBER(DW_CLOSED, dw_session_names(none, room, sizeof room, &count));
+    EXPECT_NUMBER(DW_CLOSED, dw_session_words(none, text, sizeof text, &count));
+    EXPECT_NUMBER(DW_CLOSED, dw_session_state(none));
+    EXPECT_NUMBER(DW_CLOSED, dw_session_last_zxid(none));
+    EXPECT_NUMBER(DW_CLOSED, dw_session_timeout_ms(none));
+    EXPECT_NUMBER(DW_CLOSED, dw_session_deadline(none, &moment_ms));
+    EXPECT_NUMBER(DW_CLOSED, dw_session_heard_at(none, &moment_ms));
+    EXPECT_NUMBER(DW_CLOSED, dw_session_saved(none, room, sizeof room, &count));
+    EXPECT_NUMBER(DW_CLOSED, dw_session_peek_data(none, CONFIG, &data, room, sizeof room));
+    EXPECT_NUMBER(DW_CLOSED, dw_session_peek_children(none, CONFIG, &names));
+    EXPECT_NUMBER(DW_CLOSED, dw_session_peek_name(none, CONFIG, 0, text, sizeof text, &count));
+    EXPECT_NUMBER(DW_CLOSED, dw_session_peek_names(none, CONFIG, room, sizeof room, &count));
+    EXPECT_NUMBER(DW_CLOSED, dw_session_subtree(none, CONFIG, 4, room, sizeof room, &count));
+    EXPECT_NUMBER(DW_CLOSED, dw_session_lacking(none, CONFIG, 4, room, sizeof room, &count));
+    EXPECT_NUMBER(DW_CLOSED, dw_session_snapshot(none, room, 0, room, 0, room, sizeof room, &count));
+    EXPECT_NUMBER(DW_CLOSED, dw_session_standing(none, CONFIG, "n", 1, room, 0, 1, room, 0, &token, text, sizeof text, &count));
+    EXPECT_NUMBER(DW_CLOSED, dw_session_holder(none, CONFIG, "n", 1, CONFIG, &token));
+    EXPECT(count == 0 && token == 0 && moment_ms == 0);
+}
+
+/* A session that is put away is taken up by another handle: it asks for the same session, and what was seen is kept. */
+static void take_up(dw_session *session)
+{
+    static dw_session second;
+    uint8_t saved[64];
+    size_t length;
+    EXPECT_NUMBER(DW_OK, dw_session_saved(session, saved, sizeof saved, &length));
+    EXPECT_NUMBER(36, length);
+    EXPECT_NUMBER(DW_NOT_SAVED, dw_session_resume(&second, ASKED_MS, ADDRESSES, 1, saved, length - 1));
+    EXPECT_NUMBER(DW_OK, dw_session_resume(&second, ASKED_MS, ADDRESSES, 1, saved, length));
+    EXPECT_NUMBER(6, dw_session_last_zxid(&second));
+    expect_dial(&second, 1, ASKED_MS / 3);
+    dw_session_free(&second);
+}
+
+int main(void)
+{
+    static dw_session session;
+    uint64_t moment_ms = 1;
+    expect_closed_steps(&session);
+    expect_closed_looks(&session);
+    EXPECT_NUMBER(DW_BAD_TIMEOUT, dw_session_open(&session, 0, ADDRESSES, 1));
+    EXPECT_NUMBER(DW_OK, dw_session_open(&session, ASKED_MS, ADDRESSES, 1));
+    refuse_arguments(&session);
+    EXPECT_NUMBER(DW_NONE, dw_session_heard_at(&session, &moment_ms));
+    EXPECT_NUMBER(0, moment_ms);
+    EXPECT_NUMBER(DW_OK, dw_session_follow_data(&session, 10, FOLLOWED, CONFIG));
+    expect_no_more(&session);
+    connect_session(&session, 30);
+    EXPECT_NUMBER(DW_OK, dw_session_heard_at(&session, &moment_ms));
+    EXPECT_NUMBER(30, moment_ms);
+    follow_an_absent_node(&session);
+    take_up(&session);
+    lose_the_connection(&session);
+    connect_again(&session);
+    ask_and_close(&session);
+    dw_session_free(&session);
+    EXPECT_NUMBER(DW_CLOSED, dw_session_state(&session));
+    return EXIT_SUCCESS;
+}

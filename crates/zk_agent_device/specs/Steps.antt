@@ -1,0 +1,101 @@
+-- What becomes of an agent's device, by the number that is told.
+use Rattle.std.specs.Prelude.{◌≡◌, ◌+◌, ◌==◌, ◌^◌, ℕ, zero, ℤ, pos, negsuc, true, false, max, List, [], Option, Some, None, Result, All, MatchResult, if◌then◌else◌}
+use Rattle.std.specs.declared.alloc.Global.{Global}
+use Rattle.zk_nodes.specs.Path.{Text}
+use Rattle.zk_nodes.specs.declared.side.Side.{Side}
+use Rattle.zk_conversation.specs.Calls.{Call}
+use Rattle.zk_conversation.specs.Views.{call_view}
+use Rattle.zk_turns.specs.Turns.{Start}
+use Rattle.zk_turns.specs.View.{View, view_at}
+use Rattle.zk_client.specs.Clients.{view_of}
+use Rattle.zk_dialler.specs.Dialling.{is_open}
+use Rattle.zk_follow.specs.Following.{IsFollowed}
+use Rattle.zk_agent.specs.declared.agent.Agent.{Agent}
+use Rattle.zk_agent.specs.declared.input.Input.{Input}
+use Rattle.zk_agent.specs.declared.input.Input.TheVariants as input
+use Rattle.zk_agent.specs.Agents.{asks_of, heard_after, how_many_asked, how_many_ended, trail_of, Comes}
+use Rattle.zk_agent.specs.Calls.{how_many, IsInTime, IsServed}
+use Rattle.zk_agent.specs.Telling.{told_by}
+use Rattle.zk_device.specs.Codes.{refusal_code}
+use Rattle.zk_device.specs.declared.refusal.Refusal.{Refusal}
+use Rattle.zk_agent_device.specs.declared.device.AgentDevice.{AgentDevice}
+
+-- ---- what happens
+
+-- What a caller hands in, without where it lies in memory.
+pub data Happening : Type 0 where
+  Opened Failed Cut Moment : Happening
+  Bytes : List ℕ → Happening
+  Addressed : (count : ℕ) → Happening
+  Calls : (ticket : ℕ) → Call → (until : Option ℕ) → Happening
+  Follows : (ticket : ℕ) → Side → Text → Happening
+  Unfollows : (ticket : ℕ) → Happening
+
+abbrev pub happening : {A : Type 0} → Input A → Happening
+happening input.Opened = Opened
+happening input.Failed = Failed
+happening (input.Bytes bytes) = Bytes bytes.items
+happening input.Cut = Cut
+happening input.Moment = Moment
+happening (input.Addresses count) = Addressed count
+happening (input.Call ticket call until) = Calls ticket (call_view call) until
+happening (input.Follow ticket side path) = Follows ticket side path
+happening (input.Unfollow ticket) = Unfollows ticket
+
+-- the limit of a call at a moment: at the last one of all there is none
+abbrev pub limit_of : (until : ℕ) → Option ℕ
+limit_of until = if until == 18446744073709551615 then None else Some until
+
+-- ---- steps
+
+-- each subject is followed, at the latest moment
+abbrev pub AreFollowed : {A : Type 0} → Agent A → Type 0
+AreFollowed agent = All (IsFollowed agent.latest (view_of agent.asker.follower.client)) agent.asker.follower.subjects.items
+
+-- The agent took an input that was noticed at a moment, by all that a step of it promises. What it said is there, in its order, and none of
+-- it was read.
+pub record Took (now : ℕ) (given : Input Global) (before after : AgentDevice) : Type 0 where
+  pub went_on : before.is_over ≡ false
+  pub goes_on : after.is_over ≡ false
+  pub unread : after.read ≡ 0
+  pub comes : Comes (asks_of given) (trail_of before.agent []) (trail_of after.agent after.said.items)
+  pub followed : AreFollowed after.agent
+  pub calls : (ticket : ℕ) → how_many ticket after.agent.asker.line.entries.items + how_many_ended ticket (told_by after.said.items) ≡ how_many ticket before.agent.asker.line.entries.items + how_many_asked ticket given
+  pub served : All (IsServed (view_of after.agent.asker.follower.client)) after.agent.asker.line.entries.items
+  pub limits : All (IsInTime after.agent.latest) after.agent.asker.line.entries.items
+  pub latest : after.agent.latest ≡ max before.agent.latest now
+  pub heard : after.agent.heard_at ≡ heard_after (is_open before.agent.dialler.phase) (max before.agent.latest now) given before.agent.heard_at
+
+-- The same of an input that is this.
+pub record Stepped (now : ℕ) (what : Happening) (before after : AgentDevice) : Type 0 where
+  pub given : Input Global
+  pub is : happening given ≡ what
+  pub took : Took now given before after
+
+-- Memory ran out within this step, or within an earlier one: the agent goes on no further, and nothing is told.
+pub record Stopped (after : AgentDevice) : Type 0 where
+  pub over : after.is_over ≡ true
+  pub silent : after.said.items ≡ []
+
+-- What happened, at a moment: 0 where it was one step of the agent, -1 where the agent goes on no further, and any other number where nothing
+-- was done, for a reason that this number has.
+abbrev pub Steps : (Refuses : ℤ → Type 0) → (now : ℕ) → Happening → (before : AgentDevice) → (code : ℤ) → (after : AgentDevice) → Type 0
+Steps Refuses now what before (pos zero) after = Stepped now what before after
+Steps Refuses now what before (negsuc zero) after = Stopped after
+Steps Refuses now what before code after = Refuses code × (after ≡ before)
+
+-- ---- beginnings
+
+-- Nothing was asked, followed, heard or said yet, and the client is this one.
+pub record BeginsWith (view : View) (device : AgentDevice) : Type 0 where
+  pub client : view_of device.agent.asker.follower.client ≡ view
+  pub subjects : device.agent.asker.follower.subjects.items ≡ []
+  pub calls : device.agent.asker.line.entries.items ≡ []
+  pub latest : device.agent.latest ≡ 0
+  pub heard : device.agent.heard_at ≡ None
+  pub silent : device.said.items ≡ []
+  pub goes_on : device.is_over ≡ false
+
+-- a device that has begun so, or a refusal for a reason that its number has
+abbrev pub Begins : (Refuses : ℤ → Type 0) → Start → Result AgentDevice Refusal → Type 0
+Begins Refuses start made = MatchResult made (BeginsWith (view_at start [])) (λ refusal. Refuses (refusal_code refusal))

@@ -1,0 +1,158 @@
+//! An agent with the actions of its last step.
+
+ghost use Rattle.std.specs.Prelude.{◌≡◌, ◌≢◌, ◌<ℤ◌, pos, [], IfErr, IfOk, OnOk, Ok, Err, unsigned_abs};
+ghost use Rattle.zk_turns.specs.Turns.{new_start};
+ghost use Rattle.zk_client.specs.Clients.{view_of};
+ghost use Rattle.zk_client.specs.SavedSessions.{PutAway, bytes_read};
+ghost use Rattle.zk_client.specs.declared.saved_fault.SavedFault.{SavedFault};
+ghost use Rattle.zk_client.specs.declared.saved_fault.SavedFault.TheVariants as saved_faults;
+ghost use Rattle.zk_device.specs.declared.refusal.Refusal.TheVariants as refusals;
+ghost use Rattle.zk_device.specs.Codes.{code_of};
+ghost use Rattle.zk_device.specs.Refused.{RefusesMemory, RefusesNothing, RefusesTimeout};
+ghost use Rattle.zk_device.specs.Sessions.{put_start};
+ghost use Rattle.zk_agent_device.specs.Steps.{Addressed, Bytes, Cut, Failed, Moment, Opened, Begins, BeginsWith, Stepped, Steps, Stopped, happening};
+
+use std::alloc::Global;
+use zk_agent::{Action, Agent, Input, Settings};
+use zk_client::Client;
+use zk_device::{Device, Refusal};
+
+/// An agent, what it said at its last step, how much of that was read, and whether it goes on no further: memory ran out within a step.
+/// Its methods stand by what they are about: calls in `calls`, what is followed in `subjects`, what was said in `outputs`, and here what
+/// comes from a connection. What is kept is looked up by functions of `zk_device` over the agent's client.
+#[derive(Drop)]
+pub struct AgentDevice {
+    pub agent: Agent<Global>,
+    pub said: Vec<Action<Global>, Global>,
+    pub read: usize,
+    pub is_over: bool,
+}
+
+impl AgentDevice {
+    /// A session of no server yet, which asks for this timeout in milliseconds and has this many addresses. Their order and the pauses are
+    /// random by the seed. A refusal is `BadTimeout`, else `Memory`.
+    pub fn new(
+        alloc: Global,
+        timeout_ms: i32,
+        addresses: usize,
+        seed: u64,
+    ) -> Result<AgentDevice, Refusal>
+        ensures begins { Begins (RefusesTimeout timeout_ms) (new_start (unsigned_abs timeout_ms)) result }
+        ensures accepted { OnOk result (pos 0 <ℤ timeout_ms) }
+    {
+        if timeout_ms <= 0 {
+            return Err(Refusal::BadTimeout);
+        }
+        let settings = Settings {
+            timeout_ms,
+            addresses,
+            seed,
+        };
+        AgentDevice::of(alloc, Client::new(alloc, timeout_ms), settings)
+    }
+
+    /// The same, which takes up the session of these bytes first. A refusal is `BadTimeout`, else `NotSaved`, else `Memory`.
+    pub fn resume(
+        alloc: Global,
+        timeout_ms: i32,
+        addresses: usize,
+        seed: u64,
+        saved: &[u8],
+    ) -> Result<AgentDevice, Refusal>
+        ensures begins { (put : PutAway) → bytes_read saved.now ≡ Ok put → Begins (RefusesTimeout timeout_ms) (put_start timeout_ms put) result }
+        ensures accepted { OnOk result (pos 0 <ℤ timeout_ms) }
+        ensures unread { (fault : SavedFault) → bytes_read saved.now ≡ Err fault → fault ≢ saved_faults.Memory → pos 0 <ℤ timeout_ms → result ≡ Err refusals.NotSaved }
+    {
+        let Device {
+            client,
+            said,
+            read: _,
+        } = Device::resume(alloc, timeout_ms, saved)?;
+        drop(said);
+        let settings = Settings {
+            timeout_ms,
+            addresses,
+            seed,
+        };
+        AgentDevice::of(alloc, client, settings)
+    }
+
+    // An agent of this client, which has said nothing yet. The one refusal is `Memory`.
+    fn of(alloc: Global, client: Client<Global>, settings: Settings) -> Result<AgentDevice, Refusal>
+        requires { pos 0 <ℤ settings.timeout_ms }
+        ensures begins { IfOk result (BeginsWith (view_of client)) }
+        ensures refused { IfErr result (λ refusal. refusal ≡ refusals.Memory) }
+    {
+        match Agent::new(alloc, client, settings) {
+            Ok(agent) => Ok(AgentDevice {
+                agent,
+                said: Vec::new(alloc),
+                read: 0,
+                is_over: false,
+            }),
+            Err(_) => Err(Refusal::Memory),
+        }
+    }
+
+    /// Takes an input that is noticed at this moment. What was said before is forgotten. The one refusal is `Halted`, which each later step
+    /// answers too.
+    pub(crate) fn step_at(&mut self, now: u64, input: Input<Global>) -> Result<(), Refusal>
+        ensures stepped { OnOk result (Stepped now (happening input) self.old self.new) }
+        ensures stopped { IfErr result (λ refusal. (refusal ≡ refusals.Halted) × Stopped self.new) }
+    {
+        self.said.clear();
+        self.read = 0;
+        if self.is_over {
+            return Err(Refusal::Halted);
+        }
+        let Ok(said) = self.agent.step(now, input) else {
+            self.is_over = true;
+            return Err(Refusal::Halted);
+        };
+        self.said = said;
+        Ok(())
+    }
+
+    /// The connection that was asked for is there.
+    pub fn opened_at(&mut self, now: u64) -> Result<(), Refusal>
+        ensures { Steps RefusesNothing now Opened self.old (code_of result) self.new }
+    {
+        self.step_at(now, Input::Opened)
+    }
+
+    /// The connection that was asked for could not be made.
+    pub fn failed_at(&mut self, now: u64) -> Result<(), Refusal>
+        ensures { Steps RefusesNothing now Failed self.old (code_of result) self.new }
+    {
+        self.step_at(now, Input::Failed)
+    }
+
+    /// Bytes came from the server.
+    pub fn bytes_at(&mut self, alloc: Global, now: u64, bytes: &[u8]) -> Result<(), Refusal>
+        ensures { Steps RefusesMemory now (Bytes bytes.now) self.old (code_of result) self.new }
+    {
+        let owned = Vec::from_slice(alloc, bytes)?;
+        self.step_at(now, Input::Bytes(owned))
+    }
+
+    /// The connection is over.
+    pub fn cut_at(&mut self, now: u64) -> Result<(), Refusal>
+        ensures { Steps RefusesNothing now Cut self.old (code_of result) self.new }
+    {
+        self.step_at(now, Input::Cut)
+    }
+
+    /// The moment, and nothing else.
+    pub fn tick(&mut self, now: u64) -> Result<(), Refusal>
+        ensures { Steps RefusesNothing now Moment self.old (code_of result) self.new }
+    {
+        self.step_at(now, Input::Moment)
+    }
+
+    /// The list of addresses is another one, of this many.
+    pub fn addresses_at(&mut self, now: u64, count: usize) -> Result<(), Refusal>
+        ensures { Steps RefusesNothing now (Addressed count) self.old (code_of result) self.new }
+    {
+        self.step_at(now, Input::Addresses(count))
+    }
+}

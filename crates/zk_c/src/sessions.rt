@@ -1,0 +1,13 @@
+//! The handle of a session, and the functions over it.
+
+mod calls;
+mod conclusions;
+mod handle;
+mod kept;
+mod making;
+mod outputs;
+mod shown;
+mod slot;
+mod steps;
+mod subjects;
+mod taking;
