@@ -146,7 +146,7 @@ fn go<W: Write>(
 
 /// Plays the session.
 pub fn play_agents<W: Write>(alloc: Global, out: &mut W) -> Result<()> {
-    let Ok(mut device) = AgentDevice::new(alloc, 9_000, 1, 1) else {
+    let Ok(mut device) = AgentDevice::open(alloc, 9_000, 1, 1) else {
         return Ok(());
     };
     let mut bench = Bench::new(alloc, History::new(alloc));

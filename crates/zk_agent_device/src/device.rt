@@ -31,7 +31,7 @@ pub struct AgentDevice {
 impl AgentDevice {
     /// A session of no server yet, which asks for this timeout in milliseconds and has this many addresses. Their order and the pauses are
     /// random by the seed. A refusal is `BadTimeout`, else `Memory`.
-    pub fn new(
+    pub fn open(
         alloc: Global,
         timeout_ms: i32,
         addresses: usize,

@@ -43,7 +43,7 @@ pub extern "C" fn dw_session_open(
     ensures { Makes (RefusesTimeout timeout_ms) (new_start (unsigned_abs timeout_ms)) result handle.new.slot.held }
 {
     *handle = DwSession::closed(alloc);
-    match AgentDevice::new(alloc, timeout_ms, addresses, seed) {
+    match AgentDevice::open(alloc, timeout_ms, addresses, seed) {
         Ok(session) => hold(alloc, handle, session),
         Err(refusal) => refusal.code(),
     }
