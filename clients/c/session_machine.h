@@ -440,6 +440,7 @@ static inline void dws_take(dws_session *s, const dw_output *output)
     case DW_KIND_REPORT: dws_take_report(s, output); break;
     case DW_KIND_STATE: dws_take_state(s, output->state); break;
     case DW_KIND_DROP: dws_take_drop(s); break;
+    default: break; /* a client says no other */
     }
 }
 
