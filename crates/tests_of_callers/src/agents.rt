@@ -22,11 +22,10 @@ enum Event {
     Creates(&'static str),
     /// With a limit.
     Reads(&'static str, u64),
-    Closes,
 }
 
-/// A node is followed before it is there; a call times out; the session expires, and is closed at last.
-static EVENTS: [Event; 14] = [
+/// A node is followed before it is there; a call times out; the session expires, and another one reads the node again.
+static EVENTS: [Event; 13] = [
     Event::Moment,
     Event::Follows("/a"),
     Event::Opens,
@@ -40,7 +39,6 @@ static EVENTS: [Event; 14] = [
     Event::Opens,
     Event::Follows("a"),
     Event::Unfollows(200),
-    Event::Closes,
 ];
 
 /// More actions than one step has, more answers than a server has at once, and more bytes than a frame of the session has.
@@ -81,7 +79,6 @@ fn happen(
         Event::Reads(path, until) => {
             device.get_data_at(alloc, now, now, until, path.as_bytes(), false)
         }
-        Event::Closes => device.close_session_at(now, now, u64::MAX),
     }
 }
 
