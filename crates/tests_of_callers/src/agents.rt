@@ -141,16 +141,29 @@ fn go<W: Write>(
     Ok(())
 }
 
+/// Lets each event happen, one after the other.
+fn play<W: Write>(
+    alloc: Global,
+    bench: &mut Bench<Global>,
+    device: &mut AgentDevice,
+    out: &mut W,
+) -> Result<()> {
+    let mut now = 0u64;
+    for event in &EVENTS {
+        now = now.saturating_add(100);
+        go(alloc, *event, now, bench, device, out)?;
+    }
+    Ok(())
+}
+
 /// Plays the session.
 pub fn play_agents<W: Write>(alloc: Global, out: &mut W) -> Result<()> {
     let Ok(mut device) = AgentDevice::open(alloc, 9_000, 1, 1) else {
         return Ok(());
     };
     let mut bench = Bench::new(alloc, History::new(alloc));
-    let mut now = 0u64;
-    for event in &EVENTS {
-        now = now.saturating_add(100);
-        go(alloc, *event, now, &mut bench, &mut device, out)?;
-    }
-    Ok(())
+    let played = play(alloc, &mut bench, &mut device, out);
+    drop(bench);
+    drop(device);
+    played
 }

@@ -136,8 +136,37 @@ fn tell<D: Dial + Drop, C: Clock + Drop, W: Write>(
     Ok(shown)
 }
 
-/// Goes on with a driver and its server in turn. When the first ping came, after what came last before it.
-fn go_on<R: Net, D: Dial + Drop, C: Clock + Drop, W: Write>(
+/// Goes on with a driver and its server in turn, from this moment on.
+fn go_on<S: Read + Write + Drop, D: Dial + Drop, C: Clock + Drop, W: Write>(
+    alloc: Global,
+    driver: &mut Driver<'_, Global, D, C>,
+    host: &mut Host<S>,
+    node: &Path,
+    begins: u64,
+    out: &mut W,
+) -> Result<()> {
+    for _ in 0..u64::MAX {
+        let now = driver.now();
+        let passed = now.saturating_sub(begins);
+        if MOST_MS <= passed || WHOLE_MS <= passed && host.pinged.is_some() {
+            break;
+        }
+        host.serve(alloc, now, passed)?;
+        let shown = tell(driver, node, now.saturating_add(TURN_MS), out)?;
+        host.shown = host.shown.saturating_add(shown);
+    }
+    Ok(())
+}
+
+/// The connection that a driver has made, which a read waits for briefly.
+fn accepted<R: Net>(listener: &R::Listener) -> Result<R::Stream> {
+    let (stream, _) = listener.accept()?;
+    stream.set_read_timeout(Some(Duration::from_millis(TURN_MS)))?;
+    Ok(stream)
+}
+
+/// Goes on with a driver beside a server. When the first ping came, after what came last before it.
+fn host<R: Net, D: Dial + Drop, C: Clock + Drop, W: Write>(
     alloc: Global,
     driver: &mut Driver<'_, Global, D, C>,
     listener: &R::Listener,
@@ -146,8 +175,7 @@ fn go_on<R: Net, D: Dial + Drop, C: Clock + Drop, W: Write>(
     let node = Path::new(alloc, NODE)?;
     let begins = driver.now();
     tell(driver, &node, begins.saturating_add(TURN_MS), out)?;
-    let (stream, _) = listener.accept()?;
-    stream.set_read_timeout(Some(Duration::from_millis(TURN_MS)))?;
+    let stream = accepted::<R>(listener)?;
     let mut host = Host {
         stream,
         bench: begun(alloc)?,
@@ -156,17 +184,11 @@ fn go_on<R: Net, D: Dial + Drop, C: Clock + Drop, W: Write>(
         heard: begins,
         pinged: None,
     };
-    for _ in 0..u64::MAX {
-        let now = driver.now();
-        let passed = now.saturating_sub(begins);
-        if MOST_MS <= passed || WHOLE_MS <= passed && host.pinged.is_some() {
-            break;
-        }
-        host.serve(alloc, now, passed)?;
-        let shown = tell(driver, &node, now.saturating_add(TURN_MS), out)?;
-        host.shown = host.shown.saturating_add(shown);
-    }
-    Ok(host.pinged.map(|moment| moment.saturating_sub(host.heard)))
+    let went = go_on(alloc, driver, &mut host, &node, begins, out);
+    let waited = host.pinged.map(|moment| moment.saturating_sub(host.heard));
+    drop(host);
+    drop(node);
+    went.map(|()| waited)
 }
 
 /// Follows the node for two seconds, and until a ping has come.
@@ -177,13 +199,16 @@ fn follow<R: Net + time::Clock, W: Write>(
 ) -> Result<Option<u64>> {
     let listener = TcpListener::bind(rt, "127.0.0.1:0")?;
     let address = format!(in alloc; "{}", listener.local_addr()?)?;
+    let node = Path::new(alloc, NODE)?;
     let addresses = [address.as_str()];
     let (dial, clock) = (Tcp::new(rt), SystemClock::new(rt));
     let mut driver = Driver::begin(alloc, TIMEOUT_MS, dial, clock, &addresses)?;
-    driver.follow(1, Side::Data, Path::new(alloc, NODE)?)?;
-    let waited = go_on::<R, _, _, _>(alloc, &mut driver, &listener, out);
+    let followed = match driver.follow(1, Side::Data, node) {
+        Ok(()) => host::<R, _, _, _>(alloc, &mut driver, &listener, out),
+        Err(stop) => Err(stop.into()),
+    };
     drop(driver);
-    waited
+    followed
 }
 
 /// Follows the node, and tells whether the first ping came in time.
