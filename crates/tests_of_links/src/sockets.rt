@@ -166,7 +166,7 @@ fn accepted<R: Net>(listener: &R::Listener) -> Result<R::Stream> {
 }
 
 /// Goes on with a driver beside a server. When the first ping came, after what came last before it.
-fn host<R: Net, D: Dial + Drop, C: Clock + Drop, W: Write>(
+fn play<R: Net, D: Dial + Drop, C: Clock + Drop, W: Write>(
     alloc: Global,
     driver: &mut Driver<'_, Global, D, C>,
     listener: &R::Listener,
@@ -204,7 +204,7 @@ fn follow<R: Net + time::Clock, W: Write>(
     let (dial, clock) = (Tcp::new(rt), SystemClock::new(rt));
     let mut driver = Driver::begin(alloc, TIMEOUT_MS, dial, clock, &addresses)?;
     let followed = match driver.follow(1, Side::Data, node) {
-        Ok(()) => host::<R, _, _, _>(alloc, &mut driver, &listener, out),
+        Ok(()) => play::<R, _, _, _>(alloc, &mut driver, &listener, out),
         Err(stop) => Err(stop.into()),
     };
     drop(driver);
