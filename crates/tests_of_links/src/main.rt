@@ -1,14 +1,12 @@
-//! Runs links, and watches over links, against servers in memory, and a driver over the network of this process, and prints what happens.
-//! What is to be printed is in the file `stdout`.
+//! Runs links, and watches over links, against servers in memory, and prints what happens. What is to be printed is in the file
+//! `stdout`.
 #![tactic(auto)]
 
 mod links;
-mod sockets;
 mod watches;
 
 use anyhow::Result;
 use links::play_links;
-use sockets::play_sockets;
 use std::io::{self, Write};
 use watches::play_watches;
 
@@ -17,7 +15,5 @@ fn main(rt: HostRuntime) -> Result<()> {
     writeln!(out, "# links")?;
     play_links(rt.alloc(), &mut out)?;
     writeln!(out, "# watches")?;
-    play_watches(rt.alloc(), &mut out)?;
-    writeln!(out, "# sockets")?;
-    play_sockets(&rt, rt.alloc(), &mut out)
+    play_watches(rt.alloc(), &mut out)
 }
