@@ -17,9 +17,14 @@ use Rattle.zk_line.specs.declared.entry.Entry.{Entry}
 use Rattle.zk_line.specs.declared.entry.Ending.{Ending}
 use Rattle.zk_line.specs.declared.entry.Ending.TheVariants.{Lost, LostOf, Late, Expired}
 use Rattle.zk_line.specs.Lines.{after_answer, answered, ended, ended_of, first_handed, first_where, goes_back, is_ended, left, settles_one, waits_turn}
-use Rattle.zk_agent.specs.Agents.{Comes, Move, Hears, Renews, Follows, Unfollows, Asks, GivesUp, Opened, Ended as Over, HungUp, Addressed, Decides, Does, HearsSo, LetsGoWhere, Trail, asks_for, how_many_ended, is_ask}
-use Rattle.zk_agent.specs.Calls.{answers, endings, handed, hears, hears_all, how_many, tells, tells_all}
-use Rattle.zk_agent.specs.Telling.{Told, Says, HangsUp, Begins, due_told, ended_told, is_end_of, news_told}
+use Rattle.zk_dialler.specs.declared.dialler.Phase.{Phase}
+use Rattle.zk_dialler.specs.declared.dialler.Phase.TheVariants.{Waiting, Dialling, Open}
+use Rattle.zk_dialler.specs.Dialling.{is_open}
+use Rattle.zk_agent.specs.declared.input.Input.{Input as Happens}
+use Rattle.zk_agent.specs.declared.input.Input.TheVariants as happens
+use Rattle.zk_agent.specs.Agents.{Comes, Move, Hears, Hands, Renews, Follows, Unfollows, Asks, GivesUp, Opened, Ended as Over, HungUp, Closes, Addressed, Decides, Does, HearsSo, LeavesWhere, LetsGoWhere, Trail, asks_for, bytes_at, given_of, how_many_asked, how_many_ended, is_given, opened_at}
+use Rattle.zk_agent.specs.Calls.{answers, closings, endings, handed, hears, hears_all, how_many, tells, tells_all}
+use Rattle.zk_agent.specs.Telling.{Told, Says, HangsUp, Begins, closed_told, due_told, ended_told, is_end_of, news_told}
 
 -- ---- counts
 
@@ -54,13 +59,47 @@ no_due ticket None = refl
 no_due ticket (Some (Dial place within)) = refl
 no_due ticket (Some GiveUp) = refl
 
--- what asks is an ask
-asks_alone : (ticket : ℕ) (moves : List Move) → count_by (asks_for ticket) (filter is_ask moves) ≡ count_by (asks_for ticket) moves
+both_more : {X : Type 0} (p : X → Bool) (x : X) (xs ys : List X) → count_by p xs ≡ count_by p ys → count_by p (x ∷ xs) ≡ count_by p (x ∷ ys)
+both_more p x xs ys same = count_cons p x xs ∙ ap (λ n. cond (p x) 1 0 + n) same ∙ sym (count_cons p x ys)
+
+-- what asks comes from outside
+asks_alone : (ticket : ℕ) (moves : List Move) → count_by (asks_for ticket) (filter is_given moves) ≡ count_by (asks_for ticket) moves
 asks_alone ticket [] = refl
-asks_alone ticket (Asks its asked until ∷ moves) =
-    count_cons (asks_for ticket) (Asks its asked until) (filter is_ask moves) ∙ ap (λ n. cond (its == ticket) 1 0 + n) (asks_alone ticket moves)
-    ∙ sym (count_cons (asks_for ticket) (Asks its asked until) moves)
-asks_alone ticket (_ ∷ moves) = asks_alone ticket moves
+asks_alone ticket (Hands now its asked ∷ moves) = asks_alone ticket moves
+asks_alone ticket (Renews timeout ∷ moves) = asks_alone ticket moves
+asks_alone ticket (GivesUp now ∷ moves) = asks_alone ticket moves
+asks_alone ticket (Decides now due ∷ moves) = asks_alone ticket moves
+asks_alone ticket (Closes ∷ moves) = asks_alone ticket moves
+asks_alone ticket (Hears now input ∷ moves) = both_more (asks_for ticket) (Hears now input) (filter is_given moves) moves (asks_alone ticket moves)
+asks_alone ticket (Follows its side path ∷ moves) = both_more (asks_for ticket) (Follows its side path) (filter is_given moves) moves (asks_alone ticket moves)
+asks_alone ticket (Unfollows its ∷ moves) = both_more (asks_for ticket) (Unfollows its) (filter is_given moves) moves (asks_alone ticket moves)
+asks_alone ticket (Asks its asked until ∷ moves) = both_more (asks_for ticket) (Asks its asked until) (filter is_given moves) moves (asks_alone ticket moves)
+asks_alone ticket (Opened now ∷ moves) = both_more (asks_for ticket) (Opened now) (filter is_given moves) moves (asks_alone ticket moves)
+asks_alone ticket (Over now ∷ moves) = both_more (asks_for ticket) (Over now) (filter is_given moves) moves (asks_alone ticket moves)
+asks_alone ticket (HungUp ∷ moves) = both_more (asks_for ticket) HungUp (filter is_given moves) moves (asks_alone ticket moves)
+asks_alone ticket (Addressed count ∷ moves) = both_more (asks_for ticket) (Addressed count) (filter is_given moves) moves (asks_alone ticket moves)
+
+-- an input asks its call, and no other
+bytes_ask : (ticket : ℕ) (is_there : Bool) (now : ℕ) (bytes : List ℕ) → count_by (asks_for ticket) (bytes_at is_there now bytes) ≡ 0
+bytes_ask ticket true now bytes = refl
+bytes_ask ticket false now bytes = refl
+
+opened_ask : (ticket : ℕ) (phase : Phase) (now : ℕ) → count_by (asks_for ticket) (opened_at phase now) ≡ 0
+opened_ask ticket Waiting now = refl
+opened_ask ticket (Dialling began until) now = refl
+opened_ask ticket Open now = refl
+
+pub asks_its : {A : Type 0} (ticket : ℕ) (phase : Phase) (now : ℕ) (input : Happens A) → count_by (asks_for ticket) (given_of phase now input) ≡ how_many_asked ticket input
+asks_its ticket phase now happens.Opened = opened_ask ticket phase now
+asks_its ticket phase now happens.Failed = refl
+asks_its ticket phase now (happens.Bytes bytes) = bytes_ask ticket (is_open phase) now bytes.items
+asks_its ticket phase now happens.Cut = refl
+asks_its ticket phase now happens.Moment = refl
+asks_its ticket phase now (happens.Addresses count) = refl
+asks_its ticket phase now (happens.Call its call until) =
+    count_cons (asks_for ticket) (Asks its (call_view call) until) (Hears now (turns.Now now) ∷ []) ∙ (let none : count_by (asks_for ticket) (Hears now (turns.Now now) ∷ []) ≡ 0 = refl in omega (arith, none))
+asks_its ticket phase now (happens.Follow its side path) = refl
+asks_its ticket phase now (happens.Unfollow its) = refl
 
 module _ {A : Type 0} (ticket : ℕ) where
   abbrev is_its : Entry A → Bool
@@ -78,6 +117,11 @@ module _ {A : Type 0} (ticket : ℕ) where
   count_endings ending entries =
       count_map (is_end_of ticket) (λ one. is_end_of ticket (ended_told ending one)) (ended_told ending) (λ one. refl) (map ended_of (ended ending entries))
       ∙ count_map (λ one. is_end_of ticket (ended_told ending one)) is_its ended_of (end_of_ended ending) (ended ending entries)
+
+  count_closings : (entries : List (Entry A)) → how_many_ended ticket (closings entries) ≡ how_many ticket entries
+  count_closings entries =
+      count_map (is_end_of ticket) (λ one. is_end_of ticket (closed_told one)) closed_told (λ one. refl) (map ended_of entries)
+      ∙ count_map (λ one. is_end_of ticket (closed_told one)) is_its ended_of (λ entry. refl) entries
 
   pub ended_or_left : (ending : Ending) (entries : List (Entry A)) → how_many_ended ticket (endings ending entries) + how_many ticket (left ending entries) ≡ how_many ticket entries
   ended_or_left ending entries =
@@ -186,12 +230,19 @@ module _ {A : Type 0} (ticket : ℕ) where
       let all = all_heard_or_left takes.given line in
       let as_many = as_many_handed input old.line in omega (arith, left, told, last, a, b, none, all, as_many)
 
+  left_same : (is_lost : Bool) (now : ℕ) (old new : Trail A) → LeavesWhere is_lost now old new → total new ≡ total old
+  left_same true now old new leaves = heard_same now turns.Cut old new leaves
+  left_same false now old new same = ap total same
+
   none_left : (entries : List (Entry A)) → how_many ticket (left Expired entries) ≡ 0
   none_left [] = refl
   none_left (entry ∷ entries) = none_left entries
 
   moved : (move : Move) (old new : Trail A) → Does old move new → total new ≡ total old + cond (asks_for ticket move) 1 0
-  moved (Hears now input) old new does = let same = heard_same now input old new does in omega (arith, same)
+  moved (Hears now input) old new does =
+      let same = heard_same now input old does.between does.hears in
+      let after = left_same does.hears.heard.is_lost now does.between new does.leaves in omega (arith, same, after)
+  moved (Hands now its asked) old new does = let same = heard_same now (turns.Call its asked) old new does in omega (arith, same)
   moved (Renews timeout) old new does =
       let line : how_many ticket new.line ≡ 0 = ap (how_many ticket) does.line in
       let told : how_many_ended ticket new.told ≡ how_many_ended ticket ((old.told ++ endings Expired old.line) ++ Begins ∷ []) = ap (how_many_ended ticket) does.told in
@@ -218,9 +269,14 @@ module _ {A : Type 0} (ticket : ℕ) where
       let none : how_many_ended ticket (HangsUp ∷ []) ≡ 0 = refl in omega (arith, same, more, none)
   moved (Addressed count) old new does = let same : total new ≡ total old = ap total does.1 in omega (arith, same)
   moved (Decides now due) old new does =
-      let same : total new ≡ total (record old { dialler = new.dialler; told = old.told ++ due_told due }) = ap total does.1 in
+      let same : total new ≡ total (record old { dialler = new.dialler; told = old.told ++ due_told due }) = ap total does.last in
       let more = count_append (is_end_of ticket) old.told (due_told due) in
       let none = no_due ticket due in omega (arith, same, more, none)
+  moved Closes old new does =
+      let same : total new ≡ total (record old { line = []; told = old.told ++ closings old.line }) = ap total does.last in
+      let more = count_append (is_end_of ticket) old.told (closings old.line) in
+      let all = count_closings old.line in
+      let none : how_many {A = A} ticket [] ≡ 0 = refl in omega (arith, same, more, all, none)
 
   moved_all : (moves : List Move) (old new : Trail A) → FoldsTo Does old moves new → total new ≡ total old + count_by (asks_for ticket) moves
   moved_all [] old new same = let is : total new ≡ total old = ap total (sym same) in omega (arith, is)
@@ -229,13 +285,13 @@ module _ {A : Type 0} (ticket : ℕ) where
       let rest = moved_all moves does.0 new does.2 in
       let both = count_cons (asks_for ticket) move moves in omega (arith, first, rest, both)
 
-  pub balanced : (asked : List Move) (old new : Trail A) (moves : List Move) → FoldsTo Does old moves new → filter is_ask moves ≡ asked
+  pub balanced : (asked : List Move) (old new : Trail A) (moves : List Move) → FoldsTo Does old moves new → filter is_given moves ≡ asked
       → total new ≡ total old + count_by (asks_for ticket) asked
   balanced asked old new moves does asks =
       moved_all moves old new does ∙ ap (λ n. total old + n) (sym (asks_alone ticket moves) ∙ ap (count_by (asks_for ticket)) asks)
 
-pub calls_balance : {A : Type 0} (asked : List Move) (old new : Trail A) → Comes asked old new → old.told ≡ [] → (ticket : ℕ)
+pub calls_balance : {A : Type 0} (now : ℕ) (asked : List Move) (old new : Trail A) → Comes now asked old new → old.told ≡ [] → (ticket : ℕ)
     → how_many ticket new.line + how_many_ended ticket new.told ≡ how_many ticket old.line + count_by (asks_for ticket) asked
-calls_balance asked old new comes none ticket =
-    let all = balanced ticket asked old new comes.moves comes.does comes.asks in
+calls_balance now asked old new comes none ticket =
+    let all = balanced ticket asked old new comes.moves comes.does comes.comes in
     let nothing : how_many_ended ticket old.told ≡ 0 = ap (how_many_ended ticket) none in omega (arith, all, nothing)

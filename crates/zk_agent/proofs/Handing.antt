@@ -10,10 +10,11 @@ use Rattle.zk_follow.specs.declared.subject.Subject.{Subject}
 use Rattle.zk_line.specs.declared.entry.Entry.{Entry}
 use Rattle.zk_line.specs.Lines.{first_handed, next_call}
 use Rattle.zk_agent.specs.declared.replies.Heard.{Heard}
-use Rattle.zk_agent.specs.Agents.{Comes, HandsOver, Hears, LetsGo, Sends, Trail, is_connected, noted, row_after}
+use Rattle.zk_agent.specs.Agents.{Comes, Hands, HandsOver, LetsGo, Sends, Trail, is_connected, noted, row_after}
 use Rattle.zk_agent.specs.Calls.{IsAsked, IsDone, IsInTime}
 use Rattle.zk_agent.specs.Replies.{is_back}
 use Rattle.zk_agent.specs.Telling.{Told}
+use Rattle.zk_agent.proofs.Closing.{call_so}
 use Rattle.zk_agent.proofs.Lines.{fewer_wait, handed_asked, still_in_time}
 use Rattle.zk_agent.proofs.Moves.{nothing, one, taken_by, trail_eq}
 use Rattle.zk_agent.proofs.Turning.{steps_away}
@@ -30,8 +31,9 @@ hands_asked now view subjects line told after new_subjects new_line new_told (So
 -- nothing happens
 pub sends_nothing : {A : Type 0} (now : ℕ) (old new : Trail A) → new ≡ old → IsDone new.view new.line → Sends now old new false
 sends_nothing {A} now old new same done = record {
-  comes = subst (λ (t : Trail A). Comes [] old t) (sym same) (nothing old);
+  comes = subst (λ (t : Trail A). Comes now [] old t) (sym same) (nothing now old);
   limits = subst (λ (t : Trail A). All (IsInTime now) old.line → All (IsInTime now) t.line) (sym same) (λ all. all);
+  ends = λ state final is. sym (ap (λ (t : Trail A). t.view.standing.state) same) ∙ is;
   more = λ e. absurd cc;
   none = λ e. done;
 }
@@ -66,9 +68,11 @@ sends_one {A} now old between new heard connected hands same_view same_subjects 
     let says : heard.goes_back ≡ list_any is_back takes.given = ap (λ (h : Heard). h.goes_back) takes.heard in
     let line = same_line ∙ takes.line in
     record {
-      comes = one (Hears now input) old new refl
+      comes = one now (Hands now hands.0 hands.1) old new refl refl
           (taken_by now input old new between (first_handed old.line) heard (connected, hands.2) refl takes same_view same_subjects same_line goes);
       limits = still_in_time now old.line new.line takes.given line;
+      ends = λ state final is.
+          call_so state final now old.view hands.0 hands.1 old.subjects between.view takes.given takes.stepped takes.steps (sym (ap (λ (v : View). v.standing.state) same_view) ∙ is);
       more = λ e. fewer_wait (hands.0, hands.1) old.line new.line takes.given hands.2 line (sym says ∙ is_not_back heard.goes_back e);
       none = λ e. subst (λ v. IsDone v new.line) (sym same_view)
           (inr (steps_away now old.view hands.0 hands.1 old.subjects between.view takes.given takes.stepped takes.steps (sym says ∙ goes_back_is heard.goes_back e)));

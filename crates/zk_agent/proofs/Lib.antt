@@ -1,3 +1,4 @@
+pub mod Closing
 pub mod Counting
 pub mod Deadlines
 pub mod Handing

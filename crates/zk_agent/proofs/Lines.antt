@@ -17,7 +17,7 @@ use Rattle.zk_follow.proofs.Waiting.{Silent}
 use Rattle.zk_line.specs.declared.entry.Entry.{Entry}
 use Rattle.zk_line.specs.declared.entry.Ending.{Ending}
 use Rattle.zk_line.specs.declared.entry.Ending.TheVariants.{Expired, Late, Lost, LostOf}
-use Rattle.zk_line.specs.Lines.{after_answer, answered, first_handed, first_where, goes_back, is_ended, left, next_call, waits_turn}
+use Rattle.zk_line.specs.Lines.{after_answer, answered, ended, first_handed, first_where, goes_back, is_ended, left, next_call, waits_turn}
 use Rattle.zk_agent.specs.Calls.{hears, hears_all, how_many_wait, IsAsked, IsDone, IsInTime, IsPending, IsServed}
 use Rattle.zk_agent.specs.Replies.{is_back}
 use Rattle.zk_agent.proofs.Keeping.{all_heard_left, all_of, each_held, of_all, Held, Quiet}
@@ -183,6 +183,10 @@ module _ {A : Type 0} where
   pub none_at_expiry : (entries : List (Entry A)) → left Expired entries ≡ []
   none_at_expiry [] = refl
   none_at_expiry (entry ∷ entries) = none_at_expiry entries
+
+  pub all_at_expiry : (entries : List (Entry A)) → ended Expired entries ≡ entries
+  all_at_expiry [] = refl
+  all_at_expiry (entry ∷ entries) = ap (λ es. entry ∷ es) (all_at_expiry entries)
 
   -- ---- limits
 

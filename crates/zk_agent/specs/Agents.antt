@@ -1,13 +1,14 @@
 -- How far an agent has come, move by move.
-use Rattle.std.specs.Prelude.{◌≡◌, ◌<◌, ◌==◌, All, ⊤, ℕ, ℤ, ◌&&◌, Bool, true, false, if◌then◌else◌, List, [], ◌∷◌, ◌++◌, map, Option, Some, None}
-use Rattle.std.specs.List.{count_by, filter, flat_map, FoldsTo}
+use Rattle.std.specs.Prelude.{◌≡◌, ◌≢◌, ◌<◌, ◌==◌, All, ⊤, ℕ, ℤ, ◌&&◌, Bool, true, false, if◌then◌else◌, List, [], ◌∷◌, ◌++◌, map, Option, Some, None}
+use Rattle.std.specs.List.{count_by, filter, flat_map, AllByRecursion, FoldsTo}
 use Rattle.std.specs.List.Sorted.{IsPermutation}
 use Rattle.zk_nodes.specs.Path.{Text}
 use Rattle.zk_nodes.specs.declared.side.Side.{Side}
 use Rattle.zk_conversation.specs.Calls.{Call}
 use Rattle.zk_conversation.specs.Views.{call_view}
 use Rattle.zk_session.specs.declared.states.State.{State}
-use Rattle.zk_session.specs.declared.states.State.TheVariants.{Connected, Expired}
+use Rattle.zk_session.specs.declared.states.State.TheVariants.{Connected, Expired, Closed}
+use Rattle.zk_session.specs.States.{is_final}
 use Rattle.zk_turns.specs.Turns.{Output, Input, Item, Start}
 use Rattle.zk_turns.specs.Turns as turns
 use Rattle.zk_turns.specs.View.{View, view_at}
@@ -16,6 +17,8 @@ use Rattle.zk_turns.specs.Taken.{NothingIsDue}
 use Rattle.zk_client.specs.Clients.{renewed_start, view_of}
 use Rattle.zk_dialler.specs.declared.dialler.Dialler.{Dialler}
 use Rattle.zk_dialler.specs.declared.dialler.Due.{Due}
+use Rattle.zk_dialler.specs.declared.dialler.Phase.{Phase}
+use Rattle.zk_dialler.specs.declared.dialler.Phase.TheVariants.{Waiting, Dialling}
 use Rattle.zk_dialler.specs.Backoffs.{connected_at, row_ended}
 use Rattle.zk_dialler.specs.Chances.{state_after}
 use Rattle.zk_dialler.specs.Dialling.{first_moment, has_come, is_open, DialsWell, Ends, Opens}
@@ -31,7 +34,7 @@ use Rattle.zk_agent.specs.declared.agent.Agent.{Agent}
 use Rattle.zk_agent.specs.declared.input.Input.{Input as Happens}
 use Rattle.zk_agent.specs.declared.input.Input.TheVariants as happens
 use Rattle.zk_agent.specs.declared.replies.Heard.{Heard}
-use Rattle.zk_agent.specs.Calls.{endings, handed, hears_all, how_many_wait, tells_all, IsDone, IsInTime}
+use Rattle.zk_agent.specs.Calls.{closings, endings, handed, hears_all, how_many_wait, tells_all, IsDone, IsInTime}
 use Rattle.zk_agent.specs.Replies.{heard_in}
 use Rattle.zk_agent.specs.Telling.{Told, HangsUp, Begins, due_told, is_end_of, news_told, told_by}
 
@@ -58,13 +61,14 @@ trail_of agent actions = record {
 
 pub data Move : Type 0 where
   Hears : (now : ℕ) → Input → Move
+  Hands : (now : ℕ) → (ticket : ℕ) → Call → Move
   Renews : (timeout : ℤ) → Move
   Follows : (ticket : ℕ) → Side → Text → Move
   Unfollows : (ticket : ℕ) → Move
   Asks : (ticket : ℕ) → Call → (until : Option ℕ) → Move
   GivesUp : (now : ℕ) → Move
   Opened Ended : (now : ℕ) → Move
-  HungUp : Move
+  HungUp Closes : Move
   Addressed : (count : ℕ) → Move
   Decides : (now : ℕ) → Option Due → Move
 
@@ -76,6 +80,11 @@ row_after is_answered dialler = if is_answered then record dialler { backoff = r
 abbrev pub is_connected : State → Bool
 is_connected Connected = true
 is_connected _ = false
+
+-- Whether the session was closed. That is final: no connection is of use then.
+abbrev pub is_closed : State → Bool
+is_closed Closed = true
+is_closed _ = false
 
 abbrev pub noted : {A : Type 0} → (timeout now : ℕ) → State → Dialler A → Dialler A
 noted timeout now state dialler = if is_connected state then record dialler { backoff = connected_at timeout now dialler.backoff } else dialler
@@ -132,6 +141,16 @@ pub record HearsSo {A : Type 0} (now : ℕ) (input : Input) (old new : Trail A) 
   pub lets_go : LetsGo heard.is_over new.view.saved.session.timeout now
       (noted new.view.saved.session.timeout now new.view.standing.state (row_after heard.ends_row old.dialler)) new.dialler told new.told
 
+-- Where a server says that the session is not its own, the client hears after it that the connection is over.
+abbrev pub LeavesWhere : {A : Type 0} → (is_lost : Bool) → (now : ℕ) → (old new : Trail A) → Type 0
+LeavesWhere true now old new = HearsSo now turns.Cut old new
+LeavesWhere false now old new = new ≡ old
+
+pub record HearsOn {A : Type 0} (now : ℕ) (input : Input) (old new : Trail A) : Type 0 where
+  pub between : Trail A
+  pub hears : HearsSo now input old between
+  pub leaves : LeavesWhere hears.heard.is_lost now between new
+
 -- Another session begins, after an expiry alone. The last seen zxid is kept, each subject is to be read, and a row of failures ends. Each call
 -- that waits is answered before, that the session has expired.
 pub record RenewsSo {A : Type 0} (timeout : ℤ) (old new : Trail A) : Type 0 where
@@ -159,9 +178,21 @@ pub record AddressesSo {A : Type 0} (count : ℕ) (old new : Dialler A) : Type 0
   pub phase : new.phase ≡ old.phase
   pub backoff : new.backoff ≡ record old.backoff { chance = record { state = state_after count old.backoff.chance.state } }
 
--- What each move does. An address is dialled, or an attempt given up, by the rule of the dialler alone: not before its moment.
+-- After a close each call that waits is answered so.
+pub record ClosesSo {A : Type 0} (old new : Trail A) : Type 0 where
+  pub closed : old.view.standing.state ≡ Closed
+  pub last : new ≡ record old { line = []; told = old.told ++ closings old.line }
+
+-- An address is dialled, or an attempt given up, by the rule of the dialler alone: not before its moment, and not after a close.
+pub record DecidesSo {A : Type 0} (now : ℕ) (due : Option Due) (old new : Trail A) : Type 0 where
+  pub goes_on : old.view.standing.state ≢ Closed
+  pub dials : DialsWell old.view.saved.session.timeout now old.dialler new.dialler due
+  pub last : new ≡ record old { dialler = new.dialler; told = old.told ++ due_told due }
+
+-- What each move does.
 abbrev pub Does : {A : Type 0} → Trail A → Move → Trail A → Type 0
-Does old (Hears now input) new = HearsSo now input old new
+Does old (Hears now input) new = HearsOn now input old new
+Does old (Hands now ticket asked) new = HearsSo now (turns.Call ticket asked) old new
 Does old (Renews timeout) new = RenewsSo timeout old new
 Does old (Follows ticket side path) new =
     new ≡ record old { subjects = old.subjects ++ record { ticket = ticket; side = side; path = path; progress = progress.Due; is_missing = false; told = None } ∷ [] }
@@ -172,36 +203,82 @@ Does old (Opened now) new = Opens old.view.saved.session.timeout now old.dialler
 Does old (Ended now) new = Ends old.view.saved.session.timeout now old.dialler new.dialler × (new ≡ record old { dialler = new.dialler })
 Does old HungUp new = new ≡ record old { told = old.told ++ HangsUp ∷ [] }
 Does old (Addressed count) new = AddressesSo count old.dialler new.dialler × (new ≡ record old { dialler = new.dialler })
-Does old (Decides now due) new =
-    DialsWell old.view.saved.session.timeout now old.dialler new.dialler due × (new ≡ record old { dialler = new.dialler; told = old.told ++ due_told due })
+Does old (Decides now due) new = DecidesSo now due old new
+Does old Closes new = ClosesSo old new
 
 -- A client stands where turns by the rule have led, from what some session began with.
 abbrev pub IsLed : View → Type 0
 IsLed view = (start : Start) × (items : List Item) × Stands start items view
 
--- Moves, the oldest first. The calls that are asked are these. A client that was led stands where it was led.
-abbrev pub is_ask : Move → Bool
-is_ask (Asks ticket asked until) = true
-is_ask _ = false
+-- After a close there is no connection, and none is asked for.
+abbrev pub IsShut : {A : Type 0} → Trail A → Type 0
+IsShut trail = trail.view.standing.state ≡ Closed → trail.dialler.phase ≡ Waiting
 
-pub record Comes {A : Type 0} (asked : List Move) (old new : Trail A) : Type 0 where
+-- ---- moves that come from outside, and those of its own
+
+-- Of its own an agent hands calls over, begins another session, settles calls, and decides about the connection.
+abbrev pub is_given : Move → Bool
+is_given (Hands now ticket asked) = false
+is_given (Renews timeout) = false
+is_given (GivesUp now) = false
+is_given (Decides now due) = false
+is_given Closes = false
+is_given _ = true
+
+-- each at this moment
+abbrev pub IsAt : (now : ℕ) → Move → Type 0
+IsAt now (Hears its input) = its ≡ now
+IsAt now (Hands its ticket asked) = its ≡ now
+IsAt now (GivesUp its) = its ≡ now
+IsAt now (Opened its) = its ≡ now
+IsAt now (Ended its) = its ≡ now
+IsAt now (Decides its due) = its ≡ now
+IsAt now _ = ⊤
+
+-- The attempt has failed, or the connection is over.
+abbrev pub over_at : (now : ℕ) → List Move
+over_at now = Ended now ∷ Hears now turns.Cut ∷ []
+
+-- A connection is there. One that was not asked for is hung up, and so is the one that is there then.
+abbrev pub opened_at : Phase → (now : ℕ) → List Move
+opened_at (Dialling began until) now = Opened now ∷ Hears now turns.Opened ∷ []
+opened_at _ now = HungUp ∷ over_at now
+
+-- Bytes are of no connection where there is none: the client hears the moment alone.
+abbrev pub bytes_at : (is_open : Bool) → (now : ℕ) → List ℕ → List Move
+bytes_at true now bytes = Hears now (turns.Bytes bytes) ∷ []
+bytes_at false now bytes = Hears now (turns.Now now) ∷ []
+
+-- what an input makes at a moment, by where the connection is
+abbrev pub given_of : {A : Type 0} → Phase → (now : ℕ) → Happens A → List Move
+given_of phase now happens.Opened = opened_at phase now
+given_of phase now happens.Failed = over_at now
+given_of phase now happens.Cut = over_at now
+given_of phase now (happens.Bytes bytes) = bytes_at (is_open phase) now bytes.items
+given_of phase now happens.Moment = Hears now (turns.Now now) ∷ []
+given_of phase now (happens.Addresses count) = Addressed count ∷ Hears now (turns.Now now) ∷ []
+given_of phase now (happens.Call ticket call until) = Asks ticket (call_view call) until ∷ Hears now (turns.Now now) ∷ []
+given_of phase now (happens.Follow ticket side path) = Follows ticket side path ∷ Hears now (turns.Now now) ∷ []
+given_of phase now (happens.Unfollow ticket) = Unfollows ticket ∷ Hears now (turns.Now now) ∷ []
+
+-- Moves, the oldest first, all at one moment. Those that come from outside are these, and no other. A client that was led stands where it was
+-- led, and after a close there is no connection.
+pub record Comes {A : Type 0} (now : ℕ) (given : List Move) (old new : Trail A) : Type 0 where
   pub moves : List Move
   pub does : FoldsTo Does old moves new
-  pub asks : filter is_ask moves ≡ asked
+  pub comes : filter is_given moves ≡ given
+  pub at : AllByRecursion (IsAt now) moves
   pub led : IsLed old.view → IsLed new.view
+  pub shut : IsShut old → IsShut new
 
--- Calls are handed over, at most one: no limit comes with it. Another one may be where fewer wait for their turn; else none waits, or none can
+-- Calls are handed over, at most one: no limit comes with it, and no end of the session. Another one may be where fewer wait for their turn; else none waits, or none can
 -- be handed over.
 pub record Sends {A : Type 0} (now : ℕ) (old new : Trail A) (goes_on : Bool) : Type 0 where
-  pub comes : Comes [] old new
+  pub comes : Comes now [] old new
   pub limits : All (IsInTime now) old.line → All (IsInTime now) new.line
+  pub ends : (state : State) → is_final state ≡ true → new.view.standing.state ≡ state → old.view.standing.state ≡ state
   pub more : goes_on ≡ true → how_many_wait new.line < how_many_wait old.line
   pub none : goes_on ≡ false → IsDone new.view new.line
-
--- what an input asks
-abbrev pub asks_of : {A : Type 0} → Happens A → List Move
-asks_of (happens.Call ticket call until) = Asks ticket (call_view call) until ∷ []
-asks_of input = []
 
 -- ---- calls
 
@@ -211,18 +288,27 @@ asks_for ticket (Asks its asked until) = its == ticket
 asks_for ticket _ = false
 
 abbrev pub how_many_asked : {A : Type 0} → (ticket : ℕ) → Happens A → ℕ
-how_many_asked ticket input = count_by (asks_for ticket) (asks_of input)
+how_many_asked ticket (happens.Call its call until) = if its == ticket then 1 else 0
+how_many_asked ticket _ = 0
 
 abbrev pub how_many_ended : (ticket : ℕ) → List Told → ℕ
 how_many_ended ticket told = count_by (is_end_of ticket) told
 
 -- ---- moments
 
--- nothing is due at a moment: no ping, no silence, no attempt, no end of one, no read of a subject that was refused, and no limit of a call
-abbrev pub NothingAt : {A : Type 0} → Agent A → (moment : ℕ) → Type 0
-NothingAt agent moment =
+-- Nothing is due at a moment: no ping, no silence, no attempt, no end of one, no read of a subject that was refused, and no limit of a call.
+abbrev pub NothingOpen : {A : Type 0} → Agent A → (moment : ℕ) → Type 0
+NothingOpen agent moment =
     NothingIsDue (view_of agent.asker.follower.client) moment × (has_come moment (first_moment agent.dialler) ≡ false)
     × (has_come moment (first_again agent.asker.follower.subjects.items) ≡ false) × (has_come moment (first_limit agent.asker.line.entries.items) ≡ false)
+
+-- After a close nothing is due any more.
+abbrev pub NothingIn : {A : Type 0} → (is_closed : Bool) → Agent A → (moment : ℕ) → Type 0
+NothingIn true agent moment = ⊤
+NothingIn false agent moment = NothingOpen agent moment
+
+abbrev pub NothingAt : {A : Type 0} → Agent A → (moment : ℕ) → Type 0
+NothingAt agent moment = NothingIn (is_closed (view_of agent.asker.follower.client).standing.state) agent moment
 
 -- when the server was heard last, once bytes have come on a connection that is there
 abbrev pub heard_after : {A : Type 0} → (is_open : Bool) → (now : ℕ) → Happens A → Option ℕ → Option ℕ

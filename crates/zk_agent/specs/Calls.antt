@@ -13,7 +13,7 @@ use Rattle.zk_line.specs.declared.entry.Entry.{Entry}
 use Rattle.zk_line.specs.declared.entry.Ending.{Ending}
 use Rattle.zk_line.specs.declared.entry.Ending.TheVariants.{Lost, LostOf}
 use Rattle.zk_line.specs.Lines.{answered, ended, ended_of, first_handed, has_come, left, next_call, settles, waits_turn}
-use Rattle.zk_agent.specs.Telling.{Told, Says, ended_told}
+use Rattle.zk_agent.specs.Telling.{Told, Says, closed_told, ended_told}
 
 -- ---- what the client says of them
 
@@ -32,6 +32,10 @@ hears_all entries outputs = fold hears entries outputs
 -- what is told of calls that wait no more, in the order of asking
 abbrev pub endings : {A : Type 0} → Ending → List (Entry A) → List Told
 endings ending entries = map (ended_told ending) (map ended_of (ended ending entries))
+
+-- what is told of calls that wait after a close, in the order of asking: what the client itself answers a call then
+abbrev pub closings : {A : Type 0} → List (Entry A) → List Told
+closings entries = map closed_told (map ended_of entries)
 
 -- the answer, where it settles a call of the program
 abbrev pub answers : {A : Type 0} → (ticket : ℕ) → Outcome → List (Entry A) → List Told

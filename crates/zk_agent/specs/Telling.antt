@@ -1,6 +1,6 @@
 -- What a program is told.
 use Rattle.std.specs.Prelude.{◌==◌, ℕ, Bool, false, List, [], ◌∷◌, map, Option, Some, None, string_bytes}
-use Rattle.zk_turns.specs.Turns.{Output, ConnectionLoss, SessionExpired}
+use Rattle.zk_turns.specs.Turns.{Output, ConnectionLoss, SessionExpired, SessionClosed}
 use Rattle.zk_turns.specs.Turns as turns
 use Rattle.zk_client.specs.Views.{fault_view, outcome_view}
 use Rattle.zk_dialler.specs.declared.dialler.Due.{Due}
@@ -50,6 +50,10 @@ abbrev pub ended_told : Ending → Ended → Told
 ended_told (ending.Late now) one = TimesOut one.ticket one.was_sent
 ended_told ending.Expired one = Says (turns.Answer one.ticket SessionExpired)
 ended_told _ one = Says (turns.Answer one.ticket ConnectionLoss)
+
+-- and after a close
+abbrev pub closed_told : Ended → Told
+closed_told one = Says (turns.Answer one.ticket SessionClosed)
 
 -- whether a call of this ticket is settled with that
 abbrev pub is_end_of : (ticket : ℕ) → Told → Bool

@@ -5,7 +5,7 @@ ghost use Rattle.std.specs.Prelude.{◌≡◌, ◌<ℤ◌, pos};
 use crate::action::{Action, push, push_due};
 use crate::asker::Asker;
 use crate::input::{Input, heard_moment};
-use crate::moments::first_of_four;
+use crate::moments::{first_of_four, is_closed};
 use std::alloc::{AllocError, Allocator, Global};
 use zk_client::{Call, Client, Path, Side, State};
 use zk_dialler::Dialler;
@@ -35,16 +35,21 @@ pub struct Agent<A: Allocator + Copy = Global> {
 }
 
 impl<A: Allocator + Copy> Agent<A> {
-    ghost use Rattle.std.specs.Prelude.{◌≡◌, ◌≤◌, ◌<◌, ◌+◌, ◌<ℤ◌, ◌≤ℤ◌, ◌^◌, ◌++◌, ◌∷◌, ℕ, true, map, max, length, pos, unsigned_abs, [], None, IfOk, IfSome, OnOk, All};
+    ghost use Rattle.std.specs.Prelude.{◌≡◌, ◌≢◌, ◌≤◌, ◌<◌, ◌+◌, ◌<ℤ◌, ◌≤ℤ◌, ◌^◌, ◌++◌, ◌∷◌, ℕ, true, false, map, max, length, pos, unsigned_abs, [], None, IfOk, IfSome, OnOk, All};
+    ghost use Rattle.std.specs.List.Sorted.{IsPermutation};
+    ghost use Rattle.zk_turns.specs.Turns as turns;
     ghost use Rattle.zk_turns.specs.View.{view_at};
-    ghost use Rattle.zk_session.specs.declared.states.State.TheVariants.{Expired};
+    ghost use Rattle.zk_session.specs.declared.states.State.TheVariants.{Expired, Closed};
     ghost use Rattle.zk_client.specs.Clients.{renewed_start, view_of};
     ghost use Rattle.zk_dialler.specs.Backoffs.{row_ended};
+    ghost use Rattle.zk_dialler.specs.Chances.{state_after};
     ghost use Rattle.zk_dialler.specs.Dialling.{is_open};
+    ghost use Rattle.zk_dialler.specs.Orders.{numbers, shuffled};
+    ghost use Rattle.zk_dialler.specs.declared.dialler.Phase.TheVariants.{Waiting};
     ghost use Rattle.zk_follow.specs.Following.{due_again, IsFollowed};
     ghost use Rattle.zk_conversation.specs.Views.{call_view};
     ghost use Rattle.zk_line.specs.declared.entry.Ending.TheVariants as ending;
-    ghost use Rattle.zk_agent.specs.Agents.{asks_of, heard_after, how_many_asked, how_many_ended, trail_of, Asks, Comes, NothingAt};
+    ghost use Rattle.zk_agent.specs.Agents.{bytes_at, given_of, heard_after, how_many_asked, how_many_ended, is_closed, opened_at, over_at, trail_of, Addressed, Asks, Comes, Follows, Hears, NothingAt, NothingOpen, Unfollows};
     ghost use Rattle.zk_agent.specs.Calls.{endings, how_many, IsInTime, IsServed};
     ghost use Rattle.zk_agent.specs.Telling.{told_by, Begins};
 
@@ -57,6 +62,11 @@ impl<A: Allocator + Copy> Agent<A> {
         ensures calls { IfOk result (λ agent. agent.asker.line.entries.items ≡ []) }
         ensures latest { IfOk result (λ agent. agent.latest ≡ 0) }
         ensures heard { IfOk result (λ agent. agent.heard_at ≡ None) }
+        ensures phase { IfOk result (λ agent. agent.dialler.phase ≡ Waiting) }
+        ensures order { IfOk result (λ agent. agent.dialler.ring.order.items ≡ shuffled settings.seed settings.addresses (numbers settings.addresses)) }
+        ensures each { IfOk result (λ agent. IsPermutation (numbers settings.addresses) agent.dialler.ring.order.items) }
+        ensures first { IfOk result (λ agent. agent.dialler.ring.next ≡ 0) }
+        ensures backoff { IfOk result (λ agent. agent.dialler.backoff ≡ record { chance = record { state = state_after settings.addresses settings.seed }; failures = 0; connected = None; ended = 0; least = 0; moment = 0 }) }
     {
         Ok(Agent {
             alloc,
@@ -82,6 +92,13 @@ impl<A: Allocator + Copy> Agent<A> {
         self.asker.client().state()
     }
 
+    /// Whether the session was closed.
+    fn is_closed(&self) -> bool
+        ensures { result ≡ is_closed (view_of self.now.asker.follower.client).standing.state }
+    {
+        is_closed(self.state())
+    }
+
     /// The client: what is kept of paths, the state, and what another session can be resumed from.
     pub fn client(&self) -> &Client<A>
         ensures { view_of result.now ≡ view_of self.now.asker.follower.client }
@@ -98,11 +115,24 @@ impl<A: Allocator + Copy> Agent<A> {
     }
 
     /// The first moment at which something is due: at the latest then a step is to be made, by [`Input::Moment`] if nothing else happens. It
-    /// may be past; there is none where nothing will be due.
+    /// may be past; there is none where nothing will be due, as after a close.
     pub fn deadline(&self) -> Option<u64>
         ensures before { IfSome result (λ first. (moment : ℕ) → moment < 2 ^ 64 → moment < first → NothingAt self.now moment) }
         ensures due { IfSome result (λ first. ¬ (NothingAt self.now first)) }
         ensures never { result ≡ None → (moment : ℕ) → moment < 2 ^ 64 → NothingAt self.now moment }
+        ensures closed { (view_of self.now.asker.follower.client).standing.state ≡ Closed → result ≡ None }
+    {
+        if self.is_closed() {
+            return None;
+        }
+        self.first_due()
+    }
+
+    /// The first moment at which something is due, where the session was not closed.
+    fn first_due(&self) -> Option<u64>
+        ensures before { IfSome result (λ first. (moment : ℕ) → moment < 2 ^ 64 → moment < first → NothingOpen self.now moment) }
+        ensures due { IfSome result (λ first. ¬ (NothingOpen self.now first)) }
+        ensures never { result ≡ None → (moment : ℕ) → moment < 2 ^ 64 → NothingOpen self.now moment }
     {
         let due = self.asker.client().deadline();
         let attempt = self.dialler.deadline();
@@ -115,11 +145,13 @@ impl<A: Allocator + Copy> Agent<A> {
     ///
     /// An error means that memory ran out. The agent is of no use then: begin with another one, from what was saved.
     pub fn step(&mut self, now: u64, input: Input<A>) -> Result<Vec<Action<A>, A>, Stop>
-        ensures comes { IfOk result (λ actions. Comes (asks_of input) (trail_of self.old []) (trail_of self.new actions.items)) }
+        ensures comes { IfOk result (λ actions. Comes (max self.old.latest now) (given_of self.old.dialler.phase (max self.old.latest now) input) (trail_of self.old []) (trail_of self.new actions.items)) }
         ensures followed { OnOk result (All (IsFollowed self.new.latest (view_of self.new.asker.follower.client)) self.new.asker.follower.subjects.items) }
         ensures calls { IfOk result (λ actions. (ticket : ℕ) → how_many ticket self.new.asker.line.entries.items + how_many_ended ticket (told_by actions.items) ≡ how_many ticket self.old.asker.line.entries.items + how_many_asked ticket input) }
         ensures served { OnOk result (All (IsServed (view_of self.new.asker.follower.client)) self.new.asker.line.entries.items) }
         ensures limits { OnOk result (All (IsInTime self.new.latest) self.new.asker.line.entries.items) }
+        ensures closed { OnOk result ((view_of self.new.asker.follower.client).standing.state ≡ Closed → self.new.asker.line.entries.items ≡ []) }
+        ensures renewed { OnOk result ((view_of self.new.asker.follower.client).standing.state ≢ Expired) }
         ensures latest { OnOk result (self.new.latest ≡ max self.old.latest now) }
         ensures heard { OnOk result (self.new.heard_at ≡ heard_after (is_open self.old.dialler.phase) (max self.old.latest now) input self.old.heard_at) }
     {
@@ -143,7 +175,7 @@ impl<A: Allocator + Copy> Agent<A> {
         input: Input<A>,
         actions: &mut Vec<Action<A>, A>,
     ) -> Result<(), Stop>
-        ensures comes { OnOk result (Comes (asks_of input) (trail_of self.old actions.old.items) (trail_of self.new actions.new.items)) }
+        ensures comes { OnOk result (Comes now (given_of self.old.dialler.phase now input) (trail_of self.old actions.old.items) (trail_of self.new actions.new.items)) }
         ensures followed { OnOk result (All (IsFollowed now (view_of self.new.asker.follower.client)) self.new.asker.follower.subjects.items) }
     {
         match input {
@@ -164,7 +196,7 @@ impl<A: Allocator + Copy> Agent<A> {
 
     /// The connection that was asked for is there, or another one, which is hung up.
     fn open(&mut self, now: u64, actions: &mut Vec<Action<A>, A>) -> Result<(), Stop>
-        ensures comes { OnOk result (Comes [] (trail_of self.old actions.old.items) (trail_of self.new actions.new.items)) }
+        ensures comes { OnOk result (Comes now (opened_at self.old.dialler.phase now) (trail_of self.old actions.old.items) (trail_of self.new actions.new.items)) }
         ensures followed { OnOk result (All (IsFollowed now (view_of self.new.asker.follower.client)) self.new.asker.follower.subjects.items) }
     {
         let timeout_ms = self.timeout_ms();
@@ -177,7 +209,7 @@ impl<A: Allocator + Copy> Agent<A> {
 
     /// The attempt has failed, or the connection is over.
     fn end(&mut self, now: u64, actions: &mut Vec<Action<A>, A>) -> Result<(), Stop>
-        ensures comes { OnOk result (Comes [] (trail_of self.old actions.old.items) (trail_of self.new actions.new.items)) }
+        ensures comes { OnOk result (Comes now (over_at now) (trail_of self.old actions.old.items) (trail_of self.new actions.new.items)) }
         ensures followed { OnOk result (All (IsFollowed now (view_of self.new.asker.follower.client)) self.new.asker.follower.subjects.items) }
     {
         let timeout_ms = self.timeout_ms();
@@ -192,7 +224,7 @@ impl<A: Allocator + Copy> Agent<A> {
         bytes: Vec<u8, A>,
         actions: &mut Vec<Action<A>, A>,
     ) -> Result<(), Stop>
-        ensures comes { OnOk result (Comes [] (trail_of self.old actions.old.items) (trail_of self.new actions.new.items)) }
+        ensures comes { OnOk result (Comes now (bytes_at (is_open self.old.dialler.phase) now bytes.items) (trail_of self.old actions.old.items) (trail_of self.new actions.new.items)) }
         ensures followed { OnOk result (All (IsFollowed now (view_of self.new.asker.follower.client)) self.new.asker.follower.subjects.items) }
     {
         if self.dialler.is_open() {
@@ -208,7 +240,7 @@ impl<A: Allocator + Copy> Agent<A> {
         count: usize,
         actions: &mut Vec<Action<A>, A>,
     ) -> Result<(), Stop>
-        ensures comes { OnOk result (Comes [] (trail_of self.old actions.old.items) (trail_of self.new actions.new.items)) }
+        ensures comes { OnOk result (Comes now (Addressed count ∷ Hears now (turns.Now now) ∷ []) (trail_of self.old actions.old.items) (trail_of self.new actions.new.items)) }
         ensures followed { OnOk result (All (IsFollowed now (view_of self.new.asker.follower.client)) self.new.asker.follower.subjects.items) }
     {
         self.dialler.set_addresses(self.alloc, count)?;
@@ -224,7 +256,7 @@ impl<A: Allocator + Copy> Agent<A> {
         until: Option<u64>,
         actions: &mut Vec<Action<A>, A>,
     ) -> Result<(), Stop>
-        ensures comes { OnOk result (Comes (Asks ticket (call_view call) until ∷ []) (trail_of self.old actions.old.items) (trail_of self.new actions.new.items)) }
+        ensures comes { OnOk result (Comes now (Asks ticket (call_view call) until ∷ Hears now (turns.Now now) ∷ []) (trail_of self.old actions.old.items) (trail_of self.new actions.new.items)) }
         ensures followed { OnOk result (All (IsFollowed now (view_of self.new.asker.follower.client)) self.new.asker.follower.subjects.items) }
     {
         self.asker.ask(ticket, call, until)?;
@@ -240,7 +272,7 @@ impl<A: Allocator + Copy> Agent<A> {
         path: Path<A>,
         actions: &mut Vec<Action<A>, A>,
     ) -> Result<(), Stop>
-        ensures comes { OnOk result (Comes [] (trail_of self.old actions.old.items) (trail_of self.new actions.new.items)) }
+        ensures comes { OnOk result (Comes now (Follows ticket side path ∷ Hears now (turns.Now now) ∷ []) (trail_of self.old actions.old.items) (trail_of self.new actions.new.items)) }
         ensures followed { OnOk result (All (IsFollowed now (view_of self.new.asker.follower.client)) self.new.asker.follower.subjects.items) }
     {
         self.asker.follow(ticket, side, path)?;
@@ -254,7 +286,7 @@ impl<A: Allocator + Copy> Agent<A> {
         ticket: u64,
         actions: &mut Vec<Action<A>, A>,
     ) -> Result<(), Stop>
-        ensures comes { OnOk result (Comes [] (trail_of self.old actions.old.items) (trail_of self.new actions.new.items)) }
+        ensures comes { OnOk result (Comes now (Unfollows ticket ∷ Hears now (turns.Now now) ∷ []) (trail_of self.old actions.old.items) (trail_of self.new actions.new.items)) }
         ensures followed { OnOk result (All (IsFollowed now (view_of self.new.asker.follower.client)) self.new.asker.follower.subjects.items) }
     {
         self.asker.unfollow(ticket);
@@ -280,14 +312,16 @@ impl<A: Allocator + Copy> Agent<A> {
 
     /// Whether the session has expired.
     fn is_expired(&self) -> bool
-        ensures { result ≡ true → (view_of self.now.asker.follower.client).standing.state ≡ Expired }
+        ensures yes { result ≡ true → (view_of self.now.asker.follower.client).standing.state ≡ Expired }
+        ensures no { result ≡ false → (view_of self.now.asker.follower.client).standing.state ≢ Expired }
     {
         matches!(self.state(), State::Expired)
     }
 
     /// After an expiry another session begins.
     fn renew(&mut self, actions: &mut Vec<Action<A>, A>) -> Result<(), Stop>
-        ensures comes { OnOk result (Comes [] (trail_of self.old actions.old.items) (trail_of self.new actions.new.items)) }
+        ensures comes { (now : ℕ) → OnOk result (Comes now [] (trail_of self.old actions.old.items) (trail_of self.new actions.new.items)) }
+        ensures renewed { OnOk result ((view_of self.new.asker.follower.client).standing.state ≢ Expired) }
         ensures followed { (now : ℕ) → All (IsFollowed now (view_of self.old.asker.follower.client)) self.old.asker.follower.subjects.items → OnOk result (All (IsFollowed now (view_of self.new.asker.follower.client)) self.new.asker.follower.subjects.items) }
     {
         if self.is_expired() {
@@ -296,20 +330,27 @@ impl<A: Allocator + Copy> Agent<A> {
         Ok(())
     }
 
-    /// The calls wait no more whose limit has come.
+    /// The calls wait no more whose limit has come; after a close none does.
     fn give_up(&mut self, now: u64, actions: &mut Vec<Action<A>, A>) -> Result<(), AllocError>
-        ensures comes { OnOk result (Comes [] (trail_of self.old actions.old.items) (trail_of self.new actions.new.items)) }
+        ensures comes { OnOk result (Comes now [] (trail_of self.old actions.old.items) (trail_of self.new actions.new.items)) }
         ensures limits { OnOk result (All (IsInTime now) self.new.asker.line.entries.items) }
+        ensures closed { (view_of self.old.asker.follower.client).standing.state ≡ Closed → OnOk result (self.new.asker.line.entries.items ≡ []) }
         ensures follower { self.new.asker.follower ≡ self.old.asker.follower }
     {
+        if self.is_closed() {
+            return self.asker.close(actions);
+        }
         self.asker.give_up(now, actions)
     }
 
-    /// Asks for a connection, or gives an attempt up, where its moment has come.
+    /// Asks for a connection, or gives an attempt up, where its moment has come, and not after a close.
     fn dial(&mut self, now: u64, actions: &mut Vec<Action<A>, A>) -> Result<(), AllocError>
-        ensures comes { OnOk result (Comes [] (trail_of self.old actions.old.items) (trail_of self.new actions.new.items)) }
+        ensures comes { OnOk result (Comes now [] (trail_of self.old actions.old.items) (trail_of self.new actions.new.items)) }
         ensures asker { self.new.asker ≡ self.old.asker }
     {
+        if self.is_closed() {
+            return Ok(());
+        }
         let timeout_ms = self.timeout_ms();
         let due = self.dialler.due(timeout_ms, now);
         push_due(due, actions)

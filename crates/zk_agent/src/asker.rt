@@ -7,7 +7,7 @@ ghost use Rattle.zk_agent.specs.Calls.{IsAsked};
 
 use crate::action::Action;
 use crate::advancing::{advance, begin, hand_over};
-use crate::calls::end_calls;
+use crate::calls::{close_calls, end_calls};
 use crate::replies::Heard;
 use std::alloc::{AllocError, Allocator, Global};
 use zk_client::{Call, Client, Input, Path, Side};
@@ -33,7 +33,7 @@ impl<A: Allocator + Copy> Asker<A> {
     ghost use Rattle.zk_follow.specs.Following.{due_again, unfollowed, IsFollowed};
     ghost use Rattle.zk_line.specs.Lines.{left};
     ghost use Rattle.zk_agent.specs.Agents.{HandsOver, TakesSo};
-    ghost use Rattle.zk_agent.specs.Calls.{endings};
+    ghost use Rattle.zk_agent.specs.Calls.{closings, endings};
     ghost use Rattle.zk_agent.specs.Telling.{told_by};
 
     /// A client that is asked nothing.
@@ -149,6 +149,21 @@ impl<A: Allocator + Copy> Asker<A> {
         ensures follower { self.new.follower ≡ self.old.follower }
     {
         match end_calls(&mut self.line, Ending::Late(now), actions) {
+            Ok(()) => Ok(()),
+            Err(fault) => {
+                self.line.clear();
+                Err(fault)
+            }
+        }
+    }
+
+    /// No call waits any more: the session is closed.
+    pub(crate) fn close(&mut self, actions: &mut Vec<Action<A>, A>) -> Result<(), AllocError>
+        ensures line { OnOk result (self.new.line.entries.items ≡ []) }
+        ensures told { OnOk result (told_by actions.new.items ≡ told_by actions.old.items ++ closings self.old.line.entries.items) }
+        ensures follower { self.new.follower ≡ self.old.follower }
+    {
+        match close_calls(&mut self.line, actions) {
             Ok(()) => Ok(()),
             Err(fault) => {
                 self.line.clear();

@@ -3,8 +3,8 @@
 ghost use Rattle.std.specs.Prelude.{◌≡◌, ◌++◌, ◌∷◌, [], map, OnOk};
 ghost use Rattle.zk_client.specs.Views.{outcome_view, output_view, said};
 ghost use Rattle.zk_line.specs.Lines.{answered, left};
-ghost use Rattle.zk_agent.specs.Calls.{answers, endings, hears, hears_all, tells, tells_all};
-ghost use Rattle.zk_agent.specs.Telling.{action_view, ended_told, told_by, Says};
+ghost use Rattle.zk_agent.specs.Calls.{answers, closings, endings, hears, hears_all, tells, tells_all};
+ghost use Rattle.zk_agent.specs.Telling.{action_view, closed_told, ended_told, told_by, Says};
 
 use crate::action::{Action, push};
 use std::alloc::{AllocError, Allocator};
@@ -55,6 +55,33 @@ pub(crate) fn end_calls<A: Allocator + Copy>(
 {
     let all = line.end(ending)?;
     push_ended(ending, all.as_slice(), actions)
+}
+
+/// Adds what is told of calls that wait after a close, in order.
+fn push_closed<A: Allocator>(
+    all: &[Ended],
+    actions: &mut Vec<Action<A>, A>,
+) -> Result<(), AllocError>
+    ensures { OnOk result (told_by actions.new.items ≡ told_by actions.old.items ++ map closed_told all.now) }
+{
+    for one in all {
+        let ticket = one.ticket;
+        let outcome = Outcome::SessionClosed;
+        push(actions, Action::Answer { ticket, outcome })?;
+    }
+    Ok(())
+}
+
+/// Each call of the line is answered that the session is closed.
+pub(crate) fn close_calls<A: Allocator + Copy>(
+    line: &mut Line<A>,
+    actions: &mut Vec<Action<A>, A>,
+) -> Result<(), AllocError>
+    ensures line { OnOk result (line.new.entries.items ≡ []) }
+    ensures told { OnOk result (told_by actions.new.items ≡ told_by actions.old.items ++ closings line.old.entries.items) }
+{
+    let all = line.end(Ending::Expired)?;
+    push_closed(all.as_slice(), actions)
 }
 
 /// The client answers a call of this ticket.

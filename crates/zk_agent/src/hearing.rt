@@ -12,10 +12,11 @@ impl<A: Allocator + Copy> Agent<A> {
     ghost use Rattle.std.specs.Prelude.{◌≡◌, ◌++◌, ◌∷◌, ◌&&◌, ◌<◌, true, false, [], IfOk, OnOk, All};
     ghost use Rattle.zk_session.specs.declared.states.State.TheVariants.{Connected};
     ghost use Rattle.zk_client.specs.Clients.{view_of};
+    ghost use Rattle.zk_turns.specs.Turns.{Cut};
     ghost use Rattle.zk_client.specs.Views.{input_view};
     ghost use Rattle.zk_dialler.specs.Dialling.{is_open, Ends};
     ghost use Rattle.zk_follow.specs.Following.{IsFollowed};
-    ghost use Rattle.zk_agent.specs.Agents.{noted, row_after, trail_of, Comes, HearsSo, LetsGo, MayTake};
+    ghost use Rattle.zk_agent.specs.Agents.{noted, row_after, trail_of, Comes, Hears, HearsSo, LetsGo, MayTake};
     ghost use Rattle.zk_agent.specs.Calls.{how_many_wait, IsDone, IsInTime};
     ghost use Rattle.zk_agent.specs.Telling.{told_by, HangsUp};
 
@@ -100,7 +101,7 @@ impl<A: Allocator + Copy> Agent<A> {
         actions: &mut Vec<Action<A>, A>,
     ) -> Result<bool, Stop>
         requires { MayTake (input_view input) (is_open self.old.dialler.phase) }
-        ensures hears { OnOk result (HearsSo now (input_view input) (trail_of self.old actions.old.items) (trail_of self.new actions.new.items)) }
+        ensures hears { IfOk result (λ is_lost. (hears : HearsSo now (input_view input) (trail_of self.old actions.old.items) (trail_of self.new actions.new.items)) × (hears.heard.is_lost ≡ is_lost)) }
         ensures followed { OnOk result (All (IsFollowed now (view_of self.new.asker.follower.client)) self.new.asker.follower.subjects.items) }
     {
         let heard = self.asker.step(now, input, actions)?;
@@ -110,7 +111,7 @@ impl<A: Allocator + Copy> Agent<A> {
 
     /// The connection was hung up since the session is not the server's own: the client is told that it is over.
     fn hear_cut(&mut self, now: u64, actions: &mut Vec<Action<A>, A>) -> Result<(), Stop>
-        ensures comes { OnOk result (Comes [] (trail_of self.old actions.old.items) (trail_of self.new actions.new.items)) }
+        ensures hears { OnOk result (HearsSo now Cut (trail_of self.old actions.old.items) (trail_of self.new actions.new.items)) }
         ensures followed { OnOk result (All (IsFollowed now (view_of self.new.asker.follower.client)) self.new.asker.follower.subjects.items) }
     {
         let _is_lost = self.hear_once(now, Input::Cut, actions)?;
@@ -125,7 +126,7 @@ impl<A: Allocator + Copy> Agent<A> {
         actions: &mut Vec<Action<A>, A>,
     ) -> Result<(), Stop>
         requires { MayTake (input_view input) (is_open self.old.dialler.phase) }
-        ensures comes { OnOk result (Comes [] (trail_of self.old actions.old.items) (trail_of self.new actions.new.items)) }
+        ensures comes { OnOk result (Comes now (Hears now (input_view input) ∷ []) (trail_of self.old actions.old.items) (trail_of self.new actions.new.items)) }
         ensures followed { OnOk result (All (IsFollowed now (view_of self.new.asker.follower.client)) self.new.asker.follower.subjects.items) }
     {
         let is_lost = self.hear_once(now, input, actions)?;

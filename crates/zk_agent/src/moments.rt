@@ -2,7 +2,7 @@
 
 ghost use Rattle.std.specs.Prelude.{◌≡◌};
 ghost use Rattle.zk_follow.specs.Following.{first_of};
-ghost use Rattle.zk_agent.specs.Agents.{is_connected};
+ghost use Rattle.zk_agent.specs.Agents.{is_closed, is_connected};
 
 use zk_client::State;
 
@@ -34,4 +34,11 @@ pub(crate) fn is_connected(state: State) -> bool
     ensures { result ≡ is_connected state }
 {
     matches!(state, State::Connected)
+}
+
+/// Whether the session was closed.
+pub(crate) fn is_closed(state: State) -> bool
+    ensures { result ≡ is_closed state }
+{
+    matches!(state, State::Closed)
 }

@@ -7,8 +7,10 @@ use std::alloc::Allocator;
 use zk_follow::Stop;
 
 impl<A: Allocator + Copy> Agent<A> {
-    ghost use Rattle.std.specs.Prelude.{◌≡◌, ◌<◌, true, false, [], IfOk, OnOk, All};
+    ghost use Rattle.std.specs.Prelude.{◌≡◌, ◌≢◌, ◌<◌, true, false, [], IfOk, OnOk, All};
+    ghost use Rattle.zk_session.specs.declared.states.State.{State};
     ghost use Rattle.zk_session.specs.declared.states.State.TheVariants.{Connected};
+    ghost use Rattle.zk_session.specs.States.{is_final};
     ghost use Rattle.zk_client.specs.Clients.{view_of};
     ghost use Rattle.zk_follow.specs.Following.{IsFollowed};
     ghost use Rattle.zk_agent.specs.Agents.{trail_of, Comes, Sends};
@@ -32,6 +34,7 @@ impl<A: Allocator + Copy> Agent<A> {
     fn try_one(&mut self, now: u64, actions: &mut Vec<Action<A>, A>) -> Result<bool, Stop>
         ensures sends { IfOk result (λ goes_on. Sends now (trail_of self.old actions.old.items) (trail_of self.new actions.new.items) goes_on) }
         ensures followed { All (IsFollowed now (view_of self.old.asker.follower.client)) self.old.asker.follower.subjects.items → OnOk result (All (IsFollowed now (view_of self.new.asker.follower.client)) self.new.asker.follower.subjects.items) }
+        ensures same { (view_of self.old.asker.follower.client).standing.state ≢ Connected → self.new.asker ≡ self.old.asker }
     {
         if is_connected(self.state()) {
             return self.send_one(now, actions);
@@ -41,10 +44,12 @@ impl<A: Allocator + Copy> Agent<A> {
 
     /// Hands calls over, in the order of asking, as long as they can be.
     pub(crate) fn send(&mut self, now: u64, actions: &mut Vec<Action<A>, A>) -> Result<(), Stop>
-        ensures comes { OnOk result (Comes [] (trail_of self.old actions.old.items) (trail_of self.new actions.new.items)) }
+        ensures comes { OnOk result (Comes now [] (trail_of self.old actions.old.items) (trail_of self.new actions.new.items)) }
         ensures followed { All (IsFollowed now (view_of self.old.asker.follower.client)) self.old.asker.follower.subjects.items → OnOk result (All (IsFollowed now (view_of self.new.asker.follower.client)) self.new.asker.follower.subjects.items) }
         ensures limits { All (IsInTime now) self.old.asker.line.entries.items → OnOk result (All (IsInTime now) self.new.asker.line.entries.items) }
         ensures done { OnOk result (IsDone (view_of self.new.asker.follower.client) self.new.asker.line.entries.items) }
+        ensures same { (view_of self.old.asker.follower.client).standing.state ≢ Connected → self.new.asker ≡ self.old.asker }
+        ensures ends { (state : State) → is_final state ≡ true → OnOk result ((view_of self.new.asker.follower.client).standing.state ≡ state → (view_of self.old.asker.follower.client).standing.state ≡ state) }
     {
         let mut goes_on = true;
         while goes_on {

@@ -1,10 +1,11 @@
 use Rattle.std.proofs.Common.{◌++◌, ◌∷◌, [], false, refl, ap}
+use Rattle.zk_turns.specs.Turns.{Now}
 use Rattle.zk_conversation.specs.Views.{call_view}
 use Rattle.zk_client.specs.Clients.{view_of}
 use Rattle.zk_follow.specs.declared.follower.Follower.{Follower}
 use Rattle.zk_line.specs.declared.entry.Entry.{Entry}
-use Rattle.zk_agent.specs.Agents.{trail_of, Asks}
-use Rattle.zk_agent.proofs.Moves.{asks, ok_then, trail_eq}
+use Rattle.zk_agent.specs.Agents.{trail_of, Asks, Hears}
+use Rattle.zk_agent.proofs.Moves.{gives, ok_after, trail_eq}
 use Rattle.zk_agent.proofs.agent.Agent.ask.Goals as goal
 
 pub returns-clause-comes : goal.returns-clause-comes
@@ -12,8 +13,8 @@ returns-clause-comes g c =
     let old = trail_of c.args.self.now c.args.actions.now.items in
     let entry : Entry g.row.A.Denot = record { ticket = c.args.ticket; call = c.args.call; until = c.args.until; is_sent = false } in
     let between = record old { view = view_of c.ask.new.self.follower.client; subjects = c.ask.new.self.follower.subjects.items; line = c.ask.new.self.line.entries.items } in
-    ok_then c.hear.result (Asks c.args.ticket (call_view c.args.call) c.args.until ∷ []) old between (trail_of c.hear.new.self c.hear.new.actions.items)
-    (asks c.args.ticket (call_view c.args.call) c.args.until old between (record {
+    ok_after c.hear.result c.args.now (Asks c.args.ticket (call_view c.args.call) c.args.until ∷ []) (Hears c.args.now (Now c.args.now) ∷ []) old between (trail_of c.hear.new.self c.hear.new.actions.items)
+    (gives c.args.now (Asks c.args.ticket (call_view c.args.call) c.args.until) old between refl tt (record {
       entry = entry;
       its_ticket = refl;
       its_call = refl;

@@ -1,43 +1,25 @@
-use Rattle.std.proofs.Common.{◌≡◌, ◌<◌, ◌^◌, ℕ, None, sym, ap, subst, ◌∙◌}
+use Rattle.std.proofs.Common.{◌≡◌, ◌<◌, ◌^◌, ℕ, None, sym, subst, ◌∙◌}
 use Rattle.std.specs.Prelude.{IfSome}
-use Rattle.zk_turns.specs.View.{View}
-use Rattle.zk_turns.specs.Taken.{NothingIsDue}
 use Rattle.zk_client.specs.Clients.{view_of}
-use Rattle.zk_dialler.specs.Dialling.{has_come}
-use Rattle.zk_agent.proofs.Deadlines.{if_some, is_first, loud_by, none_came, none_left, quiet_by}
+use Rattle.zk_agent.specs.Agents.{NothingIn}
+use Rattle.zk_agent.proofs.Closing.{not_closed}
 use Rattle.zk_agent.proofs.agent.Agent.deadline.Goals as goal
+
+pub returns-then-is_closed-clause-never : goal.returns-then-is_closed-clause-never
+returns-then-is_closed-clause-never g c = λ none moment fits. subst (λ b. NothingIn b c.args.self.now moment) (sym c.if-is_closed.true ∙ c.is_closed.ensures) tt
 
 pub returns-clause-before : goal.returns-clause-before
 returns-clause-before g c =
-    let due = c.deadline-due.result in
-    let view = view_of c.args.self.now.asker.follower.client in
-    let before = subst (λ (v : View). IfSome due (λ first. (moment : ℕ) → moment < first → NothingIsDue v moment)) c.client.ensures c.deadline-due.ensures.before in
-    let never = subst (λ (v : View). due ≡ None → (moment : ℕ) → moment < 2 ^ 64 → NothingIsDue v moment) c.client.ensures c.deadline-due.ensures.never in
-    if_some c.first_of_four.result _ (λ first is moment fits below.
-    let none = none_came first due c.deadline-attempt.result c.deadline-again.result c.deadline-limit.result (sym is ∙ c.first_of_four.ensures) moment below in (
-      quiet_by (NothingIsDue view) due before never moment fits none.0,
-      ap (has_come moment) (sym c.deadline-attempt.ensures) ∙ none.1.0,
-      ap (has_come moment) (sym c.deadline-again.ensures) ∙ none.1.1.0,
-      ap (has_come moment) (sym c.deadline-limit.ensures) ∙ none.1.1.1,
-    ))
+    subst (λ b. IfSome c.first_due.result (λ first. (moment : ℕ) → moment < 2 ^ 64 → moment < first → NothingIn b c.args.self.now moment)) (sym c.if-is_closed.false ∙ c.is_closed.ensures)
+    c.first_due.ensures.before
 
 pub returns-clause-due : goal.returns-clause-due
 returns-clause-due g c =
-    let due = c.deadline-due.result in
-    let view = view_of c.args.self.now.asker.follower.client in
-    let loud = subst (λ (v : View). IfSome due (λ first. ¬ (NothingIsDue v first))) c.client.ensures c.deadline-due.ensures.due in
-    if_some c.first_of_four.result _ (λ first is nothing.
-    loud_by (NothingIsDue view) due first (is_first first due c.deadline-attempt.result c.deadline-again.result c.deadline-limit.result (sym is ∙ c.first_of_four.ensures)
-    (ap (has_come first) c.deadline-attempt.ensures ∙ nothing.1) (ap (has_come first) c.deadline-again.ensures ∙ nothing.2)
-    (ap (has_come first) c.deadline-limit.ensures ∙ nothing.3)) loud nothing.0)
+    subst (λ b. IfSome c.first_due.result (λ first. ¬ (NothingIn b c.args.self.now first))) (sym c.if-is_closed.false ∙ c.is_closed.ensures) c.first_due.ensures.due
 
 pub returns-clause-never : goal.returns-clause-never
-returns-clause-never g c = λ none moment fits.
-    let due = c.deadline-due.result in
-    let never = subst (λ (v : View). due ≡ None → (m : ℕ) → m < 2 ^ 64 → NothingIsDue v m) c.client.ensures c.deadline-due.ensures.never in
-    let left = none_left due c.deadline-attempt.result c.deadline-again.result c.deadline-limit.result (sym none ∙ c.first_of_four.ensures) in (
-      never left.0 moment fits,
-      ap (has_come moment) (sym c.deadline-attempt.ensures ∙ left.1.0),
-      ap (has_come moment) (sym c.deadline-again.ensures ∙ left.1.1.0),
-      ap (has_come moment) (sym c.deadline-limit.ensures ∙ left.1.1.1),
-    )
+returns-clause-never g c =
+    subst (λ b. c.first_due.result ≡ None → (moment : ℕ) → moment < 2 ^ 64 → NothingIn b c.args.self.now moment) (sym c.if-is_closed.false ∙ c.is_closed.ensures) c.first_due.ensures.never
+
+pub returns-clause-closed : goal.returns-clause-closed
+returns-clause-closed g c = λ is. absurd (not_closed (view_of c.args.self.now.asker.follower.client).standing.state (sym c.is_closed.ensures ∙ c.if-is_closed.false) is)

@@ -1,5 +1,6 @@
-use Rattle.std.proofs.Common.{refl}
-use Rattle.zk_agent.specs.Agents.{trail_of}
+use Rattle.std.proofs.Common.{[], ◌∷◌, refl}
+use Rattle.zk_turns.specs.Turns.{Cut}
+use Rattle.zk_agent.specs.Agents.{trail_of, Ended, Hears}
 use Rattle.zk_agent.proofs.Moves.{ended, ok_after}
 use Rattle.zk_agent.proofs.agent.Agent.end.Goals as goal
 
@@ -7,4 +8,5 @@ pub returns-clause-comes : goal.returns-clause-comes
 returns-clause-comes g c =
     let old = trail_of c.args.self.now c.args.actions.now.items in
     let between = record old { dialler = c.end.new.self } in
-    ok_after c.hear.result old between (trail_of c.hear.new.self c.hear.new.actions.items) (ended old between c.timeout_ms-timeout_ms.result c.args.now c.timeout_ms-timeout_ms.ensures c.end.ensures refl) c.hear.ensures.comes
+    ok_after c.hear.result c.args.now (Ended c.args.now ∷ []) (Hears c.args.now Cut ∷ []) old between (trail_of c.hear.new.self c.hear.new.actions.items)
+    (ended old between c.timeout_ms-timeout_ms.result c.args.now c.timeout_ms-timeout_ms.ensures c.end.ensures refl) c.hear.ensures.comes

@@ -1,13 +1,14 @@
-use Rattle.std.proofs.Common.{refl, ap}
+use Rattle.std.proofs.Common.{[], ◌∷◌, refl, ap}
+use Rattle.zk_turns.specs.Turns.{Now}
 use Rattle.zk_client.specs.Clients.{view_of}
 use Rattle.zk_line.specs.declared.line.Line.{Line}
-use Rattle.zk_agent.specs.Agents.{trail_of, Follows}
-use Rattle.zk_agent.proofs.Moves.{ok_after, one, trail_eq}
+use Rattle.zk_agent.specs.Agents.{trail_of, Follows, Hears}
+use Rattle.zk_agent.proofs.Moves.{gives, ok_after, trail_eq}
 use Rattle.zk_agent.proofs.agent.Agent.follow.Goals as goal
 
 pub returns-clause-comes : goal.returns-clause-comes
 returns-clause-comes g c =
     let old = trail_of c.args.self.now c.args.actions.now.items in
     let between = record old { view = view_of c.follow.new.self.follower.client; subjects = c.follow.new.self.follower.subjects.items; line = c.follow.new.self.line.entries.items } in
-    ok_after c.hear.result old between (trail_of c.hear.new.self c.hear.new.actions.items)
-    (one (Follows c.args.ticket c.args.side c.args.path) old between refl (trail_eq _ between (ap view_of c.follow.ensures.client) c.in_ok-follow.ensures.subjects (ap (λ (l : Line g.row.A.Denot). l.entries.items) c.follow.ensures.line) refl refl)) c.hear.ensures.comes
+    ok_after c.hear.result c.args.now (Follows c.args.ticket c.args.side c.args.path ∷ []) (Hears c.args.now (Now c.args.now) ∷ []) old between (trail_of c.hear.new.self c.hear.new.actions.items)
+    (gives c.args.now (Follows c.args.ticket c.args.side c.args.path) old between refl tt (trail_eq _ between (ap view_of c.follow.ensures.client) c.in_ok-follow.ensures.subjects (ap (λ (l : Line g.row.A.Denot). l.entries.items) c.follow.ensures.line) refl refl)) c.hear.ensures.comes

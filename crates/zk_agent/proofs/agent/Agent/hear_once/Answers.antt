@@ -6,7 +6,7 @@ use Rattle.zk_dialler.specs.Dialling.{is_open}
 use Rattle.zk_follow.specs.Following.{IsFollowed}
 use Rattle.zk_agent.specs.declared.asker.Asker.{Asker}
 use Rattle.zk_agent.specs.Agents.{trail_of}
-use Rattle.zk_agent.proofs.Moves.{may_hear, not_handed, taken_by}
+use Rattle.zk_agent.proofs.Moves.{may_hear, not_handed, taken_and}
 use Rattle.zk_agent.proofs.agent.Agent.hear_once.Goals as goal
 
 pub returns-clause-followed : goal.returns-clause-followed
@@ -18,7 +18,7 @@ returns-clause-hears g c =
     let old = trail_of c.args.self.now c.args.actions.now.items in
     let new = trail_of c.heed.new.self c.heed.new.actions.items in
     let input = input_view c.args.input in
-    taken_by c.args.now input old new (trail_of (record c.args.self.now { asker = c.step.new.self }) c.step.new.actions.items) old.line c.in_ok-heard.heard
+    taken_and c.args.now input old new (trail_of (record c.args.self.now { asker = c.step.new.self }) c.step.new.actions.items) old.line c.in_ok-heard.heard
     (may_hear input old c.requires) (not_handed input (is_open old.dialler.phase) old.line c.requires) c.in_ok-heard.ensures.takes
     (ap (λ (a : Asker g.row.A.Denot). view_of a.follower.client) c.heed.ensures.asker) (ap (λ (a : Asker g.row.A.Denot). a.follower.subjects.items) c.heed.ensures.asker)
     (ap (λ (a : Asker g.row.A.Denot). a.line.entries.items) c.heed.ensures.asker) c.in_ok-heed.ensures.goes

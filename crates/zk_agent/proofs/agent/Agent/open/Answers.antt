@@ -1,7 +1,9 @@
-use Rattle.std.proofs.Common.{◌++◌, ◌∷◌, [], refl}
-use Rattle.zk_agent.specs.Agents.{trail_of, HungUp}
+use Rattle.std.proofs.Common.{◌++◌, ◌∷◌, [], refl, subst}
+use Rattle.std.specs.Prelude.{OnOk}
+use Rattle.zk_turns.specs.Turns as turns
+use Rattle.zk_agent.specs.Agents.{over_at, trail_of, Comes, Hears, HungUp, Opened}
 use Rattle.zk_agent.specs.Telling.{told_by, HangsUp}
-use Rattle.zk_agent.proofs.Moves.{late_is_same, ok_after, one, opened, ours_is_open, trail_eq}
+use Rattle.zk_agent.proofs.Moves.{gives, late_is_same, late_makes, ok_after, opened, ours_is_open, ours_makes, trail_eq}
 use Rattle.zk_agent.proofs.agent.Agent.open.Goals as goal
 
 pub hear-requires : goal.hear-requires
@@ -11,13 +13,19 @@ pub returns-then-open-clause-comes : goal.returns-then-open-clause-comes
 returns-then-open-clause-comes g c =
     let old = trail_of c.args.self.now c.args.actions.now.items in
     let between = record old { dialler = c.open.new.self } in
-    ok_after c.hear.result old between (trail_of c.hear.new.self c.hear.new.actions.items)
-    (opened old between c.timeout_ms-timeout_ms.result c.args.now c.open.result c.timeout_ms-timeout_ms.ensures c.if-open.true c.open.ensures refl) c.hear.ensures.comes
+    let new = trail_of c.hear.new.self c.hear.new.actions.items in
+    subst (λ given. OnOk c.hear.result (Comes c.args.now given old new))
+    (ours_makes c.timeout_ms-timeout_ms.result c.args.now c.args.self.now.dialler c.open.new.self c.open.result c.open.ensures c.if-open.true)
+    (ok_after c.hear.result c.args.now (Opened c.args.now ∷ []) (Hears c.args.now turns.Opened ∷ []) old between new
+    (opened old between c.timeout_ms-timeout_ms.result c.args.now c.open.result c.timeout_ms-timeout_ms.ensures c.if-open.true c.open.ensures refl) c.hear.ensures.comes)
 
 pub returns-clause-comes : goal.returns-clause-comes
 returns-clause-comes g c =
     let old = trail_of c.args.self.now c.args.actions.now.items in
     let between = record old { dialler = c.open.new.self; told = told_by c.push.new.actions.items } in
+    let new = trail_of c.end.new.self c.end.new.actions.items in
     let same = late_is_same c.timeout_ms-timeout_ms.result c.args.now c.args.self.now.dialler c.open.new.self c.open.result c.open.ensures c.if-open.false in
-    ok_after c.end.result old between (trail_of c.end.new.self c.end.new.actions.items)
-    (one HungUp old between refl (trail_eq (record old { told = old.told ++ HangsUp ∷ [] }) between refl refl refl same c.in_ok-push.ensures)) c.end.ensures.comes
+    subst (λ given. OnOk c.end.result (Comes c.args.now given old new))
+    (late_makes c.timeout_ms-timeout_ms.result c.args.now c.args.self.now.dialler c.open.new.self c.open.result c.open.ensures c.if-open.false)
+    (ok_after c.end.result c.args.now (HungUp ∷ []) (over_at c.args.now) old between new
+    (gives c.args.now HungUp old between refl tt (trail_eq (record old { told = old.told ++ HangsUp ∷ [] }) between refl refl refl same c.in_ok-push.ensures)) c.end.ensures.comes)

@@ -1,4 +1,7 @@
-use Rattle.std.proofs.Common.{[]}
+use Rattle.std.proofs.Common.{◌≢◌, [], refl, sym, subst, ◌∙◌}
+use Rattle.zk_session.specs.declared.states.State.TheVariants.{Connected}
+use Rattle.zk_client.specs.Clients.{view_of}
+use Rattle.zk_agent.specs.declared.asker.Asker.{Asker}
 use Rattle.zk_agent.specs.Agents.{trail_of}
 use Rattle.zk_agent.specs.Calls.{how_many_wait}
 use Rattle.zk_agent.proofs.Handing.{fewer_left}
@@ -7,18 +10,24 @@ use Rattle.zk_agent.proofs.agent.Agent.send.Goals as goal
 
 pub loop-goes_on-init : goal.loop-goes_on-init
 loop-goes_on-init g c = record {
-  comes = nothing (trail_of c.args.self.now c.args.actions.now.items);
+  comes = nothing c.args.now (trail_of c.args.self.now c.args.actions.now.items);
   followed = λ all. all;
   limits = λ all. all;
+  same = λ away. refl;
+  ends = λ state final is. is;
   done = λ e. absurd cc;
 }
 
 pub loop-goes_on-preserved : goal.loop-goes_on-preserved
 loop-goes_on-preserved g c = record {
-  comes = then_none [] (trail_of c.args.self.now c.args.actions.now.items) (trail_of c.loop-goes_on.self c.loop-goes_on.actions.items) (trail_of c.try_one.new.self c.try_one.new.actions.items)
+  comes = then_none c.args.now [] (trail_of c.args.self.now c.args.actions.now.items) (trail_of c.loop-goes_on.self c.loop-goes_on.actions.items) (trail_of c.try_one.new.self c.try_one.new.actions.items)
       c.loop-goes_on.invariant.comes c.in_ok-goes_on.ensures.sends.comes;
   followed = λ all. c.in_ok-goes_on.ensures.followed (c.loop-goes_on.invariant.followed all);
   limits = λ all. c.in_ok-goes_on.ensures.sends.limits (c.loop-goes_on.invariant.limits all);
+  same = λ away.
+      let before = c.loop-goes_on.invariant.same away in
+      c.try_one.ensures.same (subst (λ (a : Asker g.row.A.Denot). (view_of a.follower.client).standing.state ≢ Connected) (sym before) away) ∙ before;
+  ends = λ state final is. c.loop-goes_on.invariant.ends state final (c.in_ok-goes_on.ensures.sends.ends state final is);
   done = c.in_ok-goes_on.ensures.sends.none;
 }
 

@@ -1,13 +1,15 @@
-use Rattle.std.proofs.Common.{refl}
-use Rattle.zk_agent.specs.Agents.{trail_of, Addressed}
-use Rattle.zk_agent.proofs.Moves.{ok_after, one}
+use Rattle.std.proofs.Common.{[], ◌∷◌, refl}
+use Rattle.zk_turns.specs.Turns.{Now}
+use Rattle.zk_agent.specs.Agents.{trail_of, Addressed, Hears}
+use Rattle.zk_agent.proofs.Moves.{gives, ok_after}
 use Rattle.zk_agent.proofs.agent.Agent.set_addresses.Goals as goal
 
 pub returns-clause-comes : goal.returns-clause-comes
 returns-clause-comes g c =
     let old = trail_of c.args.self.now c.args.actions.now.items in
     let between = record old { dialler = c.set_addresses.new.self } in
-    ok_after c.hear.result old between (trail_of c.hear.new.self c.hear.new.actions.items) (one (Addressed c.args.count) old between refl (
+    ok_after c.hear.result c.args.now (Addressed c.args.count ∷ []) (Hears c.args.now (Now c.args.now) ∷ []) old between (trail_of c.hear.new.self c.hear.new.actions.items)
+    (gives c.args.now (Addressed c.args.count) old between refl tt (
       record {
         order = c.in_ok-set_addresses.ensures.order;
         each = c.in_ok-set_addresses.ensures.each;

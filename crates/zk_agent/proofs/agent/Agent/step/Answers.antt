@@ -1,32 +1,43 @@
-use Rattle.std.proofs.Common.{[], refl, sym, subst}
+use Rattle.std.proofs.Common.{◌≡◌, ◌+◌, [], refl, sym, ap, subst, ◌∙◌}
 use Rattle.std.specs.Prelude.{All}
+use Rattle.zk_session.specs.declared.states.State.TheVariants.{Connected, Expired, Closed}
 use Rattle.zk_client.specs.Clients.{view_of}
 use Rattle.zk_follow.specs.declared.follower.Follower.{Follower}
 use Rattle.zk_follow.specs.Following.{IsFollowed}
 use Rattle.zk_agent.specs.declared.asker.Asker.{Asker}
-use Rattle.zk_agent.specs.Agents.{asks_of, trail_of, Comes}
-use Rattle.zk_agent.specs.Calls.{IsDone, IsInTime}
-use Rattle.zk_agent.proofs.Counting.{calls_balance}
+use Rattle.zk_agent.specs.Agents.{given_of, trail_of, Comes}
+use Rattle.zk_agent.specs.Calls.{how_many, IsDone, IsInTime}
+use Rattle.zk_agent.proofs.Counting.{asks_its, calls_balance}
 use Rattle.zk_agent.proofs.Lines.{all_served}
 use Rattle.zk_agent.proofs.Moves.{in_turn}
 use Rattle.zk_agent.proofs.agent.Agent.step.Goals as goal
 
 pub returns-clause-comes : goal.returns-clause-comes
 returns-clause-comes g c =
+    let now = c.max-now.result in
+    let given = given_of c.args.self.now.dialler.phase now c.args.input in
     let first = trail_of c.take.new.self c.take.new.actions.items in
-    in_turn (asks_of c.args.input) (trail_of c.args.self.now []) first (trail_of c.renew.new.self c.renew.new.actions.items) (trail_of c.give_up.new.self c.give_up.new.actions.items)
-    (trail_of c.send.new.self c.send.new.actions.items) (trail_of c.dial.new.self c.dial.new.actions.items)
-    (subst (λ items. Comes (asks_of c.args.input) (trail_of c.args.self.now items) first) c.new-actions.ensures.items c.in_ok-take.ensures.comes) c.in_ok-renew.ensures.comes
-    c.in_ok-give_up.ensures.comes c.in_ok-send.ensures.comes c.in_ok-dial.ensures.comes
+    let old = trail_of c.args.self.now [] in
+    let new = trail_of c.dial.new.self c.dial.new.actions.items in
+    subst (λ moment. Comes moment (given_of c.args.self.now.dialler.phase moment c.args.input) old new) c.max-now.ensures
+    (in_turn now given old first (trail_of c.renew.new.self c.renew.new.actions.items) (trail_of c.give_up.new.self c.give_up.new.actions.items)
+    (trail_of c.send.new.self c.send.new.actions.items) new
+    (subst (λ items. Comes now given (trail_of c.args.self.now items) first) c.new-actions.ensures.items c.in_ok-take.ensures.comes) (c.in_ok-renew.ensures.comes now)
+    c.in_ok-give_up.ensures.comes c.in_ok-send.ensures.comes c.in_ok-dial.ensures.comes)
 
 pub returns-clause-calls : goal.returns-clause-calls
-returns-clause-calls g c =
+returns-clause-calls g c = λ ticket.
+    let now = c.max-now.result in
+    let given = given_of c.args.self.now.dialler.phase now c.args.input in
     let first = trail_of c.take.new.self c.take.new.actions.items in
-    calls_balance (asks_of c.args.input) (trail_of c.args.self.now []) (trail_of c.dial.new.self c.dial.new.actions.items)
-    (in_turn (asks_of c.args.input) (trail_of c.args.self.now []) first (trail_of c.renew.new.self c.renew.new.actions.items) (trail_of c.give_up.new.self c.give_up.new.actions.items)
-    (trail_of c.send.new.self c.send.new.actions.items) (trail_of c.dial.new.self c.dial.new.actions.items)
-    (subst (λ items. Comes (asks_of c.args.input) (trail_of c.args.self.now items) first) c.new-actions.ensures.items c.in_ok-take.ensures.comes) c.in_ok-renew.ensures.comes
-    c.in_ok-give_up.ensures.comes c.in_ok-send.ensures.comes c.in_ok-dial.ensures.comes) refl
+    let old = trail_of c.args.self.now [] in
+    let new = trail_of c.dial.new.self c.dial.new.actions.items in
+    let all = calls_balance now given old new
+    (in_turn now given old first (trail_of c.renew.new.self c.renew.new.actions.items) (trail_of c.give_up.new.self c.give_up.new.actions.items)
+    (trail_of c.send.new.self c.send.new.actions.items) new
+    (subst (λ items. Comes now given (trail_of c.args.self.now items) first) c.new-actions.ensures.items c.in_ok-take.ensures.comes) (c.in_ok-renew.ensures.comes now)
+    c.in_ok-give_up.ensures.comes c.in_ok-send.ensures.comes c.in_ok-dial.ensures.comes) refl ticket in
+    all ∙ ap (λ n. how_many ticket old.line + n) (asks_its ticket c.args.self.now.dialler.phase now c.args.input)
 
 pub returns-clause-followed : goal.returns-clause-followed
 returns-clause-followed g c =
@@ -44,3 +55,19 @@ returns-clause-served g c =
 pub returns-clause-limits : goal.returns-clause-limits
 returns-clause-limits g c =
     subst (λ (a : Asker g.row.A.Denot). All (IsInTime c.max-now.result) a.line.entries.items) (sym c.dial.ensures.asker) (c.in_ok-send.ensures.limits c.in_ok-give_up.ensures.limits)
+
+pub returns-clause-closed : goal.returns-clause-closed
+returns-clause-closed g c = λ closed.
+    let state = λ (a : Asker g.row.A.Denot). (view_of a.follower.client).standing.state in
+    let line = λ (a : Asker g.row.A.Denot). a.line.entries.items in
+    let sent : state c.send.new.self.asker ≡ Closed = sym (ap state c.dial.ensures.asker) ∙ closed in
+    let given_up : state c.give_up.new.self.asker ≡ Closed = c.in_ok-send.ensures.ends Closed refl sent in
+    let renewed = sym (ap (λ (f : Follower g.row.A.Denot). (view_of f.client).standing.state) c.give_up.ensures.follower) ∙ given_up in
+    let same = c.send.ensures.same (λ connected. let f : Closed ≡ Connected = sym given_up ∙ connected in cc) in
+    ap line c.dial.ensures.asker ∙ ap line same ∙ c.in_ok-give_up.ensures.closed renewed
+
+pub returns-clause-renewed : goal.returns-clause-renewed
+returns-clause-renewed g c = λ expired.
+    let sent = sym (ap (λ (a : Asker g.row.A.Denot). (view_of a.follower.client).standing.state) c.dial.ensures.asker) ∙ expired in
+    let given_up = c.in_ok-send.ensures.ends Expired refl sent in
+    c.in_ok-renew.ensures.renewed (sym (ap (λ (f : Follower g.row.A.Denot). (view_of f.client).standing.state) c.give_up.ensures.follower) ∙ given_up)

@@ -1,0 +1,7 @@
+use Rattle.std.proofs.Common.{◌≡◌, ◌++◌, map, take}
+use Rattle.zk_agent.specs.Telling.{closed_told, told_by}
+use Rattle.zk_agent.proofs.calls.push_closed.Given as goal
+
+-- those so far were told
+abbrev pub invariant-loop-one : goal.invariant-loop-one
+invariant-loop-one g l = told_by l.actions.items ≡ told_by l.fn.actions.items ++ map closed_told (take l.one-index l.all)
