@@ -5,7 +5,7 @@ use Rattle.std.specs.List.{flat_map, FoldsTo}
 use Rattle.zk_client.specs.Clients.{view_of}
 use Rattle.zk_agent.specs.Agents.{IsLed}
 use Rattle.zk_agent.specs.declared.input.Input.{Input}
-use Rattle.zk_driver.specs.Driving.{ChannelView, Course, AreFollowed, Does, Goes, Hands, Meets, Move, Notes, Written, Noted}
+use Rattle.zk_driver.specs.Driving.{ChannelView, Course, AreFollowed, Does, Goes, Hands, IsShutAgent, Meets, Move, Notes, Written, Noted}
 use Rattle.zk_driver.specs.Noting.{notes_by, notes_in, GoesBy, Note}
 
 -- ---- what lasts
@@ -18,6 +18,10 @@ led_by : {A : Type 0} (move : Move A) (old new : Course A) → Does old move new
 led_by {A} Written old new does led = subst (λ (c : Course A). IsLed (view_of c.agent.asker.follower.client)) (sym does.1) led
 led_by (Noted now input) old new does led = does.2.comes.led led
 
+shut_by : {A : Type 0} (move : Move A) (old new : Course A) → Does old move new → IsShutAgent old.agent → IsShutAgent new.agent
+shut_by {A} Written old new does shut = subst (λ (c : Course A). IsShutAgent c.agent) (sym does.1) shut
+shut_by (Noted now input) old new does shut = does.2.comes.shut shut
+
 followed_through : {A : Type 0} (moves : List (Move A)) (old new : Course A) → FoldsTo Does old moves new → AreFollowed old.agent → AreFollowed new.agent
 followed_through {A} [] old new same followed = subst (λ (c : Course A). AreFollowed c.agent) same followed
 followed_through (move ∷ moves) old new does followed = followed_through moves does.0 new does.2 (followed_by move old does.0 does.1 followed)
@@ -26,6 +30,10 @@ led_through : {A : Type 0} (moves : List (Move A)) (old new : Course A) → Fold
 led_through {A} [] old new same led = subst (λ (c : Course A). IsLed (view_of c.agent.asker.follower.client)) same led
 led_through (move ∷ moves) old new does led = led_through moves does.0 new does.2 (led_by move old does.0 does.1 led)
 
+shut_through : {A : Type 0} (moves : List (Move A)) (old new : Course A) → FoldsTo Does old moves new → IsShutAgent old.agent → IsShutAgent new.agent
+shut_through {A} [] old new same shut = subst (λ (c : Course A). IsShutAgent c.agent) same shut
+shut_through (move ∷ moves) old new does shut = shut_through moves does.0 new does.2 (shut_by move old does.0 does.1 shut)
+
 -- ---- moves
 
 does_on : {A : Type 0} (moves more : List (Move A)) (old between new : Course A) → FoldsTo Does old moves between → FoldsTo Does between more new → FoldsTo Does old (moves ++ more) new
@@ -33,7 +41,7 @@ does_on {A} [] more old between new same rest = subst (λ (c : Course A). FoldsT
 does_on (move ∷ moves) more old between new does rest = (does.0, does.1, does_on moves more does.0 between new does.2 rest)
 
 come : {A : Type 0} (moves : List (Move A)) (old new : Course A) → FoldsTo Does old moves new → Goes old new
-come moves old new does = record { moves = moves; does = does; followed = followed_through moves old new does; led = led_through moves old new does }
+come moves old new does = record { moves = moves; does = does; followed = followed_through moves old new does; led = led_through moves old new does; shut = shut_through moves old new does }
 
 -- nothing happened
 pub same : {A : Type 0} (old new : Course A) → old ≡ new → Goes old new
@@ -50,7 +58,7 @@ ok_after (Err e) old between new first rest = tt
 -- ---- what was told of connections
 
 pub goes : {A : Type 0} (notes : List Note) (old new : Course A) → GoesBy notes old new → Goes old new
-goes notes old new by = record { moves = by.moves; does = by.does; followed = by.followed; led = by.led }
+goes notes old new by = record { moves = by.moves; does = by.does; followed = by.followed; led = by.led; shut = by.shut }
 
 pub ok_goes : {A X E : Type 0} (result : Result X E) (notes : List Note) (old new : Course A) → OnOk result (GoesBy notes old new) → OnOk result (Goes old new)
 ok_goes (Ok x) notes old new by = goes notes old new by
@@ -58,7 +66,7 @@ ok_goes (Err e) notes old new by = tt
 
 come_by : {A : Type 0} (notes : List Note) (moves : List (Move A)) (old new : Course A) → FoldsTo Does old moves new → flat_map notes_by moves ≡ notes → GoesBy notes old new
 come_by notes moves old new does are =
-    record { moves = moves; does = does; are = are; followed = followed_through moves old new does; led = led_through moves old new does }
+    record { moves = moves; does = does; are = are; followed = followed_through moves old new does; led = led_through moves old new does; shut = shut_through moves old new does }
 
 notes_on : {A : Type 0} (moves more : List (Move A)) → flat_map notes_by (moves ++ more) ≡ flat_map notes_by moves ++ flat_map notes_by more
 notes_on [] more = refl

@@ -1,7 +1,8 @@
 -- How far a driver has come: what its agent was handed, what was carried out, and what was passed on.
-use Rattle.std.specs.Prelude.{◌≡◌, ◌+◌, ℕ, Bool, true, false, List, [], ◌∷◌, ◌++◌, fold, max, Option, Some, None, is_some, All}
+use Rattle.std.specs.Prelude.{◌≡◌, ◌≢◌, ◌+◌, ℕ, Bool, true, false, List, [], ◌∷◌, ◌++◌, fold, max, Option, Some, None, is_some, All}
 use Rattle.std.specs.List.{filter, FoldsTo}
 use Rattle.zk_turns.specs.Turns.{Send}
+use Rattle.zk_session.specs.declared.states.State.TheVariants.{Expired, Closed}
 use Rattle.zk_client.specs.Clients.{view_of}
 use Rattle.zk_dialler.specs.Dialling.{is_open}
 use Rattle.zk_follow.specs.Following.{IsFollowed}
@@ -9,7 +10,7 @@ use Rattle.zk_agent.specs.declared.action.Action.{Action}
 use Rattle.zk_agent.specs.declared.agent.Agent.{Agent}
 use Rattle.zk_agent.specs.declared.input.Input.{Input}
 use Rattle.zk_agent.specs.declared.input.Input.TheVariants as happens
-use Rattle.zk_agent.specs.Agents.{asks_of, heard_after, how_many_asked, how_many_ended, trail_of, Comes, IsLed}
+use Rattle.zk_agent.specs.Agents.{given_of, heard_after, how_many_asked, how_many_ended, trail_of, Comes, IsLed, IsShut}
 use Rattle.zk_agent.specs.Calls.{how_many, IsInTime, IsServed}
 use Rattle.zk_agent.specs.Telling.{Told, Says, Dials, HangsUp, action_view, told_by}
 use Rattle.zk_link.specs.declared.bring.Brought.{Brought}
@@ -79,15 +80,22 @@ course_of engine passed = record { agent = engine.agent; channel = channel_view 
 abbrev pub AreFollowed : {A : Type 0} → Agent A → Type 0
 AreFollowed agent = All (IsFollowed agent.latest (view_of agent.asker.follower.client)) agent.asker.follower.subjects.items
 
--- The agent takes an input that was noticed at a moment: each subject is followed then, each call is settled once or waits, and none waits past its
--- limit. What it says is carried out, or put after what the program is told, each in its order.
+-- after a close there is no connection, and none is asked for
+abbrev pub IsShutAgent : {A : Type 0} → Agent A → Type 0
+IsShutAgent agent = IsShut (trail_of agent [])
+
+-- The agent takes an input that was noticed at a moment, and what comes from outside is that: each subject is followed then, each call is settled
+-- once or waits, none waits past its limit or after a close, and a session that has expired is over. What it says is carried out, or put after what
+-- the program is told, each in its order.
 pub record Takes {A : Type 0} (now : ℕ) (input : Input A) (old new : Course A) : Type 0 where
   pub actions : List (Action A)
-  pub comes : Comes (asks_of input) (trail_of old.agent []) (trail_of new.agent actions)
+  pub comes : Comes (max old.agent.latest now) (given_of old.agent.dialler.phase (max old.agent.latest now) input) (trail_of old.agent []) (trail_of new.agent actions)
   pub followed : AreFollowed new.agent
   pub calls : (ticket : ℕ) → how_many ticket new.agent.asker.line.entries.items + how_many_ended ticket (told_by actions) ≡ how_many ticket old.agent.asker.line.entries.items + how_many_asked ticket input
   pub served : All (IsServed (view_of new.agent.asker.follower.client)) new.agent.asker.line.entries.items
   pub limits : All (IsInTime new.agent.latest) new.agent.asker.line.entries.items
+  pub closed : (view_of new.agent.asker.follower.client).standing.state ≡ Closed → new.agent.asker.line.entries.items ≡ []
+  pub renewed : (view_of new.agent.asker.follower.client).standing.state ≢ Expired
   pub latest : new.agent.latest ≡ max old.agent.latest now
   pub heard : new.agent.heard_at ≡ heard_after (is_open old.agent.dialler.phase) (max old.agent.latest now) input old.agent.heard_at
   pub channel : new.channel ≡ fold carried old.channel (told_by actions)
@@ -112,12 +120,13 @@ abbrev pub Does : {A : Type 0} → Course A → Move A → Course A → Type 0
 Does old Written new = Writes old.channel new.channel × (new ≡ record old { channel = new.channel })
 Does {A} old (Noted now input) new = (between : ChannelView) × Meets old.channel input between × Takes now input (record old { channel = between }) new
 
--- Moves, the oldest first. A client that was led stands where it was led.
+-- Moves, the oldest first. A client that was led stands where it was led, and after a close there is no connection.
 pub record Goes {A : Type 0} (old new : Course A) : Type 0 where
   pub moves : List (Move A)
   pub does : FoldsTo Does old moves new
   pub followed : AreFollowed old.agent → AreFollowed new.agent
   pub led : IsLed (view_of old.agent.asker.follower.client) → IsLed (view_of new.agent.asker.follower.client)
+  pub shut : IsShutAgent old.agent → IsShutAgent new.agent
 
 -- This is what the agent is handed first.
 pub record Notes {A : Type 0} (input : Input A) (old new : Course A) : Type 0 where

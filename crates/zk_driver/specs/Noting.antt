@@ -10,7 +10,7 @@ use Rattle.zk_driver.specs.declared.turn.Event.{Event}
 use Rattle.zk_driver.specs.declared.turn.Event.TheVariants as event
 use Rattle.zk_driver.specs.declared.turn.Turn.{Turn}
 use Rattle.zk_driver.specs.declared.turn.Turn.TheVariants as turn
-use Rattle.zk_driver.specs.Driving.{AreFollowed, Course, Does, Move, Written, Noted}
+use Rattle.zk_driver.specs.Driving.{AreFollowed, Course, Does, IsShutAgent, Move, Written, Noted}
 
 -- a connection that was asked for is there; one could not be made; one is over
 pub data Note : Type 0 where
@@ -33,6 +33,7 @@ pub record GoesBy {A : Type 0} (notes : List Note) (old new : Course A) : Type 0
   pub are : flat_map notes_by moves ≡ notes
   pub followed : AreFollowed old.agent → AreFollowed new.agent
   pub led : IsLed (view_of old.agent.asker.follower.client) → IsLed (view_of new.agent.asker.follower.client)
+  pub shut : IsShutAgent old.agent → IsShutAgent new.agent
 
 -- what a turn tells of connections, and the action that it hands on
 abbrev pub notes_of_event : Event → List Note

@@ -6,7 +6,7 @@ ghost use Rattle.zk_turns.specs.View.{view_at};
 ghost use Rattle.zk_client.specs.Clients.{view_of};
 ghost use Rattle.zk_agent.specs.Telling.{told_by};
 ghost use Rattle.zk_agent.specs.declared.input.Input.TheVariants as happens;
-ghost use Rattle.zk_driver.specs.Driving.{channel_view, closed, course_of, AreFollowed, Extends, Goes, Hands};
+ghost use Rattle.zk_driver.specs.Driving.{channel_view, closed, course_of, AreFollowed, Extends, Goes, Hands, IsShutAgent};
 ghost use Rattle.zk_driver.specs.Noting.{is_come, notes_of, notes_of_event, passed_in, GoesBy};
 
 use crate::channel::Attempt;
@@ -69,6 +69,7 @@ impl<'a, A: Allocator + Copy, D: Dial + Drop, C: Clock + Drop> Driver<'a, A, D, 
         requires { pos 0 <ℤ timeout_ms }
         ensures client { IfOk result (λ driver. view_of driver.engine.agent.asker.follower.client ≡ view_at (new_start (unsigned_abs timeout_ms)) []) }
         ensures followed { IfOk result (λ driver. AreFollowed driver.engine.agent) }
+        ensures shut { IfOk result (λ driver. IsShutAgent driver.engine.agent) }
         ensures channel { IfOk result (λ driver. channel_view driver.engine.channel ≡ closed) }
         ensures waiting { IfOk result (λ driver. driver.engine.waiting.items ≡ []) }
         ensures subjects { IfOk result (λ driver. driver.engine.agent.asker.follower.subjects.items ≡ []) }

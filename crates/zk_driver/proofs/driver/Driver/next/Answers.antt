@@ -1,4 +1,4 @@
-use Rattle.std.proofs.Common.{◌≡◌, None, Option, sym, subst}
+use Rattle.std.proofs.Common.{◌≡◌, [], None, Option, append-nil, refl, sym, subst}
 use Rattle.zk_agent.specs.Telling.{told_by}
 use Rattle.zk_agent.specs.declared.action.Action.{Action}
 use Rattle.zk_driver.specs.Driving.{course_of, Course, Extends}
@@ -6,6 +6,11 @@ use Rattle.zk_driver.specs.Noting.{notes_of_event}
 use Rattle.zk_driver.proofs.Carrying.{always_err, extends_on}
 use Rattle.zk_driver.proofs.Going.{after, goes, same}
 use Rattle.zk_driver.proofs.driver.Driver.next.Goals as goal
+
+pub loop-init : goal.loop-init
+loop-init g c =
+    let here = course_of c.args.self.now.engine None in
+    record { goes = same here here refl; kept = ([], sym (append-nil (told_by c.args.self.now.engine.waiting.items))) }
 
 pub loop-preserved : goal.loop-preserved
 loop-preserved g c =
