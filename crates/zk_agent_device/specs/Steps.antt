@@ -1,5 +1,6 @@
 -- What becomes of an agent's device, by the number that is told.
-use Rattle.std.specs.Prelude.{◌≡◌, ◌+◌, ◌==◌, ◌^◌, ℕ, zero, ℤ, pos, negsuc, true, false, max, List, [], Option, Some, None, Result, All, MatchResult, if◌then◌else◌}
+use Rattle.std.specs.Prelude.{◌≡◌, ◌≢◌, ◌+◌, ◌==◌, ◌^◌, ℕ, zero, ℤ, pos, negsuc, true, false, max, List, [], Option, Some, None, Result, All, MatchResult, if◌then◌else◌}
+use Rattle.std.specs.List.Sorted.{IsPermutation}
 use Rattle.std.specs.declared.alloc.Global.{Global}
 use Rattle.zk_nodes.specs.Path.{Text}
 use Rattle.zk_nodes.specs.declared.side.Side.{Side}
@@ -7,13 +8,18 @@ use Rattle.zk_conversation.specs.Calls.{Call}
 use Rattle.zk_conversation.specs.Views.{call_view}
 use Rattle.zk_turns.specs.Turns.{Start}
 use Rattle.zk_turns.specs.View.{View, view_at}
+use Rattle.zk_session.specs.declared.states.State.TheVariants.{Expired, Closed}
 use Rattle.zk_client.specs.Clients.{view_of}
 use Rattle.zk_dialler.specs.Dialling.{is_open}
+use Rattle.zk_dialler.specs.Orders.{numbers, shuffled}
+use Rattle.zk_dialler.specs.Chances.{state_after}
+use Rattle.zk_dialler.specs.declared.dialler.Dialler.{Dialler}
+use Rattle.zk_dialler.specs.declared.dialler.Phase.TheVariants.{Waiting}
 use Rattle.zk_follow.specs.Following.{IsFollowed}
 use Rattle.zk_agent.specs.declared.agent.Agent.{Agent}
 use Rattle.zk_agent.specs.declared.input.Input.{Input}
 use Rattle.zk_agent.specs.declared.input.Input.TheVariants as input
-use Rattle.zk_agent.specs.Agents.{asks_of, heard_after, how_many_asked, how_many_ended, trail_of, Comes}
+use Rattle.zk_agent.specs.Agents.{given_of, heard_after, how_many_asked, how_many_ended, trail_of, Comes}
 use Rattle.zk_agent.specs.Calls.{how_many, IsInTime, IsServed}
 use Rattle.zk_agent.specs.Telling.{told_by}
 use Rattle.zk_device.specs.Codes.{refusal_code}
@@ -58,11 +64,13 @@ pub record Took (now : ℕ) (given : Input Global) (before after : AgentDevice) 
   pub went_on : before.is_over ≡ false
   pub goes_on : after.is_over ≡ false
   pub unread : after.read ≡ 0
-  pub comes : Comes (asks_of given) (trail_of before.agent []) (trail_of after.agent after.said.items)
+  pub comes : Comes (max before.agent.latest now) (given_of before.agent.dialler.phase (max before.agent.latest now) given) (trail_of before.agent []) (trail_of after.agent after.said.items)
   pub followed : AreFollowed after.agent
   pub calls : (ticket : ℕ) → how_many ticket after.agent.asker.line.entries.items + how_many_ended ticket (told_by after.said.items) ≡ how_many ticket before.agent.asker.line.entries.items + how_many_asked ticket given
   pub served : All (IsServed (view_of after.agent.asker.follower.client)) after.agent.asker.line.entries.items
   pub limits : All (IsInTime after.agent.latest) after.agent.asker.line.entries.items
+  pub closed : (view_of after.agent.asker.follower.client).standing.state ≡ Closed → after.agent.asker.line.entries.items ≡ []
+  pub renewed : (view_of after.agent.asker.follower.client).standing.state ≢ Expired
   pub latest : after.agent.latest ≡ max before.agent.latest now
   pub heard : after.agent.heard_at ≡ heard_after (is_open before.agent.dialler.phase) (max before.agent.latest now) given before.agent.heard_at
 
@@ -93,9 +101,18 @@ pub record BeginsWith (view : View) (device : AgentDevice) : Type 0 where
   pub calls : device.agent.asker.line.entries.items ≡ []
   pub latest : device.agent.latest ≡ 0
   pub heard : device.agent.heard_at ≡ None
+  pub phase : device.agent.dialler.phase ≡ Waiting
   pub silent : device.said.items ≡ []
   pub goes_on : device.is_over ≡ false
 
 -- a device that has begun so, or a refusal for a reason that its number has
 abbrev pub Begins : (Refuses : ℤ → Type 0) → Start → Result AgentDevice Refusal → Type 0
 Begins Refuses start made = MatchResult made (BeginsWith (view_at start [])) (λ refusal. Refuses (refusal_code refusal))
+
+-- Nothing was dialled yet, and this many addresses are there, in an order that is random by the seed.
+pub record Dials {A : Type 0} (addresses seed : ℕ) (dialler : Dialler A) : Type 0 where
+  pub phase : dialler.phase ≡ Waiting
+  pub order : dialler.ring.order.items ≡ shuffled seed addresses (numbers addresses)
+  pub each : IsPermutation (numbers addresses) dialler.ring.order.items
+  pub first : dialler.ring.next ≡ 0
+  pub backoff : dialler.backoff ≡ record { chance = record { state = state_after addresses seed }; failures = 0; connected = None; ended = 0; least = 0; moment = 0 }

@@ -10,7 +10,7 @@ ghost use Rattle.zk_device.specs.declared.refusal.Refusal.TheVariants as refusal
 ghost use Rattle.zk_device.specs.Codes.{code_of};
 ghost use Rattle.zk_device.specs.Refused.{RefusesMemory, RefusesNothing, RefusesTimeout};
 ghost use Rattle.zk_device.specs.Sessions.{put_start};
-ghost use Rattle.zk_agent_device.specs.Steps.{Addressed, Bytes, Cut, Failed, Moment, Opened, Begins, BeginsWith, Stepped, Steps, Stopped, happening};
+ghost use Rattle.zk_agent_device.specs.Steps.{Addressed, Bytes, Cut, Dials, Failed, Moment, Opened, Begins, BeginsWith, Stepped, Steps, Stopped, happening};
 
 use std::alloc::Global;
 use zk_agent::{Action, Agent, Input, Settings};
@@ -39,6 +39,7 @@ impl AgentDevice {
     ) -> Result<AgentDevice, Refusal>
         ensures begins { Begins (RefusesTimeout timeout_ms) (new_start (unsigned_abs timeout_ms)) result }
         ensures accepted { OnOk result (pos 0 <ℤ timeout_ms) }
+        ensures dials { IfOk result (λ device. Dials addresses seed device.agent.dialler) }
     {
         if timeout_ms <= 0 {
             return Err(Refusal::BadTimeout);
@@ -61,6 +62,7 @@ impl AgentDevice {
     ) -> Result<AgentDevice, Refusal>
         ensures begins { (put : PutAway) → bytes_read saved.now ≡ Ok put → Begins (RefusesTimeout timeout_ms) (put_start timeout_ms put) result }
         ensures accepted { OnOk result (pos 0 <ℤ timeout_ms) }
+        ensures dials { IfOk result (λ device. Dials addresses seed device.agent.dialler) }
         ensures unread { (fault : SavedFault) → bytes_read saved.now ≡ Err fault → fault ≢ saved_faults.Memory → pos 0 <ℤ timeout_ms → result ≡ Err refusals.NotSaved }
     {
         let Device {
@@ -81,6 +83,7 @@ impl AgentDevice {
     fn of(alloc: Global, client: Client<Global>, settings: Settings) -> Result<AgentDevice, Refusal>
         requires { pos 0 <ℤ settings.timeout_ms }
         ensures begins { IfOk result (BeginsWith (view_of client)) }
+        ensures dials { IfOk result (λ device. Dials settings.addresses settings.seed device.agent.dialler) }
         ensures refused { IfErr result (λ refusal. refusal ≡ refusals.Memory) }
     {
         match Agent::new(alloc, client, settings) {
