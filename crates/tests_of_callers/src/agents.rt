@@ -22,10 +22,12 @@ enum Event {
     Creates(&'static str),
     /// With a limit.
     Reads(&'static str, u64),
+    Closes,
 }
 
-/// A node is followed before it is there; a call times out; the session expires, and another one reads the node again.
-static EVENTS: [Event; 13] = [
+/// A node is followed before it is there; a call times out; the session expires, and another one reads the node again. It is closed: after that
+/// no connection is asked for, one that comes is hung up, and a call is answered at once.
+static EVENTS: [Event; 17] = [
     Event::Moment,
     Event::Follows("/a"),
     Event::Opens,
@@ -39,6 +41,10 @@ static EVENTS: [Event; 13] = [
     Event::Opens,
     Event::Follows("a"),
     Event::Unfollows(200),
+    Event::Closes,
+    Event::Moment,
+    Event::Reads("/a", u64::MAX),
+    Event::Opens,
 ];
 
 /// More actions than one step has, more answers than a server has at once, and more bytes than a frame of the session has.
@@ -79,6 +85,7 @@ fn happen(
         Event::Reads(path, until) => {
             device.get_data_at(alloc, now, now, until, path.as_bytes(), false)
         }
+        Event::Closes => device.close_session_at(now, now, u64::MAX),
     }
 }
 
@@ -153,7 +160,15 @@ fn play<W: Write>(
         now = now.saturating_add(100);
         go(alloc, *event, now, bench, device, out)?;
     }
-    Ok(())
+    tell_deadline(device, out)
+}
+
+/// Tells whether something will be due.
+fn tell_deadline<W: Write>(device: &AgentDevice, out: &mut W) -> Result<()> {
+    match device.agent.deadline() {
+        Some(moment) => Ok(writeln!(out, "due at {moment}")?),
+        None => Ok(writeln!(out, "nothing is due")?),
+    }
 }
 
 /// Plays the session.
