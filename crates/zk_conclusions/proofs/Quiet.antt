@@ -1,33 +1,31 @@
 -- Turns that say nothing of a change leave what is good as it was.
-use Rattle.std.proofs.Common.{◌≡◌, ℕ, Bool, true, false, cond, ◌&&◌, ◌||◌, List, [], ◌∷◌, ◌++◌, map, Option, Some, None, refl, sym, ap, subst, ◌∙◌, append_assoc}
-use Rattle.std.proofs.lemmas.Bool.{and_parts}
-use Rattle.std.specs.Prelude.{bytes_eq, if◌then◌else◌}
-use Rattle.std.specs.List.{AllByRecursion, flat_map, list_any}
+use Rattle.std.proofs.Common.{◌≡◌, ℕ, Bool, true, false, cond, ◌&&◌, ◌||◌, List, [], ◌∷◌, ◌++◌, map, Option, Some, None, refl, sym, ap, ◌∙◌}
+use Rattle.std.specs.Prelude.{bytes_eq}
+use Rattle.std.specs.List.{AllByRecursion, flat_map}
 use Rattle.zk_nodes.specs.Path.{Text}
 use Rattle.zk_nodes.specs.declared.side.Side.{Side}
 use Rattle.zk_nodes.specs.declared.side.Side.TheVariants.{Data, Child}
 use Rattle.zk_records.specs.declared.event.Event.{Event}
 use Rattle.zk_records.specs.Events.{concerns}
-use Rattle.zk_cache.specs.Kept.{Answer, Names, stale, without_stale, is_marked_good}
+use Rattle.zk_cache.specs.Kept.{stale, without_stale, is_marked_good}
 use Rattle.zk_cache.specs.declared.held.Kept.{Kept}
 use Rattle.zk_cache.specs.declared.held.Mark.{Mark}
 use Rattle.zk_cache.specs.declared.held.Mark.TheVariants.{Good, Stale}
 use Rattle.zk_conversation.specs.Calls.{Call}
 use Rattle.zk_session.specs.declared.states.State.{State}
 use Rattle.zk_session.specs.declared.states.State.TheVariants.{Idle, Connecting, Connected}
-use Rattle.zk_session.specs.SessionView.{Welcome}
 use Rattle.zk_turns.specs.Turns.{Input, Opened, Cut, Bytes, Now, Outcome, Start, Item, Turn, Turned, Forgets, Halts, Output, Report, Enters, Drop, Signal, Opens, Comes, Cuts, Ticks, Calls, Forget, Halt, signals_of}
 use Rattle.zk_turns.specs.Turns as turns
-use Rattle.zk_turns.specs.Past.{Past, Happening, Began, Came, Took, Dropped, Lost, Forgot, Halted, Asked, Denied, Pinged, Ticked, Message, Accepted, Expiry, Replies, Watches_set, Notifies, Pong, Skipped, Word, Ends, Nothing, is_good, good_answer, kept_by, kept_data, kept_names, state_of, has_halted, session_of}
-use Rattle.zk_turns.specs.View.{View, Standing, Cache, view_at}
-use Rattle.zk_turns.specs.Taken.{caused, happenings, opens, of_cutting, cut, Cutting, Unfinished, Bad, Payload, due, refusal, reading, joined, past_after, past_of, comes, if_open}
+use Rattle.zk_turns.specs.Past.{Past, Happening, Began, Came, Took, Dropped, Lost, Forgot, Halted, Asked, Denied, Pinged, Ticked, Message, Accepted, Expiry, Replies, Watches_set, Notifies, Pong, Skipped, Ends, Nothing, is_good, good_answer, kept_by, kept_data, kept_names, state_of, has_halted, session_of}
+use Rattle.zk_turns.specs.View.{View, Cache, view_at}
+use Rattle.zk_turns.specs.Taken.{caused, happenings, opens, of_cutting, cut, Cutting, Unfinished, Bad, Payload, refusal, joined, past_after, past_of, comes}
 use Rattle.zk_turns.specs.Rule.{says, loss, report, due_happenings, due_signals, AllSaid, Stands}
 use Rattle.zk_turns.proofs.Cases.{by_cond, by_open, by_due}
 use Rattle.zk_turns.proofs.Lists.{same_text}
 use Rattle.zk_turns.proofs.Marks.{data_marks, child_marks, report_is}
 use Rattle.zk_turns.proofs.Stream.{of_reading}
 use Rattle.zk_turns.proofs.Words.{calls}
-use Rattle.zk_conclusions.specs.Revisions.{is_change, has_change, SameGood, IsUnchanged, AreQuiet, QuietIsUnchanged}
+use Rattle.zk_conclusions.specs.Revisions.{is_change, has_change, IsUnchanged, AreQuiet, QuietIsUnchanged}
 
 -- ---- what is good
 

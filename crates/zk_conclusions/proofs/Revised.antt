@@ -1,5 +1,5 @@
 -- A number that is the same: nothing of that kind was said.
-use Rattle.std.proofs.Common.{◌≡◌, ℕ, ◌+◌, ◌-◌, ◌^◌, ◌<◌, ◌≤◌, min, Bool, true, false, ◌||◌, cond, List, [], ◌∷◌, ◌++◌, refl, sym, ap, subst, ◌∙◌, arith, nat_le}
+use Rattle.std.proofs.Common.{◌≡◌, ℕ, ◌-◌, ◌^◌, ◌<◌, ◌≤◌, Bool, true, false, ◌||◌, cond, List, [], ◌∷◌, refl, sym, ap, ◌∙◌, arith}
 use Rattle.zk_turns.specs.Turns.{Item, Turned, Forgets, Halts, Output}
 use Rattle.std.specs.List.{list_any}
 use Rattle.zk_client.specs.declared.output.Output.{Output as Made}

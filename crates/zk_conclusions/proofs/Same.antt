@@ -1,7 +1,5 @@
 -- Where the same is good, the same is concluded.
-use Rattle.std.proofs.Common.{◌≡◌, ◌↔◌, ℕ, Bool, true, false, ◌&&◌, not, List, [], ◌∷◌, ◌++◌, Option, Some, None, refl, sym, ap, subst, ◌∙◌}
-use Rattle.std.specs.FinSet as set
-use Rattle.std.specs.List.{list_all}
+use Rattle.std.proofs.Common.{◌≡◌, ℕ, Bool, ◌&&◌, not, List, [], ◌∷◌, Option, Some, None, refl, sym, ap, subst, ◌∙◌}
 use Rattle.zk_turns.specs.Meaning.{Among}
 use Rattle.zk_turns.specs.View.{Cache}
 use Rattle.zk_nodes.specs.Path.{Text, Name}
@@ -9,12 +7,12 @@ use Rattle.zk_cache.specs.Kept.{Answer, Absent, Known, Full, Names, good, as_goo
 use Rattle.zk_cache.specs.declared.held.Kept.{Kept}
 use Rattle.zk_cache.specs.declared.held.Mark.{Mark}
 use Rattle.zk_cache.specs.declared.held.Mark.TheVariants.{Good, Stale}
-use Rattle.zk_conclusions.specs.Snapshots.{all_good, is_whole}
-use Rattle.zk_conclusions.specs.Subtrees.{IsFull, IsKeptWhole, HasName, IsReached, IsOneReached, AreReached, IsWholeBelow, text_below, is_full_good}
+use Rattle.zk_conclusions.specs.Snapshots.{all_good}
+use Rattle.zk_conclusions.specs.Subtrees.{IsFull, IsKeptWhole, HasName, IsReached, IsWholeBelow, text_below, is_full_good}
 use Rattle.zk_conclusions.specs.Walks.{IsWalk}
-use Rattle.zk_conclusions.specs.Lacks.{HasGoodName, IsShown, IsOneShown, AreLacking, HasWalk, lacks_data, lacks_names}
-use Rattle.zk_conclusions.specs.Revisions.{SameGood, SameAt, ShowsTheSame, SameGoodShowsTheSame}
-use Rattle.zk_conclusions.proofs.Reached.{same_kept, named}
+use Rattle.zk_conclusions.specs.Lacks.{HasGoodName, IsShown, AreLacking, HasWalk, lacks_data, lacks_names}
+use Rattle.zk_conclusions.specs.Revisions.{SameGood, SameAt, SameGoodShowsTheSame}
+use Rattle.zk_conclusions.proofs.Reached.{named}
 
 -- ---- one answer
 
