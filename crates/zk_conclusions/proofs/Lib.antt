@@ -21,3 +21,6 @@ pub mod ShownFirst
 pub mod Listed
 pub mod Later
 pub mod Tags
+pub mod Quiet
+pub mod Revised
+pub mod Same

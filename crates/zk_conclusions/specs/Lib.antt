@@ -10,3 +10,4 @@ pub mod Kinds
 pub mod Standings
 pub mod Predecessors
 pub mod Tags
+pub mod Revisions

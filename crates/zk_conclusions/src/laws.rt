@@ -5,6 +5,7 @@
 ghost use Rattle.zk_conclusions.specs.Holders.{HeldIsTrue, LaterTokens, OneHolds, OneShows, TokensRise};
 ghost use Rattle.zk_conclusions.specs.Lacks.{WalkIsTheOnlyAnswer};
 ghost use Rattle.zk_conclusions.specs.Looks.{OneZxidIsOneTree};
+ghost use Rattle.zk_conclusions.specs.Revisions.{QuietIsUnchanged, SameGoodShowsTheSame, SameNumberIsUnchanged};
 ghost use Rattle.zk_conclusions.specs.Snapshots.{WholeIsOfOneTree};
 ghost use Rattle.zk_conclusions.specs.Standings.{FirstStays, LaterStandings, ListingIsTrue, OneShowsStanding, OneStands, StandingIsTrue, StandingTokensRise};
 ghost use Rattle.zk_conclusions.specs.Subtrees.{PathsAreAll, WholeIsSubtree};
@@ -40,6 +41,21 @@ pub fn all_paths()
 /// [`Subtree`](crate::Subtree) exactly where nothing is [`Lacking`](crate::Lacking), unless memory runs out.
 pub fn no_refusal()
     ensures { WalkIsTheOnlyAnswer }
+{}
+
+/// A client that stands where turns led, and comes through more of them that say nothing of a change (no reply to a call, no report, no
+/// other state), keeps each good answer as it was, and no other becomes good; its state and its session are the same (`quiet`). So it is
+/// where a number that [`Revision`](crate::Revision) noted of each turn is the same, and below the last one (`number`). Stale answers
+/// may have been forgotten, and the last seen zxid may have risen: the reply to a setWatches says nothing.
+pub fn same_number()
+    ensures quiet { QuietIsUnchanged }
+    ensures number { SameNumberIsUnchanged }
+{}
+
+/// Where the same is kept and good, the same is concluded: there is a [`Snapshot`](crate::Snapshot) of the same paths, a
+/// [`Subtree`](crate::Subtree) has the same paths with the same answers, and the same is [`Lacking`](crate::Lacking).
+pub fn same_conclusions()
+    ensures { SameGoodShowsTheSame }
 {}
 
 /// Whenever a client shows that its session holds, the session does in the history at the client's last seen zxid. It may have

@@ -9,6 +9,8 @@
 //! [`Lacking`] says what a subtree still wants to be read, [`Listing::predecessor`] whom a session waits for, and [`Tagged`] what is
 //! left of creates whose answers were lost.
 //!
+//! [`Revision`] is a number that rises where any of this may change, so that a program asks again only then.
+//!
 //! [`laws`] names what follows, over definitions alone.
 #![tactic(auto)]
 
@@ -23,6 +25,7 @@ mod listing;
 mod marked;
 mod no_subtree;
 mod numbers;
+mod revision;
 mod snapshot;
 mod standing;
 mod subtree;
@@ -35,6 +38,7 @@ pub use lacking::Lacking;
 pub use listing::Listing;
 pub use no_subtree::NoSubtree;
 pub use numbers::Kind;
+pub use revision::Revision;
 pub use snapshot::Snapshot;
 pub use standing::Standing;
 pub use subtree::Subtree;

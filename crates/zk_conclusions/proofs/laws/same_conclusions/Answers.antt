@@ -1,0 +1,5 @@
+use Rattle.zk_conclusions.proofs.Same.{same_conclusions}
+use Rattle.zk_conclusions.proofs.laws.same_conclusions.Goals as goal
+
+pub returns : goal.returns
+returns c = same_conclusions
