@@ -66,7 +66,7 @@ both_more p x xs ys same = count_cons p x xs ∙ ap (λ n. cond (p x) 1 0 + n) s
 asks_alone : (ticket : ℕ) (moves : List Move) → count_by (asks_for ticket) (filter is_given moves) ≡ count_by (asks_for ticket) moves
 asks_alone ticket [] = refl
 asks_alone ticket (Hands now its asked ∷ moves) = asks_alone ticket moves
-asks_alone ticket (Renews timeout ∷ moves) = asks_alone ticket moves
+asks_alone ticket (Renews ∷ moves) = asks_alone ticket moves
 asks_alone ticket (GivesUp now ∷ moves) = asks_alone ticket moves
 asks_alone ticket (Decides now due ∷ moves) = asks_alone ticket moves
 asks_alone ticket (Closes ∷ moves) = asks_alone ticket moves
@@ -243,7 +243,7 @@ module _ {A : Type 0} (ticket : ℕ) where
       let same = heard_same now input old does.between does.hears in
       let after = left_same does.hears.heard.is_lost now does.between new does.leaves in omega (arith, same, after)
   moved (Hands now its asked) old new does = let same = heard_same now (turns.Call its asked) old new does in omega (arith, same)
-  moved (Renews timeout) old new does =
+  moved Renews old new does =
       let line : how_many ticket new.line ≡ 0 = ap (how_many ticket) does.line in
       let told : how_many_ended ticket new.told ≡ how_many_ended ticket ((old.told ++ endings Expired old.line) ++ Begins ∷ []) = ap (how_many_ended ticket) does.told in
       let a = count_append (is_end_of ticket) (old.told ++ endings Expired old.line) (Begins ∷ []) in

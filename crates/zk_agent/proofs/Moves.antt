@@ -1,6 +1,6 @@
 -- Moves, one after the other.
 use Rattle.std.proofs.Common.{◌≡◌, ◌≢◌, ◌++◌, ◌⊎◌, inl, inr, ℕ, ℤ, Bool, true, false, cond, ◌&&◌, List, [], ◌∷◌, Option, map, refl, sym, ap, subst, ◌∙◌}
-use Rattle.std.specs.Prelude.{Result, Ok, Err, OnOk, All}
+use Rattle.std.specs.Prelude.{Result, Ok, Err, OnOk, All, is_some}
 use Rattle.std.specs.List.{filter, list_any, AllByRecursion, FoldsTo}
 use Rattle.std.proofs.lemmas.List.{append-nil}
 use Rattle.std.proofs.lemmas.List.Elements.{All-map, filter-append}
@@ -16,7 +16,7 @@ use Rattle.zk_dialler.specs.declared.dialler.Dialler.{Dialler}
 use Rattle.zk_dialler.specs.declared.dialler.Phase.{Phase}
 use Rattle.zk_dialler.specs.declared.dialler.Phase.TheVariants.{Waiting, Dialling, Open}
 use Rattle.zk_dialler.specs.Backoffs.{row_ended}
-use Rattle.zk_dialler.specs.Dialling.{is_open, AttemptEnds, DialsWell, Ends, Opens}
+use Rattle.zk_dialler.specs.Dialling.{is_due, is_open, AttemptEnds, DialsWell, Ends, Opens}
 use Rattle.zk_dialler.specs.declared.dialler.Due.{Due}
 use Rattle.zk_follow.specs.declared.subject.Subject.{Subject}
 use Rattle.zk_follow.specs.Following.{due_again, told_of, IsFollowed}
@@ -50,7 +50,7 @@ led_leaves {A} false now old new same led = subst (λ (t : Trail A). IsLed t.vie
 led_by : {A : Type 0} (move : Move) (old new : Trail A) → Does old move new → IsLed old.view → IsLed new.view
 led_by (Hears now input) old new does led = led_leaves does.hears.heard.is_lost now does.between new does.leaves (led_hears now input old does.between does.hears led)
 led_by (Hands now ticket asked) old new does led = led_hears now (turns.Call ticket asked) old new does led
-led_by (Renews timeout) old new does led = subst IsLed (sym does.view) (renewed_start timeout old.view, [], fresh (renewed_start timeout old.view))
+led_by Renews old new does led = subst IsLed (sym does.view) (renewed_start old.timeout old.view, [], fresh (renewed_start old.timeout old.view))
 led_by {A} (Follows ticket side path) old new does led = subst IsLed (sym (ap (λ (t : Trail A). t.view) does)) led
 led_by {A} (Unfollows ticket) old new does led = subst IsLed (sym (ap (λ (t : Trail A). t.view) does)) led
 led_by {A} (Asks ticket asked until) old new does led = subst IsLed (sym (ap (λ (t : Trail A). t.view) does.last)) led
@@ -139,7 +139,7 @@ opens_never timeout now old new waits opens =
 shut_by : {A : Type 0} (move : Move) (old new : Trail A) → Does old move new → IsShut old → IsShut new
 shut_by (Hears now input) old new does shut = shut_leaves does.hears.heard.is_lost now does.between new does.leaves (shut_hears now input old does.between does.hears shut)
 shut_by (Hands now ticket asked) old new does shut = shut_hears now (turns.Call ticket asked) old new does shut
-shut_by (Renews timeout) old new does shut = λ closed. absurd (let f : Idle ≡ Closed = sym (ap (λ (v : View). v.standing.state) does.view) ∙ closed in cc)
+shut_by Renews old new does shut = λ closed. absurd (let f : Idle ≡ Closed = sym (ap (λ (v : View). v.standing.state) does.view) ∙ closed in cc)
 shut_by (Follows ticket side path) old new does shut = subst IsShut (sym does) shut
 shut_by (Unfollows ticket) old new does shut = subst IsShut (sym does) shut
 shut_by (Asks ticket asked until) old new does shut = subst IsShut (sym does.last) shut
@@ -156,6 +156,31 @@ shut_through : {A : Type 0} (moves : List Move) (old new : Trail A) → FoldsTo 
 shut_through [] old new same shut = subst IsShut same shut
 shut_through (move ∷ moves) old new does shut = shut_through moves does.0 new does.2 (shut_by move old does.0 does.1 shut)
 
+-- ---- the timeout of later sessions stays
+
+stays_where : {A : Type 0} (is_lost : Bool) (now : ℕ) (old new : Trail A) → LeavesWhere is_lost now old new → new.timeout ≡ old.timeout
+stays_where true now old new leaves = leaves.timeout
+stays_where {A} false now old new same = ap (λ (t : Trail A). t.timeout) same
+
+stays_by : {A : Type 0} (move : Move) (old new : Trail A) → Does old move new → new.timeout ≡ old.timeout
+stays_by (Hears now input) old new does = stays_where does.hears.heard.is_lost now does.between new does.leaves ∙ does.hears.timeout
+stays_by (Hands now ticket asked) old new does = does.timeout
+stays_by Renews old new does = does.timeout
+stays_by {A} (Follows ticket side path) old new does = ap (λ (t : Trail A). t.timeout) does
+stays_by {A} (Unfollows ticket) old new does = ap (λ (t : Trail A). t.timeout) does
+stays_by {A} (Asks ticket asked until) old new does = ap (λ (t : Trail A). t.timeout) does.last
+stays_by {A} (GivesUp now) old new does = ap (λ (t : Trail A). t.timeout) does
+stays_by {A} (Opened now) old new does = ap (λ (t : Trail A). t.timeout) does.1
+stays_by {A} (Ended now) old new does = ap (λ (t : Trail A). t.timeout) does.1
+stays_by {A} HungUp old new does = ap (λ (t : Trail A). t.timeout) does
+stays_by {A} (Addressed count) old new does = ap (λ (t : Trail A). t.timeout) does.1
+stays_by {A} (Decides now due) old new does = ap (λ (t : Trail A). t.timeout) does.last
+stays_by {A} Closes old new does = ap (λ (t : Trail A). t.timeout) does.last
+
+stays_through : {A : Type 0} (moves : List Move) (old new : Trail A) → FoldsTo Does old moves new → new.timeout ≡ old.timeout
+stays_through {A} [] old new same = sym (ap (λ (t : Trail A). t.timeout) same)
+stays_through (move ∷ moves) old new does = stays_through moves does.0 new does.2 ∙ stays_by move old does.0 does.1
+
 -- ---- moves
 
 does_on : {A : Type 0} (moves more : List Move) (old between new : Trail A) → FoldsTo Does old moves between → FoldsTo Does between more new → FoldsTo Does old (moves ++ more) new
@@ -168,7 +193,7 @@ at_on now (move ∷ moves) more all rest = (all.0, at_on now moves more all.1 re
 
 come : {A : Type 0} (now : ℕ) (given moves : List Move) (old new : Trail A) → FoldsTo Does old moves new → filter is_given moves ≡ given → AllByRecursion (IsAt now) moves → Comes now given old new
 come now given moves old new does comes at =
-    record { moves = moves; does = does; comes = comes; at = at; led = led_through moves old new does; shut = shut_through moves old new does }
+    record { moves = moves; does = does; comes = comes; at = at; led = led_through moves old new does; shut = shut_through moves old new does; timeout = stays_through moves old new does }
 
 -- nothing came
 pub nothing : {A : Type 0} (now : ℕ) (here : Trail A) → Comes now [] here here
@@ -205,14 +230,15 @@ in_turn now given first second third fourth fifth last a b c d e =
 
 -- ---- single moves
 
-abbrev trail : {A : Type 0} → View → List (Subject A) → List (Entry A) → Dialler A → List Told → Trail A
-trail view subjects line dialler told = record { view = view; subjects = subjects; line = line; dialler = dialler; told = told }
+abbrev trail : {A : Type 0} → View → List (Subject A) → List (Entry A) → Dialler A → ℤ → List Told → Trail A
+trail view subjects line dialler timeout told = record { view = view; subjects = subjects; line = line; dialler = dialler; timeout = timeout; told = told }
 
-pub trail_eq : {A : Type 0} (old new : Trail A) → new.view ≡ old.view → new.subjects ≡ old.subjects → new.line ≡ old.line → new.dialler ≡ old.dialler → new.told ≡ old.told → new ≡ old
-trail_eq old new v s l d t =
-    ap (λ x. trail x new.subjects new.line new.dialler new.told) v ∙ ap (λ x. trail old.view x new.line new.dialler new.told) s
-    ∙ ap (λ x. trail old.view old.subjects x new.dialler new.told) l ∙ ap (λ x. trail old.view old.subjects old.line x new.told) d
-    ∙ ap (λ x. trail old.view old.subjects old.line old.dialler x) t
+pub trail_eq : {A : Type 0} (old new : Trail A) → new.view ≡ old.view → new.subjects ≡ old.subjects → new.line ≡ old.line → new.dialler ≡ old.dialler → new.timeout ≡ old.timeout → new.told ≡ old.told
+    → new ≡ old
+trail_eq old new v s l d m t =
+    ap (λ x. trail x new.subjects new.line new.dialler new.timeout new.told) v ∙ ap (λ x. trail old.view x new.line new.dialler new.timeout new.told) s
+    ∙ ap (λ x. trail old.view old.subjects x new.dialler new.timeout new.told) l ∙ ap (λ x. trail old.view old.subjects old.line x new.timeout new.told) d
+    ∙ ap (λ x. trail old.view old.subjects old.line old.dialler x new.told) m ∙ ap (λ x. trail old.view old.subjects old.line old.dialler old.timeout x) t
 
 pub opened : {A : Type 0} (old new : Trail A) (timeout now : ℕ) (ours : Bool) → timeout ≡ old.view.saved.session.timeout → ours ≡ true → Opens timeout now old.dialler new.dialler ours
     → new ≡ record old { dialler = new.dialler } → Comes now (Opened now ∷ []) old new
@@ -224,22 +250,22 @@ pub ended : {A : Type 0} (old new : Trail A) (timeout now : ℕ) → timeout ≡
 ended old new timeout now is ends rest = gives now (Ended now) old new refl refl (subst (λ t. Ends t now old.dialler new.dialler) is ends, rest)
 
 pub decided : {A : Type 0} (old new : Trail A) (timeout now : ℕ) (due : Option Due) → old.view.standing.state ≢ Closed → timeout ≡ old.view.saved.session.timeout
-    → DialsWell timeout now old.dialler new.dialler due → new ≡ record old { dialler = new.dialler; told = old.told ++ due_told due } → Comes now [] old new
-decided old new timeout now due goes_on is dials rest =
-    one now (Decides now due) old new refl refl (record { goes_on = goes_on; dials = subst (λ t. DialsWell t now old.dialler new.dialler due) is dials; last = rest })
+    → DialsWell timeout now old.dialler new.dialler due → is_some due ≡ is_due now old.dialler → new ≡ record old { dialler = new.dialler; told = old.told ++ due_told due } → Comes now [] old new
+decided old new timeout now due goes_on is dials all rest =
+    one now (Decides now due) old new refl refl (record { goes_on = goes_on; all = all; dials = subst (λ t. DialsWell t now old.dialler new.dialler due) is dials; last = rest })
 
 pub closed : {A X E : Type 0} (result : Result X E) (now : ℕ) (old new : Trail A) → old.view.standing.state ≡ Closed → new.view ≡ old.view → new.subjects ≡ old.subjects
-    → OnOk result (new.line ≡ []) → new.dialler ≡ old.dialler → OnOk result (new.told ≡ old.told ++ closings old.line) → OnOk result (Comes now [] old new)
-closed (Ok x) now old new is v s l d t =
-    one now Closes old new refl tt (record { closed = is; last = trail_eq (record old { line = []; told = old.told ++ closings old.line }) new v s l d t })
-closed (Err e) now old new is v s l d t = tt
+    → OnOk result (new.line ≡ []) → new.dialler ≡ old.dialler → new.timeout ≡ old.timeout → OnOk result (new.told ≡ old.told ++ closings old.line) → OnOk result (Comes now [] old new)
+closed (Ok x) now old new is v s l d m t =
+    one now Closes old new refl tt (record { closed = is; last = trail_eq (record old { line = []; told = old.told ++ closings old.line }) new v s l d m t })
+closed (Err e) now old new is v s l d m t = tt
 
-pub renewed : {A X E : Type 0} (result : Result X E) (now : ℕ) (old new : Trail A) (timeout : ℤ) → old.view.standing.state ≡ Expired → OnOk result (new.view ≡ view_at (renewed_start timeout old.view) [])
-    → OnOk result (new.subjects ≡ map due_again old.subjects) → OnOk result (new.dialler ≡ record old.dialler { backoff = row_ended old.dialler.backoff })
+pub renewed : {A X E : Type 0} (result : Result X E) (now : ℕ) (old new : Trail A) → old.view.standing.state ≡ Expired → OnOk result (new.view ≡ view_at (renewed_start old.timeout old.view) [])
+    → OnOk result (new.subjects ≡ map due_again old.subjects) → OnOk result (new.dialler ≡ record old.dialler { backoff = row_ended old.dialler.backoff }) → new.timeout ≡ old.timeout
     → OnOk result (new.line ≡ []) → OnOk result (new.told ≡ (old.told ++ endings ending.Expired old.line) ++ Begins ∷ []) → OnOk result (Comes now [] old new)
-renewed (Ok x) now old new timeout expired v s d l t =
-    one now (Renews timeout) old new refl tt (record { expired = expired; view = v; subjects = s; dialler = d; line = l; told = t })
-renewed (Err e) now old new timeout expired v s d l t = tt
+renewed (Ok x) now old new expired v s d m l t =
+    one now Renews old new refl tt (record { expired = expired; view = v; timeout = m; subjects = s; dialler = d; line = l; told = t })
+renewed (Err e) now old new expired v s d m l t = tt
 
 pub begun : {X E : Type 0} (result : Result X E) (timeout : ℤ) (old new : View) → OnOk result (new ≡ view_at (renewed_start timeout old) []) → OnOk result (new.standing.state ≢ Expired)
 begun (Ok x) timeout old new is = λ expired. let f : Idle ≡ Expired = sym (ap (λ (v : View). v.standing.state) is) ∙ expired in cc
@@ -266,13 +292,14 @@ not_handed (turns.Cut) is_open line may = refl
 -- is not its own.
 pub taken_and : {A : Type 0} (now : ℕ) (input : Input) (old new between : Trail A) (line : List (Entry A)) (heard : Heard) → MayHear input old → line ≡ handed input old.line
     → TakesSo now input old.view old.subjects line old.told between.view between.subjects between.line between.told heard
-    → new.view ≡ between.view → new.subjects ≡ between.subjects → new.line ≡ between.line
+    → new.view ≡ between.view → new.subjects ≡ between.subjects → new.line ≡ between.line → new.timeout ≡ old.timeout
     → LetsGo heard.is_over between.view.saved.session.timeout now (noted between.view.saved.session.timeout now between.view.standing.state (row_after heard.ends_row old.dialler)) new.dialler
     between.told new.told
     → (hears : HearsSo now input old new) × (hears.heard.is_lost ≡ heard.is_lost)
-taken_and {A} now input old new between line heard may is takes same_view same_subjects same_line goes = (
+taken_and {A} now input old new between line heard may is takes same_view same_subjects same_line same_timeout goes = (
   record {
     may = may;
+    timeout = same_timeout;
     heard = heard;
     told = between.told;
     takes = subst (λ es. TakesSo now input old.view old.subjects es old.told new.view new.subjects new.line between.told heard) is
@@ -287,12 +314,12 @@ taken_and {A} now input old new between line heard may is takes same_view same_s
 
 pub taken_by : {A : Type 0} (now : ℕ) (input : Input) (old new between : Trail A) (line : List (Entry A)) (heard : Heard) → MayHear input old → line ≡ handed input old.line
     → TakesSo now input old.view old.subjects line old.told between.view between.subjects between.line between.told heard
-    → new.view ≡ between.view → new.subjects ≡ between.subjects → new.line ≡ between.line
+    → new.view ≡ between.view → new.subjects ≡ between.subjects → new.line ≡ between.line → new.timeout ≡ old.timeout
     → LetsGo heard.is_over between.view.saved.session.timeout now (noted between.view.saved.session.timeout now between.view.standing.state (row_after heard.ends_row old.dialler)) new.dialler
     between.told new.told
     → HearsSo now input old new
-taken_by now input old new between line heard may is takes same_view same_subjects same_line goes =
-    (taken_and now input old new between line heard may is takes same_view same_subjects same_line goes).0
+taken_by now input old new between line heard may is takes same_view same_subjects same_line same_timeout goes =
+    (taken_and now input old new between line heard may is takes same_view same_subjects same_line same_timeout goes).0
 
 -- it hears, and is told of the end of the connection where that is to be
 pub hears_and : {A : Type 0} (now : ℕ) (input : Input) (old new : Trail A) (is_lost : Bool) (hears : HearsSo now input old new) → hears.heard.is_lost ≡ is_lost → is_lost ≡ false

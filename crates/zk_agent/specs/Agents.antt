@@ -1,5 +1,5 @@
 -- How far an agent has come, move by move.
-use Rattle.std.specs.Prelude.{◌≡◌, ◌≢◌, ◌<◌, ◌==◌, All, ⊤, ℕ, ℤ, ◌&&◌, Bool, true, false, if◌then◌else◌, List, [], ◌∷◌, ◌++◌, map, Option, Some, None}
+use Rattle.std.specs.Prelude.{◌≡◌, ◌≢◌, ◌<◌, ◌==◌, All, ⊤, ℕ, ℤ, ◌&&◌, Bool, true, false, if◌then◌else◌, List, [], ◌∷◌, ◌++◌, map, Option, Some, None, is_some}
 use Rattle.std.specs.List.{count_by, filter, flat_map, AllByRecursion, FoldsTo}
 use Rattle.std.specs.List.Sorted.{IsPermutation}
 use Rattle.zk_nodes.specs.Path.{Text}
@@ -21,7 +21,7 @@ use Rattle.zk_dialler.specs.declared.dialler.Phase.{Phase}
 use Rattle.zk_dialler.specs.declared.dialler.Phase.TheVariants.{Waiting, Dialling}
 use Rattle.zk_dialler.specs.Backoffs.{connected_at, row_ended}
 use Rattle.zk_dialler.specs.Chances.{state_after}
-use Rattle.zk_dialler.specs.Dialling.{first_moment, has_come, is_open, DialsWell, Ends, Opens}
+use Rattle.zk_dialler.specs.Dialling.{first_moment, has_come, is_due, is_open, DialsWell, Ends, Opens}
 use Rattle.zk_dialler.specs.Orders.{numbers, shuffled}
 use Rattle.zk_follow.specs.declared.progress.Progress.TheVariants as progress
 use Rattle.zk_follow.specs.declared.subject.Subject.{Subject}
@@ -40,12 +40,13 @@ use Rattle.zk_agent.specs.Telling.{Told, HangsUp, Begins, due_told, is_end_of, n
 
 -- ---- how far it has come
 
--- A client, the subjects that are followed, the calls that wait, the dialler, and what the program was told.
+-- A client, the subjects that are followed, the calls that wait, the dialler, the timeout of later sessions, and what the program was told.
 pub record Trail (A : Type 0) : Type 0 where
   pub view : View
   pub subjects : List (Subject A)
   pub line : List (Entry A)
   pub dialler : Dialler A
+  pub timeout : ℤ
   pub told : List Told
 
 abbrev pub trail_of : {A : Type 0} → Agent A → List (Action A) → Trail A
@@ -54,6 +55,7 @@ trail_of agent actions = record {
   subjects = agent.asker.follower.subjects.items;
   line = agent.asker.line.entries.items;
   dialler = agent.dialler;
+  timeout = agent.timeout_ms;
   told = told_by actions;
 }
 
@@ -62,13 +64,12 @@ trail_of agent actions = record {
 pub data Move : Type 0 where
   Hears : (now : ℕ) → Input → Move
   Hands : (now : ℕ) → (ticket : ℕ) → Call → Move
-  Renews : (timeout : ℤ) → Move
   Follows : (ticket : ℕ) → Side → Text → Move
   Unfollows : (ticket : ℕ) → Move
   Asks : (ticket : ℕ) → Call → (until : Option ℕ) → Move
   GivesUp : (now : ℕ) → Move
   Opened Ended : (now : ℕ) → Move
-  HungUp Closes : Move
+  HungUp Renews Closes : Move
   Addressed : (count : ℕ) → Move
   Decides : (now : ℕ) → Option Due → Move
 
@@ -135,6 +136,7 @@ HandsOver now view subjects line told new_view new_subjects new_line new_told (S
 -- So it hears an input. A connection is hung up where it is over with that.
 pub record HearsSo {A : Type 0} (now : ℕ) (input : Input) (old new : Trail A) : Type 0 where
   pub may : MayHear input old
+  pub timeout : new.timeout ≡ old.timeout
   pub heard : Heard
   pub told : List Told
   pub takes : TakesSo now input old.view old.subjects (handed input old.line) old.told new.view new.subjects new.line told heard
@@ -151,11 +153,12 @@ pub record HearsOn {A : Type 0} (now : ℕ) (input : Input) (old new : Trail A) 
   pub hears : HearsSo now input old between
   pub leaves : LeavesWhere hears.heard.is_lost now between new
 
--- Another session begins, after an expiry alone. The last seen zxid is kept, each subject is to be read, and a row of failures ends. Each call
+-- Another session begins, after an expiry alone, and asks for the agent's timeout. The last seen zxid is kept, each subject is to be read, and a row of failures ends. Each call
 -- that waits is answered before, that the session has expired.
-pub record RenewsSo {A : Type 0} (timeout : ℤ) (old new : Trail A) : Type 0 where
+pub record RenewsSo {A : Type 0} (old new : Trail A) : Type 0 where
   pub expired : old.view.standing.state ≡ Expired
-  pub view : new.view ≡ view_at (renewed_start timeout old.view) []
+  pub view : new.view ≡ view_at (renewed_start old.timeout old.view) []
+  pub timeout : new.timeout ≡ old.timeout
   pub subjects : new.subjects ≡ map due_again old.subjects
   pub dialler : new.dialler ≡ record old.dialler { backoff = row_ended old.dialler.backoff }
   pub line : new.line ≡ []
@@ -187,13 +190,14 @@ pub record ClosesSo {A : Type 0} (old new : Trail A) : Type 0 where
 pub record DecidesSo {A : Type 0} (now : ℕ) (due : Option Due) (old new : Trail A) : Type 0 where
   pub goes_on : old.view.standing.state ≢ Closed
   pub dials : DialsWell old.view.saved.session.timeout now old.dialler new.dialler due
+  pub all : is_some due ≡ is_due now old.dialler
   pub last : new ≡ record old { dialler = new.dialler; told = old.told ++ due_told due }
 
 -- What each move does.
 abbrev pub Does : {A : Type 0} → Trail A → Move → Trail A → Type 0
 Does old (Hears now input) new = HearsOn now input old new
 Does old (Hands now ticket asked) new = HearsSo now (turns.Call ticket asked) old new
-Does old (Renews timeout) new = RenewsSo timeout old new
+Does old Renews new = RenewsSo old new
 Does old (Follows ticket side path) new =
     new ≡ record old { subjects = old.subjects ++ record { ticket = ticket; side = side; path = path; progress = progress.Due; is_missing = false; told = None } ∷ [] }
 Does old (Unfollows ticket) new = new ≡ record old { subjects = unfollowed ticket old.subjects }
@@ -219,7 +223,7 @@ IsShut trail = trail.view.standing.state ≡ Closed → trail.dialler.phase ≡ 
 -- Of its own an agent hands calls over, begins another session, settles calls, and decides about the connection.
 abbrev pub is_given : Move → Bool
 is_given (Hands now ticket asked) = false
-is_given (Renews timeout) = false
+is_given Renews = false
 is_given (GivesUp now) = false
 is_given (Decides now due) = false
 is_given Closes = false
@@ -262,7 +266,7 @@ given_of phase now (happens.Follow ticket side path) = Follows ticket side path 
 given_of phase now (happens.Unfollow ticket) = Unfollows ticket ∷ Hears now (turns.Now now) ∷ []
 
 -- Moves, the oldest first, all at one moment. Those that come from outside are these, and no other. A client that was led stands where it was
--- led, and after a close there is no connection.
+-- led, after a close there is no connection, and the timeout of later sessions stays.
 pub record Comes {A : Type 0} (now : ℕ) (given : List Move) (old new : Trail A) : Type 0 where
   pub moves : List Move
   pub does : FoldsTo Does old moves new
@@ -270,6 +274,16 @@ pub record Comes {A : Type 0} (now : ℕ) (given : List Move) (old new : Trail A
   pub at : AllByRecursion (IsAt now) moves
   pub led : IsLed old.view → IsLed new.view
   pub shut : IsShut old → IsShut new
+  pub timeout : new.timeout ≡ old.timeout
+
+-- Nothing that was due of the connection at this moment is left undone: it was done last.
+pub record IsDecided {A : Type 0} (now : ℕ) (new : Trail A) : Type 0 where
+  pub before : Dialler A
+  pub due : Option Due
+  pub dials : DialsWell new.view.saved.session.timeout now before new.dialler due
+  pub all : is_some due ≡ is_due now before
+  pub rest : List Told
+  pub told : new.told ≡ rest ++ due_told due
 
 -- Calls are handed over, at most one: no limit comes with it, and no end of the session. Another one may be where fewer wait for their turn; else none waits, or none can
 -- be handed over.

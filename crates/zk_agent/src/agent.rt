@@ -49,7 +49,7 @@ impl<A: Allocator + Copy> Agent<A> {
     ghost use Rattle.zk_follow.specs.Following.{due_again, IsFollowed};
     ghost use Rattle.zk_conversation.specs.Views.{call_view};
     ghost use Rattle.zk_line.specs.declared.entry.Ending.TheVariants as ending;
-    ghost use Rattle.zk_agent.specs.Agents.{bytes_at, given_of, heard_after, how_many_asked, how_many_ended, is_closed, opened_at, over_at, trail_of, Addressed, Asks, Comes, Follows, Hears, NothingAt, NothingOpen, Unfollows};
+    ghost use Rattle.zk_agent.specs.Agents.{bytes_at, given_of, heard_after, how_many_asked, how_many_ended, is_closed, opened_at, over_at, trail_of, Addressed, Asks, Comes, Follows, Hears, IsDecided, NothingAt, NothingOpen, Unfollows};
     ghost use Rattle.zk_agent.specs.Calls.{endings, how_many, IsInTime, IsServed};
     ghost use Rattle.zk_agent.specs.Telling.{told_by, Begins};
 
@@ -62,6 +62,7 @@ impl<A: Allocator + Copy> Agent<A> {
         ensures calls { IfOk result (λ agent. agent.asker.line.entries.items ≡ []) }
         ensures latest { IfOk result (λ agent. agent.latest ≡ 0) }
         ensures heard { IfOk result (λ agent. agent.heard_at ≡ None) }
+        ensures timeout { IfOk result (λ agent. agent.timeout_ms ≡ settings.timeout_ms) }
         ensures phase { IfOk result (λ agent. agent.dialler.phase ≡ Waiting) }
         ensures order { IfOk result (λ agent. agent.dialler.ring.order.items ≡ shuffled settings.seed settings.addresses (numbers settings.addresses)) }
         ensures each { IfOk result (λ agent. IsPermutation (numbers settings.addresses) agent.dialler.ring.order.items) }
@@ -152,6 +153,7 @@ impl<A: Allocator + Copy> Agent<A> {
         ensures limits { OnOk result (All (IsInTime self.new.latest) self.new.asker.line.entries.items) }
         ensures closed { OnOk result ((view_of self.new.asker.follower.client).standing.state ≡ Closed → self.new.asker.line.entries.items ≡ []) }
         ensures renewed { OnOk result ((view_of self.new.asker.follower.client).standing.state ≢ Expired) }
+        ensures dials { IfOk result (λ actions. (view_of self.new.asker.follower.client).standing.state ≢ Closed → IsDecided (max self.old.latest now) (trail_of self.new actions.items)) }
         ensures latest { OnOk result (self.new.latest ≡ max self.old.latest now) }
         ensures heard { OnOk result (self.new.heard_at ≡ heard_after (is_open self.old.dialler.phase) (max self.old.latest now) input self.old.heard_at) }
     {
@@ -298,6 +300,7 @@ impl<A: Allocator + Copy> Agent<A> {
         ensures view { OnOk result (view_of self.new.asker.follower.client ≡ view_at (renewed_start self.old.timeout_ms (view_of self.old.asker.follower.client)) []) }
         ensures subjects { OnOk result (self.new.asker.follower.subjects.items ≡ map due_again self.old.asker.follower.subjects.items) }
         ensures dialler { OnOk result (self.new.dialler ≡ record self.old.dialler { backoff = row_ended self.old.dialler.backoff }) }
+        ensures timeout { self.new.timeout_ms ≡ self.old.timeout_ms }
         ensures line { OnOk result (self.new.asker.line.entries.items ≡ []) }
         ensures told { OnOk result (told_by actions.new.items ≡ (told_by actions.old.items ++ endings ending.Expired self.old.asker.line.entries.items) ++ Begins ∷ []) }
         ensures followed { OnOk result ((now : ℕ) → All (IsFollowed now (view_of self.new.asker.follower.client)) self.new.asker.follower.subjects.items) }
@@ -346,6 +349,7 @@ impl<A: Allocator + Copy> Agent<A> {
     /// Asks for a connection, or gives an attempt up, where its moment has come, and not after a close.
     fn dial(&mut self, now: u64, actions: &mut Vec<Action<A>, A>) -> Result<(), AllocError>
         ensures comes { OnOk result (Comes now [] (trail_of self.old actions.old.items) (trail_of self.new actions.new.items)) }
+        ensures dials { (view_of self.new.asker.follower.client).standing.state ≢ Closed → OnOk result (IsDecided now (trail_of self.new actions.new.items)) }
         ensures asker { self.new.asker ≡ self.old.asker }
     {
         if self.is_closed() {

@@ -24,6 +24,7 @@ impl<A: Allocator + Copy> Agent<A> {
     fn hang_up(&mut self, now: u64, actions: &mut Vec<Action<A>, A>) -> Result<(), AllocError>
         ensures ends { OnOk result (Ends (view_of self.old.asker.follower.client).saved.session.timeout now self.old.dialler self.new.dialler) }
         ensures told { OnOk result (told_by actions.new.items ≡ told_by actions.old.items ++ HangsUp ∷ []) }
+        ensures timeout { self.new.timeout_ms ≡ self.old.timeout_ms }
         ensures asker { self.new.asker ≡ self.old.asker }
     {
         let timeout_ms = self.timeout_ms();
@@ -46,6 +47,7 @@ impl<A: Allocator + Copy> Agent<A> {
         actions: &mut Vec<Action<A>, A>,
     ) -> Result<(), AllocError>
         ensures goes { OnOk result (LetsGo is_over (view_of self.old.asker.follower.client).saved.session.timeout now self.old.dialler self.new.dialler (told_by actions.old.items) (told_by actions.new.items)) }
+        ensures timeout { self.new.timeout_ms ≡ self.old.timeout_ms }
         ensures asker { self.new.asker ≡ self.old.asker }
     {
         if self.is_left(is_over) {
@@ -57,6 +59,7 @@ impl<A: Allocator + Copy> Agent<A> {
     /// A reply ends a row of failures.
     fn note_replies(&mut self, ends_row: bool)
         ensures dialler { self.new.dialler ≡ row_after ends_row self.old.dialler }
+        ensures timeout { self.new.timeout_ms ≡ self.old.timeout_ms }
         ensures asker { self.new.asker ≡ self.old.asker }
     {
         if ends_row {
@@ -67,6 +70,7 @@ impl<A: Allocator + Copy> Agent<A> {
     /// So does a connection that has lived for a third of the timeout.
     fn note_state(&mut self, now: u64)
         ensures dialler { self.new.dialler ≡ noted (view_of self.old.asker.follower.client).saved.session.timeout now (view_of self.old.asker.follower.client).standing.state self.old.dialler }
+        ensures timeout { self.new.timeout_ms ≡ self.old.timeout_ms }
         ensures asker { self.new.asker ≡ self.old.asker }
     {
         let timeout_ms = self.timeout_ms();
@@ -85,6 +89,7 @@ impl<A: Allocator + Copy> Agent<A> {
         ensures goes { OnOk result (LetsGo heard.is_over (view_of self.old.asker.follower.client).saved.session.timeout now
             (noted (view_of self.old.asker.follower.client).saved.session.timeout now (view_of self.old.asker.follower.client).standing.state (row_after heard.ends_row self.old.dialler)) self.new.dialler
             (told_by actions.old.items) (told_by actions.new.items)) }
+        ensures timeout { self.new.timeout_ms ≡ self.old.timeout_ms }
         ensures asker { self.new.asker ≡ self.old.asker }
     {
         self.note_replies(heard.ends_row);

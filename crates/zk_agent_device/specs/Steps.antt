@@ -19,7 +19,7 @@ use Rattle.zk_follow.specs.Following.{IsFollowed}
 use Rattle.zk_agent.specs.declared.agent.Agent.{Agent}
 use Rattle.zk_agent.specs.declared.input.Input.{Input}
 use Rattle.zk_agent.specs.declared.input.Input.TheVariants as input
-use Rattle.zk_agent.specs.Agents.{given_of, heard_after, how_many_asked, how_many_ended, trail_of, Comes}
+use Rattle.zk_agent.specs.Agents.{given_of, heard_after, how_many_asked, how_many_ended, trail_of, Comes, IsDecided}
 use Rattle.zk_agent.specs.Calls.{how_many, IsInTime, IsServed}
 use Rattle.zk_agent.specs.Telling.{told_by}
 use Rattle.zk_device.specs.Codes.{refusal_code}
@@ -71,6 +71,7 @@ pub record Took (now : ℕ) (given : Input Global) (before after : AgentDevice) 
   pub limits : All (IsInTime after.agent.latest) after.agent.asker.line.entries.items
   pub closed : (view_of after.agent.asker.follower.client).standing.state ≡ Closed → after.agent.asker.line.entries.items ≡ []
   pub renewed : (view_of after.agent.asker.follower.client).standing.state ≢ Expired
+  pub dials : (view_of after.agent.asker.follower.client).standing.state ≢ Closed → IsDecided (max before.agent.latest now) (trail_of after.agent after.said.items)
   pub latest : after.agent.latest ≡ max before.agent.latest now
   pub heard : after.agent.heard_at ≡ heard_after (is_open before.agent.dialler.phase) (max before.agent.latest now) given before.agent.heard_at
 

@@ -40,6 +40,7 @@ impl AgentDevice {
         ensures begins { Begins (RefusesTimeout timeout_ms) (new_start (unsigned_abs timeout_ms)) result }
         ensures accepted { OnOk result (pos 0 <ℤ timeout_ms) }
         ensures dials { IfOk result (λ device. Dials addresses seed device.agent.dialler) }
+        ensures timeout { IfOk result (λ device. device.agent.timeout_ms ≡ timeout_ms) }
     {
         if timeout_ms <= 0 {
             return Err(Refusal::BadTimeout);
@@ -63,6 +64,7 @@ impl AgentDevice {
         ensures begins { (put : PutAway) → bytes_read saved.now ≡ Ok put → Begins (RefusesTimeout timeout_ms) (put_start timeout_ms put) result }
         ensures accepted { OnOk result (pos 0 <ℤ timeout_ms) }
         ensures dials { IfOk result (λ device. Dials addresses seed device.agent.dialler) }
+        ensures timeout { IfOk result (λ device. device.agent.timeout_ms ≡ timeout_ms) }
         ensures unread { (fault : SavedFault) → bytes_read saved.now ≡ Err fault → fault ≢ saved_faults.Memory → pos 0 <ℤ timeout_ms → result ≡ Err refusals.NotSaved }
     {
         let Device {
@@ -84,6 +86,7 @@ impl AgentDevice {
         requires { pos 0 <ℤ settings.timeout_ms }
         ensures begins { IfOk result (BeginsWith (view_of client)) }
         ensures dials { IfOk result (λ device. Dials settings.addresses settings.seed device.agent.dialler) }
+        ensures timeout { IfOk result (λ device. device.agent.timeout_ms ≡ settings.timeout_ms) }
         ensures refused { IfErr result (λ refusal. refusal ≡ refusals.Memory) }
     {
         match Agent::new(alloc, client, settings) {

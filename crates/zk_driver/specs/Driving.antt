@@ -10,7 +10,7 @@ use Rattle.zk_agent.specs.declared.action.Action.{Action}
 use Rattle.zk_agent.specs.declared.agent.Agent.{Agent}
 use Rattle.zk_agent.specs.declared.input.Input.{Input}
 use Rattle.zk_agent.specs.declared.input.Input.TheVariants as happens
-use Rattle.zk_agent.specs.Agents.{given_of, heard_after, how_many_asked, how_many_ended, trail_of, Comes, IsLed, IsShut}
+use Rattle.zk_agent.specs.Agents.{given_of, heard_after, how_many_asked, how_many_ended, trail_of, Comes, IsDecided, IsLed, IsShut}
 use Rattle.zk_agent.specs.Calls.{how_many, IsInTime, IsServed}
 use Rattle.zk_agent.specs.Telling.{Told, Says, Dials, HangsUp, action_view, told_by}
 use Rattle.zk_link.specs.declared.bring.Brought.{Brought}
@@ -85,7 +85,7 @@ abbrev pub IsShutAgent : {A : Type 0} → Agent A → Type 0
 IsShutAgent agent = IsShut (trail_of agent [])
 
 -- The agent takes an input that was noticed at a moment, and what comes from outside is that: each subject is followed then, each call is settled
--- once or waits, none waits past its limit or after a close, and a session that has expired is over. What it says is carried out, or put after what
+-- once or waits, none waits past its limit or after a close, a session that has expired is over, and what was due of the connection is done. What it says is carried out, or put after what
 -- the program is told, each in its order.
 pub record Takes {A : Type 0} (now : ℕ) (input : Input A) (old new : Course A) : Type 0 where
   pub actions : List (Action A)
@@ -96,6 +96,7 @@ pub record Takes {A : Type 0} (now : ℕ) (input : Input A) (old new : Course A)
   pub limits : All (IsInTime new.agent.latest) new.agent.asker.line.entries.items
   pub closed : (view_of new.agent.asker.follower.client).standing.state ≡ Closed → new.agent.asker.line.entries.items ≡ []
   pub renewed : (view_of new.agent.asker.follower.client).standing.state ≢ Expired
+  pub dials : (view_of new.agent.asker.follower.client).standing.state ≢ Closed → IsDecided (max old.agent.latest now) (trail_of new.agent actions)
   pub latest : new.agent.latest ≡ max old.agent.latest now
   pub heard : new.agent.heard_at ≡ heard_after (is_open old.agent.dialler.phase) (max old.agent.latest now) input old.agent.heard_at
   pub channel : new.channel ≡ fold carried old.channel (told_by actions)

@@ -70,6 +70,7 @@ impl<'a, A: Allocator + Copy, D: Dial + Drop, C: Clock + Drop> Driver<'a, A, D, 
         ensures client { IfOk result (λ driver. view_of driver.engine.agent.asker.follower.client ≡ view_at (new_start (unsigned_abs timeout_ms)) []) }
         ensures followed { IfOk result (λ driver. AreFollowed driver.engine.agent) }
         ensures shut { IfOk result (λ driver. IsShutAgent driver.engine.agent) }
+        ensures timeout { IfOk result (λ driver. driver.engine.agent.timeout_ms ≡ timeout_ms) }
         ensures channel { IfOk result (λ driver. channel_view driver.engine.channel ≡ closed) }
         ensures waiting { IfOk result (λ driver. driver.engine.waiting.items ≡ []) }
         ensures subjects { IfOk result (λ driver. driver.engine.agent.asker.follower.subjects.items ≡ []) }

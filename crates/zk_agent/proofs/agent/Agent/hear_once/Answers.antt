@@ -21,4 +21,4 @@ returns-clause-hears g c =
     taken_and c.args.now input old new (trail_of (record c.args.self.now { asker = c.step.new.self }) c.step.new.actions.items) old.line c.in_ok-heard.heard
     (may_hear input old c.requires) (not_handed input (is_open old.dialler.phase) old.line c.requires) c.in_ok-heard.ensures.takes
     (ap (λ (a : Asker g.row.A.Denot). view_of a.follower.client) c.heed.ensures.asker) (ap (λ (a : Asker g.row.A.Denot). a.follower.subjects.items) c.heed.ensures.asker)
-    (ap (λ (a : Asker g.row.A.Denot). a.line.entries.items) c.heed.ensures.asker) c.in_ok-heed.ensures.goes
+    (ap (λ (a : Asker g.row.A.Denot). a.line.entries.items) c.heed.ensures.asker) c.heed.ensures.timeout c.in_ok-heed.ensures.goes

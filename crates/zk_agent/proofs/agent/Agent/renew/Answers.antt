@@ -5,8 +5,8 @@ use Rattle.zk_agent.proofs.agent.Agent.renew.Goals as goal
 
 pub returns-then-is_expired-clause-comes : goal.returns-then-is_expired-clause-comes
 returns-then-is_expired-clause-comes g c = λ now.
-    renewed c.begin.result now (trail_of c.args.self.now c.args.actions.now.items) (trail_of c.begin.new.self c.begin.new.actions.items) c.args.self.now.timeout_ms
-    (c.is_expired.ensures.yes c.if-is_expired.true) c.begin.ensures.view c.begin.ensures.subjects c.begin.ensures.dialler c.begin.ensures.line c.begin.ensures.told
+    renewed c.begin.result now (trail_of c.args.self.now c.args.actions.now.items) (trail_of c.begin.new.self c.begin.new.actions.items)
+    (c.is_expired.ensures.yes c.if-is_expired.true) c.begin.ensures.view c.begin.ensures.subjects c.begin.ensures.dialler c.begin.ensures.timeout c.begin.ensures.line c.begin.ensures.told
 
 pub returns-then-is_expired-clause-renewed : goal.returns-then-is_expired-clause-renewed
 returns-then-is_expired-clause-renewed g c =

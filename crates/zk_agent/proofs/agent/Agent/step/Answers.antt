@@ -1,11 +1,11 @@
 use Rattle.std.proofs.Common.{◌≡◌, ◌+◌, [], refl, sym, ap, subst, ◌∙◌}
-use Rattle.std.specs.Prelude.{All}
+use Rattle.std.specs.Prelude.{◌≢◌, All}
 use Rattle.zk_session.specs.declared.states.State.TheVariants.{Connected, Expired, Closed}
 use Rattle.zk_client.specs.Clients.{view_of}
 use Rattle.zk_follow.specs.declared.follower.Follower.{Follower}
 use Rattle.zk_follow.specs.Following.{IsFollowed}
 use Rattle.zk_agent.specs.declared.asker.Asker.{Asker}
-use Rattle.zk_agent.specs.Agents.{given_of, trail_of, Comes}
+use Rattle.zk_agent.specs.Agents.{given_of, trail_of, Comes, IsDecided}
 use Rattle.zk_agent.specs.Calls.{how_many, IsDone, IsInTime}
 use Rattle.zk_agent.proofs.Counting.{asks_its, calls_balance}
 use Rattle.zk_agent.proofs.Lines.{all_served}
@@ -71,3 +71,8 @@ returns-clause-renewed g c = λ expired.
     let sent = sym (ap (λ (a : Asker g.row.A.Denot). (view_of a.follower.client).standing.state) c.dial.ensures.asker) ∙ expired in
     let given_up = c.in_ok-send.ensures.ends Expired refl sent in
     c.in_ok-renew.ensures.renewed (sym (ap (λ (f : Follower g.row.A.Denot). (view_of f.client).standing.state) c.give_up.ensures.follower) ∙ given_up)
+
+pub returns-clause-dials : goal.returns-clause-dials
+returns-clause-dials g c =
+    let new = trail_of c.dial.new.self c.dial.new.actions.items in
+    subst (λ now. (view_of c.dial.new.self.asker.follower.client).standing.state ≢ Closed → IsDecided now new) c.max-now.ensures c.in_ok-dial.ensures.dials

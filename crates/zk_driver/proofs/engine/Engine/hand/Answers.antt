@@ -16,6 +16,7 @@ returns-clause-hands g c = record {
     limits = c.in-Ok.ensures.limits;
     closed = c.in-Ok.ensures.closed;
     renewed = c.in-Ok.ensures.renewed;
+    dials = c.in-Ok.ensures.dials;
     latest = c.in-Ok.ensures.latest;
     heard = c.in-Ok.ensures.heard;
     channel = c.in-Ok-carry_all.ensures.channel;
