@@ -27,6 +27,7 @@
 #![allow(clippy::must_use_candidate)]
 
 mod acl;
+mod action;
 mod both;
 mod calls;
 mod chroot;
@@ -47,6 +48,8 @@ mod kept;
 mod lane;
 mod local;
 mod lock;
+mod looking;
+mod machine;
 mod moment;
 mod node;
 mod numbers;
@@ -74,6 +77,7 @@ mod view;
 mod waiting;
 
 pub use acl::{Acl, Permissions};
+pub use action::{Action, Actions, Refusal};
 pub use client::{Client, State};
 pub use error::{Error, ErrorKind};
 pub use fault::{Code, Fault, NoReply, UnknownNumber};
@@ -82,6 +86,7 @@ pub use hosts::{Hosts, HostsFault};
 pub use kept::{Children, DataAnswer, Kept, Mark};
 pub use local::LocalSession;
 pub use lock::{Election, Lock, Sharing};
+pub use machine::Machine;
 pub use moment::{Clock, Moment};
 pub use node::{DataStat, Mode, Node, NodeEvent, Side, Stat, Watch, ANY_VERSION};
 pub use options::{OpenError, SessionOptions};
