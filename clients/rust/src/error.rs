@@ -1,5 +1,6 @@
 //! Why a call fails, and what it was about.
 
+use crate::action::Refusal;
 use crate::fault::{Code, Fault, NoReply};
 use crate::path_fault::Shown;
 use std::error;
@@ -105,6 +106,17 @@ impl From<Code> for ErrorKind {
 impl From<NoReply> for ErrorKind {
     fn from(reason: NoReply) -> ErrorKind {
         ErrorKind::NoReply(reason)
+    }
+}
+
+impl From<Refusal> for ErrorKind {
+    fn from(reason: Refusal) -> ErrorKind {
+        match reason {
+            Refusal::Code(code) => code.into(),
+            Refusal::TooManyWatches => NoReply::TooManyWatches.into(),
+            Refusal::TooLarge => NoReply::TooLarge.into(),
+            Refusal::Closed => NoReply::SessionClosed.into(),
+        }
     }
 }
 

@@ -9,7 +9,6 @@ use crate::fault::Fault;
 use crate::hosts::Hosts;
 use crate::keeper::{ask, Keeper, Shared};
 use crate::kept::{Children, DataAnswer, Kept, Mark};
-use crate::moment::Moment;
 use crate::node::{Mode, Node, Stat};
 use crate::options::{OpenError, SessionOptions};
 use crate::request::Request;
@@ -70,7 +69,7 @@ impl LocalSession {
         LocalSession { keeper }
     }
 
-    /// Goes on with a new client, as [`Session::renew`](crate::Session::renew) does.
+    /// Goes on with a new machine, as [`Session::renew`](crate::Session::renew) does.
     ///
     /// # Errors
     ///
@@ -118,24 +117,23 @@ impl Asks for LocalSession {
         self.call(request)
     }
 
-    fn pass(&mut self, until: Moment) -> Result<(), Fault> {
-        while self
-            .inner()
-            .with(|engine| !engine.is_over() && engine.clock().now() < until)
-        {
+    fn pass(&mut self, time: Duration) -> Result<(), Fault> {
+        let clock = self.inner().look(Engine::clock);
+        let until = clock.now().saturating_add(time);
+        while !self.inner().look(Engine::is_over) && clock.now() < until {
             self.keeper.round(until)?;
         }
         Ok(())
-    }
-
-    fn inner(&self) -> &Shared {
-        self.keeper.shared()
     }
 }
 
 /// What is heard and kept. Look-ups ask nobody.
 impl LocalSession {
     look_ups! {}
+
+    fn inner(&self) -> &Shared {
+        self.keeper.shared()
+    }
 
     /// The state. None where something was due on the connection and this program has not come to do it: then nobody knows whether there
     /// is a session still. Call [`next_event`](LocalSession::next_event) to learn it.
@@ -220,11 +218,6 @@ impl LocalSession {
         }
     }
 
-    /// Forgets all stale answers.
-    pub fn forget_stale(&mut self) {
-        self.inner().with(Engine::forget_stale);
-    }
-
     /// Other hosts, as [`Session::change_hosts`](crate::Session::change_hosts).
     ///
     /// # Errors
@@ -238,6 +231,6 @@ impl LocalSession {
 impl fmt::Debug for LocalSession {
     fn fmt(&self, f: &mut fmt::Formatter<'_>) -> fmt::Result {
         let mut shown = f.debug_struct("LocalSession");
-        self.view(|view| shown.field("client", &view).finish_non_exhaustive())
+        self.view(|view| shown.field("machine", &view).finish_non_exhaustive())
     }
 }

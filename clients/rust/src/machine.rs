@@ -282,6 +282,39 @@ impl Machine {
     }
 
     look_ups_of_handle! {}
+
+    /// As [`subtree`](Machine::subtree). The text of a tree that is looked at again is mostly as long as the last one: it is given more room than that.
+    pub(crate) fn subtree_of(
+        &self,
+        path: &str,
+        most: usize,
+        room: &mut usize,
+    ) -> Result<Option<Subtree>, Fault> {
+        let mut spelled = vec![0; *room];
+        let copy = |spelled: &mut Vec<u8>| match self.handle.subtree(path, most, spelled) {
+            Ok(length) => Ok(Some(length)),
+            Err(Fault::NotWhole) => Ok(None),
+            Err(other) => Err(other),
+        };
+        let Some(length) = copy(&mut spelled)? else {
+            return Ok(None);
+        };
+        if length > *room {
+            *room = length + length / 8;
+            spelled.resize(*room, 0);
+            copy(&mut spelled)?;
+        }
+        Ok(Some(Subtree {
+            zxid: self.last_zxid(),
+            nodes: nodes_in(&spelled[..length]),
+        }))
+    }
+
+    /// The last change of the names that are kept of a path, where some are.
+    pub(crate) fn names_of(&self, path: &str) -> Option<i64> {
+        let kept = self.handle.peek_children(path).ok()?;
+        (kept.mark != 0).then_some(kept.pzxid)
+    }
 }
 
 impl fmt::Debug for Machine {

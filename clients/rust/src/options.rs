@@ -1,6 +1,5 @@
 //! How a session is opened.
 
-use crate::client::Client;
 use crate::engine::{Beginning, Engine};
 use crate::fault::Fault;
 use crate::hosts::{Hosts, HostsFault, Order};
@@ -171,9 +170,9 @@ impl SessionOptions {
         H: TryInto<Hosts>,
         OpenError: From<H::Error>,
     {
-        let (retry, limit) = (self.retry, self.limit);
+        let (retry, limit, renews) = (self.retry, self.limit, self.renews);
         let keeper = self.keeper(hosts.try_into()?)?;
-        Session::kept_by(keeper, retry, limit).map_err(OpenError::Thread)
+        Session::kept_by(keeper, retry, limit, renews).map_err(OpenError::Thread)
     }
 
     /// Opens a session without a thread, for a loop of the program's own. It dials at the first call. It asks nothing again, and has no
@@ -191,17 +190,15 @@ impl SessionOptions {
     }
 
     fn keeper(self, hosts: Hosts) -> Result<Keeper, Fault> {
-        let client = match &self.saved {
-            Some(saved) => Client::resume(self.timeout, saved)?,
-            None => Client::open(self.timeout)?,
-        };
         let engine = Engine::new(Beginning {
-            client,
             timeout: self.timeout,
             hosts,
+            order: self.order,
+            saved: self.saved,
             renews: self.renews,
+            limit: self.limit,
             credentials: self.credentials,
-        });
+        })?;
         Ok(Keeper::new(Shared::new(engine), self.dial, self.order))
     }
 }

@@ -1,16 +1,15 @@
 //! A session that a thread of its own keeps alive.
 
 use crate::acl::Acl;
-use crate::both::{calls, look_ups, note_read, watch, Asks};
+use crate::both::{calls, look_ups, watch, Asks};
 use crate::client::State;
 use crate::engine::Engine;
 use crate::error::Error;
-use crate::fault::Fault;
+use crate::fault::{Fault, NoReply};
 use crate::follow::Follow;
 use crate::hosts::Hosts;
 use crate::keeper::{ask, Keeper, Shared};
 use crate::kept::{Children, DataAnswer, Kept, Mark};
-use crate::moment::Moment;
 use crate::node::{Mode, Node, Stat};
 use crate::options::{OpenError, SessionOptions};
 use crate::request::Request;
@@ -68,6 +67,7 @@ pub struct Session {
     shared: Arc<Shared>,
     retry: Retry,
     limit: Option<Duration>,
+    renews: bool,
 }
 
 /// How a session begins and ends.
@@ -90,6 +90,7 @@ impl Session {
         keeper: Keeper,
         retry: Retry,
         limit: Option<Duration>,
+        renews: bool,
     ) -> io::Result<Session> {
         let shared = Arc::clone(keeper.shared());
         let thread = Builder::new().name(String::from("dirwolleu"));
@@ -98,6 +99,7 @@ impl Session {
             shared,
             retry,
             limit,
+            renews,
         })
     }
 
@@ -108,7 +110,7 @@ impl Session {
         }
     }
 
-    /// Goes on with a new client, which keeps and watches nothing: of a new session where this one has expired or is closed, at servers
+    /// Goes on with a new machine, which keeps and watches nothing: of a new session where this one has expired or is closed, at servers
     /// that are not behind what was seen, and else of the same session, as after [`Fault::Halted`].
     ///
     /// # Errors
@@ -156,33 +158,32 @@ impl Session {
     /// there is no reply, [`ErrorKind::TimedOut`](crate::ErrorKind::TimedOut) where the limit has passed, and
     /// [`ErrorKind::Fault`](crate::ErrorKind::Fault) of [`Fault::NotPath`], [`Fault::NoMemory`], [`Fault::Halted`] or
     /// [`Fault::UnknownNumber`].
-    pub fn call<T>(&self, request: Request<T>) -> Result<T, Error> {
-        let until = self
-            .limit
-            .and_then(|limit| Instant::now().checked_add(limit));
+    pub fn call<T>(&self, mut request: Request<T>) -> Result<T, Error> {
+        let limit = request.asked.limit.or(self.limit);
+        let until = limit.and_then(|limit| Instant::now().checked_add(limit));
         let left = || until.map(|until| until.saturating_duration_since(Instant::now()));
         for pause in self.retry.pauses() {
-            let answer = self.wait(request.clone(), left());
+            request.asked.limit = left();
+            let answer = self.ask(request.clone()).wait();
             let is_over = left().is_some_and(|left| left <= pause);
             match answer {
-                Err(error) if request.may_be_repeated(&error) && !is_over => thread::sleep(pause),
+                Err(error) if self.repeats(&request, &error) && !is_over => thread::sleep(pause),
                 answer => return answer,
             }
         }
-        self.wait(request, left())
+        request.asked.limit = left();
+        self.ask(request).wait()
+    }
+
+    /// Whether a call is to be asked again after this error. After an expiry nothing was sent.
+    fn repeats<T>(&self, request: &Request<T>, error: &Error) -> bool {
+        let is_expired = error.no_reply() == Some(NoReply::SessionExpired);
+        request.may_be_repeated(error) || self.renews && is_expired
     }
 
     /// Begins a transaction: operations that happen together or not at all.
     pub fn transaction(&self) -> Transaction<'_> {
         Transaction::new(self)
-    }
-
-    fn wait<T>(&self, request: Request<T>, limit: Option<Duration>) -> Result<T, Error> {
-        let ticket = self.ask(request);
-        match limit {
-            Some(limit) => ticket.wait_for(limit),
-            None => ticket.wait(),
-        }
     }
 
     /// Asks a request, and goes on: the answer comes by the ticket. Up to 1,024 calls may be on their way, and are answered in the order
@@ -197,14 +198,9 @@ impl Asks for &Session {
         self.call(request)
     }
 
-    fn pass(&mut self, until: Moment) -> Result<(), Fault> {
-        let now = self.shared.with(|engine| engine.clock().now());
-        thread::sleep(until.saturating_duration_since(now));
+    fn pass(&mut self, time: Duration) -> Result<(), Fault> {
+        self.wait_until(Instant::now().checked_add(time), |_| true);
         Ok(())
-    }
-
-    fn inner(&self) -> &Shared {
-        &self.shared
     }
 }
 
@@ -263,9 +259,15 @@ impl Session {
         })
     }
 
-    /// A read of this path was answered: a server may have refused it.
-    pub(crate) fn note_read(&self, path: &str, is_refused: bool) {
-        note_read(&self.shared, path, is_refused);
+    /// Does something with the engine.
+    pub(crate) fn change<R>(&self, act: impl FnOnce(&mut Engine) -> R) -> R {
+        self.shared.with(act)
+    }
+
+    /// Waits until there are news of what is followed by this ticket, or the session is over.
+    pub(crate) fn wait_for_news(&self, ticket: u64) {
+        let holds = |engine: &Engine| !engine.is_over() && !engine.has_news(ticket);
+        self.shared.wait_while(None, holds);
     }
 
     /// Looks, and is woken later where nothing is found.
@@ -336,25 +338,15 @@ impl Session {
         Ok(Tree::new(Arc::clone(&self.shared), shown))
     }
 
-    /// Waits while this holds, until the session is over at most.
-    pub(crate) fn wait_while(&self, holds: impl Fn(View<'_>) -> bool) {
-        self.wait_until(None, holds);
-    }
-
     /// Has whoever waits look again.
     pub(crate) fn wake(&self) {
         self.shared.wake();
     }
 
-    /// The same, until this instant at most.
+    /// Waits while this holds, until this instant at most, and until the session is over.
     pub(crate) fn wait_until(&self, until: Option<Instant>, holds: impl Fn(View<'_>) -> bool) {
         let holds = |engine: &Engine| !engine.is_over() && holds(View::of(engine));
         self.shared.wait_while(until, holds);
-    }
-
-    /// Forgets all stale answers. What is kept is bounded by nothing but memory: whoever goes from path to path calls this now and then.
-    pub fn forget_stale(&self) {
-        self.shared.with(Engine::forget_stale);
     }
 
     /// Other hosts, from the next attempt to connect on. The connection that is there stays.
@@ -363,7 +355,9 @@ impl Session {
     ///
     /// The hosts, where they have another chroot than the session: then nothing is changed.
     pub fn change_hosts(&self, hosts: Hosts) -> Result<(), Hosts> {
-        self.shared.with(|engine| engine.change_hosts(hosts))
+        let changed = self.shared.with(|engine| engine.change_hosts(hosts));
+        self.shared.wake();
+        changed
     }
 
     fn inner(&self) -> &Shared {
@@ -374,7 +368,7 @@ impl Session {
 impl fmt::Debug for Session {
     fn fmt(&self, f: &mut fmt::Formatter<'_>) -> fmt::Result {
         let mut shown = f.debug_struct("Session");
-        self.view(|view| shown.field("client", &view).finish_non_exhaustive())
+        self.view(|view| shown.field("machine", &view).finish_non_exhaustive())
     }
 }
 
