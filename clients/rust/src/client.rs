@@ -28,7 +28,7 @@ impl State {
 ///
 /// It opens no socket, reads no clock and starts no thread, and no function of it waits. A program hands in what happened, with the
 /// moment at which it noticed it, does what the outputs say, and wakes at the latest at the [`deadline`](Client::deadline).
-/// [`Session`](crate::Session) is such a program over TCP.
+/// A [`Machine`](crate::Machine) decides of the rest of a session too: what is dialled, what waits, what is asked again.
 ///
 /// Each step forgets the outputs of the step before. It fails with [`Fault::Halted`] where memory ran out within it, with
 /// [`Fault::UnknownNumber`] where the library is of another version than this crate, and with the faults that it names besides; these leave

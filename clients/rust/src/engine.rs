@@ -85,6 +85,8 @@ pub(crate) struct Beginning {
 /// A machine, its connection, and the calls that wait.
 pub(crate) struct Engine {
     machine: Machine,
+    /// The first moment at which something is due, by the machine after its last step.
+    deadline: Moment,
     asked_timeout: Duration,
     renews: bool,
     limit: Option<Duration>,
@@ -110,6 +112,11 @@ pub(crate) struct Engine {
     course: Course,
 }
 
+/// The first moment at which something is due.
+fn deadline_of(machine: &Machine) -> Moment {
+    machine.deadline().unwrap_or(NEVER)
+}
+
 /// How it begins, goes on with another machine, and ends.
 impl Engine {
     pub(crate) fn new(beginning: Beginning) -> Result<Engine, Fault> {
@@ -120,6 +127,7 @@ impl Engine {
         };
         let chroot = beginning.hosts.root().clone();
         let mut engine = Engine {
+            deadline: deadline_of(&machine),
             machine,
             asked_timeout: timeout,
             renews: beginning.renews,
@@ -155,7 +163,8 @@ impl Engine {
         // A machine that has halted answers nothing.
         let _ = self.end();
         self.hang_up();
-        self.end_all(&NoReply::ConnectionLoss.into());
+        self.calls.end_all(&NoReply::ConnectionLoss.into());
+        self.deadline = deadline_of(&renewed);
         self.machine = renewed;
         self.places.begin_again();
         self.grove.begin_again();
@@ -212,7 +221,7 @@ impl Engine {
         let _ = self.end();
         self.hang_up();
         self.course = Course::Stopped;
-        self.end_all(&reason.into());
+        self.calls.end_all(&reason.into());
     }
 }
 
@@ -301,8 +310,8 @@ impl Engine {
 
     /// The first moment at which something is due.
     fn due(&self) -> Moment {
-        let due = self.machine.deadline().unwrap_or(NEVER);
-        due.min(self.lane.deadline()).min(self.calls.patience())
+        let due = self.deadline.min(self.lane.deadline());
+        due.min(self.calls.patience())
     }
 
     /// Whether something is due on the connection already.
@@ -378,31 +387,120 @@ impl Engine {
 
 #[cfg(test)]
 mod tests {
-    use super::{Beginning, Engine, Fault, Hosts, Moment, Order, Slot};
+    use super::{Beginning, Engine, Fault, Hosts, Order, Outgoing, Plan, Slot, NEVER};
     use crate::client::State;
+    use crate::jute::Writer;
     use crate::request::Request;
+    use std::io;
+    use std::net::SocketAddr;
+    use std::sync::Arc;
     use std::time::Duration;
 
-    #[test]
-    fn a_library_of_another_version_ends_a_session_in_words() {
-        let mut engine = Engine::new(Beginning {
-            timeout: Duration::from_secs(1),
-            hosts: Hosts::default(),
+    /// What a session writes to, where nobody reads it.
+    struct Nowhere;
+
+    impl Outgoing for Nowhere {
+        fn write_all(&mut self, _: &[u8]) -> io::Result<()> {
+            Ok(())
+        }
+
+        fn close(&mut self) {}
+    }
+
+    fn address() -> SocketAddr {
+        SocketAddr::from(([127, 0, 0, 1], 1))
+    }
+
+    fn engine() -> Engine {
+        Engine::new(Beginning {
+            timeout: Duration::from_secs(10),
+            hosts: Hosts::from(address()),
             order: Order::Shuffled,
             saved: None,
             renews: true,
             limit: None,
             credentials: Vec::new(),
         })
-        .unwrap();
+        .unwrap()
+    }
+
+    /// A response that admits the session of number 7.
+    fn accepted() -> Vec<u8> {
+        let (mut accepted, mut frame) = (Writer::default(), Writer::default());
+        accepted.int(0).int(10_000).int(0).int(7);
+        accepted.buffer(&[0; 16]).boolean(false);
+        frame.buffer(&accepted.into_bytes());
+        frame.into_bytes()
+    }
+
+    /// Dials, and makes the connection.
+    fn connect(engine: &mut Engine) {
+        assert_eq!(engine.plan(NEVER), Plan::Tick);
+        engine.tick().unwrap();
+        assert_eq!(engine.plan(NEVER), Plan::Dial);
+        let attempt = engine.begin_attempt().unwrap();
+        let made = engine.opened(attempt.number, address(), Box::new(Nowhere));
+        made.unwrap();
+    }
+
+    fn connected() -> Engine {
+        let mut engine = engine();
+        connect(&mut engine);
+        engine.hand_in(&accepted()).unwrap();
+        assert_eq!(engine.state(Duration::ZERO), Some(State::Connected));
+        engine
+    }
+
+    #[test]
+    fn a_library_of_another_version_ends_a_session_in_words() {
+        let mut engine = engine();
         let fault = Fault::from(State::try_from(9).unwrap_err());
-        let settled = engine.settle(Moment::from_millis(1), Err(fault.clone()));
+        let settled = engine.settle(NEVER, Err(fault.clone()));
         assert_eq!(settled, Err(fault.clone()));
         assert!(engine.is_over());
         assert_eq!(engine.halt(), Err(fault.clone()));
-        let slot = Slot::new(Some("/a"));
-        engine.ask(Request::get("/a").asked, slot);
+        engine.ask(Request::get("/a").asked, Slot::new(Some("/a")));
         let (_, ending) = engine.take_answers().remove(0);
         assert_eq!(ending.unwrap_err().kind(), &fault.into());
+    }
+
+    #[test]
+    fn a_session_that_has_halted_goes_on_where_it_is_renewed() {
+        let mut engine = connected();
+        let slot = Slot::new(Some("/a"));
+        engine.ask(Request::get("/a").asked, Arc::clone(&slot));
+        let settled = engine.settle(NEVER, Err(Fault::Halted));
+        assert_eq!(settled, Err(Fault::Halted));
+        assert_eq!(engine.plan(NEVER), Plan::Rest(NEVER));
+        let (_, ending) = engine.take_answers().remove(0);
+        assert_eq!(ending.unwrap_err().kind(), &Fault::Halted.into());
+        engine.renew().unwrap();
+        let saved = engine.machine().saved().unwrap();
+        assert_eq!((saved.id(), engine.is_over()), (Some(7), false));
+        connect(&mut engine);
+    }
+
+    #[test]
+    fn what_there_was_no_memory_for_is_handed_in_again() {
+        let mut engine = engine();
+        connect(&mut engine);
+        engine.inbox = accepted();
+        assert_eq!(engine.plan(NEVER), Plan::HandIn);
+        engine.hand_in(&[]).unwrap();
+        assert_eq!(engine.state(Duration::ZERO), Some(State::Connected));
+        assert!(matches!(engine.plan(NEVER), Plan::Listen(_)));
+    }
+
+    #[test]
+    fn an_attempt_that_was_given_up_is_no_connection() {
+        let mut engine = engine();
+        engine.tick().unwrap();
+        let attempt = engine.begin_attempt().unwrap();
+        engine.change_hosts(Hosts::default()).unwrap();
+        engine.hang_up(); // as where the machine gives it up
+        let made = engine.opened(attempt.number, address(), Box::new(Nowhere));
+        made.unwrap();
+        assert!(!engine.is_open());
+        assert_eq!(engine.state(Duration::ZERO), Some(State::Idle));
     }
 }

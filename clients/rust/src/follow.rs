@@ -57,33 +57,28 @@ impl<'a> Follow<'a> {
         }
     }
 
-    /// The ticket by which the node is followed, from the first time on that this is asked.
+    /// The ticket by which the node is followed, from the first time on that this is asked. Where it can't be, it is over.
     fn begin(&mut self) -> Result<u64, Error> {
         if let Some(ticket) = self.ticket {
             return Ok(ticket);
         }
         let followed = self.session.change(|engine| engine.follow(&self.path));
-        let ticket = followed.map_err(|fault| Error::about(Some(&self.path), fault.into()))?;
-        self.ticket = Some(ticket);
-        Ok(ticket)
+        self.ticket = followed.as_ref().ok().copied();
+        self.is_over = followed.is_err();
+        followed.map_err(|fault| Error::about(Some(&self.path), fault.into()))
     }
 
     /// What is new of the node of this ticket, where something is; why the session is over, or none where it is closed.
-    fn look(path: &str, ticket: u64, engine: &mut Engine) -> Poll<Option<Told>> {
-        let about = |kind| Error::about(Some(path), kind);
+    fn take(&mut self, ticket: u64, engine: &mut Engine) -> Poll<Option<Told>> {
+        let about = |kind| Error::about(Some(&self.path), kind);
         if let Some(found) = engine.take_news(ticket) {
             return Poll::Ready(Some(found.map_err(about)));
         }
         if !engine.is_over() {
             return Poll::Pending;
         }
+        self.is_over = true;
         Poll::Ready(engine.fault_of_end().map(|kind| Err(about(kind))))
-    }
-
-    /// Takes what was found. Where the session is over, so is this.
-    fn take(&mut self, found: Option<Told>) -> Option<Told> {
-        self.is_over = found.is_none() || self.session.change(|engine| engine.is_over());
-        found
     }
 
     /// What the node holds, where it is another thing than before; none where the session is closed. Else the waker of this context is woken
@@ -112,16 +107,10 @@ impl<'a> Follow<'a> {
         }
         let ticket = match self.begin() {
             Ok(ticket) => ticket,
-            Err(error) => {
-                self.is_over = true;
-                return Poll::Ready(Some(Err(error)));
-            }
+            Err(error) => return Poll::Ready(Some(Err(error))),
         };
-        let path = &self.path;
-        let found = self
-            .session
-            .poll(context, |engine| Follow::look(path, ticket, engine));
-        found.map(|found| self.take(found))
+        let session = self.session;
+        session.poll(context, |engine| self.take(ticket, engine))
     }
 }
 
@@ -151,17 +140,13 @@ impl Iterator for Follow<'_> {
         }
         let ticket = match self.begin() {
             Ok(ticket) => ticket,
-            Err(error) => {
-                self.is_over = true;
-                return Some(Err(error));
-            }
+            Err(error) => return Some(Err(error)),
         };
+        let session = self.session;
         loop {
-            self.session.wait_for_news(ticket);
-            let path = &self.path;
-            let look = |engine: &mut Engine| Follow::look(path, ticket, engine);
-            if let Poll::Ready(found) = self.session.change(look) {
-                return self.take(found);
+            session.wait_for_news(ticket);
+            if let Poll::Ready(found) = session.change(|engine| self.take(ticket, engine)) {
+                return found;
             }
         }
     }

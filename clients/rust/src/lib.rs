@@ -3,16 +3,18 @@
 //! the call that has waited longest, and once a session has expired or is closed nothing is kept. What this rests on is in the
 //! header of the core, `include/dirwolleu.h`.
 //!
-//! There are three ways to use it:
+//! There are four ways to use it:
 //!
 //! - [`Session`] is a session that a thread of its own keeps alive. Its calls wait for their answers, or give a [`Ticket`], which is a
 //!   future too. [`SessionOptions`] opens one otherwise than usual.
 //! - [`LocalSession`] is the same without a thread, for a loop of your own.
-//! - [`Client`] is the core itself, a machine without socket and clock, for an event loop.
+//! - [`Machine`] is what both stand on, the core itself, without socket and clock, for an event loop: it decides of the whole session.
+//! - [`Client`] is the part of it that does not dial, does not ask again and follows nothing.
 //!
-//! **Proved** is the core: what each function of its header says. **Tested** is all that is above it, in this crate: connections,
-//! pauses, tickets, retries, chroots, hosts, what is asked beside the core, when a [`Tree`] is read and shown, and [`Lock`], [`Election`] and
-//! [`Registration`]. Which nodes a [`TreeSnapshot`] and a [`Snapshot`] have, and that all of them are of one moment, the core says.
+//! **Proved** is the core: what each function of its header says. So it is when which host is dialled, which calls wait, when they are
+//! late, which are asked again after a lost connection, and when what is followed is read. **Tested** is all that is above it, in this
+//! crate: connections, tickets, retries, chroots, the addresses of hosts, what is asked beside the core, when a [`Tree`] is read and shown,
+//! and [`Lock`], [`Election`] and [`Registration`]. Which nodes a [`TreeSnapshot`] and a [`Snapshot`] have, and that all of them are of one moment, the core says.
 //!
 //! A session asks beside the core what the core does not know: transactions, ACLs, credentials and `sync`. It writes these requests
 //! between those of the core, and takes their answers out of the stream before the core is handed it. So for the core, what they change

@@ -27,7 +27,7 @@ use std::time::{Duration, Instant};
 /// Call [`next_event`](LocalSession::next_event) at least once in a third of the timeout. A program that comes later than that keeps its
 /// connection where the server has sent something meanwhile. What is not asked for waits as an [`Event`].
 ///
-/// A call waits for a connection, and then for its answer. Nothing is asked twice.
+/// A call waits for a connection, and then for its answer, to its limit at most, as those of a [`Session`](crate::Session).
 ///
 /// ```no_run
 /// use dirwolleu::{LocalSession, Mode};
@@ -99,9 +99,7 @@ impl LocalSession {
     ///
     /// # Errors
     ///
-    /// [`ErrorKind::Server`](crate::ErrorKind::Server) where the server refuses it, [`ErrorKind::NoReply`](crate::ErrorKind::NoReply) with why
-    /// there is no reply, and [`ErrorKind::Fault`](crate::ErrorKind::Fault) of [`Fault::NotPath`], [`Fault::NoMemory`], [`Fault::Halted`]
-    /// or [`Fault::UnknownNumber`].
+    /// As [`Session::call`](crate::Session::call).
     pub fn call<T>(&mut self, request: Request<T>) -> Result<T, Error> {
         self.keeper.catch_up_if_late()?;
         let ticket = ask(self.keeper.shared(), request);
@@ -144,7 +142,8 @@ impl LocalSession {
     /// The next event: one that waits, or the first that comes until this instant, and none where none has come by then. Without an
     /// instant it waits until there is one. Once the session has expired or is closed, and no event waits, there is none.
     ///
-    /// It may wait for longer by as much as an attempt to connect takes: a third of the timeout at most, or a second.
+    /// It may wait for longer by as much as an attempt to connect takes: a third of the timeout at most, or a second, and the time in which
+    /// the system looks a name up.
     ///
     /// # Errors
     ///

@@ -153,7 +153,7 @@ impl Engine {
             self.course = Course::Barred;
         }
         self.told.tell(Event::CredentialsRefused);
-        self.end_all(&ErrorKind::Server(Code::AUTH_FAILED));
+        self.calls.end_all(&ErrorKind::Server(Code::AUTH_FAILED));
     }
 
     /// Asks what waited for a connection.
@@ -175,10 +175,5 @@ impl Engine {
         for ticket in self.lane.take_late(now) {
             self.calls.end(ticket, Err(ErrorKind::TimedOut));
         }
-    }
-
-    /// Each call has this answer.
-    pub(super) fn end_all(&mut self, kind: &ErrorKind) {
-        self.calls.end_all(kind);
     }
 }

@@ -23,7 +23,10 @@ impl Engine {
             let followed = self.step(self.now(), |machine, now| {
                 machine.follow(now, ticket, &outer, Side::Data)
             });
-            followed.map_err(|fault| fault.at(path))?;
+            if let Err(fault) = followed {
+                self.followed.end(ticket);
+                return Err(fault.at(path));
+            }
         }
         Ok(ticket)
     }

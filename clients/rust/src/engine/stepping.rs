@@ -1,6 +1,6 @@
 //! Steps of the machine, and the connection.
 
-use super::{Attempt, Course, Engine, NEVER};
+use super::{deadline_of, Attempt, Course, Engine};
 use crate::action::Actions;
 use crate::client::State;
 use crate::error::ErrorKind;
@@ -22,7 +22,7 @@ impl Engine {
         if self.line.is_none() {
             return now;
         }
-        now.min(self.machine.deadline().unwrap_or(NEVER).before())
+        now.min(self.deadline.before())
     }
 
     /// Takes a step, and does what the machine says.
@@ -38,6 +38,7 @@ impl Engine {
     /// Does what the machine has said at a step, in its order. The connection is over where the machine says so or has no use any more, and
     /// where a write fails.
     pub(super) fn settle(&mut self, now: Moment, taken: Result<(), Fault>) -> Result<(), Fault> {
+        self.deadline = deadline_of(&self.machine);
         let news = mem::take(&mut self.told.news);
         if let Some(fault) = taken.as_ref().err().filter(|fault| fault.is_final()) {
             self.end_course(Course::Halted(fault.clone()));
@@ -53,7 +54,7 @@ impl Engine {
             self.end()?;
         }
         if let Some(refusal) = self.refusal_of_all() {
-            self.end_all(&refusal);
+            self.calls.end_all(&refusal);
         } else if news.state == Some(State::Connected) {
             self.put_queued();
         }
