@@ -11,7 +11,7 @@ use crate::request::{Asked, Call, CoreCall};
 use crate::ticket::Slot;
 use crate::told::Event;
 use std::sync::Arc;
-use std::time::Duration;
+use std::time::{Duration, Instant};
 
 /// How long a call waits at least, where nothing else is said of it: as long as an attempt to connect has.
 const SHORTEST_PATIENCE: Duration = Duration::from_secs(1);
@@ -52,7 +52,8 @@ impl Engine {
     fn limit_of(&self, asked: &Asked) -> Moment {
         let patience = self.machine.timeout().max(SHORTEST_PATIENCE);
         let limit = asked.limit.or(self.limit).unwrap_or(patience);
-        self.clock.now().saturating_add(limit)
+        let until = Instant::now().checked_add(limit);
+        until.map_or(NEVER, |until| self.clock.moment_of(until))
     }
 
     /// Asks, by the core or by the lane.

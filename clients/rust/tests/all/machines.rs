@@ -168,6 +168,33 @@ fn a_session_that_is_closed_is_asked_nothing_and_is_renewed() {
 }
 
 #[test]
+fn a_session_that_lives_goes_on_with_another_machine() {
+    let (sender, sessions) = mpsc::channel();
+    let partner = Partner::start(move |number, mut line| {
+        let request = line.frame().unwrap();
+        sender.send(request[16..24].to_vec()).unwrap();
+        line.send(&jute::Record::accepted(10_000, 0x1234));
+        if number == 0 {
+            let request = line.request().unwrap();
+            line.tell_data(request.xid);
+            while line.request().is_some() {}
+        }
+        serve_well(&mut line);
+    });
+    let session = Session::open(partner.address, TIMEOUT).unwrap();
+    session.call(Request::get("/a").watched()).unwrap();
+    let waits = session.ask(Request::get("/a"));
+    session.renew().unwrap();
+    let lost = waits.wait_for(PATIENCE).unwrap_err();
+    assert_eq!(lost.no_reply(), Some(NoReply::ConnectionLoss));
+    assert_eq!(session.peek("/a"), Ok(None), "it keeps nothing");
+    assert!(session.get("/a").is_ok());
+    let asked: Vec<Vec<u8>> = sessions.try_iter().collect();
+    let same = 0x1234_i64.to_be_bytes().to_vec();
+    assert_eq!(asked, [vec![0; 8], same]);
+}
+
+#[test]
 fn a_refused_read_of_what_is_followed_is_told_once_and_made_again() {
     let mut refusals = 2;
     let partner = Partner::start(move |_, mut line| {
