@@ -8,7 +8,7 @@
 //! - [`Session`] is a session that a thread of its own keeps alive. Its calls wait for their answers, or give a [`Ticket`], which is a
 //!   future too. [`SessionOptions`] opens one otherwise than usual.
 //! - [`LocalSession`] is the same without a thread, for a loop of your own.
-//! - [`Machine`] is what both stand on, the core itself, without socket and clock, for an event loop: it decides of the whole session.
+//! - [`Machine`] is what both use, the core itself, without socket and clock, for an event loop: it decides of the whole session.
 //! - [`Client`] is the part of it that does not dial, does not ask again and follows nothing.
 //!
 //! **Proved** is the core: what each function of its header says. So it is when which host is dialled, which calls wait, when they are
