@@ -285,6 +285,14 @@ impl Engine {
         })
     }
 
+    /// Why calls have no answer that wait where the session ends. What a machine has sent that has halted may have happened.
+    fn reason_of_end(&self) -> Option<ErrorKind> {
+        match &self.course {
+            Course::Halted(_) => Some(NoReply::ConnectionLoss.into()),
+            _ => self.refusal_of_all(),
+        }
+    }
+
     /// It fails where the machine has halted.
     pub(crate) fn halt(&self) -> Result<(), Fault> {
         match &self.course {
@@ -472,6 +480,9 @@ mod tests {
         let settled = engine.settle(NEVER, Err(Fault::Halted));
         assert_eq!(settled, Err(Fault::Halted));
         assert_eq!(engine.plan(NEVER), Plan::Rest(NEVER));
+        let (_, ending) = engine.take_answers().remove(0);
+        assert!(ending.unwrap_err().may_have_happened());
+        engine.ask(Request::get("/a").asked, slot);
         let (_, ending) = engine.take_answers().remove(0);
         assert_eq!(ending.unwrap_err().kind(), &Fault::Halted.into());
         engine.renew().unwrap();

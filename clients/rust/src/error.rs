@@ -26,7 +26,8 @@ pub enum ErrorKind {
     NoReply(NoReply),
     /// The library has not made the step.
     Fault(Fault),
-    /// The caller's limit has passed before there was an answer. The call is on its way: a write may still happen.
+    /// The limit of a call has come after it was sent, or that of a [`Ticket::wait_for`](crate::Ticket::wait_for). A write may have happened,
+    /// or may yet.
     TimedOut,
     /// The caller's limit has passed before a tree was whole: some of it is not read, or changes faster than it is read. It is read on.
     NotWhole,

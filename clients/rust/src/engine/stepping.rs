@@ -53,8 +53,8 @@ impl Engine {
         if self.end_answered() {
             self.end()?;
         }
-        if let Some(refusal) = self.refusal_of_all() {
-            self.calls.end_all(&refusal);
+        if let Some(reason) = self.reason_of_end() {
+            self.calls.end_all(&reason);
         } else if news.state == Some(State::Connected) {
             self.put_queued();
         }
