@@ -28,8 +28,15 @@ use std::time::Duration;
 /// [`resume`](Machine::resume) what it has [`saved`](Machine::saved). It fails with [`Fault::UnknownNumber`] where the library is of
 /// another version than this crate, and with the faults that it names besides; these leave the machine as it was.
 ///
-/// A machine may be moved, and handed to another thread. It is used by one thread at a time. To let it go ends no session of the servers:
-/// [`close_session`](Machine::close_session) does. After [`State::Closed`] do nothing more that it asks for.
+/// A machine may be moved, and handed to another thread. It is used by one thread at a time:
+///
+/// ```compile_fail,E0277
+/// fn is_sync<T: Sync>() {}
+/// is_sync::<dirwolleu::Machine>();
+/// ```
+///
+/// To let it go ends no session of the servers: [`close_session`](Machine::close_session) does. After [`State::Closed`] do nothing more
+/// that it asks for.
 ///
 /// ```
 /// use dirwolleu::{Action, Machine, Moment, Side, State};

@@ -260,3 +260,32 @@ fn what_is_no_path_is_refused() {
         assert!(matches!(followed, Err(Fault::NotPath { .. })), "{path:?}");
     }
 }
+
+#[test]
+fn a_machine_moves_between_places_and_threads() {
+    fn is_send<T: Send>() {}
+    is_send::<Machine>();
+    is_send::<Actions<'_>>();
+    let mut machines = vec![connected(), connected()];
+    let mut first = Box::new(machines.remove(0));
+    let thread = std::thread::spawn(move || {
+        let actions = first.follow(START, 1, "/a", Side::Data).unwrap();
+        (said(actions), first.state())
+    });
+    let (lines, state) = thread.join().unwrap();
+    assert_eq!((lines.len(), state), (1, State::Connected));
+    assert_eq!(machines[0].state(), State::Connected);
+}
+
+#[test]
+fn a_session_that_is_closed_says_so() {
+    let mut machine = connected();
+    let actions = machine.close_session(START, 9, None).unwrap();
+    assert_eq!(said(actions), ["send -11"]);
+    let actions = machine.exists(START, 10, None, "/", Watch::No).unwrap();
+    assert_eq!(said(actions), ["10: SessionClosed"]);
+    let closed = Record::reply(1, 6, 0).framed();
+    let lines = said(machine.bytes(START, &closed).unwrap());
+    assert_eq!(lines[..3], ["9: Done", "Closed", "hang up"]);
+    assert_eq!(machine.state(), State::Closed);
+}
