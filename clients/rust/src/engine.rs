@@ -378,14 +378,14 @@ impl Engine {
         Ok(())
     }
 
-    /// The limit of a call has come. It is told, unless something is due on the connection before, which whoever reads it has to do.
+    /// The limit of a call has come. It is told, unless the server could count as silent by then: that is for whoever reads the connection.
     pub(crate) fn pass(&mut self, limit: Moment) {
         let now = self.clock.now();
         if self.is_over() || now < limit {
             return;
         }
         let now = if self.line.is_none() { now } else { limit };
-        if self.line.is_none() || limit <= self.due() {
+        if limit <= self.due() || !self.may_be_silent(now) {
             // A machine that halts answers each call.
             let _ = self.step(now, Machine::tick);
             self.end_late(now);

@@ -15,14 +15,21 @@ use std::net::SocketAddr;
 
 /// Steps.
 impl Engine {
-    /// The moment that it is, for a step of who does not read the connection. Where there is one, it is the last moment before something is
-    /// due: a server that was heard meanwhile is not silent.
+    /// The moment that it is, for a step of who has not read all that the connection has. Where the server could count as silent by then, it
+    /// is the last moment before something is due: it may have been heard meanwhile.
     pub(super) fn now(&self) -> Moment {
         let now = self.clock.now();
-        if self.line.is_none() {
-            return now;
+        if self.may_be_silent(now) {
+            return now.min(self.deadline.before());
         }
-        now.min(self.deadline.before())
+        now
+    }
+
+    /// Whether a connection could be given up at this moment since nothing was heard for two thirds of the timeout.
+    pub(super) fn may_be_silent(&self, moment: Moment) -> bool {
+        let heard_at = self.machine.heard_at().filter(|_| self.is_connected());
+        let silent_at = heard_at.map(|heard| heard.saturating_add(self.machine.timeout() * 2 / 3));
+        self.line.is_some() && !silent_at.is_some_and(|silent| moment < silent)
     }
 
     /// Takes a step, and does what the machine says.
