@@ -85,8 +85,6 @@ pub(crate) struct Beginning {
 /// A machine, its connection, and the calls that wait.
 pub(crate) struct Engine {
     machine: Machine,
-    /// The first moment at which something is due, by the machine after its last step.
-    deadline: Moment,
     asked_timeout: Duration,
     renews: bool,
     limit: Option<Duration>,
@@ -112,11 +110,6 @@ pub(crate) struct Engine {
     course: Course,
 }
 
-/// The first moment at which something is due.
-fn deadline_of(machine: &Machine) -> Moment {
-    machine.deadline().unwrap_or(NEVER)
-}
-
 /// How it begins, goes on with another machine, and ends.
 impl Engine {
     pub(crate) fn new(beginning: Beginning) -> Result<Engine, Fault> {
@@ -127,7 +120,6 @@ impl Engine {
         };
         let chroot = beginning.hosts.root().clone();
         let mut engine = Engine {
-            deadline: deadline_of(&machine),
             machine,
             asked_timeout: timeout,
             renews: beginning.renews,
@@ -164,7 +156,6 @@ impl Engine {
         let _ = self.end();
         self.hang_up();
         self.calls.end_all(&NoReply::ConnectionLoss.into());
-        self.deadline = deadline_of(&renewed);
         self.machine = renewed;
         self.places.begin_again();
         self.grove.begin_again();
@@ -316,9 +307,14 @@ impl Engine {
         self.calls.take_answers()
     }
 
-    /// The first moment at which something is due.
+    /// The first moment at which something is due, as the machine has it.
+    fn deadline(&self) -> Moment {
+        self.machine.deadline().unwrap_or(NEVER)
+    }
+
+    /// The first moment at which something is due, also of what the machine does not know.
     fn due(&self) -> Moment {
-        let due = self.deadline.min(self.lane.deadline());
+        let due = self.deadline().min(self.lane.deadline());
         due.min(self.calls.patience())
     }
 

@@ -1,6 +1,6 @@
 //! Steps of the machine, and the connection.
 
-use super::{deadline_of, Attempt, Course, Engine};
+use super::{Attempt, Course, Engine};
 use crate::action::Actions;
 use crate::client::State;
 use crate::error::ErrorKind;
@@ -20,7 +20,7 @@ impl Engine {
     pub(super) fn now(&self) -> Moment {
         let now = self.clock.now();
         if self.may_be_silent(now) {
-            return now.min(self.deadline.before());
+            return now.min(self.deadline().before());
         }
         now
     }
@@ -45,7 +45,6 @@ impl Engine {
     /// Does what the machine has said at a step, in its order. The connection is over where the machine says so or has no use any more, and
     /// where a write fails.
     pub(super) fn settle(&mut self, now: Moment, taken: Result<(), Fault>) -> Result<(), Fault> {
-        self.deadline = deadline_of(&self.machine);
         let news = mem::take(&mut self.told.news);
         if let Some(fault) = taken.as_ref().err().filter(|fault| fault.is_final()) {
             self.end_course(Course::Halted(fault.clone()));
