@@ -2,63 +2,34 @@
 
 use crate::error::Error;
 use crate::fault::{Code, Fault};
-use crate::keeper::Shared;
-use crate::moment::Moment;
 use crate::node::Node;
 use crate::request::Request;
+use std::time::Duration;
 
 /// What asks, and waits for answers.
 pub(crate) trait Asks {
     /// Asks, and waits for the answer.
     fn answer<T>(&mut self, request: Request<T>) -> Result<T, Error>;
 
-    /// Lets the time pass until this moment, or until the session is over.
-    fn pass(&mut self, until: Moment) -> Result<(), Fault>;
-
-    fn inner(&self) -> &Shared;
+    /// Lets so much time pass, unless the session is over before.
+    fn pass(&mut self, time: Duration) -> Result<(), Fault>;
 }
 
-/// Why a server has refused a call, where it has.
-fn refusal_of<T>(ending: &Result<T, Error>) -> Option<Code> {
-    ending.as_ref().err().and_then(Error::code)
-}
-
-/// A read of this path was answered: a server may have refused it.
-pub(crate) fn note_read(shared: &Shared, path: &str, is_refused: bool) {
-    shared.with(|engine| {
-        let now = engine.clock().now();
-        if is_refused {
-            engine.refusals().note(path, now);
-        } else {
-            engine.refusals().forget(path);
-        }
-    });
-}
+/// The pause before data are read again which a server says are not there, of a node that is.
+const BETWEEN_READS: Duration = Duration::from_secs(1);
 
 /// Reads the data of a node, and leaves a watch on its path whether there is a node or not.
 pub(crate) fn watch(session: &mut impl Asks, path: &str) -> Result<Option<Node>, Error> {
     loop {
-        let until = session.inner().with(|engine| engine.refusals().until(path));
-        if let Some(until) = until {
-            session.pass(until)?;
+        match session.answer(Request::get(path).watched()) {
+            Err(error) if error.code() == Some(Code::NO_NODE) => {}
+            found => return found.map(Some),
         }
-        let found = read_watched(session, path);
-        let refusal = refusal_of(&found);
-        note_read(session.inner(), path, refusal.is_some());
-        if refusal != Some(Code::NO_NODE) {
-            return found;
+        if session.answer(Request::exists(path).watched())?.is_none() {
+            return Ok(None);
         }
+        session.pass(BETWEEN_READS)?;
     }
-}
-
-/// Reads the data, and where there are none, asks whether there is a node. [`Code::NO_NODE`] where there is one.
-fn read_watched(session: &mut impl Asks, path: &str) -> Result<Option<Node>, Error> {
-    let found = session.answer(Request::get(path).watched());
-    let is_absent = refusal_of(&found) == Some(Code::NO_NODE);
-    if is_absent && session.answer(Request::exists(path).watched())?.is_none() {
-        return Ok(None);
-    }
-    found.map(Some)
 }
 
 /// The calls of a session, each of which asks by `call` and waits.
@@ -95,7 +66,6 @@ macro_rules! calls {
         /// The data of a node, and none where there is none. It leaves a watch on the path in both cases, so that the next change is
         /// reported, whatever it is; and what it brings is kept.
         ///
-        /// A read that the server has refused is followed by no other one of the path within a second: the next call waits until then.
         /// Where there is a node, of which the server says that it has no data, they are read again after a second, until the two agree.
         ///
         /// # Errors
@@ -264,6 +234,11 @@ macro_rules! look_ups {
         /// The timeout of the session: the one that a server granted last, or the one to ask for.
         pub fn timeout(&self) -> Duration {
             self.view(|view| view.timeout())
+        }
+
+        /// How long ago a server was heard last; see [`View::age`].
+        pub fn age(&self) -> Option<Duration> {
+            self.view(|view| view.age())
         }
 
         /// The number of the session, which its ephemeral nodes have as their owner; see [`View::id`].

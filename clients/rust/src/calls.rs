@@ -1,7 +1,6 @@
-//! Calls of a session that wait: for a connection, or for their answer.
+//! The calls of a session, until they are answered.
 
 use crate::error::{ErrorKind, Search};
-use crate::fault::NoReply;
 use crate::moment::Moment;
 use crate::request::Asked;
 use crate::ticket::{Ending, Slot};
@@ -10,22 +9,16 @@ use std::collections::{HashMap, VecDeque};
 use std::mem;
 use std::sync::Arc;
 
-/// A call that waits for a connection.
+/// A call that is to be asked.
 pub(crate) struct Queued {
     pub(crate) asked: Asked,
     pub(crate) slot: Arc<Slot>,
-    until: Moment,
+    /// To which moment it waits.
+    pub(crate) until: Moment,
 }
 
-impl Queued {
-    /// A call that is asked at once.
-    pub(crate) fn now(asked: Asked, slot: Arc<Slot>) -> Queued {
-        let until = Moment::default();
-        Queued { asked, slot, until }
-    }
-}
-
-/// The calls of a session, and the answers that were not handed out yet.
+/// The calls of a session, and the answers that were not handed out yet. Those of the core wait in the machine. One of the lane waits here
+/// for a connection, and so do those that were asked after it, so that the order of asking is kept.
 #[derive(Default)]
 pub(crate) struct Calls {
     last_ticket: u64,
@@ -36,9 +29,14 @@ pub(crate) struct Calls {
 }
 
 impl Calls {
-    /// A call that waits for a connection, until this moment.
-    pub(crate) fn enqueue(&mut self, asked: Asked, slot: Arc<Slot>, until: Moment) {
-        self.queue.push_back(Queued { asked, slot, until });
+    /// A call waits for a connection.
+    pub(crate) fn enqueue(&mut self, queued: Queued) {
+        self.queue.push_back(queued);
+    }
+
+    /// Whether calls wait here for a connection.
+    pub(crate) fn has_queue(&self) -> bool {
+        !self.queue.is_empty()
     }
 
     /// The call that has waited longest for a connection.
@@ -46,19 +44,16 @@ impl Calls {
         self.queue.pop_front()
     }
 
-    /// The same, where it may not wait any longer.
+    /// The first one that may not wait any longer.
     pub(crate) fn dequeue_late(&mut self, now: Moment) -> Option<Queued> {
         let late = self.queue.iter().position(|queued| queued.until <= now)?;
         self.queue.remove(late)
     }
 
-    /// Takes a call back that waits for a connection, if there is one of this slot: it is answered that there is no connection.
-    pub(crate) fn take_back(&mut self, slot: &Arc<Slot>) {
-        let mut queued = self.queue.iter();
-        if let Some(place) = queued.position(|queued| Arc::ptr_eq(&queued.slot, slot)) {
-            self.queue.remove(place);
-            self.answer(Arc::clone(slot), Err(NoReply::NotConnected.into()));
-        }
+    /// To which moment the first call may wait for a connection.
+    pub(crate) fn patience(&self) -> Moment {
+        let limits = self.queue.iter().map(|queued| queued.until);
+        limits.min().unwrap_or(Moment::from_millis(u64::MAX))
     }
 
     /// Why calls wait for a connection: this search for a server. None where there is no such reason.
@@ -66,12 +61,7 @@ impl Calls {
         self.search = search;
     }
 
-    /// Until when the first call may wait for a connection.
-    pub(crate) fn patience(&self) -> Option<Moment> {
-        self.queue.iter().map(|queued| queued.until).min()
-    }
-
-    /// The ticket of a call whose answer nobody waits for. Each ticket is above those before.
+    /// A ticket that nobody has: of a call whose answer nobody waits for, or of a subject. Each is above those before.
     pub(crate) fn next_ticket(&mut self) -> u64 {
         self.last_ticket += 1;
         self.last_ticket
@@ -82,6 +72,11 @@ impl Calls {
         let ticket = self.next_ticket();
         self.slots.insert(ticket, slot);
         ticket
+    }
+
+    /// Whether the call of this ticket has no answer yet.
+    pub(crate) fn waits(&self, ticket: u64) -> bool {
+        self.slots.contains_key(&ticket)
     }
 
     /// A call has its answer.

@@ -1,5 +1,6 @@
 //! Why a call fails, and what it was about.
 
+use crate::action::Refusal;
 use crate::fault::{Code, Fault, NoReply};
 use crate::path_fault::Shown;
 use std::error;
@@ -25,7 +26,8 @@ pub enum ErrorKind {
     NoReply(NoReply),
     /// The library has not made the step.
     Fault(Fault),
-    /// The caller's limit has passed before there was an answer. The call is on its way: a write may still happen.
+    /// The limit of a call has come after it was sent, or that of a [`Ticket::wait_for`](crate::Ticket::wait_for). A write may have happened,
+    /// or may yet.
     TimedOut,
     /// The caller's limit has passed before a tree was whole: some of it is not read, or changes faster than it is read. It is read on.
     NotWhole,
@@ -105,6 +107,17 @@ impl From<Code> for ErrorKind {
 impl From<NoReply> for ErrorKind {
     fn from(reason: NoReply) -> ErrorKind {
         ErrorKind::NoReply(reason)
+    }
+}
+
+impl From<Refusal> for ErrorKind {
+    fn from(reason: Refusal) -> ErrorKind {
+        match reason {
+            Refusal::Code(code) => code.into(),
+            Refusal::TooManyWatches => NoReply::TooManyWatches.into(),
+            Refusal::TooLarge => NoReply::TooLarge.into(),
+            Refusal::Closed => NoReply::SessionClosed.into(),
+        }
     }
 }
 

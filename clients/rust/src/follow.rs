@@ -2,41 +2,48 @@
 
 use crate::engine::Engine;
 use crate::error::Error;
-use crate::fault::{Code, NoReply};
-use crate::kept::Mark;
-use crate::node::{Node, Stat};
-use crate::request::Request;
+use crate::node::DataStat;
 use crate::session::Session;
-use crate::ticket::Ticket;
-use crate::view::View;
 use std::fmt;
-use std::future::Future;
 use std::iter::FusedIterator;
-use std::mem;
-use std::pin::Pin;
-use std::task::{ready, Context, Poll};
+use std::task::{Context, Poll};
 
-/// Where a node that is polled is.
-enum Stage {
-    /// What is kept may be good: a change is waited for.
-    Waits,
-    /// A read has found no data of a node that is there: the next one is waited for.
-    Rests,
-    /// Its data are asked for.
-    Reads(Ticket<Node>),
-    /// There are none: it is asked whether there is a node.
-    Asks(Ticket<Option<Stat>>, Error),
+/// What is kept of a node that is followed.
+///
+/// ```no_run
+/// use dirwolleu::{KeptNode, Session};
+/// use std::time::Duration;
+///
+/// # fn main() -> Result<(), Box<dyn std::error::Error>> {
+/// let session = Session::open("127.0.0.1:2181", Duration::from_secs(10))?;
+/// for node in session.follow("/config") {
+///     if let Some(KeptNode { data, stat }) = node? {
+///         println!("version {}: {data:?}", stat.version);
+///     }
+/// }
+/// # Ok(())
+/// # }
+/// ```
+#[derive(Clone, Debug, PartialEq, Eq)]
+pub struct KeptNode {
+    /// The data: none where they are null, which is another thing than no bytes.
+    pub data: Option<Vec<u8>>,
+    /// What is known of the node, and changes with its data alone.
+    pub stat: DataStat,
 }
 
+/// What is told of a node.
+type Told = Result<Option<KeptNode>, Error>;
+
 /// What a node holds, at first and at each change, and none where there is no node: of [`Session::follow`]. It is an iterator, which
-/// waits, and by [`poll_next`](Follow::poll_next) a stream of no runtime.
+/// waits, and by [`poll_next`](Follow::poll_next) a stream of no runtime. The node is followed until this is dropped.
 ///
 /// Its functions, and [`Session::follow`], have examples.
 #[must_use = "it reads nothing before it is asked for the next"]
 pub struct Follow<'a> {
     session: &'a Session,
     path: String,
-    stage: Stage,
+    ticket: Option<u64>,
     is_over: bool,
 }
 
@@ -45,15 +52,33 @@ impl<'a> Follow<'a> {
         Follow {
             session,
             path: String::from(path),
-            stage: Stage::Waits,
+            ticket: None,
             is_over: false,
         }
     }
 
-    /// Waits while what is kept is good.
-    fn wait_for_change(&self) {
-        self.session
-            .wait_while(|view| matches!(view.data_mark(&self.path), Ok(Some(Mark::Good))));
+    /// The ticket by which the node is followed, from the first time on that this is asked. Where it can't be, it is over.
+    fn begin(&mut self) -> Result<u64, Error> {
+        if let Some(ticket) = self.ticket {
+            return Ok(ticket);
+        }
+        let followed = self.session.change(|engine| engine.follow(&self.path));
+        self.ticket = followed.as_ref().ok().copied();
+        self.is_over = followed.is_err();
+        followed.map_err(|fault| Error::about(Some(&self.path), fault.into()))
+    }
+
+    /// What is new of the node of this ticket, where something is; why the session is over, or none where it is closed.
+    fn take(&mut self, ticket: u64, engine: &mut Engine) -> Poll<Option<Told>> {
+        let about = |kind| Error::about(Some(&self.path), kind);
+        if let Some(found) = engine.take_news(ticket) {
+            return Poll::Ready(Some(found.map_err(about)));
+        }
+        if !engine.is_over() {
+            return Poll::Pending;
+        }
+        self.is_over = true;
+        Poll::Ready(engine.fault_of_end().map(|kind| Err(about(kind))))
     }
 
     /// What the node holds, where it is another thing than before; none where the session is closed. Else the waker of this context is woken
@@ -76,104 +101,23 @@ impl<'a> Follow<'a> {
     /// # Errors
     ///
     /// As the iterator: [`Session::follow`] says which.
-    pub fn poll_next(
-        &mut self,
-        context: &mut Context<'_>,
-    ) -> Poll<Option<Result<Option<Node>, Error>>> {
-        while !self.is_over {
-            let found = match mem::replace(&mut self.stage, Stage::Waits) {
-                stage @ (Stage::Waits | Stage::Rests) => {
-                    let is_rest = matches!(stage, Stage::Rests);
-                    self.stage = stage;
-                    ready!(self.poll_change(is_rest, context));
-                    let read = Request::get(&self.path).watched();
-                    self.stage = Stage::Reads(self.session.ask(read));
-                    continue;
-                }
-                Stage::Reads(ticket) => ready!(self.poll_read(ticket, context)),
-                Stage::Asks(ticket, refusal) => ready!(self.poll_answer(ticket, refusal, context)),
-            };
-            if let Some(found) = found.and_then(|found| self.take(found)) {
-                return Poll::Ready(Some(found));
-            }
+    pub fn poll_next(&mut self, context: &mut Context<'_>) -> Poll<Option<Told>> {
+        if self.is_over {
+            return Poll::Ready(None);
         }
-        Poll::Ready(None)
-    }
-
-    /// A change, unless it rests from a read, and the moment at which a read that was refused may be made again.
-    fn poll_change(&self, is_rest: bool, context: &Context<'_>) -> Poll<()> {
-        self.session.poll(context, |engine: &mut Engine| {
-            let mark = View::of(engine).data_mark(&self.path);
-            if !is_rest && !engine.is_over() && matches!(mark, Ok(Some(Mark::Good))) {
-                return Poll::Pending;
-            }
-            let now = engine.clock().now();
-            match engine.refusals().until(&self.path) {
-                Some(until) if now < until => {
-                    engine.wakes_at(until);
-                    Poll::Pending
-                }
-                _ => Poll::Ready(()),
-            }
-        })
-    }
-
-    /// The data; nothing where there are none, and it is asked whether there is a node.
-    fn poll_read(
-        &mut self,
-        mut ticket: Ticket<Node>,
-        context: &mut Context<'_>,
-    ) -> Poll<Option<Result<Option<Node>, Error>>> {
-        let Poll::Ready(found) = Pin::new(&mut ticket).poll(context) else {
-            self.stage = Stage::Reads(ticket);
-            return Poll::Pending;
+        let ticket = match self.begin() {
+            Ok(ticket) => ticket,
+            Err(error) => return Poll::Ready(Some(Err(error))),
         };
-        match found {
-            Err(refusal) if refusal.code() == Some(Code::NO_NODE) => {
-                let asked = self.session.ask(Request::exists(&self.path).watched());
-                self.stage = Stage::Asks(asked, refusal);
-                Poll::Ready(None)
-            }
-            found => Poll::Ready(Some(found.map(Some))),
-        }
+        let session = self.session;
+        session.poll(context, |engine| self.take(ticket, engine))
     }
+}
 
-    /// That there is no node, or the refusal where there is one.
-    fn poll_answer(
-        &mut self,
-        mut ticket: Ticket<Option<Stat>>,
-        refusal: Error,
-        context: &mut Context<'_>,
-    ) -> Poll<Option<Result<Option<Node>, Error>>> {
-        let Poll::Ready(found) = Pin::new(&mut ticket).poll(context) else {
-            self.stage = Stage::Asks(ticket, refusal);
-            return Poll::Pending;
-        };
-        Poll::Ready(Some(match found {
-            Ok(None) => Ok(None),
-            Ok(Some(_)) => Err(refusal),
-            Err(error) => Err(error),
-        }))
-    }
-
-    /// What is told of what was found; nothing where it is to be read again.
-    fn take(&mut self, found: Result<Option<Node>, Error>) -> Option<Result<Option<Node>, Error>> {
-        let refused = found.as_ref().err().and_then(Error::code);
-        self.session.note_read(&self.path, refused.is_some());
-        match found {
-            Err(error) if error.no_reply() == Some(NoReply::SessionClosed) => {
-                self.is_over = true;
-                None
-            }
-            Err(_) if refused == Some(Code::NO_NODE) => {
-                self.stage = Stage::Rests;
-                None
-            }
-            Err(error) if error.is_passing() => None,
-            found => {
-                self.is_over = found.is_err();
-                Some(found)
-            }
+impl Drop for Follow<'_> {
+    fn drop(&mut self) {
+        if let Some(ticket) = self.ticket {
+            self.session.change(|engine| engine.unfollow(ticket));
         }
     }
 }
@@ -188,23 +132,23 @@ impl fmt::Debug for Follow<'_> {
 }
 
 impl Iterator for Follow<'_> {
-    type Item = Result<Option<Node>, Error>;
+    type Item = Told;
 
-    fn next(&mut self) -> Option<Self::Item> {
-        while !self.is_over {
-            self.wait_for_change();
-            match self.session.watch(&self.path) {
-                Err(error) if error.no_reply() == Some(NoReply::SessionClosed) => {
-                    self.is_over = true;
-                }
-                Err(error) if error.is_passing() => {}
-                found => {
-                    self.is_over = found.is_err();
-                    return Some(found);
-                }
+    fn next(&mut self) -> Option<Told> {
+        if self.is_over {
+            return None;
+        }
+        let ticket = match self.begin() {
+            Ok(ticket) => ticket,
+            Err(error) => return Some(Err(error)),
+        };
+        let session = self.session;
+        loop {
+            session.wait_for_news(ticket);
+            if let Poll::Ready(found) = session.change(|engine| self.take(ticket, engine)) {
+                return found;
             }
         }
-        None
     }
 }
 

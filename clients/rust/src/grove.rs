@@ -54,7 +54,7 @@ impl Grove {
         self.trees.retain(|(_, tree)| tree.is_wanted());
     }
 
-    /// The client keeps nothing any more.
+    /// The machine keeps nothing any more.
     pub(crate) fn begin_again(&mut self) {
         self.reads.clear();
         self.all().for_each(Growing::begin_again);
@@ -90,6 +90,11 @@ impl Grove {
             }
         }
         None
+    }
+
+    /// How many reads are on their way.
+    pub(crate) fn reads(&self) -> usize {
+        self.reads.len()
     }
 
     /// A read is asked, by the call of this ticket.

@@ -4,10 +4,10 @@
 //! next: where that is wrong, it costs a look in vain.
 
 use crate::chroot::Chroot;
-use crate::client::Client;
 use crate::error::{Error, ErrorKind};
 use crate::fault::{Code, Fault, NoReply};
 use crate::kept::{DataAnswer, Kept, Mark};
+use crate::machine::Machine;
 use crate::moment::{Clock, Moment};
 use crate::node::{NodeEvent, Side, Watch};
 use crate::request::CoreCall;
@@ -125,7 +125,7 @@ impl Board {
 /// What a tree grows on.
 #[derive(Clone, Copy)]
 pub(crate) struct Ground<'a> {
-    pub(crate) client: &'a Client,
+    pub(crate) machine: &'a Machine,
     pub(crate) chroot: &'a Chroot,
     pub(crate) clock: Clock,
 }
@@ -300,7 +300,7 @@ impl Growing {
         }
         let read = self.queue.pop_front()?;
         if let Some(names_of) = self.begun.get_mut(&read) {
-            *names_of = ground.client.names_of(parent(&read.path));
+            *names_of = ground.machine.names_of(parent(&read.path));
         }
         let call = match read.side {
             Side::Children => CoreCall::Children(Watch::Yes),
@@ -336,7 +336,7 @@ impl Growing {
         let begun = Instant::now();
         self.must_look = false;
         let found = ground
-            .client
+            .machine
             .subtree_of(&self.root, self.most, &mut self.room);
         match found {
             Ok(Some(subtree)) => {
@@ -356,7 +356,7 @@ impl Growing {
 
     /// Has all that is lacking be read.
     fn learn(&mut self, ground: Ground<'_>) {
-        match ground.client.lacking(&self.root, self.most) {
+        match ground.machine.lacking(&self.root, self.most) {
             Ok(reads) if self.is_absent(&reads, ground) => {
                 self.warn_of_root(Code::NO_NODE.into(), ground);
             }
@@ -372,7 +372,7 @@ impl Growing {
     /// Whether it is known that there is no root.
     fn is_absent(&self, reads: &[Lacking], ground: Ground<'_>) -> bool {
         let is_root = |read: &Lacking| read.side == Side::Data && read.path == self.root;
-        let kept = || ground.client.peek_data(&self.root).ok().flatten();
+        let kept = || ground.machine.peek_data(&self.root).ok().flatten();
         reads.iter().any(is_root)
             && matches!(
                 kept(),
@@ -393,7 +393,7 @@ impl Growing {
             ..
         }) = self.refused.get(&read)
         {
-            if ground.client.names_of(parent(&read.path)) != Some(*before) {
+            if ground.machine.names_of(parent(&read.path)) != Some(*before) {
                 self.refused.remove(&read);
             }
         }
@@ -414,10 +414,10 @@ impl Growing {
 mod tests {
     use super::{Ground, Growing, Lacking, Shown};
     use crate::chroot::Chroot;
-    use crate::client::Client;
     use crate::error::{Error, ErrorKind};
     use crate::fault::Code;
     use crate::jute::Writer;
+    use crate::machine::Machine;
     use crate::moment::{Clock, Moment};
     use crate::node::{NodeEvent, Side, Watch};
     use crate::subtree::Subtree;
@@ -434,20 +434,23 @@ mod tests {
         frame.into_bytes()
     }
 
-    /// A client with a session.
-    fn connected() -> Client {
-        let mut client = Client::open(Duration::from_secs(10)).unwrap();
-        let _ = client.opened(NOW).unwrap();
+    /// A machine with a session.
+    fn connected() -> Machine {
+        let mut machine = Machine::open(Duration::from_secs(10), 1, 1).unwrap();
+        let _ = machine.tick(NOW).unwrap();
+        let _ = machine.opened(NOW).unwrap();
         let mut accepted = Writer::default();
         accepted.int(0).int(10_000).int(0).int(7);
         accepted.buffer(&[0; 16]).boolean(false);
-        let _ = client.bytes(NOW, &framed(accepted)).unwrap();
-        client
+        let _ = machine.bytes(NOW, &framed(accepted)).unwrap();
+        machine
     }
 
-    /// The client reads the names below `/t`, which were changed last at this zxid: `b` alone.
-    fn list(client: &mut Client, xid: i32, pzxid: i32) {
-        let _ = client.get_children(NOW, 1, "/t", Watch::Yes).unwrap();
+    /// The machine reads the names below `/t`, which were changed last at this zxid: `b` alone.
+    fn list(machine: &mut Machine, xid: i32, pzxid: i32) {
+        let _ = machine
+            .get_children(NOW, 1, None, "/t", Watch::Yes)
+            .unwrap();
         let mut reply = Writer::default();
         reply.int(xid).int(0).int(pzxid).int(0);
         reply.int(1).text("b");
@@ -456,7 +459,7 @@ mod tests {
         }
         reply.int(0).int(0).int(0).int(0).int(0).int(0).int(1);
         reply.int(0).int(pzxid);
-        let _ = client.bytes(NOW, &framed(reply)).unwrap();
+        let _ = machine.bytes(NOW, &framed(reply)).unwrap();
     }
 
     fn read(path: &str, side: Side) -> Lacking {
@@ -464,10 +467,10 @@ mod tests {
         Lacking { path, side }
     }
 
-    fn ground(client: &Client) -> Ground<'_> {
+    fn ground(machine: &Machine) -> Ground<'_> {
         static WHOLE: std::sync::OnceLock<Chroot> = std::sync::OnceLock::new();
         Ground {
-            client,
+            machine,
             chroot: WHOLE.get_or_init(Chroot::default),
             clock: Clock::start(),
         }
@@ -482,17 +485,17 @@ mod tests {
     #[test]
     fn a_node_that_names_lead_to_still_rests_and_one_of_other_names_does_not() {
         let (_shown, mut tree) = tree();
-        let mut client = connected();
-        list(&mut client, 1, 5);
+        let mut machine = connected();
+        list(&mut machine, 1, 5);
         let lost = read("/t/b", Side::Data);
         tree.begun.insert(lost.clone(), Some(5));
         let none = Err(ErrorKind::Server(Code::NO_NODE));
-        tree.answered(&lost, &none, ground(&client));
-        tree.want_known(lost.clone(), ground(&client));
+        tree.answered(&lost, &none, ground(&machine));
+        tree.want_known(lost.clone(), ground(&machine));
         assert!(tree.begun.is_empty(), "the names are those that led there");
         assert!(tree.deadline().is_some());
-        list(&mut client, 2, 9);
-        tree.want_known(lost.clone(), ground(&client));
+        list(&mut machine, 2, 9);
+        tree.want_known(lost.clone(), ground(&machine));
         assert!(tree.begun.contains_key(&lost));
     }
 
@@ -567,10 +570,10 @@ mod tests {
     #[test]
     fn an_answer_that_nobody_waits_for_changes_nothing() {
         let (shown, mut tree) = tree();
-        let client = connected();
+        let machine = connected();
         tree.must_look = false;
         let found = Ok(Found::default());
-        tree.answered(&read("/t", Side::Data), &found, ground(&client));
+        tree.answered(&read("/t", Side::Data), &found, ground(&machine));
         assert!(!tree.must_look && shown.news_after(0).is_none());
     }
 }

@@ -1,4 +1,4 @@
-//! Which servers there are, and whose turn it is.
+//! Which servers there are, and where they are.
 
 use crate::chroot::Chroot;
 use crate::fault::Fault;
@@ -12,7 +12,6 @@ use std::hash::{BuildHasher, Hasher};
 use std::io::{self, ErrorKind};
 use std::net::{SocketAddr, ToSocketAddrs};
 use std::str::FromStr;
-use std::sync::Arc;
 use std::vec;
 
 /// The port of a host without one.
@@ -23,18 +22,10 @@ pub(crate) fn chance() -> u64 {
     RandomState::new().build_hasher().finish()
 }
 
-/// Shuffles, so that each order is as likely as another.
-fn shuffle<T>(items: &mut [T], chance: impl Fn() -> u64) {
-    for last in (1..items.len()).rev() {
-        let other = chance() % (last as u64 + 1);
-        items.swap(last, usize::try_from(other).unwrap_or(last));
-    }
-}
-
 /// A host: its name, which may be an address, and its port.
 #[derive(Clone, Debug, PartialEq, Eq)]
-struct Host {
-    name: String,
+pub(crate) struct Host {
+    pub(crate) name: String,
     port: u16,
 }
 
@@ -43,7 +34,7 @@ struct Host {
 /// It is a list of `HOST:PORT`, of which the port may be left out where it is 2181, and an IPv6 address is in brackets. A path after the
 /// list is the chroot: the paths that a program names, and those that it is told, begin there. It has to be there at the servers.
 ///
-/// Names are looked up at each attempt to connect. [`Session::open`](crate::Session::open) takes a text as it is; addresses do too.
+/// A name is looked up at each attempt to connect to it. [`Session::open`](crate::Session::open) takes a text as it is; addresses do too.
 ///
 /// ```
 /// use dirwolleu::Hosts;
@@ -141,6 +132,11 @@ impl Hosts {
     pub(crate) fn root(&self) -> &Chroot {
         &self.chroot
     }
+
+    /// How many hosts there are.
+    pub(crate) fn len(&self) -> usize {
+        self.hosts.len()
+    }
 }
 
 impl FromStr for Hosts {
@@ -231,94 +227,92 @@ impl TryFrom<String> for Hosts {
 /// In which order hosts are dialled.
 #[derive(Clone, Copy, Debug, PartialEq, Eq)]
 pub(crate) enum Order {
-    /// At random, another one in each round.
+    /// At random.
     Shuffled,
     /// As the list has them.
     AsListed,
 }
 
-/// Whose turn it is. In a round each address that the names of the hosts have is dialled once.
+/// Which host is at which place. The machine names places in a random order, one after the other, and always in the same one. So where the
+/// hosts are to be dialled as the list has them, each place gets the next host when it is named first.
 #[derive(Debug)]
-pub(crate) struct Turns {
-    hosts: Arc<Hosts>,
+pub(crate) struct Places {
     order: Order,
-    round: Vec<Host>,
-    tried: HashSet<SocketAddr>,
+    named: Vec<usize>,
 }
 
-impl Turns {
-    pub(crate) fn new(hosts: Arc<Hosts>, order: Order) -> Turns {
-        Turns {
-            hosts,
-            order,
-            round: Vec::new(),
-            tried: HashSet::new(),
-        }
+impl Places {
+    pub(crate) fn new(order: Order) -> Places {
+        let named = Vec::new();
+        Places { order, named }
     }
 
-    /// Begins with another list, where it is another one.
-    pub(crate) fn change(&mut self, hosts: &Arc<Hosts>) {
-        if !Arc::ptr_eq(&self.hosts, hosts) {
-            *self = Turns::new(Arc::clone(hosts), self.order);
-        }
+    /// The list is another one, or the machine is.
+    pub(crate) fn begin_again(&mut self) {
+        self.named.clear();
     }
 
-    /// The name and the address of the server whose turn it is. It fails where no name has an address now.
-    pub(crate) fn next(&mut self) -> io::Result<(String, SocketAddr)> {
-        self.next_by(Host::look_up)
+    /// The host of this list at a place that the machine names.
+    pub(crate) fn host(&mut self, hosts: &Hosts, place: usize) -> Option<Host> {
+        let index = match self.order {
+            Order::Shuffled => place,
+            Order::AsListed => self.index_of(place),
+        };
+        hosts.hosts.get(index).cloned()
     }
 
-    fn next_by(
-        &mut self,
-        look_up: impl Fn(&Host) -> io::Result<Vec<SocketAddr>>,
-    ) -> io::Result<(String, SocketAddr)> {
-        let mut fault = io::Error::new(ErrorKind::NotFound, "the session has no host");
-        for _ in 0..2 * self.hosts.hosts.len() {
-            let Some(host) = self.host() else { break };
-            match look_up(&host) {
-                Ok(found) => {
-                    if let Some(address) = self.untried(found) {
-                        return Ok((host.name, address));
-                    }
-                }
-                Err(failed) => fault = stream::fault_of(&host, &failed),
-            }
-            self.round.pop();
-        }
-        Err(fault)
+    fn index_of(&mut self, place: usize) -> usize {
+        let known = self.named.iter().position(|named| *named == place);
+        known.unwrap_or_else(|| {
+            self.named.push(place);
+            self.named.len() - 1
+        })
+    }
+}
+
+/// The addresses of hosts. Where a name has several, each is dialled in turn.
+#[derive(Debug)]
+pub(crate) struct Addresses {
+    order: Order,
+    dialled: HashSet<SocketAddr>,
+}
+
+impl Addresses {
+    pub(crate) fn new(order: Order) -> Addresses {
+        let dialled = HashSet::new();
+        Addresses { order, dialled }
     }
 
-    /// The host whose turn it is. A round that is over is followed by the next one.
-    fn host(&mut self) -> Option<Host> {
-        if self.round.is_empty() {
-            self.tried.clear();
-            self.round = self.hosts.hosts.iter().rev().cloned().collect();
-            if self.order == Order::Shuffled {
-                shuffle(&mut self.round, chance);
-            }
-        }
-        self.round.last().cloned()
+    /// An address of a host that is to be dialled now, after its name was looked up.
+    pub(crate) fn of(&mut self, host: &Host) -> io::Result<SocketAddr> {
+        let found = host.look_up();
+        let found = found.map_err(|fault| stream::fault_of(host, &fault))?;
+        let chance = match self.order {
+            Order::Shuffled => chance(),
+            Order::AsListed => 0,
+        };
+        let address = self.next_of(&found, chance);
+        address.ok_or_else(|| io::Error::new(ErrorKind::NotFound, format!("{host}: no address")))
     }
 
-    /// An address that was not dialled in this round, which it is from now on.
-    fn untried(&mut self, mut found: Vec<SocketAddr>) -> Option<SocketAddr> {
-        if self.order == Order::Shuffled {
-            shuffle(&mut found, chance);
+    /// One of these that was not dialled since all of them were. It is dialled from now on.
+    fn next_of(&mut self, found: &[SocketAddr], chance: u64) -> Option<SocketAddr> {
+        if found.iter().all(|address| self.dialled.contains(address)) {
+            self.dialled.retain(|address| !found.contains(address));
         }
-        found
-            .into_iter()
-            .find(|address| self.tried.insert(*address))
+        let new = found.iter().filter(|one| !self.dialled.contains(one));
+        let new: Vec<SocketAddr> = new.copied().collect();
+        let index = usize::try_from(chance).unwrap_or_default() % new.len().max(1);
+        let address = *new.get(index)?;
+        self.dialled.insert(address);
+        Some(address)
     }
 }
 
 #[cfg(test)]
 mod tests {
-    use super::{shuffle, Host, Hosts, HostsFault, Order, Turns};
-    use std::cell::Cell;
-    use std::collections::HashSet;
-    use std::io;
+    use super::{Addresses, Hosts, HostsFault, Order, Places};
     use std::net::SocketAddr;
-    use std::sync::Arc;
 
     #[test]
     fn hosts_are_read() {
@@ -352,59 +346,49 @@ mod tests {
         assert_eq!(fault, Err(HostsFault::NotPath("//x".into())));
     }
 
-    #[test]
-    fn each_order_may_come() {
-        let mut orders = HashSet::new();
-        for number in 0..6 {
-            let mut items = [1, 2, 3];
-            let seed = Cell::new(number);
-            shuffle(&mut items, || seed.replace(seed.get() / 3));
-            orders.insert(items);
-        }
-        assert_eq!(orders.len(), 6);
-    }
-
-    /// The names `two` and `one` have two addresses and one, and another one fails.
-    fn look_up(host: &Host) -> io::Result<Vec<SocketAddr>> {
-        let addresses = [1, 2].map(|last| SocketAddr::from(([10, 0, 0, last], host.port)));
-        match host.name.as_str() {
-            "two" => Ok(addresses.to_vec()),
-            "one" => Ok(addresses[..1].to_vec()),
-            _ => Err(io::ErrorKind::NotFound.into()),
-        }
-    }
-
-    fn ports_and_ends(turns: &mut Turns, count: usize) -> Vec<String> {
-        let mut dialled = |_| {
-            turns
-                .next_by(look_up)
-                .map(|(_, address)| address.to_string())
-        };
-        (0..count).map(|number| dialled(number).unwrap()).collect()
+    fn named(hosts: &Hosts, order: Order, places: &[usize]) -> Vec<String> {
+        let mut of_places = Places::new(order);
+        let mut host = |place: &usize| of_places.host(hosts, *place).unwrap().name;
+        places.iter().map(&mut host).collect()
     }
 
     #[test]
-    fn each_address_has_its_turn_in_each_round() {
-        let hosts = Arc::new("two:1,none:2,one:3".parse().unwrap());
-        let mut listed = Turns::new(Arc::clone(&hosts), Order::AsListed);
-        let round = ["10.0.0.1:1", "10.0.0.2:1", "10.0.0.1:3"];
-        assert_eq!(ports_and_ends(&mut listed, 6), [round, round].concat());
-        let mut shuffled = Turns::new(hosts, Order::Shuffled);
-        for _ in 0..20 {
-            let mut dialled = ports_and_ends(&mut shuffled, 3);
-            dialled.sort_by_key(|address| address.ends_with('3'));
-            dialled[..2].sort();
-            assert_eq!(dialled, round);
-        }
+    fn a_place_is_that_of_the_list_or_the_next_of_the_list() {
+        let hosts = "a:1,b:1,c:1".parse().unwrap();
+        let places = [2, 0, 1, 2, 0];
+        let shuffled = named(&hosts, Order::Shuffled, &places);
+        assert_eq!(shuffled, ["c", "a", "b", "c", "a"]);
+        let listed = named(&hosts, Order::AsListed, &places);
+        assert_eq!(listed, ["a", "b", "c", "a", "b"]);
+        let mut none = Places::new(Order::AsListed);
+        assert_eq!(none.host(&Hosts::default(), 0), None);
     }
 
     #[test]
-    fn a_list_may_be_changed_and_may_be_empty() {
-        let mut turns = Turns::new(Arc::new(Hosts::default()), Order::Shuffled);
-        assert!(turns.next_by(look_up).is_err());
-        turns.change(&Arc::new("none:1".parse().unwrap()));
-        assert!(turns.next_by(look_up).is_err());
-        turns.change(&Arc::new("one:1".parse().unwrap()));
-        assert_eq!(ports_and_ends(&mut turns, 2), ["10.0.0.1:1"; 2]);
+    fn each_address_of_a_name_has_its_turn() {
+        let found: Vec<_> = [1, 2, 3]
+            .map(|last| SocketAddr::from(([10, 0, 0, last], 1)))
+            .into();
+        let mut addresses = Addresses::new(Order::AsListed);
+        let listed: Vec<_> = (0..4).map(|_| addresses.next_of(&found, 0)).collect();
+        let in_turn = [found[0], found[1], found[2], found[0]].map(Some);
+        assert_eq!(listed, in_turn);
+        let mut addresses = Addresses::new(Order::Shuffled);
+        for round in 0..5_u64 {
+            let mut dialled: Vec<_> = (0..3)
+                .map(|turn| addresses.next_of(&found, round * 7 + turn).unwrap())
+                .collect();
+            dialled.sort();
+            assert_eq!(dialled, found);
+        }
+        assert_eq!(addresses.next_of(&[], 0), None);
+    }
+
+    #[test]
+    fn an_address_is_looked_up_as_it_is() {
+        let hosts: Hosts = "127.0.0.1:7".parse().unwrap();
+        let mut addresses = Addresses::new(Order::Shuffled);
+        let address = addresses.of(&hosts.hosts[0]).unwrap();
+        assert_eq!(address, SocketAddr::from(([127, 0, 0, 1], 7)));
     }
 }

@@ -1,15 +1,17 @@
 //! What keeps a session alive: it dials, reads and waits, in a thread of its own or in its caller's.
 
-use crate::engine::{Engine, Plan, NEVER};
+use crate::engine::{Attempt, Engine, Plan, NEVER};
 use crate::fault::Fault;
-use crate::hosts::{Order, Turns};
+use crate::hosts::{Addresses, Order};
 use crate::moment::Moment;
 use crate::request::Request;
 use crate::signal::Signal;
-use crate::stream::{self, Dial, Incoming, Server};
-use crate::ticket::{Slot, TakesBack, Ticket};
+use crate::stream::{self, Connection, Dial, Incoming, Server};
+use crate::ticket::{KeepsTime, Limit, Slot, Ticket};
 use crate::told::Event;
+use std::io;
 use std::mem;
+use std::net::SocketAddr;
 use std::sync::{Arc, Mutex, MutexGuard, PoisonError, Weak};
 use std::task::{Context, Poll, Waker};
 use std::thread;
@@ -23,6 +25,9 @@ const MOST_PIECES: usize = 64;
 
 /// The longest wait of one read, and of one rest: an hour.
 const LONGEST_WAIT: Duration = Duration::from_secs(3_600);
+
+/// The time that an attempt has at least, also where looking the name up took all of it.
+const SHORTEST_DIAL: Duration = Duration::from_millis(1);
 
 /// How long a session waits before it tries again what there was no memory for.
 const WAIT_FOR_MEMORY: Duration = Duration::from_millis(10);
@@ -154,9 +159,9 @@ impl Shared {
     }
 }
 
-impl TakesBack for Shared {
-    fn take_back(&self, slot: &Arc<Slot>) {
-        self.with(|engine| engine.take_back(slot));
+impl KeepsTime for Shared {
+    fn pass(&self, limit: Moment) {
+        self.with(|engine| engine.pass(limit));
     }
 }
 
@@ -164,11 +169,20 @@ impl TakesBack for Shared {
 pub(crate) fn ask<T>(shared: &Arc<Shared>, request: Request<T>) -> Ticket<T> {
     let Request { asked, read } = request;
     let slot = Slot::new(asked.node());
-    if shared.with(|engine| engine.ask(asked, Arc::clone(&slot))) {
+    let (wait, clock) = shared.with(|engine| {
+        let wait = engine.ask(asked, Arc::clone(&slot));
+        (wait, engine.clock())
+    });
+    if wait.is_to_wake {
         shared.wake();
     }
     let session: Weak<Shared> = Arc::downgrade(shared);
-    Ticket::new(slot, read, session)
+    let limit = Limit {
+        moment: wait.until,
+        clock,
+        session,
+    };
+    Ticket::new(slot, read, limit)
 }
 
 /// What a read has brought.
@@ -185,7 +199,7 @@ enum Heard {
 pub(crate) struct Keeper {
     shared: Arc<Shared>,
     dial: Box<dyn Dial>,
-    turns: Turns,
+    addresses: Addresses,
     incoming: Option<Box<dyn Incoming>>,
     room: Vec<u8>,
 }
@@ -195,7 +209,7 @@ impl Keeper {
         Keeper {
             shared,
             dial,
-            turns: Turns::new(Arc::default(), order),
+            addresses: Addresses::new(order),
             incoming: None,
             room: vec![0; PIECE],
         }
@@ -213,7 +227,7 @@ impl Keeper {
             match self.follow(plan) {
                 _ if plan == Plan::Stop => return,
                 Err(Fault::NoMemory) => thread::sleep(WAIT_FOR_MEMORY),
-                // A client that has halted is told to whoever asks, and rests.
+                // A machine that has halted is told to whoever asks, and rests.
                 Ok(()) | Err(_) => {}
             }
         }
@@ -228,35 +242,41 @@ impl Keeper {
     fn follow(&mut self, plan: Plan) -> Result<(), Fault> {
         match plan {
             Plan::Stop | Plan::Rest(_) => Ok(()),
+            Plan::Tick => self.shared.with(Engine::tick),
             Plan::Dial => self.dial(),
             Plan::Listen(until) => self.listen(until),
             Plan::HandIn => self.shared.with(|engine| engine.hand_in(&[])),
         }
     }
 
-    /// Dials the server whose turn it is.
+    /// Dials the server that is to be dialled.
     fn dial(&mut self) -> Result<(), Fault> {
         self.incoming = None;
-        let (hosts, within) = self.shared.with(Engine::dials);
-        self.turns.change(&hosts);
-        let dial = &mut self.dial;
-        let made = self.turns.next().and_then(|(name, address)| {
-            let server = Server::new(&name, address);
-            let made = dial.dial(&server, within);
-            let made = made.map_err(|fault| stream::fault_of(&address, &fault))?;
-            Ok((address, made))
-        });
-        match made {
+        let Some(attempt) = self.shared.with(Engine::begin_attempt) else {
+            return Ok(());
+        };
+        match self.connect(&attempt) {
             Ok((address, connection)) => {
                 self.incoming = Some(connection.incoming);
+                let outgoing = connection.outgoing;
                 self.shared
-                    .with(|engine| engine.opened(address, connection.outgoing))
+                    .with(|engine| engine.opened(attempt.number, address, outgoing))
             }
-            Err(fault) => {
-                self.shared.with(|engine| engine.has_failed(&fault));
-                Ok(())
-            }
+            Err(fault) => self
+                .shared
+                .with(|engine| engine.has_failed(attempt.number, &fault)),
         }
+    }
+
+    /// A connection to a host, and its address.
+    fn connect(&mut self, attempt: &Attempt) -> io::Result<(SocketAddr, Connection)> {
+        let address = self.addresses.of(&attempt.host)?;
+        let now = self.shared.look(Engine::clock).now();
+        let within = attempt.until.saturating_duration_since(now);
+        let server = Server::new(&attempt.host.name, address);
+        let made = self.dial.dial(&server, within.max(SHORTEST_DIAL));
+        let made = made.map_err(|fault| stream::fault_of(&address, &fault))?;
+        Ok((address, made))
     }
 
     /// Hands in what the connection brings next. Where something was due before, it catches up.

@@ -8,6 +8,7 @@ use crate::chroot::Chroot;
 use crate::error::{refused_of_create, ErrorKind};
 use crate::fault::{Code, Fault, NoReply};
 use crate::jute::{Reader, Writer};
+use crate::moment::Moment;
 use crate::node::Mode;
 use crate::told::{Found, Outcome};
 use crate::transaction::Change;
@@ -26,6 +27,9 @@ const LONGEST_INCOMING: usize = 4_194_304;
 
 /// The most calls of the lane that wait for their answers.
 const MOST_PENDING: usize = 1_024;
+
+/// The moment that never comes.
+const FOREVER: Moment = Moment::from_millis(u64::MAX);
 
 /// How many bytes the header of a reply has.
 const REPLY_HEADER: usize = 16;
@@ -289,6 +293,8 @@ fn read_changes(
 struct Pending {
     xid: i32,
     ticket: u64,
+    /// To which moment its caller waits: never, once that was told.
+    until: Moment,
     call: LaneCall,
 }
 
@@ -388,6 +394,7 @@ impl Lane {
     pub(crate) fn frame(
         &mut self,
         ticket: u64,
+        until: Moment,
         path: &str,
         call: &LaneCall,
         root: &Chroot,
@@ -405,7 +412,12 @@ impl Lane {
             self.next_xid = self.next_xid.checked_sub(1).unwrap_or(FIRST_XID);
         }
         let call = call.clone();
-        self.pending.push_back(Pending { xid, ticket, call });
+        self.pending.push_back(Pending {
+            xid,
+            ticket,
+            until,
+            call,
+        });
         let mut frame = Writer::default();
         frame.buffer(&payload);
         Ok(frame.into_bytes())
@@ -443,6 +455,23 @@ impl Lane {
         Some(answer)
     }
 
+    /// The first moment at which the limit of a request comes.
+    pub(crate) fn deadline(&self) -> Moment {
+        let limits = self.pending.iter().map(|pending| pending.until);
+        limits.min().unwrap_or(FOREVER)
+    }
+
+    /// The tickets of the requests whose limit has come. Their answers are still taken out of the stream.
+    pub(crate) fn take_late(&mut self, now: Moment) -> Vec<u64> {
+        let late = self.pending.iter_mut();
+        let late = late.filter(|pending| pending.until <= now);
+        late.map(|pending| {
+            pending.until = FOREVER;
+            pending.ticket
+        })
+        .collect()
+    }
+
     /// The connection is over: the tickets of the requests that have no answer.
     pub(crate) fn end(&mut self) -> Vec<u64> {
         self.filter = Filter::default();
@@ -454,7 +483,7 @@ impl Lane {
 
 #[cfg(test)]
 mod tests {
-    use super::{Filter, Lane, LaneCall, Malformed, Operation, LONGEST_INCOMING};
+    use super::{Filter, Lane, LaneCall, Malformed, Operation, FOREVER, LONGEST_INCOMING};
     use crate::chroot::Chroot;
     use crate::error::ErrorKind;
     use crate::fault::{Code, Fault, NoReply};
@@ -543,7 +572,8 @@ mod tests {
         let mut lane = Lane::default();
         lane.filter.is_begun = true;
         let call = LaneCall::Transaction(operations);
-        lane.frame(9, "/", &call, &Chroot::default()).unwrap();
+        lane.frame(9, FOREVER, "/", &call, &Chroot::default())
+            .unwrap();
         lane
     }
 
@@ -605,11 +635,11 @@ mod tests {
     #[test]
     fn what_cannot_be_sent_is_refused() {
         let (mut lane, root) = (Lane::default(), Chroot::default());
-        let no_path = lane.frame(1, "a", &LaneCall::Sync, &root);
+        let no_path = lane.frame(1, FOREVER, "a", &LaneCall::Sync, &root);
         assert_eq!(no_path, Err(Fault::not_path("a").into()));
         let nowhere = LaneCall::Transaction(vec![check("/a/")]);
         assert_eq!(
-            lane.frame(1, "/", &nowhere, &root),
+            lane.frame(1, FOREVER, "/", &nowhere, &root),
             Err(Fault::not_path("/a/").into())
         );
         let large = Operation::Set {
@@ -617,12 +647,13 @@ mod tests {
             data: vec![0; 1_048_576],
             version: 0,
         };
-        let large = lane.frame(1, "/", &LaneCall::Transaction(vec![large]), &root);
+        let large = lane.frame(1, FOREVER, "/", &LaneCall::Transaction(vec![large]), &root);
         assert_eq!(large, Err(ErrorKind::NoReply(NoReply::TooLarge)));
         for ticket in 0..1_024 {
-            lane.frame(ticket, "/a", &LaneCall::Sync, &root).unwrap();
+            lane.frame(ticket, FOREVER, "/a", &LaneCall::Sync, &root)
+                .unwrap();
         }
-        let many = lane.frame(1_024, "/a", &LaneCall::Sync, &root);
+        let many = lane.frame(1_024, FOREVER, "/a", &LaneCall::Sync, &root);
         assert_eq!(many, Err(ErrorKind::NoReply(NoReply::TooManyPending)));
         assert_eq!(lane.end(), (0..1_024).collect::<Vec<u64>>());
     }

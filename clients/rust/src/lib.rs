@@ -3,16 +3,18 @@
 //! the call that has waited longest, and once a session has expired or is closed nothing is kept. What this rests on is in the
 //! header of the core, `include/dirwolleu.h`.
 //!
-//! There are three ways to use it:
+//! There are four ways to use it:
 //!
 //! - [`Session`] is a session that a thread of its own keeps alive. Its calls wait for their answers, or give a [`Ticket`], which is a
 //!   future too. [`SessionOptions`] opens one otherwise than usual.
 //! - [`LocalSession`] is the same without a thread, for a loop of your own.
-//! - [`Client`] is the core itself, a machine without socket and clock, for an event loop.
+//! - [`Machine`] is what both use, the core itself, without socket and clock, for an event loop: it decides of the whole session.
+//! - [`Client`] is the part of it that does not dial, does not ask again and follows nothing.
 //!
-//! **Proved** is the core: what each function of its header says. **Tested** is all that is above it, in this crate: connections,
-//! pauses, tickets, retries, chroots, hosts, what is asked beside the core, when a [`Tree`] is read and shown, and [`Lock`], [`Election`] and
-//! [`Registration`]. Which nodes a [`TreeSnapshot`] and a [`Snapshot`] have, and that all of them are of one moment, the core says.
+//! **Proved** is the core: what each function of its header says. So it is when which host is dialled, which calls wait, when they are
+//! late, which are asked again after a lost connection, and when what is followed is read. **Tested** is all that is above it, in this
+//! crate: connections, tickets, retries, chroots, the addresses of hosts, what is asked beside the core, when a [`Tree`] is read and shown,
+//! and [`Lock`], [`Election`] and [`Registration`]. Which nodes a [`TreeSnapshot`] and a [`Snapshot`] have, and that all of them are of one moment, the core says.
 //!
 //! A session asks beside the core what the core does not know: transactions, ACLs, credentials and `sync`. It writes these requests
 //! between those of the core, and takes their answers out of the stream before the core is handed it. So for the core, what they change
@@ -27,6 +29,7 @@
 #![allow(clippy::must_use_candidate)]
 
 mod acl;
+mod action;
 mod both;
 mod calls;
 mod chroot;
@@ -37,6 +40,7 @@ mod fault;
 #[allow(unsafe_code)]
 mod ffi;
 mod follow;
+mod followed;
 mod grove;
 mod growing;
 mod hosts;
@@ -47,14 +51,14 @@ mod kept;
 mod lane;
 mod local;
 mod lock;
+mod looking;
+mod machine;
 mod moment;
 mod node;
 mod numbers;
 mod options;
 mod output;
 mod path_fault;
-mod pauses;
-mod refusals;
 mod registration;
 mod request;
 mod retry;
@@ -71,17 +75,18 @@ mod transaction;
 mod tree;
 mod tree_snapshot;
 mod view;
-mod waiting;
 
 pub use acl::{Acl, Permissions};
+pub use action::{Action, Actions, Refusal};
 pub use client::{Client, State};
 pub use error::{Error, ErrorKind};
 pub use fault::{Code, Fault, NoReply, UnknownNumber};
-pub use follow::Follow;
+pub use follow::{Follow, KeptNode};
 pub use hosts::{Hosts, HostsFault};
 pub use kept::{Children, DataAnswer, Kept, Mark};
 pub use local::LocalSession;
 pub use lock::{Election, Lock, Sharing};
+pub use machine::Machine;
 pub use moment::{Clock, Moment};
 pub use node::{DataStat, Mode, Node, NodeEvent, Side, Stat, Watch, ANY_VERSION};
 pub use options::{OpenError, SessionOptions};

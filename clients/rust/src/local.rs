@@ -9,7 +9,6 @@ use crate::fault::Fault;
 use crate::hosts::Hosts;
 use crate::keeper::{ask, Keeper, Shared};
 use crate::kept::{Children, DataAnswer, Kept, Mark};
-use crate::moment::Moment;
 use crate::node::{Mode, Node, Stat};
 use crate::options::{OpenError, SessionOptions};
 use crate::request::Request;
@@ -28,7 +27,7 @@ use std::time::{Duration, Instant};
 /// Call [`next_event`](LocalSession::next_event) at least once in a third of the timeout. A program that comes later than that keeps its
 /// connection where the server has sent something meanwhile. What is not asked for waits as an [`Event`].
 ///
-/// A call waits for a connection, and then for its answer. Nothing is asked twice.
+/// A call waits for a connection, and then for its answer, to its limit at most, as those of a [`Session`](crate::Session).
 ///
 /// ```no_run
 /// use dirwolleu::{LocalSession, Mode};
@@ -70,7 +69,7 @@ impl LocalSession {
         LocalSession { keeper }
     }
 
-    /// Goes on with a new client, as [`Session::renew`](crate::Session::renew) does.
+    /// Goes on with a new machine, as [`Session::renew`](crate::Session::renew) does.
     ///
     /// # Errors
     ///
@@ -100,9 +99,7 @@ impl LocalSession {
     ///
     /// # Errors
     ///
-    /// [`ErrorKind::Server`](crate::ErrorKind::Server) where the server refuses it, [`ErrorKind::NoReply`](crate::ErrorKind::NoReply) with why
-    /// there is no reply, and [`ErrorKind::Fault`](crate::ErrorKind::Fault) of [`Fault::NotPath`], [`Fault::NoMemory`], [`Fault::Halted`]
-    /// or [`Fault::UnknownNumber`].
+    /// As [`Session::call`](crate::Session::call).
     pub fn call<T>(&mut self, request: Request<T>) -> Result<T, Error> {
         self.keeper.catch_up_if_late()?;
         let ticket = ask(self.keeper.shared(), request);
@@ -118,24 +115,23 @@ impl Asks for LocalSession {
         self.call(request)
     }
 
-    fn pass(&mut self, until: Moment) -> Result<(), Fault> {
-        while self
-            .inner()
-            .with(|engine| !engine.is_over() && engine.clock().now() < until)
-        {
+    fn pass(&mut self, time: Duration) -> Result<(), Fault> {
+        let clock = self.inner().look(Engine::clock);
+        let until = clock.now().saturating_add(time);
+        while !self.inner().look(Engine::is_over) && clock.now() < until {
             self.keeper.round(until)?;
         }
         Ok(())
-    }
-
-    fn inner(&self) -> &Shared {
-        self.keeper.shared()
     }
 }
 
 /// What is heard and kept. Look-ups ask nobody.
 impl LocalSession {
     look_ups! {}
+
+    fn inner(&self) -> &Shared {
+        self.keeper.shared()
+    }
 
     /// The state. None where something was due on the connection and this program has not come to do it: then nobody knows whether there
     /// is a session still. Call [`next_event`](LocalSession::next_event) to learn it.
@@ -146,7 +142,8 @@ impl LocalSession {
     /// The next event: one that waits, or the first that comes until this instant, and none where none has come by then. Without an
     /// instant it waits until there is one. Once the session has expired or is closed, and no event waits, there is none.
     ///
-    /// It may wait for longer by as much as an attempt to connect takes: a third of the timeout at most, or a second.
+    /// It may wait for longer by as much as an attempt to connect takes: a third of the timeout at most, or a second, and the time in which
+    /// the system looks a name up.
     ///
     /// # Errors
     ///
@@ -220,11 +217,6 @@ impl LocalSession {
         }
     }
 
-    /// Forgets all stale answers.
-    pub fn forget_stale(&mut self) {
-        self.inner().with(Engine::forget_stale);
-    }
-
     /// Other hosts, as [`Session::change_hosts`](crate::Session::change_hosts).
     ///
     /// # Errors
@@ -238,6 +230,6 @@ impl LocalSession {
 impl fmt::Debug for LocalSession {
     fn fmt(&self, f: &mut fmt::Formatter<'_>) -> fmt::Result {
         let mut shown = f.debug_struct("LocalSession");
-        self.view(|view| shown.field("client", &view).finish_non_exhaustive())
+        self.view(|view| shown.field("machine", &view).finish_non_exhaustive())
     }
 }

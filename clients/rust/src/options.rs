@@ -1,6 +1,5 @@
 //! How a session is opened.
 
-use crate::client::Client;
 use crate::engine::{Beginning, Engine};
 use crate::fault::Fault;
 use crate::hosts::{Hosts, HostsFault, Order};
@@ -110,8 +109,8 @@ impl SessionOptions {
         }
     }
 
-    /// Whether the servers are dialled in random order, another one in each round, or as the list has them. The order is random unless
-    /// this says otherwise, so that many clients spread over many servers.
+    /// Whether the hosts are dialled in a random order, or as the list has them. The order is random unless this says otherwise, so that
+    /// many clients spread over many servers. Of a name that has several addresses each is dialled in turn.
     pub fn shuffles(mut self, shuffles: bool) -> SessionOptions {
         self.order = if shuffles {
             Order::Shuffled
@@ -122,7 +121,8 @@ impl SessionOptions {
     }
 
     /// Whether a new session begins by itself where one has expired. None does, unless this says otherwise. The event
-    /// [`State(Expired)`](crate::Event::State) tells that the ephemeral nodes and the watches of the old one are gone.
+    /// [`State(Expired)`](crate::Event::State) tells that the ephemeral nodes and the watches of the old one are gone. Calls that wait then
+    /// are answered [`SessionExpired`](crate::NoReply::SessionExpired), unless they are asked again by [`retry`](SessionOptions::retry).
     pub fn renews(mut self, renews: bool) -> SessionOptions {
         self.renews = renews;
         self
@@ -134,8 +134,9 @@ impl SessionOptions {
         self
     }
 
-    /// How long a call is waited for at most, with all times that it is asked again. A call whose limit has passed fails as that of
-    /// [`Ticket::wait_for`](crate::Ticket::wait_for).
+    /// How long a call waits at most, with all times that it is asked again: for a connection, for its turn and for its answer. Without this
+    /// it is the timeout of the session, and a second at least, each time that it is asked. [`Request::within`](crate::Request::within)
+    /// says it of one call.
     pub fn limit(mut self, limit: Duration) -> SessionOptions {
         self.limit = Some(limit);
         self
@@ -171,13 +172,12 @@ impl SessionOptions {
         H: TryInto<Hosts>,
         OpenError: From<H::Error>,
     {
-        let (retry, limit) = (self.retry, self.limit);
+        let (retry, limit, renews) = (self.retry, self.limit, self.renews);
         let keeper = self.keeper(hosts.try_into()?)?;
-        Session::kept_by(keeper, retry, limit).map_err(OpenError::Thread)
+        Session::kept_by(keeper, retry, limit, renews).map_err(OpenError::Thread)
     }
 
-    /// Opens a session without a thread, for a loop of the program's own. It dials at the first call. It asks nothing again, and has no
-    /// limits.
+    /// Opens a session without a thread, for a loop of the program's own. It dials at the first call. It has no retries.
     ///
     /// # Errors
     ///
@@ -191,17 +191,15 @@ impl SessionOptions {
     }
 
     fn keeper(self, hosts: Hosts) -> Result<Keeper, Fault> {
-        let client = match &self.saved {
-            Some(saved) => Client::resume(self.timeout, saved)?,
-            None => Client::open(self.timeout)?,
-        };
         let engine = Engine::new(Beginning {
-            client,
             timeout: self.timeout,
             hosts,
+            order: self.order,
+            saved: self.saved,
             renews: self.renews,
+            limit: self.limit,
             credentials: self.credentials,
-        });
+        })?;
         Ok(Keeper::new(Shared::new(engine), self.dial, self.order))
     }
 }

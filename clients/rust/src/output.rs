@@ -1,8 +1,9 @@
 //! What a client says at a step.
 
-use crate::client::{texts_in, whole, whole_text, Client, State};
+use crate::client::{Client, State};
 use crate::fault::{Code, Fault, NoReply, UnknownNumber};
 use crate::ffi::{self, Handle};
+use crate::looking::{texts_in, whole, whole_text};
 use crate::node::{NodeEvent, Side, Stat};
 use crate::numbers::{brought, cause, kind, outcome};
 use std::convert::Infallible;
@@ -94,7 +95,7 @@ pub enum Output<'a> {
 }
 
 impl<'a> Output<'a> {
-    fn of(handle: &'a Handle, flat: &ffi::Output) -> Result<Output<'a>, UnknownNumber> {
+    pub(crate) fn of(handle: &'a Handle, flat: &ffi::Output) -> Result<Output<'a>, UnknownNumber> {
         let bytes = Bytes {
             handle,
             length: flat.length,
@@ -409,11 +410,11 @@ impl GivenUp<'_> {
 #[cfg(test)]
 mod tests {
     use super::Output;
-    use crate::ffi::{self, Handle};
+    use crate::ffi::{self, ClientHandle};
 
     #[test]
     fn a_number_that_nobody_knows_is_a_fault() {
-        let handle = Handle::open(1_000).unwrap();
+        let handle = ClientHandle::open(1_000).unwrap();
         for (numbers, what) in [
             ((0, 0, 0), "output"),
             ((6, 0, 0), "output"),

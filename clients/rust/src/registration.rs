@@ -11,6 +11,10 @@ use std::io;
 use std::sync::atomic::{AtomicBool, Ordering};
 use std::sync::Arc;
 use std::thread::{Builder, JoinHandle};
+use std::time::{Duration, Instant};
+
+/// The time from a refusal that passes to the next try.
+const BETWEEN_REFUSALS: Duration = Duration::from_secs(1);
 
 /// A registration: an ephemeral node of these data, which a thread makes, and makes again where it has gone, as with a session that has
 /// [renewed](crate::SessionOptions::renews) itself. It is given up with [`end`](Registration::end), or where this is dropped, or the
@@ -115,9 +119,16 @@ impl Keeper {
                 _ if self.is_over() => return self.give_up(),
                 Err(error) if error.no_reply() == Some(NoReply::SessionClosed) => return Ok(()),
                 Err(error) if !error.is_passing() => return Err(error),
+                Err(error) if error.code().is_some() => self.rest(),
                 Ok(()) | Err(_) => {}
             }
         }
+    }
+
+    /// Lets some time pass after a server has refused something for a while.
+    fn rest(&self) {
+        let until = Instant::now().checked_add(BETWEEN_REFUSALS);
+        self.session.wait_until(until, |_| !self.is_over());
     }
 
     /// Makes the node where there is none, and else waits for a change of it.

@@ -1,16 +1,17 @@
 //! What a program asks of the servers.
 
 use crate::acl::Acl;
-use crate::client::Client;
+use crate::action::Actions;
 use crate::error::Error;
 use crate::fault::{Code, Fault};
 use crate::lane::{Credentials, LaneCall};
+use crate::machine::Machine;
 use crate::moment::Moment;
 use crate::node::{Mode, Node, Stat, Watch};
-use crate::output::Outputs;
 use crate::ticket::Ending;
 use crate::told::Found;
 use std::fmt;
+use std::time::Duration;
 
 /// A call of the core, without its path.
 #[derive(Clone, PartialEq, Eq)]
@@ -25,24 +26,28 @@ pub(crate) enum CoreCall {
 }
 
 impl CoreCall {
-    /// Asks the client, about the node of this path at the servers.
+    /// Asks the machine, about the node of this path at the servers. It waits to this moment at most.
     pub(crate) fn ask<'a>(
         &self,
-        client: &'a mut Client,
+        machine: &'a mut Machine,
         now: Moment,
         ticket: u64,
+        until: Moment,
         path: &str,
-    ) -> Result<Outputs<'a>, Fault> {
+    ) -> Result<Actions<'a>, Fault> {
+        let until = Some(until);
         match self {
-            CoreCall::Exists(watch) => client.exists(now, ticket, path, *watch),
-            CoreCall::Data(watch) => client.get_data(now, ticket, path, *watch),
-            CoreCall::Children(watch) => client.get_children(now, ticket, path, *watch),
+            CoreCall::Exists(watch) => machine.exists(now, ticket, until, path, *watch),
+            CoreCall::Data(watch) => machine.get_data(now, ticket, until, path, *watch),
+            CoreCall::Children(watch) => machine.get_children(now, ticket, until, path, *watch),
             CoreCall::Set { data, version } => {
-                client.set_data(now, ticket, path, Some(data), *version)
+                machine.set_data(now, ticket, until, path, Some(data), *version)
             }
-            CoreCall::Create { data, mode } => client.create(now, ticket, path, Some(data), *mode),
-            CoreCall::Delete { version } => client.delete(now, ticket, path, *version),
-            CoreCall::Close => client.close_session(now, ticket),
+            CoreCall::Create { data, mode } => {
+                machine.create(now, ticket, until, path, Some(data), *mode)
+            }
+            CoreCall::Delete { version } => machine.delete(now, ticket, until, path, *version),
+            CoreCall::Close => machine.close_session(now, ticket, until),
         }
     }
 }
@@ -70,6 +75,8 @@ impl Call {
 pub(crate) struct Asked {
     pub(crate) path: String,
     pub(crate) call: Call,
+    /// How long it waits at most, where it says so itself.
+    pub(crate) limit: Option<Duration>,
 }
 
 impl Asked {
@@ -109,11 +116,29 @@ pub struct Request<T> {
 
 impl<T> Request<T> {
     pub(crate) fn new(path: &str, call: Call, read: fn(Ending) -> Result<T, Error>) -> Request<T> {
-        let path = String::from(path);
+        let (path, limit) = (String::from(path), None);
         Request {
-            asked: Asked { path, call },
+            asked: Asked { path, call, limit },
             read,
         }
+    }
+
+    /// How long it waits at most, with all the time that it waits for a connection and that it is asked again after a lost one. Where the
+    /// limit has come it fails as [`Session::call`](crate::Session::call) says.
+    ///
+    /// ```no_run
+    /// use dirwolleu::{Request, Session};
+    /// use std::time::Duration;
+    ///
+    /// # fn main() -> Result<(), Box<dyn std::error::Error>> {
+    /// # let session = Session::open("127.0.0.1:2181", Duration::from_secs(10))?;
+    /// let node = session.call(Request::get("/a").within(Duration::from_secs(2)))?;
+    /// # Ok(())
+    /// # }
+    /// ```
+    pub fn within(mut self, limit: Duration) -> Request<T> {
+        self.asked.limit = Some(limit);
+        self
     }
 
     /// Whether it only reads. A read is safe to be asked again, whatever became of it; a write is where it was not sent or was refused.

@@ -1,7 +1,6 @@
 //! How often a call is asked again.
 
 use crate::hosts::chance;
-use crate::pauses::spread;
 use std::time::Duration;
 
 /// The longest pause before a call is asked again for the first time. It is twice as long before each further time.
@@ -10,9 +9,17 @@ const FIRST_PAUSE: Duration = Duration::from_millis(100);
 /// The longest pause of all.
 const LONGEST_PAUSE: Duration = Duration::from_secs(1);
 
+/// By chance between a half of this duration and the whole, in milliseconds.
+fn spread(longest: Duration, chance: u64) -> Duration {
+    let whole = u64::try_from(longest.as_millis()).unwrap_or(u64::MAX);
+    let half = whole / 2;
+    Duration::from_millis(half + chance % (whole - half + 1))
+}
+
 /// How often a call is asked again that has failed for a reason that passes ([`Error::is_passing`](crate::Error::is_passing)).
 ///
-/// A read is asked again after each such error. A write is asked again only where nothing has happened for sure: it was not sent, or the
+/// A read that is lost with its connection is asked again without it, within its limit. With it a read is asked again after each such error,
+/// and where the session renews itself, after an expiry. A write is asked again only where nothing has happened for sure: it was not sent, or the
 /// server has refused it. One that [may have happened](crate::Error::may_have_happened) is never asked twice: its caller is told.
 ///
 /// ```

@@ -1,16 +1,15 @@
 //! A session that a thread of its own keeps alive.
 
 use crate::acl::Acl;
-use crate::both::{calls, look_ups, note_read, watch, Asks};
+use crate::both::{calls, look_ups, watch, Asks};
 use crate::client::State;
 use crate::engine::Engine;
 use crate::error::Error;
-use crate::fault::Fault;
+use crate::fault::{Fault, NoReply};
 use crate::follow::Follow;
 use crate::hosts::Hosts;
 use crate::keeper::{ask, Keeper, Shared};
 use crate::kept::{Children, DataAnswer, Kept, Mark};
-use crate::moment::Moment;
 use crate::node::{Mode, Node, Stat};
 use crate::options::{OpenError, SessionOptions};
 use crate::request::Request;
@@ -33,20 +32,23 @@ use std::time::{Duration, Instant};
 /// A part of the timeout: when a session's thread is late by more, nobody knows the state.
 const LATENESS: u32 = 6;
 
-/// A session, which lives while its program works: a thread of its own pings, reads and reconnects.
+/// A session, which lives while its program works: a thread of its own pings, reads and reconnects. Which host is dialled and when, which
+/// calls wait and how long, and what becomes of them where the connection ends, the proved core decides: it is a [`Machine`](crate::Machine)
+/// with sockets, a lock and a clock.
 ///
-/// It dials at once: each address that the names of its [`Hosts`] have, in random order, and goes on to the next one where a server
-/// is silent or the connection ends. Watches and what is kept go on over reconnects. The first attempt is made at once, and may take a
-/// third of the timeout, and a second at least. The pause after one that has failed, and after a connection, is random, between a half
-/// of this and the whole: 100 milliseconds, and twice as long each time, up to a second and to a tenth of the timeout; after an expiry,
-/// and once no server was heard for longer than the timeout, up to 10 seconds. It begins again with 100 milliseconds after an answered
-/// call, after an expiry that a server told, and after a connection that has lasted for a third of the timeout. A third of a second lies
-/// between two attempts at least, so a session of less than some three seconds does not outlive a lost connection for sure.
+/// It dials at once: one of its [`Hosts`] after the other, in an order that is random in each session, and goes on to the next one where
+/// nothing was heard for two thirds of the timeout, or the connection ends. Watches and what is kept go on over reconnects. An attempt may
+/// take a third of the timeout, and a second at least. The pause after one that has failed is random, between a half of this and the
+/// whole: 100 milliseconds, and twice as long after each further one, up to a second and to a tenth of the timeout; and up to 10 seconds
+/// once there was no connection for longer than the timeout. There is none after an answered call, after an expiry that a server told, and
+/// after a connection that has lasted for a third of the timeout. A third of a second lies between two attempts at least, so a session of
+/// less than some three seconds does not outlive a lost connection for sure.
 ///
-/// A call waits for a connection, for as long as the timeout of the session, and for a second at least; and then for its answer. Where
-/// that has not come after two thirds of the timeout, whatever else the server sends, the connection is over and the answer is
-/// [`ConnectionLoss`](crate::NoReply::ConnectionLoss). So it is for a ping, and for the admission of the session, by the timeout that was
-/// asked for. Nothing is asked twice, unless a [`Retry`] says so.
+/// A call waits until a server has accepted the session and fewer than 1,024 calls are on their way, and then for its answer. A read that
+/// is lost with its connection is asked again; a write is not, and is answered [`ConnectionLoss`](crate::NoReply::ConnectionLoss). All of
+/// that takes as long as the limit of the call at most: the one that its [`Request`] has, else that of
+/// [`SessionOptions::limit`], else the timeout of the session, and a second at least. That a call is not answered does not end a
+/// connection on which the server sends something.
 ///
 /// All functions take `&self`, and threads may call them at once: [`shared`](Session::shared) gives handles to hand to them. To let a
 /// session go ends its thread and leaves the session to its timeout at the servers: [`close`](Session::close) ends it.
@@ -68,6 +70,7 @@ pub struct Session {
     shared: Arc<Shared>,
     retry: Retry,
     limit: Option<Duration>,
+    renews: bool,
 }
 
 /// How a session begins and ends.
@@ -90,6 +93,7 @@ impl Session {
         keeper: Keeper,
         retry: Retry,
         limit: Option<Duration>,
+        renews: bool,
     ) -> io::Result<Session> {
         let shared = Arc::clone(keeper.shared());
         let thread = Builder::new().name(String::from("dirwolleu"));
@@ -98,6 +102,7 @@ impl Session {
             shared,
             retry,
             limit,
+            renews,
         })
     }
 
@@ -108,7 +113,7 @@ impl Session {
         }
     }
 
-    /// Goes on with a new client, which keeps and watches nothing: of a new session where this one has expired or is closed, at servers
+    /// Goes on with a new machine, which keeps and watches nothing: of a new session where this one has expired or is closed, at servers
     /// that are not behind what was seen, and else of the same session, as after [`Fault::Halted`].
     ///
     /// # Errors
@@ -153,23 +158,32 @@ impl Session {
     /// # Errors
     ///
     /// [`ErrorKind::Server`](crate::ErrorKind::Server) where the server refuses it, [`ErrorKind::NoReply`](crate::ErrorKind::NoReply) with why
-    /// there is no reply, [`ErrorKind::TimedOut`](crate::ErrorKind::TimedOut) where the limit has passed, and
+    /// there is no reply, [`ErrorKind::TimedOut`](crate::ErrorKind::TimedOut) where its limit has come after it was sent, so that a write
+    /// may have happened, or may yet; where it was not sent, and never is, [`NotConnected`](NoReply::NotConnected), or
+    /// [`TooManyPending`](NoReply::TooManyPending) with a connection; and
     /// [`ErrorKind::Fault`](crate::ErrorKind::Fault) of [`Fault::NotPath`], [`Fault::NoMemory`], [`Fault::Halted`] or
     /// [`Fault::UnknownNumber`].
-    pub fn call<T>(&self, request: Request<T>) -> Result<T, Error> {
-        let until = self
-            .limit
-            .and_then(|limit| Instant::now().checked_add(limit));
+    pub fn call<T>(&self, mut request: Request<T>) -> Result<T, Error> {
+        let limit = request.asked.limit.or(self.limit);
+        let until = limit.and_then(|limit| Instant::now().checked_add(limit));
         let left = || until.map(|until| until.saturating_duration_since(Instant::now()));
         for pause in self.retry.pauses() {
-            let answer = self.wait(request.clone(), left());
+            request.asked.limit = left();
+            let answer = self.ask(request.clone()).wait();
             let is_over = left().is_some_and(|left| left <= pause);
             match answer {
-                Err(error) if request.may_be_repeated(&error) && !is_over => thread::sleep(pause),
+                Err(error) if self.repeats(&request, &error) && !is_over => thread::sleep(pause),
                 answer => return answer,
             }
         }
-        self.wait(request, left())
+        request.asked.limit = left();
+        self.ask(request).wait()
+    }
+
+    /// Whether a call is to be asked again after this error. After an expiry nothing was sent.
+    fn repeats<T>(&self, request: &Request<T>, error: &Error) -> bool {
+        let is_expired = error.no_reply() == Some(NoReply::SessionExpired);
+        request.may_be_repeated(error) || self.renews && is_expired
     }
 
     /// Begins a transaction: operations that happen together or not at all.
@@ -177,16 +191,9 @@ impl Session {
         Transaction::new(self)
     }
 
-    fn wait<T>(&self, request: Request<T>, limit: Option<Duration>) -> Result<T, Error> {
-        let ticket = self.ask(request);
-        match limit {
-            Some(limit) => ticket.wait_for(limit),
-            None => ticket.wait(),
-        }
-    }
-
-    /// Asks a request, and goes on: the answer comes by the ticket. Up to 1,024 calls may be on their way, and are answered in the order
-    /// in which they were asked; a call beyond them is answered with [`TooManyPending`](crate::NoReply::TooManyPending).
+    /// Asks a request, and goes on: the answer comes by the ticket. Up to 1,024 calls are on their way at once, and answered in the order
+    /// in which they were asked; more wait in line. Of those beside the core 1,024 more may be: one beyond them is answered with
+    /// [`TooManyPending`](crate::NoReply::TooManyPending).
     pub fn ask<T>(&self, request: Request<T>) -> Ticket<T> {
         ask(&self.shared, request)
     }
@@ -197,14 +204,9 @@ impl Asks for &Session {
         self.call(request)
     }
 
-    fn pass(&mut self, until: Moment) -> Result<(), Fault> {
-        let now = self.shared.with(|engine| engine.clock().now());
-        thread::sleep(until.saturating_duration_since(now));
+    fn pass(&mut self, time: Duration) -> Result<(), Fault> {
+        self.wait_until(Instant::now().checked_add(time), |_| true);
         Ok(())
-    }
-
-    fn inner(&self) -> &Shared {
-        &self.shared
     }
 }
 
@@ -263,9 +265,15 @@ impl Session {
         })
     }
 
-    /// A read of this path was answered: a server may have refused it.
-    pub(crate) fn note_read(&self, path: &str, is_refused: bool) {
-        note_read(&self.shared, path, is_refused);
+    /// Does something with the engine.
+    pub(crate) fn change<R>(&self, act: impl FnOnce(&mut Engine) -> R) -> R {
+        self.shared.with(act)
+    }
+
+    /// Waits until there are news of what is followed by this ticket, or the session is over.
+    pub(crate) fn wait_for_news(&self, ticket: u64) {
+        let holds = |engine: &Engine| !engine.is_over() && !engine.has_news(ticket);
+        self.shared.wait_while(None, holds);
     }
 
     /// Looks, and is woken later where nothing is found.
@@ -278,10 +286,12 @@ impl Session {
     }
 
     /// Follows a node: the iterator waits, and gives what the node holds at first, and at each change, also where it changed while there
-    /// was no connection. Changes in quick succession may be given as one, the last. It reads again where the server was busy or the
-    /// connection was lost, takes no events, and ends where the session is closed, or with an error that does not pass: with
-    /// [`SessionExpired`](crate::NoReply::SessionExpired) unless the session [renews](SessionOptions::renews) itself; then it gives what
-    /// the new session reads.
+    /// was no connection. Changes in quick succession may be given as one, the last. The core reads the node again after each report, on
+    /// a new connection where that is needed, and in each new session, and gives what is good. It takes no events.
+    ///
+    /// Where the server refuses a read for a reason that does not pass, that is given once, as an error, and the node is read again each
+    /// second: what comes then is given too. It ends where the session is closed, or after an error that says why the session is over:
+    /// [`SessionExpired`](crate::NoReply::SessionExpired) unless the session [renews](SessionOptions::renews) itself.
     ///
     /// ```no_run
     /// use dirwolleu::SessionOptions;
@@ -336,34 +346,26 @@ impl Session {
         Ok(Tree::new(Arc::clone(&self.shared), shown))
     }
 
-    /// Waits while this holds, until the session is over at most.
-    pub(crate) fn wait_while(&self, holds: impl Fn(View<'_>) -> bool) {
-        self.wait_until(None, holds);
-    }
-
     /// Has whoever waits look again.
     pub(crate) fn wake(&self) {
         self.shared.wake();
     }
 
-    /// The same, until this instant at most.
+    /// Waits while this holds, until this instant at most, and until the session is over.
     pub(crate) fn wait_until(&self, until: Option<Instant>, holds: impl Fn(View<'_>) -> bool) {
         let holds = |engine: &Engine| !engine.is_over() && holds(View::of(engine));
         self.shared.wait_while(until, holds);
     }
 
-    /// Forgets all stale answers. What is kept is bounded by nothing but memory: whoever goes from path to path calls this now and then.
-    pub fn forget_stale(&self) {
-        self.shared.with(Engine::forget_stale);
-    }
-
-    /// Other hosts, from the next attempt to connect on. The connection that is there stays.
+    /// Other hosts, from the next attempt to connect on, in a new order. The connection that is there stays.
     ///
     /// # Errors
     ///
     /// The hosts, where they have another chroot than the session: then nothing is changed.
     pub fn change_hosts(&self, hosts: Hosts) -> Result<(), Hosts> {
-        self.shared.with(|engine| engine.change_hosts(hosts))
+        let changed = self.shared.with(|engine| engine.change_hosts(hosts));
+        self.shared.wake();
+        changed
     }
 
     fn inner(&self) -> &Shared {
@@ -374,7 +376,7 @@ impl Session {
 impl fmt::Debug for Session {
     fn fmt(&self, f: &mut fmt::Formatter<'_>) -> fmt::Result {
         let mut shown = f.debug_struct("Session");
-        self.view(|view| shown.field("client", &view).finish_non_exhaustive())
+        self.view(|view| shown.field("machine", &view).finish_non_exhaustive())
     }
 }
 

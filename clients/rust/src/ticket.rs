@@ -1,6 +1,7 @@
 //! Tickets for answers that are still to come.
 
 use crate::error::{Error, ErrorKind, Search};
+use crate::moment::{Clock, Moment};
 use crate::signal::Signal;
 use crate::told::{Found, Outcome};
 use std::fmt;
@@ -73,11 +74,6 @@ impl Slot {
         !matches!(*self.stage(), Stage::Waits(_))
     }
 
-    /// The answer, once, where it is there.
-    pub(crate) fn take(&self) -> Option<Ending> {
-        take(&mut self.stage())
-    }
-
     /// The answer, once it is there. None where it is not there by this instant.
     pub(crate) fn wait(&self, until: Option<Instant>) -> Option<Ending> {
         let mut stage = self.stage();
@@ -117,10 +113,35 @@ fn take(stage: &mut Stage) -> Option<Ending> {
     }
 }
 
-/// What can take a call back that was not sent yet.
-pub(crate) trait TakesBack: Send + Sync {
-    /// Takes the call of this slot back, if it is still there: it is answered that there is no connection.
-    fn take_back(&self, slot: &Arc<Slot>);
+/// How long a call is waited for before its session is asked again that is late to tell its limit.
+const BETWEEN_LOOKS: Duration = Duration::from_millis(10);
+
+/// What tells calls that their limit has come.
+pub(crate) trait KeepsTime: Send + Sync {
+    /// The limit of a call has come, which was this moment.
+    fn pass(&self, limit: Moment);
+}
+
+/// To which moment a call waits, by the clock of its session.
+pub(crate) struct Limit {
+    pub(crate) moment: Moment,
+    pub(crate) clock: Clock,
+    pub(crate) session: Weak<dyn KeepsTime>,
+}
+
+impl Limit {
+    /// The limit, or soon where it has come.
+    fn next(&self) -> Option<Instant> {
+        let left = self.moment.saturating_duration_since(self.clock.now());
+        Instant::now().checked_add(left.max(BETWEEN_LOOKS))
+    }
+
+    /// Has the session tell what is late.
+    fn pass(&self) {
+        if let Some(session) = self.session.upgrade() {
+            session.pass(self.moment);
+        }
+    }
 }
 
 /// A ticket for the answer to a call that was asked by [`Session::ask`](crate::Session::ask).
@@ -128,7 +149,8 @@ pub(crate) trait TakesBack: Send + Sync {
 /// The call is on its way, or waits for a connection; it happens also where the ticket is let go. Each ticket is answered: as its session
 /// says, by a reply, by an error, or where the connection ends.
 ///
-/// A ticket is a future too, of no runtime: the thread of its session wakes who awaits it.
+/// A ticket is a future too, of no runtime: the thread of its session wakes who awaits it. That thread may come to the limit of a call late,
+/// by a third of the timeout at most and by an attempt to connect: who waits by [`wait`](Ticket::wait) does not wait for it.
 ///
 /// ```no_run
 /// use dirwolleu::{Request, Session};
@@ -145,54 +167,51 @@ pub(crate) trait TakesBack: Send + Sync {
 pub struct Ticket<T> {
     slot: Arc<Slot>,
     read: fn(Ending) -> Result<T, Error>,
-    session: Weak<dyn TakesBack>,
+    limit: Limit,
 }
 
 impl<T> Ticket<T> {
     pub(crate) fn new(
         slot: Arc<Slot>,
         read: fn(Ending) -> Result<T, Error>,
-        session: Weak<dyn TakesBack>,
+        limit: Limit,
     ) -> Ticket<T> {
-        Ticket {
-            slot,
-            read,
-            session,
-        }
+        Ticket { slot, read, limit }
     }
 
-    /// Waits for the answer.
+    /// Waits for the answer, or until the limit of the call has come.
     ///
     /// # Errors
     ///
-    /// The error of the server, why there is no reply, or [`ErrorKind::Fault`].
+    /// Those of [`Session::call`](crate::Session::call).
     pub fn wait(self) -> Result<T, Error> {
-        let ending = self.slot.wait(None);
-        (self.read)(ending.unwrap_or_else(|| self.timed_out()))
-    }
-
-    /// Waits for the answer, for so long at most.
-    ///
-    /// # Errors
-    ///
-    /// As [`wait`](Ticket::wait). Where the limit has passed, [`ErrorKind::TimedOut`] if the call was sent: a write may still happen;
-    /// and [`NoReply::NotConnected`](crate::NoReply::NotConnected) if it was not: then it never is.
-    pub fn wait_for(self, limit: Duration) -> Result<T, Error> {
-        let until = Instant::now().checked_add(limit);
-        let ending = self.slot.wait(until).unwrap_or_else(|| self.give_up());
+        let ending = self.ending(None);
         (self.read)(ending)
     }
 
-    /// What becomes of a call whose limit has passed.
-    fn give_up(&self) -> Ending {
-        if let Some(session) = self.session.upgrade() {
-            session.take_back(&self.slot);
-        }
-        self.slot.take().unwrap_or_else(|| self.timed_out())
+    /// Waits for the answer, for so long at most. The call itself goes on, to its own limit: [`Request::within`](crate::Request::within)
+    /// sets that.
+    ///
+    /// # Errors
+    ///
+    /// As [`wait`](Ticket::wait), and [`ErrorKind::TimedOut`] where no answer has come: the call may still happen.
+    pub fn wait_for(self, limit: Duration) -> Result<T, Error> {
+        let ending = self.ending(Instant::now().checked_add(limit));
+        (self.read)(ending)
     }
 
-    fn timed_out(&self) -> Ending {
-        self.slot.ending(Err(ErrorKind::TimedOut), None)
+    /// How the call ends, or that it has not by this instant.
+    fn ending(&self, until: Option<Instant>) -> Ending {
+        loop {
+            let next = self.limit.next().into_iter().chain(until).min();
+            if let Some(ending) = self.slot.wait(next) {
+                return ending;
+            }
+            if until.is_some_and(|until| until <= Instant::now()) {
+                return self.slot.ending(Err(ErrorKind::TimedOut), None);
+            }
+            self.limit.pass();
+        }
     }
 
     /// Whether the answer is there, so that [`wait`](Ticket::wait) does not wait.

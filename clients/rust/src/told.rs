@@ -1,15 +1,17 @@
-//! What the client of a session has said, until it is taken.
+//! What the machine of a session has said, until it is taken.
 
 use crate::acl::Acl;
+use crate::action::{Action, Actions, Refusal};
 use crate::chroot::Chroot;
 use crate::client::State;
 use crate::error::ErrorKind;
 use crate::fault::{Fault, NoReply};
 use crate::node::{NodeEvent, Side, Stat};
-use crate::output::{Brought, Cause, GivenUp, Output, Outputs, Reply};
+use crate::output::{Brought, Cause, GivenUp, Reply};
 use crate::transaction::Change;
 use std::collections::VecDeque;
 use std::mem;
+use std::time::Duration;
 
 /// The most events that wait for the caller.
 const MOST_EVENTS: usize = 1_024;
@@ -83,33 +85,45 @@ pub(crate) struct Fired {
     pub(crate) event: NodeEvent,
 }
 
-/// What a client has said.
+/// What is told of a subject that is followed.
+#[derive(Clone, Copy, Debug, PartialEq, Eq)]
+pub(crate) enum Shows {
+    /// What is kept of it is good.
+    Good,
+    /// A read of it was refused.
+    Refused(Refusal),
+}
+
+/// What a machine has said.
 #[derive(Default)]
 pub(crate) struct Told {
     /// What goes to the server.
     pub(crate) frames: Vec<u8>,
     /// The answers to calls, by their tickets.
     pub(crate) answers: Vec<(u64, Outcome)>,
-    /// Whether the connection is over.
-    pub(crate) is_over: bool,
-    /// What was told of the server since this was taken.
+    /// What was told of the session, and asked for, since this was taken.
     pub(crate) news: News,
     /// The watches that have fired, where somebody wants to know.
     pub(crate) fired: Option<Vec<Fired>>,
+    state: Option<State>,
     chroot: Chroot,
     events: VecDeque<Event>,
     missed: u64,
 }
 
-/// What servers do.
-#[derive(Clone, Copy, Default)]
+/// What a machine tells of its session, and asks for, at one step.
+#[derive(Default)]
 pub(crate) struct News {
-    /// One has admitted the session.
-    pub(crate) is_admitted: bool,
-    /// One has answered a call.
-    pub(crate) is_answered: bool,
-    /// One has told that the session has expired.
+    /// The state, where it is another one.
+    pub(crate) state: Option<State>,
+    /// Whether the session has expired.
     pub(crate) is_expired: bool,
+    /// Whether the connection is to be closed, or the attempt given up.
+    pub(crate) hangs_up: bool,
+    /// The place of the host that is to be dialled, and within which time.
+    pub(crate) dial: Option<(usize, Duration)>,
+    /// What is told of subjects, by their tickets.
+    pub(crate) shown: Vec<(u64, Shows)>,
 }
 
 impl Found {
@@ -156,25 +170,50 @@ impl Told {
         }
     }
 
-    /// Takes what a client says.
-    pub(crate) fn take(&mut self, mut outputs: Outputs<'_>) -> Result<(), Fault> {
-        while let Some(output) = outputs.next()? {
-            self.is_over |= output.ends_connection();
-            match output {
-                Output::Send(frame) => frame.append_to(&mut self.frames),
-                Output::Answer { ticket, outcome } => {
-                    self.news.is_answered |= outcome.is_ok();
-                    self.answers
-                        .push((ticket, answer_of(outcome, &self.chroot)));
+    /// Takes what a machine says.
+    pub(crate) fn take(&mut self, mut actions: Actions<'_>) -> Result<(), Fault> {
+        while let Some(action) = actions.next()? {
+            match action {
+                Action::Send(frame) => frame.append_to(&mut self.frames),
+                Action::Answer { ticket, outcome } => {
+                    let answer = answer_of(outcome, &self.chroot);
+                    self.answers.push((ticket, answer));
                 }
-                Output::Report { path, side, event } => {
+                Action::TimedOut { ticket, was_sent } => {
+                    let late = self.late(was_sent);
+                    self.answers.push((ticket, Err(late)));
+                }
+                Action::Report { path, side, event } => {
                     self.tell_report(String::from(path), side, event);
                 }
-                Output::State(state) => self.tell_state(state),
-                Output::Drop(given_up) => self.tell(dropped(&given_up)),
+                Action::State(state) => self.tell_state(state),
+                Action::Drop(given_up) => self.tell(dropped(&given_up)),
+                Action::Dial { place, within } => self.news.dial = Some((place, within)),
+                Action::HangUp => self.hang_up(),
+                Action::Renewed => {}
+                Action::Shown { ticket } => self.news.shown.push((ticket, Shows::Good)),
+                Action::Refused { ticket, reason } => {
+                    self.news.shown.push((ticket, Shows::Refused(reason)));
+                }
             }
         }
         Ok(())
+    }
+
+    /// Why a call waits no more whose limit has come.
+    fn late(&self, was_sent: bool) -> ErrorKind {
+        match self.state {
+            _ if was_sent => ErrorKind::TimedOut,
+            Some(State::Connected) => NoReply::TooManyPending.into(),
+            _ => NoReply::NotConnected.into(),
+        }
+    }
+
+    /// The connection is to be closed. What of it was not yet written is forgotten.
+    fn hang_up(&mut self) {
+        self.frames.clear();
+        self.news.dial = None;
+        self.news.hangs_up = true;
     }
 
     fn tell_report(&mut self, outer: String, side: Side, event: NodeEvent) {
@@ -187,7 +226,8 @@ impl Told {
     }
 
     fn tell_state(&mut self, state: State) {
-        self.news.is_admitted |= state == State::Connected;
+        self.state = Some(state);
+        self.news.state = Some(state);
         self.news.is_expired |= state == State::Expired;
         self.tell(Event::State(state));
     }

@@ -26,8 +26,8 @@ pub(crate) type News = Result<TreeSnapshot, Error>;
 /// The proved core judges that; when a snapshot is shown is tested. Where nodes change faster than they are read there is no new one, and
 /// [`current`](Tree::current) is none until it settles.
 ///
-/// Threads may look at a tree at once. It is followed until it is dropped; then what was read stays kept, until it is stale and
-/// [forgotten](crate::Session::forget_stale). A look at a large tree takes a while, so the next one waits, for ten times as long.
+/// Threads may look at a tree at once. It is followed until it is dropped; then what was read stays kept. A look at a large tree takes a
+/// while, so the next one waits, for ten times as long.
 ///
 /// ```no_run
 /// use dirwolleu::SessionOptions;

@@ -1,9 +1,9 @@
 //! Look-ups of one moment.
 
-use crate::client::Client;
 use crate::engine::Engine;
 use crate::fault::Fault;
 use crate::kept::{Children, DataAnswer, Kept, Mark};
+use crate::machine::Machine;
 use crate::saved::SavedSession;
 use crate::snapshot::Snapshot;
 use std::borrow::Cow;
@@ -42,10 +42,10 @@ impl<'a> View<'a> {
     fn at<T>(
         self,
         path: &str,
-        look: impl FnOnce(&Client, &str) -> Result<T, Fault>,
+        look: impl FnOnce(&Machine, &str) -> Result<T, Fault>,
     ) -> Result<T, Fault> {
         let outer = self.engine.chroot().outer(path)?;
-        look(self.engine.client(), &outer).map_err(|fault| fault.at(path))
+        look(self.engine.machine(), &outer).map_err(|fault| fault.at(path))
     }
 }
 
@@ -53,12 +53,18 @@ impl<'a> View<'a> {
 impl View<'_> {
     /// The greatest zxid seen, not below 0. A good answer is what the servers' history has at it.
     pub fn last_zxid(&self) -> i64 {
-        self.engine.client().last_zxid()
+        self.engine.machine().last_zxid()
     }
 
     /// The timeout of the session: the one that a server granted last, or the one to ask for.
     pub fn timeout(&self) -> Duration {
-        self.engine.client().timeout()
+        self.engine.machine().timeout()
+    }
+
+    /// How long ago a server was heard last, on any connection, and none where it was not heard yet. What is kept and good was so at some
+    /// moment since then.
+    pub fn age(&self) -> Option<Duration> {
+        self.engine.age()
     }
 
     /// The number of the session, which its ephemeral nodes have as their owner: 0 before a server has admitted it.
@@ -76,7 +82,7 @@ impl View<'_> {
     ///
     /// [`Fault::NoMemory`] alone.
     pub fn saved(&self) -> Result<SavedSession, Fault> {
-        self.engine.client().saved()
+        self.engine.machine().saved()
     }
 
     /// What is kept about the data of a path that was read with a watch, with its mark, and none where nothing is. The data are copied.
@@ -85,7 +91,7 @@ impl View<'_> {
     ///
     /// [`Fault::NotPath`], [`Fault::NoMemory`] and [`Fault::UnknownNumber`].
     pub fn peek(&self, path: &str) -> Result<Option<Kept<DataAnswer>>, Fault> {
-        self.at(path, Client::peek_data)
+        self.at(path, Machine::peek_data)
     }
 
     /// The session with which a node goes that is kept, where one is.
@@ -102,7 +108,7 @@ impl View<'_> {
     ///
     /// As [`peek`](View::peek).
     pub fn data_mark(&self, path: &str) -> Result<Option<Mark>, Fault> {
-        self.at(path, Client::data_mark)
+        self.at(path, Machine::data_mark)
     }
 
     /// What is kept about the children of a path that were read with a watch, with its mark, and none where nothing is. The names are
@@ -112,7 +118,7 @@ impl View<'_> {
     ///
     /// As [`peek`](View::peek).
     pub fn peek_children(&self, path: &str) -> Result<Option<Kept<Children>>, Fault> {
-        self.at(path, Client::peek_children)
+        self.at(path, Machine::peek_children)
     }
 
     /// The mark of what is kept about the children of a path, and none where nothing is. It copies no names.
@@ -121,7 +127,7 @@ impl View<'_> {
     ///
     /// As [`peek`](View::peek).
     pub fn children_mark(&self, path: &str) -> Result<Option<Mark>, Fault> {
-        self.at(path, Client::children_mark)
+        self.at(path, Machine::children_mark)
     }
 
     /// What is kept of these nodes, and of the names below these parents, all of it of one moment; none where some of it is not kept, or
@@ -139,7 +145,7 @@ impl View<'_> {
         let (nodes, parents) = (outer(nodes)?, outer(parents)?);
         let [nodes, parents] =
             [&nodes, &parents].map(|paths| paths.iter().map(String::as_str).collect::<Vec<_>>());
-        let found = self.engine.client().snapshot(&nodes, &parents);
+        let found = self.engine.machine().snapshot(&nodes, &parents);
         found.map_err(|fault| match &fault {
             Fault::NotPath { path, .. } => {
                 let inner = chroot.inner(path.clone());
@@ -152,6 +158,6 @@ impl View<'_> {
 
 impl fmt::Debug for View<'_> {
     fn fmt(&self, f: &mut fmt::Formatter<'_>) -> fmt::Result {
-        fmt::Debug::fmt(self.engine.client(), f)
+        fmt::Debug::fmt(self.engine.machine(), f)
     }
 }

@@ -114,11 +114,11 @@ fn what_a_transaction_made_stale_is_stale_when_its_caller_goes_on() {
 fn each_call_of_the_lane_is_told_where_the_connection_ends() {
     let partner = Partner::start(|number, mut line| {
         line.admit(10_000);
-        for _ in 0..3 {
-            line.request();
-        }
         if number > 0 {
             serve_well(&mut line);
+        }
+        for _ in 0..3 {
+            line.request();
         }
     });
     let session = Session::open(partner.address, TIMEOUT).unwrap();
@@ -127,7 +127,8 @@ fn each_call_of_the_lane_is_told_where_the_connection_ends() {
     let third = session.ask(Request::acls("/"));
     let lost = Some(NoReply::ConnectionLoss);
     assert_eq!(first.wait_for(PATIENCE).unwrap_err().no_reply(), lost);
-    assert_eq!(second.wait_for(PATIENCE).unwrap_err().no_reply(), lost);
+    let read = second.wait_for(PATIENCE);
+    assert!(read.is_ok(), "a read of the core is asked again: {read:?}");
     assert_eq!(third.wait_for(PATIENCE).unwrap_err().no_reply(), lost);
 }
 
@@ -198,7 +199,6 @@ fn credentials_are_told_first_on_each_connection() {
     });
     let options = SessionOptions::new(TIMEOUT).auth("digest", b"ann:secret");
     let session = options.open(partner.address).unwrap();
-    assert!(session.get("/a").is_err());
     assert!(session.get("/a").is_ok());
     assert_eq!(session.add_auth("digest", b"bob:secret"), Ok(()));
     let spelled = |secret: &[u8]| {

@@ -15,6 +15,7 @@ mod server;
 
 mod lane;
 mod locks;
+mod machines;
 mod messages;
 mod outages;
 mod polls;

@@ -81,16 +81,16 @@ fn a_server_that_is_behind_is_not_believed() {
     wait_for_state(&session, State::Idle);
     wait_for_state(&session, State::Connected);
     assert_eq!(mark(&session), Some(Mark::Good));
-    let lost = watched().unwrap_err();
-    assert_eq!(lost.no_reply(), Some(NoReply::ConnectionLoss));
+    assert_eq!(watched().unwrap().stat.mzxid, 10); // by the next server
     let dropped = wait_for(&session, |event| matches!(event, Event::Dropped { .. }));
     let Event::Dropped { cause, .. } = dropped else {
         unreachable!()
     };
     assert_eq!(cause, Cause::Behind { zxid: 5 });
-    assert_eq!((session.last_zxid(), mark(&session)), (9, Some(Mark::Good)));
-    assert_eq!(watched().unwrap().stat.mzxid, 10);
-    assert_eq!(session.last_zxid(), 10);
+    assert_eq!(
+        (session.last_zxid(), mark(&session)),
+        (10, Some(Mark::Good))
+    );
     let asked: Vec<_> = requests.try_iter().map(|request| asked(&request)).collect();
     assert_eq!(asked, [(0, 0), (9, 0x1234), (9, 0x1234), (9, 0x1234)]);
 }
@@ -110,7 +110,7 @@ fn a_server_that_accepts_and_never_answers_is_left() {
     assert!(session.exists("/a").unwrap().is_some());
     let first = partner.dial();
     let took = partner.dial() - first;
-    let least = millis(4_000) - millis(50); // two thirds of the timeout; the partner may come late to the first
+    let least = millis(4_000) - millis(250); // two thirds of the timeout; the partner may come late to the first
     assert!(took >= least && took < least + SLACK, "{took:?}");
 }
 

@@ -1,9 +1,9 @@
 //! What a session does where servers go, refuse, and hold it: at a server that does what each test says.
 
 use crate::example;
-use crate::jute::{self, EXISTS, GET_DATA, NOTICE, PING, PONG};
+use crate::jute::{self, EXISTS, GET_DATA, PING, PONG};
 use crate::partner::{Line, Partner};
-use dirwolleu::{Code, Error, ErrorKind, Event, LocalSession, Mark, NoReply, Request, State};
+use dirwolleu::{Code, Error, ErrorKind, Event, LocalSession, Mark, Request};
 use std::fmt::Debug;
 use std::io::{BufRead, BufReader};
 use std::process::{Command, Stdio};
@@ -185,7 +185,10 @@ fn the_example_goes_on_where_a_read_is_refused() {
     child.wait().unwrap();
     assert_eq!(line, "/config version 0: one\n");
     let took = begun.elapsed();
-    assert!(took >= millis(4_000), "four reads are refused: {took:?}");
+    assert!(
+        took >= millis(2_000),
+        "two of four refusals leave the connection, and the read is made again after a second each: {took:?}"
+    );
 }
 
 #[test]
@@ -212,43 +215,7 @@ fn data_that_are_denied_of_a_node_are_read_again_after_a_second() {
 }
 
 #[test]
-fn a_path_that_is_refused_holds_no_other_one() {
-    let partner = Partner::start(|_, mut line| {
-        line.admit(10_000);
-        while let Some(request) = line.request() {
-            line.refuse(request.xid, Code::NO_AUTH.0);
-        }
-    });
-    let mut session = session_at(&partner, millis(10_000));
-    let refused = ErrorKind::Server(Code::NO_AUTH);
-    assert_eq!(kind_of(session.watch("/a")), refused);
-    let begun = Instant::now();
-    assert_eq!(kind_of(session.watch("/b")), refused);
-    assert!(begun.elapsed() < millis(900));
-    assert_eq!(kind_of(session.watch("/a")), refused);
-    assert!(begun.elapsed() + SLACK >= millis(1_000));
-}
-
-#[test]
-fn a_server_that_dribbles_is_left_while_it_connects() {
-    let partner = Partner::start(|number, mut line| {
-        if number == 0 {
-            line.send(&[0, 32, 0, 0]); // a frame of two million bytes
-            dribble(line, vec![0]);
-        }
-    });
-    let mut session = session_at(&partner, millis(1_500));
-    go_on(&mut session, millis(1_500) + SLACK);
-    let first = partner.dial();
-    let took = partner.dial() - first;
-    assert!(
-        took >= millis(1_000) && took < millis(1_500) + SLACK,
-        "{took:?}"
-    );
-}
-
-#[test]
-fn a_call_that_is_not_answered_is_lost_whatever_else_comes() {
+fn a_call_that_is_not_answered_waits_to_its_limit_whatever_else_comes() {
     let partner = Partner::start(|_, mut line| {
         line.admit(1_500);
         line.request();
@@ -256,38 +223,9 @@ fn a_call_that_is_not_answered_is_lost_whatever_else_comes() {
     });
     let mut session = session_at(&partner, millis(1_500));
     let begun = Instant::now();
-    let lost = session.exists("/");
+    let late = session.exists("/");
     let took = begun.elapsed();
-    assert_eq!(kind_of(lost), ErrorKind::NoReply(NoReply::ConnectionLoss));
-    assert!(
-        took >= millis(990) && took < millis(1_000) + SLACK,
-        "{took:?}"
-    );
-}
-
-#[test]
-fn a_ping_that_is_not_answered_ends_the_connection() {
-    let partner = Partner::start(|number, mut line| {
-        if number == 0 {
-            line.admit(1_500);
-            line.request();
-            dribble(
-                line,
-                jute::Record::reply(NOTICE, -1, 0)
-                    .int(3)
-                    .int(3)
-                    .text("/a")
-                    .framed(),
-            );
-        }
-    });
-    let mut session = session_at(&partner, millis(1_500));
-    let begun = Instant::now();
-    while session.next_event(None).unwrap() != Some(Event::State(State::Connected)) {}
-    while session.next_event(None).unwrap() != Some(Event::State(State::Idle)) {}
-    let took = begun.elapsed();
-    assert!(
-        took >= millis(1_490) && took < millis(1_500) + SLACK,
-        "{took:?}"
-    );
+    assert_eq!(kind_of(late), ErrorKind::TimedOut);
+    let timeout = millis(1_500);
+    assert!(took >= timeout && took < timeout + SLACK, "{took:?}");
 }

@@ -137,8 +137,6 @@ fn a_change_is_reported() {
     wait_for(&session, |event| *event == more);
     let names = session.peek_children("/a").unwrap().unwrap();
     assert_eq!((names.answer.names.len(), names.mark), (0, Mark::Stale));
-    session.forget_stale();
-    assert_eq!(session.peek_children("/a").unwrap(), None);
     assert_eq!(kept(&session, "/a"), Some((b"two".to_vec(), Mark::Good)));
 }
 
@@ -233,17 +231,20 @@ fn a_silent_server_is_left_after_two_thirds_of_the_timeout() {
 }
 
 #[test]
-fn a_call_is_lost_with_its_connection() {
+fn a_write_is_lost_with_its_connection() {
     let Some(mut server) = Server::start(&[]) else {
         return;
     };
     let session = session_at(&server, 1_500);
     session.exists("/").unwrap();
     server.tell("mute");
-    let lost = session.exists("/");
+    let read = session.ask(Request::exists("/"));
+    let lost = session.delete("/", ANY_VERSION);
     assert_eq!(kind_of(lost), ErrorKind::NoReply(NoReply::ConnectionLoss));
     let nobody = session.exists("/");
     assert_eq!(kind_of(nobody), ErrorKind::NoReply(NoReply::NotConnected));
+    let read = read.wait(); // it waits for another connection
+    assert_eq!(kind_of(read), ErrorKind::NoReply(NoReply::NotConnected));
     server.tell("unmute");
     wait_for_state(&session, State::Connected);
 }

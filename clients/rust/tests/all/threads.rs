@@ -228,7 +228,7 @@ fn retrying(partner: &Partner) -> Session {
 #[test]
 fn a_read_is_asked_again_after_a_lost_connection() {
     let (partner, count) = losing(GET_DATA);
-    assert!(retrying(&partner).get("/a").is_ok());
+    assert!(session_at(&partner, 10_000).get("/a").is_ok());
     assert_eq!(count.load(Ordering::SeqCst), 2);
 }
 
@@ -397,7 +397,7 @@ fn an_expired_session_renews_itself_where_it_is_told_to() {
     let session = options.open(partner.address).unwrap();
     assert_eq!(
         kind_of(session.get("/a")),
-        ErrorKind::NoReply(NoReply::ConnectionLoss)
+        ErrorKind::NoReply(NoReply::SessionExpired)
     );
     assert!(session.get("/a").is_ok());
     let mut states = Vec::new();

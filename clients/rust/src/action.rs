@@ -1,0 +1,261 @@
+//! What a machine asks of its program, and tells it.
+
+use crate::fault::{Code, Fault, NoReply, UnknownNumber};
+use crate::ffi::{self, Handle};
+use crate::machine::Machine;
+use crate::node::{NodeEvent, Side};
+use crate::numbers::{kind, refusal};
+use crate::output::{Bytes, GivenUp, Output, Reply, Text};
+use crate::State;
+use std::fmt;
+use std::time::Duration;
+
+/// What a machine said at its last step. Do all actions of a step, in their order, before the next step: those that were not taken are
+/// forgotten there.
+///
+/// It lends, and it borrows the machine, as [`Outputs`](crate::Outputs) do of a client.
+///
+/// [`Machine`] has an example.
+#[derive(Debug)]
+#[must_use = "frames that are not written never reach the server"]
+pub struct Actions<'a> {
+    machine: &'a mut Machine,
+}
+
+impl<'a> Actions<'a> {
+    pub(crate) fn of(machine: &'a mut Machine) -> Actions<'a> {
+        Actions { machine }
+    }
+
+    /// The next action, and none where all were told.
+    ///
+    /// # Errors
+    ///
+    /// [`Fault::UnknownNumber`] alone, where the library is of another version than this crate.
+    #[allow(clippy::should_implement_trait)] // an iterator can't lend
+    pub fn next(&mut self) -> Result<Option<Action<'_>>, Fault> {
+        let Some(flat) = self.machine.handle.next()? else {
+            return Ok(None);
+        };
+        Ok(Some(Action::of(&self.machine.handle, &flat)?))
+    }
+
+    /// The machine, for look-ups between two actions.
+    pub fn machine(&self) -> &Machine {
+        self.machine
+    }
+}
+
+/// What a machine asks for, or tells.
+///
+/// [`Machine`] has an example.
+#[derive(Debug)]
+#[non_exhaustive]
+pub enum Action<'a> {
+    /// Connect to the address at this place of the program's list. Then hand in [`opened`](Machine::opened), or
+    /// [`failed`](Machine::failed).
+    Dial {
+        /// The place, from 0 on.
+        place: usize,
+        /// After this time the attempt will be given up.
+        within: Duration,
+    },
+    /// Close the connection, or give the attempt up. What of it was not yet written is forgotten, and nothing is handed in.
+    HangUp,
+    /// One frame: write all of it to the server.
+    Send(Bytes<'a>),
+    /// The call with this ticket is over.
+    Answer {
+        /// The number that the call was given.
+        ticket: u64,
+        /// The reply of the server, or why there is none.
+        outcome: Result<Reply<'a>, NoReply>,
+    },
+    /// The limit of the call with this ticket has come, and it waits no more.
+    TimedOut {
+        /// The number that the call was given.
+        ticket: u64,
+        /// Whether it was sent, so that it may have happened, or may yet.
+        was_sent: bool,
+    },
+    /// A watch has fired: what is kept of this side of the path is stale.
+    Report {
+        /// The path that was watched.
+        path: Text<'a>,
+        /// The side that was watched.
+        side: Side,
+        /// What has happened.
+        event: NodeEvent,
+    },
+    /// The state is another one. That a connection is to be closed is told by [`HangUp`](Action::HangUp) alone.
+    State(State),
+    /// The connection is given up, for this reason.
+    Drop(GivenUp<'a>),
+    /// The session has expired, with its ephemeral nodes, and another one begins. What is followed is read again.
+    Renewed,
+    /// What is kept of the subject with this ticket is good: look it up. It was not, or its path was reported since.
+    Shown {
+        /// The number that the subject was given.
+        ticket: u64,
+    },
+    /// A read of the subject with this ticket was refused. It is read again after a second, and this is told once for each new reason.
+    Refused {
+        /// The number that the subject was given.
+        ticket: u64,
+        /// Why.
+        reason: Refusal,
+    },
+}
+
+/// Why a read of what is followed was refused.
+///
+/// ```
+/// use dirwolleu::{Code, Refusal};
+///
+/// assert_eq!(Refusal::Code(Code::NO_AUTH).to_string(), Code::NO_AUTH.to_string());
+/// assert_eq!(Refusal::TooManyWatches.to_string(), "65536 paths are watched");
+/// ```
+#[derive(Clone, Copy, Debug, PartialEq, Eq, Hash)]
+#[non_exhaustive]
+pub enum Refusal {
+    /// The server refuses it, with this code.
+    Code(Code),
+    /// 65,536 paths of the side are watched.
+    TooManyWatches,
+    /// The path is too long for a request.
+    TooLarge,
+    /// The session is being closed.
+    Closed,
+}
+
+impl Refusal {
+    fn of(flat: &ffi::Output) -> Result<Refusal, UnknownNumber> {
+        Ok(match flat.detail {
+            refusal::READ_CODE => Refusal::Code(Code(flat.code)),
+            refusal::READ_TOO_MANY_WATCHES => Refusal::TooManyWatches,
+            refusal::READ_TOO_LARGE => Refusal::TooLarge,
+            refusal::READ_CLOSED => Refusal::Closed,
+            other => return Err(UnknownNumber::of("refusal", other)),
+        })
+    }
+}
+
+/// The reason in words.
+impl fmt::Display for Refusal {
+    fn fmt(&self, f: &mut fmt::Formatter<'_>) -> fmt::Result {
+        match self {
+            Refusal::Code(code) => code.fmt(f),
+            Refusal::TooManyWatches => NoReply::TooManyWatches.fmt(f),
+            Refusal::TooLarge => NoReply::TooLarge.fmt(f),
+            Refusal::Closed => NoReply::SessionClosed.fmt(f),
+        }
+    }
+}
+
+impl<'a> Action<'a> {
+    fn of(handle: &'a Handle, flat: &ffi::Output) -> Result<Action<'a>, UnknownNumber> {
+        let ticket = flat.ticket;
+        Ok(match flat.kind {
+            kind::DIAL => Action::Dial {
+                place: flat.names,
+                within: Duration::from_millis(ticket),
+            },
+            kind::HANG_UP => Action::HangUp,
+            kind::TIMED_OUT => Action::TimedOut {
+                ticket,
+                was_sent: flat.is_null,
+            },
+            kind::RENEWED => Action::Renewed,
+            kind::SHOWN => Action::Shown { ticket },
+            kind::REFUSED => Action::Refused {
+                ticket,
+                reason: Refusal::of(flat)?,
+            },
+            _ => Action::from(Output::of(handle, flat)?),
+        })
+    }
+}
+
+impl<'a> From<Output<'a>> for Action<'a> {
+    fn from(output: Output<'a>) -> Action<'a> {
+        match output {
+            Output::Send(frame) => Action::Send(frame),
+            Output::Answer { ticket, outcome } => Action::Answer { ticket, outcome },
+            Output::Report { path, side, event } => Action::Report { path, side, event },
+            Output::State(state) => Action::State(state),
+            Output::Drop(given_up) => Action::Drop(given_up),
+        }
+    }
+}
+
+#[cfg(test)]
+mod tests {
+    use super::{Action, Refusal};
+    use crate::fault::Code;
+    use crate::ffi::{self, MachineHandle, Settings};
+    use std::time::Duration;
+
+    fn handle() -> MachineHandle {
+        MachineHandle::open(Settings {
+            timeout_ms: 1_000,
+            addresses: 1,
+            seed: 1,
+        })
+        .unwrap()
+    }
+
+    #[test]
+    fn each_field_of_an_action_has_its_place() {
+        let handle = handle();
+        let dial = ffi::Output {
+            kind: 6,
+            ticket: 1_500,
+            names: 2,
+            ..ffi::Output::default()
+        };
+        let within = Duration::from_millis(1_500);
+        assert!(matches!(
+            Action::of(&handle, &dial),
+            Ok(Action::Dial { place: 2, within: told }) if told == within
+        ));
+        let late = ffi::Output {
+            kind: 8,
+            ticket: 7,
+            is_null: true,
+            ..ffi::Output::default()
+        };
+        assert!(matches!(
+            Action::of(&handle, &late),
+            Ok(Action::TimedOut {
+                ticket: 7,
+                was_sent: true
+            })
+        ));
+        let refused = ffi::Output {
+            kind: 11,
+            detail: 1,
+            code: -102,
+            ticket: 9,
+            ..ffi::Output::default()
+        };
+        let reason = Refusal::Code(Code::NO_AUTH);
+        assert!(matches!(
+            Action::of(&handle, &refused),
+            Ok(Action::Refused { ticket: 9, reason: told }) if told == reason
+        ));
+    }
+
+    #[test]
+    fn a_number_that_nobody_knows_is_a_fault() {
+        let handle = handle();
+        for (kind, detail, what) in [(0, 0, "output"), (12, 0, "output"), (11, 5, "refusal")] {
+            let flat = ffi::Output {
+                kind,
+                detail,
+                ..ffi::Output::default()
+            };
+            let unknown = Action::of(&handle, &flat).unwrap_err();
+            assert_eq!(unknown.what(), what, "{kind} {detail}");
+        }
+    }
+}

@@ -1,0 +1,239 @@
+//! Steps of the machine, and the connection.
+
+use super::{Attempt, Course, Engine};
+use crate::action::Actions;
+use crate::client::State;
+use crate::error::ErrorKind;
+use crate::fault::{Code, Fault, NoReply};
+use crate::machine::Machine;
+use crate::moment::Moment;
+use crate::stream::Outgoing;
+use crate::told::News;
+use std::io;
+use std::mem;
+use std::net::SocketAddr;
+
+/// Steps.
+impl Engine {
+    /// The moment that it is, for a step of who has not read all that the connection has. Where the server could count as silent by then, it
+    /// is the last moment before something is due: it may have been heard meanwhile.
+    pub(super) fn now(&self) -> Moment {
+        let now = self.clock.now();
+        if self.may_be_silent(now) {
+            return now.min(self.deadline().before());
+        }
+        now
+    }
+
+    /// Whether a connection could be given up at this moment since nothing was heard for two thirds of the timeout.
+    pub(super) fn may_be_silent(&self, moment: Moment) -> bool {
+        let heard_at = self.machine.heard_at().filter(|_| self.is_connected());
+        let silent_at = heard_at.map(|heard| heard.saturating_add(self.machine.timeout() * 2 / 3));
+        self.line.is_some() && !silent_at.is_some_and(|silent| moment < silent)
+    }
+
+    /// Takes a step, and does what the machine says.
+    pub(super) fn step<F>(&mut self, now: Moment, step: F) -> Result<(), Fault>
+    where
+        F: for<'a> FnOnce(&'a mut Machine, Moment) -> Result<Actions<'a>, Fault>,
+    {
+        let actions = step(&mut self.machine, now);
+        let taken = actions.and_then(|actions| self.told.take(actions));
+        self.settle(now, taken)
+    }
+
+    /// Does what the machine has said at a step, in its order. The connection is over where the machine says so or has no use any more, and
+    /// where a write fails.
+    pub(super) fn settle(&mut self, now: Moment, taken: Result<(), Fault>) -> Result<(), Fault> {
+        let news = mem::take(&mut self.told.news);
+        if let Some(fault) = taken.as_ref().err().filter(|fault| fault.is_final()) {
+            self.end_course(Course::Halted(fault.clone()));
+        }
+        if news.hangs_up || self.is_over() {
+            self.hang_up();
+        }
+        self.note(now, &news);
+        if !self.send() {
+            self.end()?;
+        }
+        if self.end_answered() {
+            self.end()?;
+        }
+        if let Some(reason) = self.reason_of_end() {
+            self.calls.end_all(&reason);
+        } else if news.state == Some(State::Connected) {
+            self.put_queued();
+        }
+        taken
+    }
+
+    /// Notes what the machine tells of the session, and asks for.
+    fn note(&mut self, now: Moment, news: &News) {
+        if news.state == Some(State::Connected) {
+            self.calls.wait_for(None);
+        }
+        for (ticket, shows) in &news.shown {
+            self.followed.hear(*ticket, *shows);
+        }
+        if news.is_expired {
+            self.grove.begin_again();
+            if !self.renews {
+                self.end_course(Course::Ended(State::Expired));
+            }
+        }
+        if news.state == Some(State::Closed) {
+            self.end_course(Course::Ended(State::Closed));
+        }
+        if let Some((place, within)) = news.dial.filter(|_| !self.is_over()) {
+            let host = self.places.host(&self.hosts, place);
+            self.attempts += 1;
+            self.wanted = host.map(|host| Attempt {
+                number: self.attempts,
+                host,
+                until: now.saturating_add(within),
+            });
+        }
+    }
+
+    /// It goes on no more, unless that was so before.
+    fn end_course(&mut self, course: Course) {
+        if !self.is_over() {
+            self.course = course;
+            self.hang_up();
+        }
+    }
+
+    /// Hands out what the core and the lane have answered. Whether the connection is to be ended: the session was moved away from it, or
+    /// its credentials are refused.
+    fn end_answered(&mut self) -> bool {
+        let mut is_end = false;
+        for (ticket, outcome) in mem::take(&mut self.told.answers) {
+            is_end |= matches!(
+                outcome,
+                Err(ErrorKind::Server(
+                    Code::SESSION_MOVED | Code::SESSION_EXPIRED
+                ))
+            );
+            if self.introductions.are_refused(ticket, &outcome) {
+                self.bar();
+                is_end = true;
+            }
+            if !self.tell_grove(ticket, &outcome) {
+                self.calls.end(ticket, outcome);
+            }
+        }
+        is_end
+    }
+
+    /// Writes the frames of the core. Whether all was written, or there is nobody to write to.
+    fn send(&mut self) -> bool {
+        let mut frames = mem::take(&mut self.told.frames);
+        let is_sent = self.write(&frames);
+        frames.clear();
+        self.told.frames = frames;
+        is_sent
+    }
+
+    /// Writes whole frames. Whether all was written, or there is nobody to write to.
+    pub(super) fn write(&mut self, frames: &[u8]) -> bool {
+        match &mut self.line {
+            Some(line) if !frames.is_empty() => line.write_all(frames).is_ok(),
+            _ => true,
+        }
+    }
+}
+
+/// The connection.
+impl Engine {
+    /// The attempt to connect that is to be begun.
+    pub(crate) fn begin_attempt(&mut self) -> Option<Attempt> {
+        let attempt = self.wanted.take()?;
+        self.dialling = Some(attempt.number);
+        Some(attempt)
+    }
+
+    /// Whether the machine still wants this attempt. It is over, however it went.
+    fn takes_attempt(&mut self, number: u64) -> bool {
+        let is_wanted = self.dialling == Some(number) && !self.is_over();
+        self.dialling = self.dialling.filter(|dialling| *dialling != number);
+        is_wanted
+    }
+
+    /// The attempt of this number has failed.
+    pub(crate) fn has_failed(&mut self, number: u64, fault: &io::Error) -> Result<(), Fault> {
+        self.note_attempt(fault.to_string());
+        if self.takes_attempt(number) {
+            self.step(self.clock.now(), Machine::failed)?;
+        }
+        Ok(())
+    }
+
+    /// The attempt of this number has made a connection to this address. It is closed where nobody wants it any more.
+    pub(crate) fn opened(
+        &mut self,
+        number: u64,
+        address: SocketAddr,
+        mut outgoing: Box<dyn Outgoing>,
+    ) -> Result<(), Fault> {
+        if !self.takes_attempt(number) {
+            outgoing.close();
+            return Ok(());
+        }
+        self.note_attempt(format!(
+            "{address}: connected, and it has not accepted the session"
+        ));
+        self.line = Some(outgoing);
+        self.step(self.clock.now(), Machine::opened)?;
+        if self.is_open() {
+            self.introduce()?;
+        }
+        Ok(())
+    }
+
+    /// Hands in what came from the server, and before it what there was no memory for. Answers to the lane are handed out after what stood
+    /// before them in the stream has been heard.
+    pub(crate) fn hand_in(&mut self, bytes: &[u8]) -> Result<(), Fault> {
+        let now = self.now();
+        let read = self
+            .lane
+            .take(bytes, &self.chroot, &mut self.inbox, &mut self.answers);
+        let actions = self.machine.bytes(now, &self.inbox);
+        let taken = actions.and_then(|actions| self.told.take(actions));
+        if taken.is_ok() {
+            self.inbox.clear();
+            self.told.answers.append(&mut self.answers);
+        }
+        self.settle(now, taken)?;
+        if read.is_err() {
+            return self.end();
+        }
+        Ok(())
+    }
+
+    /// The connection is over, if there is one.
+    pub(crate) fn end(&mut self) -> Result<(), Fault> {
+        if self.line.is_none() {
+            return Ok(());
+        }
+        self.hang_up();
+        if matches!(self.course, Course::Ended(_) | Course::Halted(_)) {
+            return Ok(());
+        }
+        self.step(self.clock.now(), Machine::cut)
+    }
+
+    /// Closes the connection, if there is one, and gives an attempt up that was asked for.
+    pub(super) fn hang_up(&mut self) {
+        self.wanted = None;
+        self.dialling = None;
+        self.inbox.clear();
+        self.told.frames.clear();
+        self.told.answers.append(&mut self.answers);
+        let lost = self.lane.end().into_iter();
+        let lost = lost.map(|ticket| (ticket, Err(NoReply::ConnectionLoss.into())));
+        self.told.answers.extend(lost);
+        if let Some(mut line) = self.line.take() {
+            line.close();
+        }
+    }
+}

@@ -1,0 +1,334 @@
+//! A session as a machine.
+
+use crate::action::Actions;
+use crate::client::{timeout_ms, State};
+use crate::fault::{done, Fault};
+use crate::ffi::{Call, KeptData, MachineHandle, Settings};
+use crate::kept::{mark_of, Children, DataAnswer, Kept, Mark};
+use crate::looking::{look_ups_of_handle, no_path_among, texts_in, whole, whole_text};
+use crate::moment::Moment;
+use crate::node::{Mode, Side, Watch};
+use crate::numbers::result;
+use crate::saved::SavedSession;
+use crate::snapshot::{snapshot_in, Snapshot};
+use crate::standing::{spelled, Contender, Standing};
+use crate::subtree::{lacking_in, nodes_in, Lacking, Subtree};
+use std::fmt;
+use std::time::Duration;
+
+/// A session as a machine: a [`Client`](crate::Client) with what most programs need besides. It says which server is dialled and when, has
+/// calls wait for a connection, asks reads again that were lost, keeps what is followed good, and begins another session after an expiry.
+/// All of that the core decides, and is proved.
+///
+/// It opens no socket, reads no clock and starts no thread, and no function of it waits. A program has connections, a clock, and a list of
+/// addresses, and decides nothing: it hands in what happened, does what the [`Actions`] say, and wakes at the latest at the
+/// [`deadline`](Machine::deadline). [`Session`](crate::Session) is such a program.
+///
+/// Each step forgets the actions of the step before. It fails with [`Fault::Halted`] where memory ran out within it: then
+/// [`resume`](Machine::resume) what it has [`saved`](Machine::saved). It fails with [`Fault::UnknownNumber`] where the library is of
+/// another version than this crate, and with the faults that it names besides; these leave the machine as it was.
+///
+/// A machine may be moved, and handed to another thread. It is used by one thread at a time:
+///
+/// ```compile_fail,E0277
+/// fn is_sync<T: Sync>() {}
+/// is_sync::<dirwolleu::Machine>();
+/// ```
+///
+/// To let it go ends no session of the servers: [`close_session`](Machine::close_session) does. After [`State::Closed`] do nothing more
+/// that it asks for.
+///
+/// ```
+/// use dirwolleu::{Action, Machine, Moment, Side, State};
+/// use std::time::Duration;
+///
+/// # fn main() -> Result<(), dirwolleu::Fault> {
+/// let now = Moment::from_millis(1_000);
+/// let mut machine = Machine::open(Duration::from_secs(9), 3, 42)?; // three addresses, by a seed
+/// let mut actions = machine.follow(now, 1, "/config", Side::Data)?;
+/// let Some(Action::Dial { place, within }) = actions.next()? else { panic!("a session begins with a connection") };
+/// assert!(place < 3);
+/// assert_eq!(within, Duration::from_secs(3));
+/// let mut actions = machine.opened(now)?;
+/// assert!(matches!(actions.next()?, Some(Action::Send(frame)) if frame.len() == 4 + 45));
+/// assert!(matches!(actions.next()?, Some(Action::State(State::Connecting))));
+/// assert!(actions.next()?.is_none());
+/// assert_eq!(machine.deadline(), Some(Moment::from_millis(7_000))); // the server has two thirds of the timeout
+/// # Ok(())
+/// # }
+/// ```
+pub struct Machine {
+    pub(crate) handle: MachineHandle,
+    state: State,
+}
+
+/// How a machine begins.
+impl Machine {
+    /// A machine of no session yet, which asks for this timeout, in whole milliseconds: 1 to 2,147,483,647. It has this many addresses to
+    /// dial. Their order and the pauses between attempts are random by the seed: take one from the system. The first step asks for a
+    /// connection.
+    ///
+    /// # Errors
+    ///
+    /// [`Fault::BadTimeout`], [`Fault::NoMemory`], [`Fault::UnknownNumber`], and [`Fault::OtherVersion`] where the library that is linked
+    /// is not this crate's.
+    pub fn open(timeout: Duration, addresses: usize, seed: u64) -> Result<Machine, Fault> {
+        let timeout_ms = timeout_ms(timeout)?;
+        Machine::of(MachineHandle::open(Settings {
+            timeout_ms,
+            addresses,
+            seed,
+        })?)
+    }
+
+    /// The same, which first takes up the session that was put away.
+    ///
+    /// # Errors
+    ///
+    /// As [`open`](Machine::open), and [`Fault::NotSaved`].
+    pub fn resume(
+        timeout: Duration,
+        addresses: usize,
+        seed: u64,
+        saved: &SavedSession,
+    ) -> Result<Machine, Fault> {
+        let timeout_ms = timeout_ms(timeout)?;
+        let settings = Settings {
+            timeout_ms,
+            addresses,
+            seed,
+        };
+        Machine::of(MachineHandle::resume(settings, saved.as_bytes())?)
+    }
+
+    fn of(handle: MachineHandle) -> Result<Machine, Fault> {
+        let state = State::try_from(handle.state())?;
+        Ok(Machine { handle, state })
+    }
+
+    /// Takes a step. The state is noted, also where the step has failed.
+    fn step(
+        &mut self,
+        step: impl FnOnce(&mut MachineHandle) -> Result<(), Fault>,
+    ) -> Result<Actions<'_>, Fault> {
+        let done = step(&mut self.handle);
+        self.state = State::try_from(self.handle.state())?;
+        done?;
+        Ok(Actions::of(self))
+    }
+}
+
+/// Steps: what happened, noticed at a moment.
+impl Machine {
+    /// The connection that was asked for is there. One that was not asked for, or no more, is hung up.
+    ///
+    /// # Errors
+    ///
+    /// [`Fault::Halted`] and [`Fault::UnknownNumber`].
+    pub fn opened(&mut self, now: Moment) -> Result<Actions<'_>, Fault> {
+        self.step(|handle| handle.opened(now))
+    }
+
+    /// The connection that was asked for could not be made.
+    ///
+    /// # Errors
+    ///
+    /// [`Fault::Halted`] and [`Fault::UnknownNumber`].
+    pub fn failed(&mut self, now: Moment) -> Result<Actions<'_>, Fault> {
+        self.step(|handle| handle.failed(now))
+    }
+
+    /// Bytes came from the server, in any pieces.
+    ///
+    /// # Errors
+    ///
+    /// [`Fault::Halted`], [`Fault::UnknownNumber`], and [`Fault::NoMemory`]: then the same bytes can be handed in again.
+    pub fn bytes(&mut self, now: Moment, bytes: &[u8]) -> Result<Actions<'_>, Fault> {
+        self.step(|handle| handle.bytes(now, bytes))
+    }
+
+    /// The connection is over: the server closed it, or a read or a write failed.
+    ///
+    /// # Errors
+    ///
+    /// [`Fault::Halted`] and [`Fault::UnknownNumber`].
+    pub fn cut(&mut self, now: Moment) -> Result<Actions<'_>, Fault> {
+        self.step(|handle| handle.cut(now))
+    }
+
+    /// A moment, and nothing else: at the latest at the [`deadline`](Machine::deadline).
+    ///
+    /// # Errors
+    ///
+    /// [`Fault::Halted`] and [`Fault::UnknownNumber`].
+    pub fn tick(&mut self, now: Moment) -> Result<Actions<'_>, Fault> {
+        self.step(|handle| handle.moment(now))
+    }
+
+    /// The list of addresses is another one, of this many, and they are dialled in a new order. A connection that is there stays.
+    ///
+    /// # Errors
+    ///
+    /// [`Fault::Halted`] and [`Fault::UnknownNumber`].
+    pub fn set_addresses(&mut self, now: Moment, count: usize) -> Result<Actions<'_>, Fault> {
+        self.step(|handle| handle.addresses(now, count))
+    }
+
+    /// Follows the data of a node, or the names of its children, also of a node that is not there yet: it is read with a watch, and read
+    /// again after each report, on each new connection and in each new session. No other call or subject has or had the ticket.
+    ///
+    /// # Errors
+    ///
+    /// [`Fault::NotPath`] and [`Fault::NoMemory`]: then nothing has happened. [`Fault::Halted`] and [`Fault::UnknownNumber`].
+    pub fn follow(
+        &mut self,
+        now: Moment,
+        ticket: u64,
+        path: &str,
+        side: Side,
+    ) -> Result<Actions<'_>, Fault> {
+        self.step(|handle| handle.follow(Call { now, ticket, path }, side))
+    }
+
+    /// The subject of this ticket is followed no more.
+    ///
+    /// # Errors
+    ///
+    /// [`Fault::Halted`] and [`Fault::UnknownNumber`].
+    pub fn unfollow(&mut self, now: Moment, ticket: u64) -> Result<Actions<'_>, Fault> {
+        self.step(|handle| handle.unfollow(now, ticket))
+    }
+}
+
+/// The moment to which a call waits: the last one of all where it has no limit.
+fn moment_of(until: Option<Moment>) -> Moment {
+    until.unwrap_or(Moment::from_millis(u64::MAX))
+}
+
+/// Calls about a node, each by the function of its name that the handle has.
+macro_rules! calls {
+    ($($(#[$doc:meta])* $name:ident($($word:ident: $kind:ty),*);)*) => {$(
+        $(#[$doc])*
+        ///
+        /// # Errors
+        ///
+        /// [`Fault::NotPath`] and [`Fault::NoMemory`]: then nothing has happened. [`Fault::Halted`] and [`Fault::UnknownNumber`].
+        pub fn $name(
+            &mut self,
+            now: Moment,
+            ticket: u64,
+            until: Option<Moment>,
+            path: &str,
+            $($word: $kind),*
+        ) -> Result<Actions<'_>, Fault> {
+            let until = moment_of(until);
+            self.step(|handle| handle.$name(Call { now, ticket, path }, until, $($word),*))
+        }
+    )*};
+}
+
+/// Steps: calls. Each waits in one line until a server has accepted the connection and fewer than 1,024 are on their way, until a moment at
+/// most, where there is one. It is answered once, or times out once. A read that is lost with its connection is asked again, in its place;
+/// a write is answered [`ConnectionLoss`](crate::NoReply::ConnectionLoss). No other call or subject has or had the ticket.
+impl Machine {
+    calls! {
+        /// Asks whether there is a node, and what is known of it.
+        exists(watch: Watch);
+
+        /// Asks for the data of a node. Where there is no node it leaves no watch: [`exists`](Machine::exists) does. What is to be kept
+        /// good is [followed](Machine::follow).
+        get_data(watch: Watch);
+
+        /// Asks for the names of the children of a node. Where there is no node it leaves no watch.
+        get_children(watch: Watch);
+
+        /// Asks to set the data of a node: none are null data. The version is the one that the node has to have, or
+        /// [`ANY_VERSION`](crate::ANY_VERSION).
+        set_data(data: Option<&[u8]>, version: i32);
+
+        /// Asks to make a node, with these data: none are null data.
+        create(data: Option<&[u8]>, mode: Mode);
+
+        /// Asks to delete a node. The version is as of [`set_data`](Machine::set_data).
+        delete(version: i32);
+    }
+
+    /// Asks to end the session.
+    ///
+    /// # Errors
+    ///
+    /// [`Fault::Halted`] and [`Fault::UnknownNumber`].
+    pub fn close_session(
+        &mut self,
+        now: Moment,
+        ticket: u64,
+        until: Option<Moment>,
+    ) -> Result<Actions<'_>, Fault> {
+        let until = moment_of(until);
+        self.step(|handle| handle.close_session(now, ticket, until))
+    }
+}
+
+/// Look-ups. They ask nobody, and serve after [`Fault::Halted`] too, when nothing is kept.
+impl Machine {
+    /// The state.
+    pub fn state(&self) -> State {
+        self.state
+    }
+
+    /// The first moment at which something is due: a ping, the end of an attempt, a dial, a read, a limit. None where nothing ever is. It
+    /// changes with each step.
+    pub fn deadline(&self) -> Option<Moment> {
+        self.handle.deadline()
+    }
+
+    /// The moment at which the server was heard last, on any connection, and none where it was not heard yet. What is kept and good was so
+    /// at some moment from then on, or was reported after it.
+    pub fn heard_at(&self) -> Option<Moment> {
+        self.handle.heard_at()
+    }
+
+    look_ups_of_handle! {}
+
+    /// As [`subtree`](Machine::subtree). The text of a tree that is looked at again is mostly as long as the last one: it is given more room than that.
+    pub(crate) fn subtree_of(
+        &self,
+        path: &str,
+        most: usize,
+        room: &mut usize,
+    ) -> Result<Option<Subtree>, Fault> {
+        let mut spelled = vec![0; *room];
+        let copy = |spelled: &mut Vec<u8>| match self.handle.subtree(path, most, spelled) {
+            Ok(length) => Ok(Some(length)),
+            Err(Fault::NotWhole) => Ok(None),
+            Err(other) => Err(other),
+        };
+        let Some(length) = copy(&mut spelled)? else {
+            return Ok(None);
+        };
+        if length > *room {
+            *room = length + length / 8;
+            spelled.resize(*room, 0);
+            copy(&mut spelled)?;
+        }
+        Ok(Some(Subtree {
+            zxid: self.last_zxid(),
+            nodes: nodes_in(&spelled[..length]),
+        }))
+    }
+
+    /// The last change of the names that are kept of a path, where some are.
+    pub(crate) fn names_of(&self, path: &str) -> Option<i64> {
+        let kept = self.handle.peek_children(path).ok()?;
+        (kept.mark != 0).then_some(kept.pzxid)
+    }
+}
+
+impl fmt::Debug for Machine {
+    fn fmt(&self, f: &mut fmt::Formatter<'_>) -> fmt::Result {
+        f.debug_struct("Machine")
+            .field("state", &self.state())
+            .field("last_zxid", &self.last_zxid())
+            .finish_non_exhaustive()
+    }
+}

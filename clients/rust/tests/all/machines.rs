@@ -1,0 +1,298 @@
+//! What the machine decides of a session: which calls wait and how long, what becomes of them at a cut, what is followed.
+
+use crate::jute::{self, EXISTS, GET_DATA, PING, PONG};
+use crate::partner::{Line, Partner};
+use dirwolleu::{
+    Code, Error, ErrorKind, Hosts, LocalSession, Mode, NoReply, Request, Session, SessionOptions,
+    State,
+};
+use std::sync::mpsc;
+use std::thread::{self, sleep};
+use std::time::{Duration, Instant};
+
+const TIMEOUT: Duration = Duration::from_secs(10);
+
+/// How long what is awaited may take.
+const PATIENCE: Duration = Duration::from_secs(30);
+
+/// How much later than it could a program on a busy machine may act.
+const SLACK: Duration = Duration::from_millis(1_400);
+
+/// Types of requests, as `zookeeper.jute` has them.
+const CREATE: i32 = 1;
+const SYNC: i32 = 9;
+const CLOSE: i32 = -11;
+
+fn millis(count: u64) -> Duration {
+    Duration::from_millis(count)
+}
+
+/// Answers all that comes, until the client ends the connection.
+fn serve_well(line: &mut Line) {
+    while let Some(request) = line.request() {
+        answer(line, request.xid, request.kind);
+    }
+}
+
+fn answer(line: &mut Line, xid: i32, kind: i32) -> bool {
+    match kind {
+        PING => line.refuse(PONG, 0),
+        CREATE => line.tell_path(xid, "/mine"),
+        SYNC => line.send(&jute::Record::reply(xid, 5, 0).text("/").framed()),
+        EXISTS => line.tell_stat(xid),
+        CLOSE => line.refuse(xid, 0),
+        _ => line.tell_data(xid),
+    }
+}
+
+/// A server that admits the session and answers nothing.
+fn silent() -> Partner {
+    Partner::start(|_, mut line| {
+        line.admit(10_000);
+        while line.request().is_some() {}
+    })
+}
+
+#[test]
+fn a_call_waits_to_a_limit_of_its_own() {
+    let partner = silent();
+    let session = Session::open(partner.address, TIMEOUT).unwrap();
+    let begun = Instant::now();
+    let write = Request::set("/a", b"one", 0).within(millis(300));
+    let late = session.call(write).unwrap_err();
+    let took = begun.elapsed();
+    assert_eq!(late.kind(), &ErrorKind::TimedOut);
+    assert!(late.may_have_happened());
+    assert!(
+        took >= millis(300) && took < millis(300) + SLACK,
+        "{took:?}"
+    );
+    let mut local = LocalSession::open(partner.address, TIMEOUT).unwrap();
+    let waits = Request::get("/a").within(millis(300));
+    let late = local.call(waits).unwrap_err();
+    assert_eq!(late.kind(), &ErrorKind::NoReply(NoReply::NotConnected)); // the partner serves one after the other
+}
+
+#[test]
+fn a_limit_comes_while_a_server_is_dialled() {
+    let dial = |_: &dirwolleu::Server<'_>, within: Duration| {
+        sleep(within);
+        Err(std::io::ErrorKind::TimedOut.into())
+    };
+    let options = SessionOptions::new(TIMEOUT).dial(dial);
+    let session = options.open("127.0.0.1:1").unwrap();
+    let begun = Instant::now();
+    let late = session.call(Request::get("/a").within(millis(300)));
+    let took = begun.elapsed();
+    let reason = late.unwrap_err().no_reply();
+    assert_eq!(reason, Some(NoReply::NotConnected));
+    assert!(
+        took >= millis(300) && took < millis(300) + SLACK,
+        "{took:?}"
+    );
+}
+
+#[test]
+fn more_calls_than_may_be_on_their_way_wait_in_line() {
+    let partner = Partner::start(|_, mut line| {
+        line.admit(10_000);
+        serve_well(&mut line);
+    });
+    let session = Session::open(partner.address, TIMEOUT).unwrap();
+    let tickets: Vec<_> = (0..3_000)
+        .map(|_| session.ask(Request::get("/a")))
+        .collect();
+    for ticket in tickets {
+        assert!(ticket.wait_for(PATIENCE).is_ok());
+    }
+}
+
+#[test]
+fn calls_that_wait_for_a_connection_are_sent_in_their_order() {
+    let (sender, asked) = mpsc::channel();
+    let partner = Partner::start(move |_, mut line| {
+        line.admit(10_000);
+        while let Some(request) = line.request() {
+            sender.send(request.kind).unwrap();
+            answer(&mut line, request.xid, request.kind);
+        }
+    });
+    let session = Session::open(Hosts::default(), TIMEOUT).unwrap();
+    let first = session.ask(Request::get("/a"));
+    let second = session.ask(Request::sync("/"));
+    let third = session.ask(Request::exists("/a"));
+    session.change_hosts(partner.address.into()).unwrap();
+    assert!(first.wait_for(PATIENCE).is_ok());
+    assert!(second.wait_for(PATIENCE).is_ok());
+    assert!(third.wait_for(PATIENCE).is_ok());
+    let kinds: Vec<i32> = asked.try_iter().filter(|kind| *kind != PING).collect();
+    assert_eq!(kinds, [GET_DATA, SYNC, EXISTS]);
+}
+
+#[test]
+fn a_call_of_the_lane_waits_to_its_limit_too() {
+    let nowhere = Session::open(Hosts::default(), TIMEOUT).unwrap();
+    let waits = Request::sync("/").within(millis(200));
+    let late = nowhere.call(waits).unwrap_err();
+    assert_eq!(late.no_reply(), Some(NoReply::NotConnected));
+    let partner = silent();
+    let session = Session::open(partner.address, TIMEOUT).unwrap();
+    while session.state() != Some(State::Connected) {
+        sleep(millis(5));
+    }
+    let late = session.call(Request::sync("/").within(millis(200)));
+    assert_eq!(late.map_err(Error::into_kind), Err(ErrorKind::TimedOut));
+}
+
+#[test]
+fn a_session_that_is_closed_is_asked_nothing_and_is_renewed() {
+    let (sender, sessions) = mpsc::channel();
+    let partner = Partner::start(move |_, mut line| {
+        let request = line.frame().unwrap();
+        sender.send(request[16..24].to_vec()).unwrap();
+        line.send(&jute::Record::accepted(10_000, 0x1234));
+        serve_well(&mut line);
+    });
+    let session = Session::open(partner.address, TIMEOUT).unwrap().shared();
+    session.get("/a").unwrap();
+    session.close().unwrap();
+    assert_eq!(session.state(), Some(State::Closed));
+    let closed = session.get("/a").unwrap_err();
+    assert_eq!(closed.no_reply(), Some(NoReply::SessionClosed));
+    sleep(millis(1_000));
+    assert_eq!(partner.dials(), 1, "it dials no more");
+    session.renew().unwrap();
+    assert!(session.get("/a").is_ok());
+    let asked: Vec<Vec<u8>> = sessions.try_iter().collect();
+    assert_eq!(asked, [vec![0; 8], vec![0; 8]], "each is a new session");
+}
+
+#[test]
+fn a_session_that_lives_goes_on_with_another_machine() {
+    let (sender, sessions) = mpsc::channel();
+    let partner = Partner::start(move |number, mut line| {
+        let request = line.frame().unwrap();
+        sender.send(request[16..24].to_vec()).unwrap();
+        line.send(&jute::Record::accepted(10_000, 0x1234));
+        if number == 0 {
+            let request = line.request().unwrap();
+            line.tell_data(request.xid);
+            while line.request().is_some() {}
+        }
+        serve_well(&mut line);
+    });
+    let session = Session::open(partner.address, TIMEOUT).unwrap();
+    session.call(Request::get("/a").watched()).unwrap();
+    let waits = session.ask(Request::get("/a"));
+    session.renew().unwrap();
+    let lost = waits.wait_for(PATIENCE).unwrap_err();
+    assert_eq!(lost.no_reply(), Some(NoReply::ConnectionLoss));
+    assert_eq!(session.peek("/a"), Ok(None), "it keeps nothing");
+    assert!(session.get("/a").is_ok());
+    let asked: Vec<Vec<u8>> = sessions.try_iter().collect();
+    let same = 0x1234_i64.to_be_bytes().to_vec();
+    assert_eq!(asked, [vec![0; 8], same]);
+}
+
+#[test]
+fn a_refused_read_of_what_is_followed_is_told_once_and_made_again() {
+    let mut refusals = 2;
+    let partner = Partner::start(move |_, mut line| {
+        line.admit(10_000);
+        while let Some(request) = line.request() {
+            if request.kind == GET_DATA && refusals > 0 {
+                refusals -= 1;
+                line.refuse(request.xid, Code::NO_AUTH.0);
+            } else {
+                answer(&mut line, request.xid, request.kind);
+            }
+        }
+    });
+    let session = Session::open(partner.address, TIMEOUT).unwrap();
+    let mut nodes = session.follow("/a");
+    let refused = nodes.next().unwrap().unwrap_err();
+    assert_eq!(
+        (refused.code(), refused.path()),
+        (Some(Code::NO_AUTH), Some("/a"))
+    );
+    let begun = Instant::now();
+    let node = nodes.next().unwrap().unwrap().unwrap();
+    assert_eq!(node.data.as_deref(), Some(b"one".as_slice()));
+    let took = begun.elapsed();
+    assert!(took + millis(50) >= millis(2_000), "{took:?}");
+}
+
+#[test]
+fn what_follows_ends_with_its_session() {
+    let partner = Partner::start(|number, mut line| {
+        if number == 1 {
+            line.frame();
+            line.send(&jute::Record::expired());
+        } else if line.admit(10_000) {
+            let request = line.request().unwrap();
+            line.tell_data(request.xid);
+        }
+    });
+    let session = Session::open(partner.address, TIMEOUT).unwrap();
+    let mut nodes = session.follow("/a");
+    assert!(nodes.next().unwrap().is_ok());
+    let ended = nodes.next().unwrap().unwrap_err();
+    assert_eq!(ended.no_reply(), Some(NoReply::SessionExpired));
+    assert!(nodes.next().is_none());
+    assert_eq!(session.state(), Some(State::Expired));
+    let expired = session.get("/a").unwrap_err();
+    assert_eq!(expired.no_reply(), Some(NoReply::SessionExpired));
+    assert_eq!(session.peek("/a"), Ok(None));
+    sleep(millis(1_000));
+    assert_eq!(partner.dials(), 2, "it dials no more");
+    let no_path = session.follow("a").next().unwrap().unwrap_err();
+    assert_eq!(
+        no_path.to_string(),
+        "a is no path: no slash at its beginning"
+    );
+}
+
+#[test]
+fn what_is_followed_goes_on_with_a_renewed_session() {
+    let partner = Partner::start(|number, mut line| {
+        if number == 1 {
+            line.frame();
+            line.send(&jute::Record::expired());
+        } else if line.admit(10_000) {
+            let request = line.request().unwrap();
+            answer(&mut line, request.xid, request.kind);
+            if number > 0 {
+                serve_well(&mut line);
+            }
+        }
+    });
+    let session = Session::open(partner.address, TIMEOUT).unwrap().shared();
+    let follower = session.clone();
+    let (sender, told) = mpsc::channel();
+    thread::spawn(move || {
+        for node in follower.follow("/a") {
+            sender.send(node.map(drop)).unwrap();
+        }
+    });
+    assert_eq!(told.recv_timeout(PATIENCE), Ok(Ok(())));
+    assert!(told.recv_timeout(PATIENCE).unwrap().is_err());
+    session.renew().unwrap();
+    assert!(session.create("/mine", b"", Mode::Ephemeral).is_ok());
+    assert!(session.follow("/a").next().unwrap().is_ok());
+}
+
+#[test]
+fn how_old_an_answer_may_be_is_told() {
+    let partner = Partner::start(|_, mut line| {
+        line.admit(10_000);
+        serve_well(&mut line);
+    });
+    let mut session = LocalSession::open(partner.address, TIMEOUT).unwrap();
+    assert_eq!(session.age(), None);
+    session.watch("/a").unwrap();
+    sleep(millis(300));
+    let age = session.age().unwrap();
+    assert!(age >= millis(299) && age < millis(300) + SLACK, "{age:?}");
+    session.exists("/a").unwrap();
+    assert!(session.age().unwrap() < age);
+}

@@ -1,0 +1,291 @@
+//! A machine that is driven by bytes, as `zookeeper.jute` spells them, and by moments.
+
+mod jute;
+
+use dirwolleu::{
+    Action, Actions, Brought, Code, DataAnswer, Fault, Machine, Mark, Moment, NoReply, Refusal,
+    Reply, SavedSession, Side, State, Watch,
+};
+use jute::Record;
+use std::time::Duration;
+
+const TIMEOUT: Duration = Duration::from_secs(9);
+const START: Moment = Moment::from_millis(1_000_000_000);
+const SESSION: i64 = 0x1234_5678;
+
+fn after(millis: u64) -> Moment {
+    START.saturating_add(Duration::from_millis(millis))
+}
+
+/// What was said, as text, without the bytes of frames.
+fn said(mut actions: Actions<'_>) -> Vec<String> {
+    let mut lines = Vec::new();
+    while let Some(action) = actions.next().unwrap() {
+        lines.push(match action {
+            Action::Dial { place, within } => format!("dial {place} within {within:?}"),
+            Action::HangUp => String::from("hang up"),
+            Action::Send(frame) => format!("send {}", kind_of(&frame.to_vec())),
+            Action::Answer { ticket, outcome } => format!("{ticket}: {}", answer_of(outcome)),
+            Action::TimedOut { ticket, was_sent } => format!("{ticket}: late, sent {was_sent}"),
+            Action::Report { path, side, event } => format!("{path}: {side:?} {event:?}"),
+            Action::State(state) => format!("{state:?}"),
+            Action::Drop(given_up) => format!("drop {}", given_up.code),
+            Action::Renewed => String::from("renewed"),
+            Action::Shown { ticket } => format!("{ticket}: shown"),
+            Action::Refused { ticket, reason } => format!("{ticket}: refused, {reason:?}"),
+            other => format!("{other:?}"),
+        });
+    }
+    lines
+}
+
+/// The type of a request, by its frame, and `connect` where it has none.
+fn kind_of(frame: &[u8]) -> String {
+    if frame.len() == 4 + 45 {
+        return String::from("connect");
+    }
+    i32::from_be_bytes(frame[8..12].try_into().unwrap()).to_string()
+}
+
+fn answer_of(outcome: Result<Reply<'_>, NoReply>) -> String {
+    match outcome.map(|reply| reply.result) {
+        Ok(Ok(Brought::Data { data, .. })) => String::from_utf8(data.unwrap().to_vec()).unwrap(),
+        Ok(Ok(other)) => format!("{other:?}"),
+        Ok(Err(code)) => format!("code {}", code.0),
+        Err(reason) => format!("{reason:?}"),
+    }
+}
+
+/// A machine with one address, which a server has accepted.
+fn connected() -> Machine {
+    let mut machine = Machine::open(TIMEOUT, 1, 1).unwrap();
+    assert_eq!(said(machine.tick(START).unwrap()), ["dial 0 within 3s"]);
+    assert_eq!(
+        said(machine.opened(START).unwrap()),
+        ["send connect", "Connecting"]
+    );
+    let accepted = Record::accepted(9_000, SESSION);
+    assert_eq!(
+        said(machine.bytes(START, &accepted).unwrap()),
+        ["Connected"]
+    );
+    machine
+}
+
+/// Connects again, after a pause that is over for sure.
+fn connect_again(machine: &mut Machine, now: Moment) -> Vec<String> {
+    assert_eq!(said(machine.tick(now).unwrap()), ["dial 0 within 3s"]);
+    let _ = machine.opened(now).unwrap();
+    let accepted = Record::accepted(9_000, SESSION);
+    said(machine.bytes(now, &accepted).unwrap())
+}
+
+fn data(xid: i32, zxid: i64, text: &str) -> Vec<u8> {
+    let length = i32::try_from(text.len()).unwrap();
+    let reply = Record::reply(xid, zxid, 0).buffer(text.as_bytes());
+    reply.stat(zxid, 0, length, 0).framed()
+}
+
+#[test]
+fn a_subject_is_read_again_after_each_report() {
+    let mut machine = connected();
+    let actions = machine.follow(START, 7, "/a", Side::Data).unwrap();
+    assert_eq!(said(actions), ["send 4"]);
+    let actions = machine.bytes(START, &data(1, 5, "one")).unwrap();
+    assert_eq!(said(actions), ["7: shown"]);
+    let kept = machine.peek_data("/a").unwrap().unwrap();
+    let DataAnswer::Full { data: found, .. } = kept.answer else {
+        panic!("no data");
+    };
+    assert_eq!(
+        (found.as_deref(), kept.mark),
+        (Some(&b"one"[..]), Mark::Good)
+    );
+    let actions = machine.bytes(START, &Record::notice(3, "/a")).unwrap();
+    assert_eq!(said(actions), ["/a: Data DataChanged", "send 4"]);
+    assert_eq!(machine.data_mark("/a"), Ok(Some(Mark::Stale)));
+    let actions = machine.bytes(START, &data(2, 6, "two")).unwrap();
+    assert_eq!(said(actions), ["7: shown"]);
+    let _ = machine.bytes(START, &Record::notice(3, "/a")).unwrap();
+    assert_eq!(said(machine.unfollow(START, 7).unwrap()), [""; 0]);
+    let actions = machine.bytes(START, &data(3, 7, "three")).unwrap();
+    assert_eq!(said(actions), [""; 0]);
+}
+
+#[test]
+fn a_read_that_is_refused_is_made_again_after_a_second() {
+    let mut machine = connected();
+    let _ = machine.follow(START, 7, "/a", Side::Children).unwrap();
+    let refused = Record::reply(1, 5, -102).framed();
+    let actions = machine.bytes(START, &refused).unwrap();
+    let reason = Refusal::Code(Code::NO_AUTH);
+    assert_eq!(said(actions), [format!("7: refused, {reason:?}")]);
+    assert_eq!(machine.deadline(), Some(after(1_000)));
+    assert_eq!(said(machine.tick(after(999)).unwrap()), [""; 0]);
+    assert_eq!(said(machine.tick(after(1_000)).unwrap()), ["send 12"]);
+}
+
+#[test]
+fn a_lost_read_is_asked_again_and_a_lost_write_is_told() {
+    let mut machine = connected();
+    let actions = machine.get_data(START, 1, None, "/a", Watch::No).unwrap();
+    assert_eq!(said(actions), ["send 4"]);
+    let actions = machine.delete(START, 2, None, "/b", -1).unwrap();
+    assert_eq!(said(actions), ["send 2"]);
+    let lines = said(machine.cut(START).unwrap());
+    assert_eq!(lines, ["2: ConnectionLoss", "Idle"]);
+    assert_eq!(
+        connect_again(&mut machine, after(2_000)),
+        ["Connected", "send 4"]
+    );
+    let actions = machine.bytes(after(2_000), &data(3, 5, "one")).unwrap();
+    assert_eq!(said(actions), ["1: one"]);
+}
+
+#[test]
+fn a_call_waits_to_its_limit() {
+    let mut machine = connected();
+    let until = Some(after(100));
+    let _ = machine.get_data(START, 1, until, "/a", Watch::No).unwrap();
+    assert_eq!(machine.deadline(), Some(after(100)));
+    let lines = said(machine.tick(after(100)).unwrap());
+    assert_eq!(lines, ["1: late, sent true"]);
+    let _ = machine.cut(after(100)).unwrap();
+    let until = Some(after(150));
+    let actions = machine.delete(after(100), 2, until, "/a", -1).unwrap();
+    assert_eq!(said(actions), [""; 0]);
+    let lines = said(machine.tick(after(150)).unwrap());
+    assert_eq!(lines, ["2: late, sent false"]);
+}
+
+#[test]
+fn a_thousand_and_twenty_four_are_on_their_way_and_more_wait() {
+    let mut machine = connected();
+    let asked = |machine: &mut Machine, ticket| {
+        let asked = machine.exists(START, ticket, None, "/", Watch::No);
+        said(asked.unwrap()).len()
+    };
+    let sent: usize = (1..=1_030).map(|ticket| asked(&mut machine, ticket)).sum();
+    assert_eq!(sent, 1_024);
+    let reply = Record::reply(1, 5, 0).stat(5, 0, 0, 0).framed();
+    let lines = said(machine.bytes(START, &reply).unwrap());
+    assert_eq!((lines.len(), lines[1].as_str()), (2, "send 3"));
+}
+
+#[test]
+fn an_expired_session_is_followed_by_another() {
+    let mut machine = connected();
+    let _ = machine.follow(START, 7, "/a", Side::Data).unwrap();
+    let _ = machine.bytes(START, &data(1, 5, "one")).unwrap();
+    let _ = machine.cut(START).unwrap();
+    let _ = machine.exists(START, 8, None, "/", Watch::No).unwrap();
+    assert_eq!(
+        said(machine.tick(after(2_000)).unwrap()),
+        ["dial 0 within 3s"]
+    );
+    let _ = machine.opened(after(2_000)).unwrap();
+    let lines = said(machine.bytes(after(2_000), &Record::expired()).unwrap());
+    assert_eq!(
+        lines,
+        ["Expired", "hang up", "8: SessionExpired", "renewed"]
+    );
+    assert_eq!((machine.state(), machine.last_zxid()), (State::Idle, 5));
+    assert_eq!(machine.data_mark("/a"), Ok(None));
+    assert_eq!(
+        connect_again(&mut machine, after(4_000)),
+        ["Connected", "send 4"]
+    );
+}
+
+#[test]
+fn each_address_is_dialled_in_a_round() {
+    let mut machine = Machine::open(TIMEOUT, 3, 5).unwrap();
+    let mut places = Vec::new();
+    for attempt in 0..6 {
+        let now = after(attempt * 60_000);
+        let mut actions = machine.tick(now).unwrap();
+        let Some(Action::Dial { place, .. }) = actions.next().unwrap() else {
+            panic!("nothing is dialled");
+        };
+        places.push(place);
+        assert_eq!(said(machine.failed(now).unwrap()), [""; 0]);
+    }
+    assert_eq!(places[..3], places[3..]);
+    places[..3].sort_unstable();
+    assert_eq!(places[..3], [0, 1, 2]);
+    let _ = machine.set_addresses(after(360_000), 0).unwrap();
+    assert_eq!(machine.deadline(), None);
+}
+
+#[test]
+fn when_a_server_was_heard_is_told() {
+    let mut machine = connected();
+    assert_eq!(machine.heard_at(), Some(START));
+    let _ = machine.tick(after(500)).unwrap();
+    assert_eq!(machine.heard_at(), Some(START));
+    let _ = machine.bytes(after(700), &Record::notice(3, "/a")).unwrap();
+    assert_eq!(machine.heard_at(), Some(after(700)));
+    let fresh = Machine::open(TIMEOUT, 1, 1).unwrap();
+    assert_eq!(fresh.heard_at(), None);
+}
+
+#[test]
+fn a_session_is_saved_and_resumed() {
+    let saved = connected().saved().unwrap();
+    assert_eq!(saved.id(), Some(SESSION));
+    let mut machine = Machine::resume(TIMEOUT, 1, 1, &saved).unwrap();
+    let _ = machine.tick(START).unwrap();
+    let mut actions = machine.opened(START).unwrap();
+    let Some(Action::Send(frame)) = actions.next().unwrap() else {
+        panic!("a connection begins with a frame");
+    };
+    let password: Vec<u8> = (0..16).collect();
+    let request = Record::new().int(0).long(0).int(9_000).long(SESSION);
+    let request = request.buffer(&password).boolean(false).framed();
+    assert_eq!(frame.to_vec(), request);
+    let short = SavedSession::from_bytes(vec![0; 19]);
+    let resumed = Machine::resume(TIMEOUT, 1, 1, &short);
+    assert_eq!(resumed.unwrap_err(), Fault::NotSaved);
+    let zero = Machine::open(Duration::ZERO, 1, 1);
+    assert_eq!(zero.unwrap_err(), Fault::BadTimeout);
+}
+
+#[test]
+fn what_is_no_path_is_refused() {
+    let mut machine = connected();
+    for path in ["", "a", "/a//b"] {
+        let asked = machine.get_data(START, 1, None, path, Watch::No).map(said);
+        assert!(matches!(asked, Err(Fault::NotPath { .. })), "{path:?}");
+        let followed = machine.follow(START, 1, path, Side::Data).map(said);
+        assert!(matches!(followed, Err(Fault::NotPath { .. })), "{path:?}");
+    }
+}
+
+#[test]
+fn a_machine_moves_between_places_and_threads() {
+    fn is_send<T: Send>() {}
+    is_send::<Machine>();
+    is_send::<Actions<'_>>();
+    let mut machines = vec![connected(), connected()];
+    let mut first = Box::new(machines.remove(0));
+    let thread = std::thread::spawn(move || {
+        let actions = first.follow(START, 1, "/a", Side::Data).unwrap();
+        (said(actions), first.state())
+    });
+    let (lines, state) = thread.join().unwrap();
+    assert_eq!((lines.len(), state), (1, State::Connected));
+    assert_eq!(machines[0].state(), State::Connected);
+}
+
+#[test]
+fn a_session_that_is_closed_says_so() {
+    let mut machine = connected();
+    let actions = machine.close_session(START, 9, None).unwrap();
+    assert_eq!(said(actions), ["send -11"]);
+    let actions = machine.exists(START, 10, None, "/", Watch::No).unwrap();
+    assert_eq!(said(actions), ["10: SessionClosed"]);
+    let closed = Record::reply(1, 6, 0).framed();
+    let lines = said(machine.bytes(START, &closed).unwrap());
+    assert_eq!(lines[..3], ["9: Done", "Closed", "hang up"]);
+    assert_eq!(machine.state(), State::Closed);
+}
