@@ -39,6 +39,7 @@ impl<A: Allocator + Copy> Agent<A> {
     ghost use Rattle.std.specs.List.Sorted.{IsPermutation};
     ghost use Rattle.zk_turns.specs.Turns as turns;
     ghost use Rattle.zk_turns.specs.View.{view_at};
+    ghost use Rattle.zk_turns.specs.Rule.{forgotten};
     ghost use Rattle.zk_session.specs.declared.states.State.TheVariants.{Expired, Closed};
     ghost use Rattle.zk_client.specs.Clients.{renewed_start, view_of};
     ghost use Rattle.zk_dialler.specs.Backoffs.{row_ended};
@@ -49,7 +50,7 @@ impl<A: Allocator + Copy> Agent<A> {
     ghost use Rattle.zk_follow.specs.Following.{due_again, IsFollowed};
     ghost use Rattle.zk_conversation.specs.Views.{call_view};
     ghost use Rattle.zk_line.specs.declared.entry.Ending.TheVariants as ending;
-    ghost use Rattle.zk_agent.specs.Agents.{bytes_at, given_of, heard_after, how_many_asked, how_many_ended, is_closed, opened_at, over_at, trail_of, Addressed, Asks, Comes, Follows, Hears, IsDecided, NothingAt, NothingOpen, Unfollows};
+    ghost use Rattle.zk_agent.specs.Agents.{bytes_at, given_of, heard_after, how_many_asked, how_many_ended, is_closed, opened_at, over_at, trail_of, Addressed, Asks, Comes, Follows, Hears, IsDecided, IsLed, NothingAt, NothingOpen, Unfollows};
     ghost use Rattle.zk_agent.specs.Calls.{endings, how_many, IsInTime, IsServed};
     ghost use Rattle.zk_agent.specs.Telling.{told_by, Begins};
 
@@ -113,6 +114,22 @@ impl<A: Allocator + Copy> Agent<A> {
         ensures { result ≡ self.now.heard_at }
     {
         self.heard_at
+    }
+
+    /// Takes the stale answers out of what the client keeps: without that they take memory until their paths are read again, or the session is
+    /// over. What is good stays. It is no step: nothing is told, and it takes no memory.
+    pub fn forget_stale(&mut self)
+        ensures view { view_of self.new.asker.follower.client ≡ record (view_of self.old.asker.follower.client) { cache = forgotten (view_of self.old.asker.follower.client).cache } }
+        ensures led { IsLed (view_of self.old.asker.follower.client) → IsLed (view_of self.new.asker.follower.client) }
+        ensures followed { (now : ℕ) → All (IsFollowed now (view_of self.old.asker.follower.client)) self.old.asker.follower.subjects.items → All (IsFollowed now (view_of self.new.asker.follower.client)) self.new.asker.follower.subjects.items }
+        ensures subjects { self.new.asker.follower.subjects ≡ self.old.asker.follower.subjects }
+        ensures calls { self.new.asker.line ≡ self.old.asker.line }
+        ensures dialler { self.new.dialler ≡ self.old.dialler }
+        ensures timeout { self.new.timeout_ms ≡ self.old.timeout_ms }
+        ensures latest { self.new.latest ≡ self.old.latest }
+        ensures heard { self.new.heard_at ≡ self.old.heard_at }
+    {
+        self.asker.forget_stale();
     }
 
     /// The first moment at which something is due: at the latest then a step is to be made, by [`Input::Moment`] if nothing else happens. It

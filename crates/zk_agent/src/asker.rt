@@ -25,8 +25,10 @@ pub(crate) struct Asker<A: Allocator + Copy = Global> {
 }
 
 impl<A: Allocator + Copy> Asker<A> {
-    ghost use Rattle.std.specs.Prelude.{◌≡◌, ◌++◌, ◌∷◌, ◌<ℤ◌, ℕ, pos, map, false, [], None, IfOk, OnOk, OnSome, All};
+    ghost use Rattle.std.specs.Prelude.{◌≡◌, ◌++◌, ◌∷◌, ◌<ℤ◌, ℕ, List, pos, map, false, [], None, IfOk, OnOk, OnSome, All};
+    ghost use Rattle.zk_turns.specs.Turns.{Forgets, Item, Start};
     ghost use Rattle.zk_turns.specs.View.{view_at};
+    ghost use Rattle.zk_turns.specs.Rule.{forgotten, Stands};
     ghost use Rattle.zk_client.specs.Clients.{renewed_start, view_of};
     ghost use Rattle.zk_client.specs.Views.{input_view};
     ghost use Rattle.zk_follow.specs.declared.progress.Progress.TheVariants as progress;
@@ -123,6 +125,17 @@ impl<A: Allocator + Copy> Asker<A> {
         ensures line { self.new.line ≡ self.old.line }
     {
         self.follower.unfollow(ticket);
+    }
+
+    /// Takes the stale answers out of what the client keeps.
+    pub(crate) fn forget_stale(&mut self)
+        ensures view { view_of self.new.follower.client ≡ record (view_of self.old.follower.client) { cache = forgotten (view_of self.old.follower.client).cache } }
+        ensures stands { (start : Start) (items : List Item) → Stands start items (view_of self.old.follower.client) → Stands start (Forgets ∷ items) (view_of self.new.follower.client) }
+        ensures subjects { self.new.follower.subjects ≡ self.old.follower.subjects }
+        ensures line { self.new.line ≡ self.old.line }
+        ensures followed { (now : ℕ) → All (IsFollowed now (view_of self.old.follower.client)) self.old.follower.subjects.items → All (IsFollowed now (view_of self.new.follower.client)) self.new.follower.subjects.items }
+    {
+        self.follower.forget_stale();
     }
 
     /// A call is asked.

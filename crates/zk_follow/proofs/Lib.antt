@@ -4,3 +4,4 @@ pub mod Hearing
 pub mod Asking
 pub mod Visiting
 pub mod Telling
+pub mod Forgetting

@@ -1,9 +1,11 @@
 //! A client with the subjects that its program follows.
 
-ghost use Rattle.std.specs.Prelude.{◌≡◌, ◌++◌, ◌∷◌, ◌<ℤ◌, ◌==◌, ℕ, false, not, pos, map, [], None, IfOk, OnOk, OnErr, All};
+ghost use Rattle.std.specs.Prelude.{◌≡◌, ◌++◌, ◌∷◌, ◌<ℤ◌, ◌==◌, ℕ, List, false, not, pos, map, [], None, IfOk, OnOk, OnErr, All};
 ghost use Rattle.std.specs.List.{flat_map};
 ghost use Rattle.std.proofs.Props.{props};
+ghost use Rattle.zk_turns.specs.Turns.{Forgets, Item, Start};
 ghost use Rattle.zk_turns.specs.View.{view_at};
+ghost use Rattle.zk_turns.specs.Rule.{forgotten, Stands};
 ghost use Rattle.zk_client.specs.Clients.{renewed_start, view_of};
 ghost use Rattle.zk_client.specs.Views.{input_view, said};
 ghost use Rattle.zk_follow.specs.Following.{due_again, first_again, first_of, again_at, heard_all, news_in, told_of, unfollowed, AreVisited, IsAhead, IsCounted, IsFollowed, Reads, Steps};
@@ -199,6 +201,16 @@ impl<A: Allocator + Copy> Follower<A> {
         ensures subjects { self.new.subjects.items ≡ unfollowed ticket self.old.subjects.items }
     {
         remove(&mut self.subjects, ticket);
+    }
+
+    /// Takes the stale answers out of what the client keeps. What is good stays, so each subject stays followed. It takes no memory.
+    pub fn forget_stale(&mut self)
+        ensures view { view_of self.new.client ≡ record (view_of self.old.client) { cache = forgotten (view_of self.old.client).cache } }
+        ensures stands { (start : Start) (items : List Item) → Stands start items (view_of self.old.client) → Stands start (Forgets ∷ items) (view_of self.new.client) }
+        ensures subjects { self.new.subjects ≡ self.old.subjects }
+        ensures followed { (now : ℕ) → All (IsFollowed now (view_of self.old.client)) self.old.subjects.items → All (IsFollowed now (view_of self.new.client)) self.new.subjects.items }
+    {
+        self.client.forget_stale();
     }
 
     /// The first moment at which a subject is read again whose read was refused: at the latest then a step is due.

@@ -1,0 +1,9 @@
+use Rattle.std.proofs.Common.{subst, sym}
+use Rattle.std.specs.Prelude.{All}
+use Rattle.zk_agent.specs.Calls.{IsAsked}
+use Rattle.zk_agent.proofs.asker.Asker.forget_stale.Goals as goal
+
+pub invariant_of-self : goal.invariant_of-self
+invariant_of-self g c =
+    let items = c.args.self.now.line.entries.items in
+    record { asked = subst (λ after. All (IsAsked after) items) (sym c.forget_stale.ensures.view) c.args.self.now.asked }

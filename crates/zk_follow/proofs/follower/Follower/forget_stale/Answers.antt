@@ -1,0 +1,18 @@
+use Rattle.std.proofs.Common.{subst, sym}
+use Rattle.std.specs.Prelude.{All}
+use Rattle.zk_client.specs.Clients.{view_of}
+use Rattle.zk_follow.specs.Following.{IsCounted, IsFollowed}
+use Rattle.zk_follow.proofs.Forgetting.{all_counted_still, all_followed_still}
+use Rattle.zk_follow.proofs.follower.Follower.forget_stale.Goals as goal
+
+pub invariant_of-self : goal.invariant_of-self
+invariant_of-self g c =
+    let view = view_of c.args.self.now.client in
+    let items = c.args.self.now.subjects.items in
+    record { counted = subst (λ after. All (IsCounted after) items) (sym c.forget_stale.ensures.view) (all_counted_still view items c.args.self.now.counted) }
+
+pub returns-clause-followed : goal.returns-clause-followed
+returns-clause-followed g c = λ now all.
+    let view = view_of c.args.self.now.client in
+    let items = c.args.self.now.subjects.items in
+    subst (λ after. All (IsFollowed now after) items) (sym c.forget_stale.ensures.view) (all_followed_still now view items all)
