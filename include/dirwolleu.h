@@ -321,6 +321,12 @@ enum dw_result dw_words(dw_client *handle, char *out, size_t room, size_t *count
 /* The state, one of enum dw_state, or DW_CLOSED. */
 int32_t dw_state(dw_client *handle);
 
+/* A number that rises where what is kept good may have changed, or the state, or the session: by one at each step that told a reply, a report or
+ * another state, at DW_HALTED, and at dw_renew. While it is the same, dw_subtree, dw_lacking, dw_snapshot and dw_holder answer the same of what is
+ * good, so a program asks again only where it differs. dw_last_zxid may rise meanwhile. It is 1 after dw_open and dw_resume, and 0 for a closed
+ * handle alone. */
+uint64_t dw_revision(dw_client *handle);
+
 /* The greatest zxid seen, not below 0, or DW_CLOSED. */
 int64_t dw_last_zxid(dw_client *handle);
 
@@ -546,6 +552,10 @@ enum dw_result dw_session_words(dw_session *handle, char *out, size_t room, size
 /* Look-ups of a session. They take no step and leave what it said, and tell what those of a client with their names do. */
 
 int32_t dw_session_state(dw_session *handle);
+
+/* That of a session rises by one at each step to which bytes came or which told another state or DW_KIND_RENEWED, and at DW_HALTED: what its client
+ * keeps changes with these alone. So it rises with the reply to a ping too. It is 1 after dw_session_open and dw_session_resume. */
+uint64_t dw_session_revision(dw_session *handle);
 int64_t dw_session_last_zxid(dw_session *handle);
 int64_t dw_session_timeout_ms(dw_session *handle);
 

@@ -264,6 +264,27 @@ impl Client {
         self.state
     }
 
+    /// A number from 1 on that rises where what is kept and good may have changed, or the state, or the session: by one at each step that
+    /// gave a reply, a report or another state, at a step that failed with [`Fault::Halted`], and as a session is
+    /// [renewed](Client::renew). While it is the same, a [subtree](Client::subtree), what is [lacking](Client::lacking) and a
+    /// [snapshot](Client::snapshot) are the same, so ask for them again only where it differs. The [last zxid](Client::last_zxid) may
+    /// rise meanwhile.
+    ///
+    /// ```
+    /// # fn main() -> Result<(), dirwolleu::Fault> {
+    /// let client = dirwolleu::Client::open(std::time::Duration::from_secs(9))?;
+    /// let mut shown = 0;
+    /// if client.revision() != shown {
+    ///     shown = client.revision(); // ask for what is shown
+    /// }
+    /// assert_eq!(shown, client.revision());
+    /// # Ok(())
+    /// # }
+    /// ```
+    pub fn revision(&self) -> u64 {
+        self.handle.revision()
+    }
+
     /// The greatest zxid seen, not below 0. A good answer is what the servers' history has at it.
     pub fn last_zxid(&self) -> i64 {
         self.handle.last_zxid()

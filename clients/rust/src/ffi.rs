@@ -88,6 +88,7 @@ extern "C" {
     fn dw_names(handle: *mut Raw, out: *mut u8, room: usize, count: *mut usize) -> i32;
     fn dw_words(handle: *mut Raw, out: *mut u8, room: usize, count: *mut usize) -> i32;
     fn dw_state(handle: *mut Raw) -> i32;
+    fn dw_revision(handle: *mut Raw) -> u64;
     fn dw_last_zxid(handle: *mut Raw) -> i64;
     fn dw_timeout_ms(handle: *mut Raw) -> i64;
     fn dw_deadline(handle: *mut Raw, first_ms: *mut u64) -> i32;
@@ -344,6 +345,11 @@ impl Handle {
     pub(crate) fn state(&self) -> i32 {
         // SAFETY: as `Handle` says.
         unsafe { dw_state(self.raw.get()) }
+    }
+
+    pub(crate) fn revision(&self) -> u64 {
+        // SAFETY: as `Handle` says.
+        unsafe { dw_revision(self.raw.get()) }
     }
 
     pub(crate) fn last_zxid(&self) -> i64 {

@@ -1,5 +1,5 @@
 -- What becomes of an agent's device, by the number that is told.
-use Rattle.std.specs.Prelude.{◌≡◌, ◌+◌, ◌==◌, ◌^◌, ℕ, zero, ℤ, pos, negsuc, true, false, max, List, [], Option, Some, None, Result, All, MatchResult, if◌then◌else◌}
+use Rattle.std.specs.Prelude.{◌≡◌, ◌+◌, ◌==◌, ◌^◌, Bool, ℕ, zero, ℤ, pos, negsuc, true, false, max, List, [], Option, Some, None, Result, All, MatchResult, if◌then◌else◌}
 use Rattle.std.specs.declared.alloc.Global.{Global}
 use Rattle.zk_nodes.specs.Path.{Text}
 use Rattle.zk_nodes.specs.declared.side.Side.{Side}
@@ -16,8 +16,10 @@ use Rattle.zk_agent.specs.declared.input.Input.TheVariants as input
 use Rattle.zk_agent.specs.Agents.{asks_of, heard_after, how_many_asked, how_many_ended, trail_of, Comes}
 use Rattle.zk_agent.specs.Calls.{how_many, IsInTime, IsServed}
 use Rattle.zk_agent.specs.Telling.{told_by}
+use Rattle.zk_conclusions.specs.Revisions.{raised}
 use Rattle.zk_device.specs.Codes.{refusal_code}
 use Rattle.zk_device.specs.declared.refusal.Refusal.{Refusal}
+use Rattle.zk_agent_device.specs.Revisions.{revised}
 use Rattle.zk_agent_device.specs.declared.device.AgentDevice.{AgentDevice}
 
 -- ---- what happens
@@ -42,6 +44,11 @@ happening (input.Call ticket call until) = Calls ticket (call_view call) until
 happening (input.Follow ticket side path) = Follows ticket side path
 happening (input.Unfollow ticket) = Unfollows ticket
 
+-- whether bytes came
+abbrev pub is_bytes : Happening → Bool
+is_bytes (Bytes bytes) = true
+is_bytes _ = false
+
 -- the limit of a call at a moment: at the last one of all there is none
 abbrev pub limit_of : (until : ℕ) → Option ℕ
 limit_of until = if until == 18446744073709551615 then None else Some until
@@ -65,6 +72,7 @@ pub record Took (now : ℕ) (given : Input Global) (before after : AgentDevice) 
   pub limits : All (IsInTime after.agent.latest) after.agent.asker.line.entries.items
   pub latest : after.agent.latest ≡ max before.agent.latest now
   pub heard : after.agent.heard_at ≡ heard_after (is_open before.agent.dialler.phase) (max before.agent.latest now) given before.agent.heard_at
+  pub number : after.revision.number ≡ revised (is_bytes (happening given)) (told_by after.said.items) before.revision.number
 
 -- The same of an input that is this.
 pub record Stepped (now : ℕ) (what : Happening) (before after : AgentDevice) : Type 0 where
@@ -72,21 +80,22 @@ pub record Stepped (now : ℕ) (what : Happening) (before after : AgentDevice) :
   pub is : happening given ≡ what
   pub took : Took now given before after
 
--- Memory ran out within this step, or within an earlier one: the agent goes on no further, and nothing is told.
-pub record Stopped (after : AgentDevice) : Type 0 where
+-- Memory ran out within this step, or within an earlier one: the agent goes on no further, and nothing is told. The revision is the next one.
+pub record Stopped (before after : AgentDevice) : Type 0 where
   pub over : after.is_over ≡ true
   pub silent : after.said.items ≡ []
+  pub number : after.revision.number ≡ raised before.revision.number
 
 -- What happened, at a moment: 0 where it was one step of the agent, -1 where the agent goes on no further, and any other number where nothing
 -- was done, for a reason that this number has.
 abbrev pub Steps : (Refuses : ℤ → Type 0) → (now : ℕ) → Happening → (before : AgentDevice) → (code : ℤ) → (after : AgentDevice) → Type 0
 Steps Refuses now what before (pos zero) after = Stepped now what before after
-Steps Refuses now what before (negsuc zero) after = Stopped after
+Steps Refuses now what before (negsuc zero) after = Stopped before after
 Steps Refuses now what before code after = Refuses code × (after ≡ before)
 
 -- ---- beginnings
 
--- Nothing was asked, followed, heard or said yet, and the client is this one.
+-- Nothing was asked, followed, heard or said yet, and the client is this one. The revision is 1.
 pub record BeginsWith (view : View) (device : AgentDevice) : Type 0 where
   pub client : view_of device.agent.asker.follower.client ≡ view
   pub subjects : device.agent.asker.follower.subjects.items ≡ []
@@ -95,6 +104,7 @@ pub record BeginsWith (view : View) (device : AgentDevice) : Type 0 where
   pub heard : device.agent.heard_at ≡ None
   pub silent : device.said.items ≡ []
   pub goes_on : device.is_over ≡ false
+  pub number : device.revision.number ≡ 1
 
 -- a device that has begun so, or a refusal for a reason that its number has
 abbrev pub Begins : (Refuses : ℤ → Type 0) → Start → Result AgentDevice Refusal → Type 0

@@ -25,6 +25,7 @@ pub record Tells (before : AgentDevice) (room : Flat) (code : ℤ) (told : Flat)
   pub said : after.said ≡ before.said
   pub read : after.read ≡ read_after (option_map action_flat (slice_get before.said.items before.read)) before.read
   pub over : after.is_over ≡ before.is_over
+  pub number : after.revision ≡ before.revision
 
 -- The first moment at which something is due, with 0; or that nothing will be due, with 1.
 abbrev pub FirstDue : AgentDevice → ℤ → ℕ → Type 0
