@@ -16,7 +16,7 @@ use Rattle.zk_device.specs.Steps as step
 use Rattle.zk_device.specs.declared.device.Device.{Device}
 use Rattle.zk_c.specs.Held as held
 use Rattle.zk_c.specs.Lives.{Use, Opens, Resumes, Renews, Steps, Ticks, Reads, Forgets, Looks, Closes, Does, Used, held_after, IsLife, GoesOn, AllGoOn, SameForLife, RefusesInput}
-use Rattle.zk_c.proofs.Lives.{StandsIn, empty_holds_none, forget_stands, in_held, stands}
+use Rattle.zk_c.proofs.Lives.{empty_holds_none, forget_stands, in_held, stands}
 
 -- ---- unchanged
 
@@ -153,8 +153,7 @@ module _ (n : ℕ) (lt : n < 2 ^ 64 - 1) where
       }
 
   all_keep : (more earlier : List Used) (before : Device) → IsLife (more ++ earlier) → AllGoOn more → held_after earlier ≡ Some before → n ≤ before.revision.number → KeepsAll before (held_after (more ++ earlier))
-  all_keep [] earlier before lived on at from device is =
-      left_as before device from (one_device device before (sym is ∙ at))
+  all_keep [] earlier before lived on at from = λ device is. left_as before device from (one_device device before (sym is ∙ at))
     where
       one_device : (one other : Device) → Some one ≡ Some other → one ≡ other
       one_device one other e = ap (λ (o : Option Device). elim o [ None ↦ one | Some d ↦ d ]) e
