@@ -321,6 +321,12 @@ enum dw_result dw_words(dw_client *handle, char *out, size_t room, size_t *count
 /* The state, one of enum dw_state, or DW_CLOSED. */
 int32_t dw_state(dw_client *handle);
 
+/* A number that rises where what is kept good may have changed, or the state, or the session: by one at each step that told a reply, a report or
+ * another state, at DW_HALTED, and at dw_renew. While it is the same, dw_subtree, dw_lacking, dw_snapshot and dw_holder answer the same of what is
+ * good, so a program asks again only where it differs. dw_last_zxid may rise meanwhile. It is 1 after dw_open and dw_resume, and 0 for a closed
+ * handle alone. */
+uint64_t dw_revision(dw_client *handle);
+
 /* The greatest zxid seen, not below 0, or DW_CLOSED. */
 int64_t dw_last_zxid(dw_client *handle);
 
@@ -546,6 +552,10 @@ enum dw_result dw_session_words(dw_session *handle, char *out, size_t room, size
 /* Look-ups of a session. They take no step and leave what it said, and tell what those of a client with their names do. */
 
 int32_t dw_session_state(dw_session *handle);
+
+/* That of a session rises by one at each step to which bytes came or which told another state or DW_KIND_RENEWED, and at DW_HALTED: what its client
+ * keeps changes with these alone. So it rises with the reply to a ping too. It is 1 after dw_session_open and dw_session_resume. */
+uint64_t dw_session_revision(dw_session *handle);
 int64_t dw_session_last_zxid(dw_session *handle);
 int64_t dw_session_timeout_ms(dw_session *handle);
 
@@ -575,6 +585,10 @@ enum dw_result dw_session_standing(dw_session *handle, const char *directory, si
                                    size_t *count);
 enum dw_result dw_session_holder(dw_session *handle, const char *directory, size_t directory_length, const char *prefix,
                                  size_t prefix_length, const char *path, size_t path_length, int64_t *token);
+
+/* Forgets all stale answers, which take memory until their paths are read again or the session is over. It takes no memory, is no step, and leaves
+ * what was said. DW_OK, DW_CLOSED. */
+enum dw_result dw_session_forget(dw_session *handle);
 
 /* Words for people: what a function answered, why there is no reply, why a connection is given up, and what an error of the server means.
  * They are constant texts with a 0 after them. A number that this header does not have gets words that say so. */

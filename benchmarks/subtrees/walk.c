@@ -73,7 +73,8 @@ int main(int count, char **words) {
     }
     check(dw_subtree(&client, "/tree", 5, nodes + 1, told, sizeof told, &bytes), "dw_subtree");
     check(dw_lacking(&client, "/tree", 5, nodes + 1, told, sizeof told, &lacking), "dw_lacking");
+    uint64_t revision = dw_revision(&client);
     printf("%zu nodes, %zu bytes, %zu lacking\n", nodes + 1, bytes, lacking);
     dw_close(&client);
-    return lacking != 0;
+    return lacking != 0 || revision == 0;
 }

@@ -87,6 +87,29 @@ static void follow_an_absent_node(dw_client *client)
     EXPECT(kept.kind == DW_KEPT_ABSENT && kept.mark == DW_MARK_STALE);
 }
 
+/* The revision is 1 at first, and rises by one at a step that told a state, a reply or a report, however many of them, and at no other. */
+static void expect_revision(dw_client *client)
+{
+    struct bytes came;
+    EXPECT_NUMBER(1 + 3, dw_revision(client)); /* connecting; connected; the reply and the report */
+    EXPECT_NUMBER(DW_OK, dw_tick(client, 1));
+    came.length = 0;
+    add_notice(&came, DW_EVENT_DATA_CHANGED, "/config"); /* which nobody watches any more */
+    hand_in(client, &came);
+    expect_no_more(client);
+    EXPECT_NUMBER(1 + 3, dw_revision(client));
+}
+
+/* Another session: nothing is kept of what was. */
+static void renew_the_session(dw_client *client)
+{
+    uint64_t revision = dw_revision(client);
+    EXPECT_NUMBER(DW_BAD_TIMEOUT, dw_renew(client, 0));
+    EXPECT_NUMBER(revision, dw_revision(client));
+    EXPECT_NUMBER(DW_OK, dw_renew(client, 10000));
+    EXPECT_NUMBER(revision + 1, dw_revision(client));
+}
+
 /* The bytes that are spelled at `at` are these. */
 static void expect_spelled(const struct bytes *wanted, const uint8_t *at, size_t length)
 {
@@ -342,9 +365,11 @@ int main(void)
     expect_version();
     expect_unknown();
     EXPECT_NUMBER(DW_OK, dw_open(&client, 10000));
+    EXPECT_NUMBER(1, dw_revision(&client));
     EXPECT_TEXT("the text is no path", dw_result_words(dw_exists(&client, 0, 1, "config", 6, true)));
     connect_client(&client);
     follow_an_absent_node(&client);
+    expect_revision(&client);
     create_a_node(&client);
     collect_a_leaf(&client);
     list_names(&client);
@@ -352,6 +377,7 @@ int main(void)
     take_a_snapshot(&client);
     hold_first(&client);
     lose_the_connection(&client);
+    renew_the_session(&client);
     dw_close(&client);
     printf("calls: passed\n");
     return 0;

@@ -60,6 +60,7 @@ static void expect_closed_session(dw_client *none)
     size_t count = 1;
     memset(room, UNTOUCHED, sizeof room);
     EXPECT_NUMBER(DW_CLOSED, dw_state(none));
+    EXPECT_NUMBER(0, dw_revision(none));
     EXPECT_NUMBER(DW_CLOSED, dw_last_zxid(none));
     EXPECT_NUMBER(DW_CLOSED, dw_timeout_ms(none));
     EXPECT_NUMBER(DW_CLOSED, dw_deadline(none, &first_ms));

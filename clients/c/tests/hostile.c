@@ -223,7 +223,7 @@ static void look_up(struct session *s)
     EXPECT_NUMBER(DW_OK, dw_peek_data(&s->client, path, sizeof path, &data, room, sizeof room));
     EXPECT((data.kind == DW_KEPT_NOTHING) == (data.mark == 0) && data.kind <= DW_KEPT_FULL && data.mark <= DW_MARK_STALE);
     look_up_names(s, path, sizeof path);
-    EXPECT(dw_last_zxid(&s->client) >= 0 && dw_timeout_ms(&s->client) > 0);
+    EXPECT(dw_revision(&s->client) > 0 && dw_last_zxid(&s->client) >= 0 && dw_timeout_ms(&s->client) > 0);
 }
 
 /* A connection begins, and the server accepts the session. */

@@ -292,9 +292,11 @@ static void expect_halted(struct play *play)
 {
     dw_output output;
     uint64_t first_ms = 1;
+    uint64_t revision = dw_revision(&play->client);
     struct lines kept = {.length = 0};
     EXPECT_NUMBER(DW_NONE, dw_next(&play->client, &output));
     EXPECT_NUMBER(DW_HALTED, tick(play));
+    EXPECT_NUMBER(revision + 1, dw_revision(&play->client));
     EXPECT_NUMBER(DW_HALTED, opened(play));
     EXPECT_NUMBER(DW_HALTED, connected(play));
     EXPECT_NUMBER(DW_HALTED, get_data(play));

@@ -248,6 +248,7 @@ static void expect_closed_looks(dw_session *none)
     EXPECT_NUMBER(DW_CLOSED, dw_session_names(none, room, sizeof room, &count));
     EXPECT_NUMBER(DW_CLOSED, dw_session_words(none, text, sizeof text, &count));
     EXPECT_NUMBER(DW_CLOSED, dw_session_state(none));
+    EXPECT_NUMBER(0, dw_session_revision(none));
     EXPECT_NUMBER(DW_CLOSED, dw_session_last_zxid(none));
     EXPECT_NUMBER(DW_CLOSED, dw_session_timeout_ms(none));
     EXPECT_NUMBER(DW_CLOSED, dw_session_deadline(none, &moment_ms));
@@ -289,6 +290,7 @@ int main(void)
     EXPECT_NUMBER(DW_BAD_TIMEOUT, dw_session_open(&session, 0, ADDRESSES, 1));
     EXPECT_NUMBER(DW_OK, dw_session_open(&session, ASKED_MS, ADDRESSES, 1));
     refuse_arguments(&session);
+    EXPECT_NUMBER(1, dw_session_revision(&session));
     EXPECT_NUMBER(DW_NONE, dw_session_heard_at(&session, &moment_ms));
     EXPECT_NUMBER(0, moment_ms);
     EXPECT_NUMBER(DW_OK, dw_session_follow_data(&session, 10, FOLLOWED, CONFIG));
@@ -297,6 +299,7 @@ int main(void)
     EXPECT_NUMBER(DW_OK, dw_session_heard_at(&session, &moment_ms));
     EXPECT_NUMBER(30, moment_ms);
     follow_an_absent_node(&session);
+    EXPECT_NUMBER(1 + 6, dw_session_revision(&session)); /* connecting, and five steps with bytes */
     take_up(&session);
     lose_the_connection(&session);
     connect_again(&session);

@@ -140,8 +140,10 @@ static const struct move MOVES[] = {
 static void expect_halted(struct play *play)
 {
     dw_output action;
+    uint64_t revision = dw_session_revision(&play->session);
     EXPECT_NUMBER(DW_NONE, dw_session_next(&play->session, &action));
     EXPECT_NUMBER(DW_HALTED, moment(play));
+    EXPECT_NUMBER(revision + 1, dw_session_revision(&play->session));
     EXPECT_NUMBER(DW_HALTED, opened(play));
     EXPECT_NUMBER(DW_HALTED, connected(play));
     EXPECT_NUMBER(DW_HALTED, follow(play));

@@ -221,6 +221,7 @@ _FUNCTIONS: dict[str, tuple[Any, tuple[Any, ...]]] = {
     "dw_names": (c_int32, (_HANDLE, POINTER(c_char), c_size_t, POINTER(c_size_t))),
     "dw_words": (c_int32, (_HANDLE, POINTER(c_char), c_size_t, POINTER(c_size_t))),
     "dw_state": (c_int32, (_HANDLE,)),
+    "dw_revision": (c_uint64, (_HANDLE,)),
     "dw_last_zxid": (c_int64, (_HANDLE,)),
     "dw_timeout_ms": (c_int64, (_HANDLE,)),
     "dw_deadline": (c_int32, (_HANDLE, POINTER(c_uint64))),
@@ -696,6 +697,14 @@ class Machine:
 
     def state(self) -> int:
         return int(_library.dw_state(self._handle))
+
+    def revision(self) -> int:
+        """A number from 1 on that rises where what is kept and good may have changed, or the state, or the session; 0 once closed.
+
+        By one at each step that told a reply, a report or another state, at one that halted, and as a session is renewed. While it is
+        the same, a subtree, what is lacking and a snapshot are the same: ask for them again only where it differs.
+        """
+        return int(_library.dw_revision(self._handle))
 
     def last_zxid(self) -> int:
         return self._number(_library.dw_last_zxid(self._handle))

@@ -159,6 +159,25 @@ class MachineTest(unittest.TestCase):
         machine.forget()
         self.assertEqual(machine.peek_data("/a"), ((library.NOTHING, 0, None, None), 9))
 
+    def test_the_revision_rises_where_something_may_have_changed(self) -> None:
+        self.assertEqual(Machine(6000).revision(), 1)
+        machine = connected()
+        self.assertEqual(machine.revision(), 1 + 2)  # connecting, connected
+        machine.get_data(200, 7, "/a", True)
+        machine.tick(200)
+        self.assertEqual(machine.revision(), 1 + 2)
+        machine.received(300, reply(1, 9, 0, buffer(b"hello") + STAT_BYTES))
+        self.assertEqual(machine.revision(), 1 + 3)
+        notice = reply(-1, -1, 0, struct.pack(">ii", 3, 3) + buffer(b"/a"))
+        machine.received(400, notice)
+        machine.received(400, notice)  # which nobody watches any more
+        machine.forget()
+        self.assertEqual(machine.revision(), 1 + 4)
+        machine.renew(6000)
+        self.assertEqual(machine.revision(), 1 + 5)
+        machine.close()
+        self.assertEqual(machine.revision(), 0)
+
     def test_bytes_may_come_one_at_a_time(self) -> None:
         machine = connected()
         machine.get_children(200, 8, "/", True)

@@ -94,6 +94,7 @@ extern "C" {
     fn dw_names(handle: *mut Raw, out: *mut u8, room: usize, count: *mut usize) -> i32;
     fn dw_words(handle: *mut Raw, out: *mut u8, room: usize, count: *mut usize) -> i32;
     fn dw_state(handle: *mut Raw) -> i32;
+    fn dw_revision(handle: *mut Raw) -> u64;
     fn dw_last_zxid(handle: *mut Raw) -> i64;
     fn dw_timeout_ms(handle: *mut Raw) -> i64;
     fn dw_deadline(handle: *mut Raw, first_ms: *mut u64) -> i32;
@@ -133,6 +134,7 @@ extern "C" {
     fn dw_session_names(handle: *mut Raw, out: *mut u8, room: usize, count: *mut usize) -> i32;
     fn dw_session_words(handle: *mut Raw, out: *mut u8, room: usize, count: *mut usize) -> i32;
     fn dw_session_state(handle: *mut Raw) -> i32;
+    fn dw_session_revision(handle: *mut Raw) -> u64;
     fn dw_session_last_zxid(handle: *mut Raw) -> i64;
     fn dw_session_timeout_ms(handle: *mut Raw) -> i64;
     fn dw_session_deadline(handle: *mut Raw, first_ms: *mut u64) -> i32;
@@ -147,6 +149,7 @@ extern "C" {
     fn dw_session_snapshot(handle: *mut Raw, nodes: *const u8, nodes_length: usize, parents: *const u8, parents_length: usize, out: *mut u8, room: usize, count: *mut usize) -> i32;
     fn dw_session_standing(handle: *mut Raw, directory: *const u8, directory_length: usize, name: *const u8, name_length: usize, names: *const u8, names_length: usize, listed: i64, markers: *const u8, markers_length: usize, token: *mut i64, out: *mut u8, room: usize, count: *mut usize) -> i32;
     fn dw_session_holder(handle: *mut Raw, directory: *const u8, directory_length: usize, prefix: *const u8, prefix_length: usize, path: *const u8, path_length: usize, token: *mut i64) -> i32;
+    fn dw_session_forget(handle: *mut Raw) -> i32;
 }
 // end of what is made
 
@@ -184,6 +187,7 @@ struct Functions {
     names: CopyAll,
     words: CopyAll,
     state: Look<i32>,
+    revision: Look<u64>,
     last_zxid: Look<i64>,
     timeout_ms: Look<i64>,
     deadline: LookOut<u64>,
@@ -327,6 +331,11 @@ impl Handle {
     pub(crate) fn state(&self) -> i32 {
         // SAFETY: as `Handle` says.
         unsafe { (self.functions.state)(self.raw.get()) }
+    }
+
+    pub(crate) fn revision(&self) -> u64 {
+        // SAFETY: as `Handle` says.
+        unsafe { (self.functions.revision)(self.raw.get()) }
     }
 
     pub(crate) fn last_zxid(&self) -> i64 {

@@ -47,6 +47,15 @@ pub(crate) fn no_path_among<'a>(paths: impl IntoIterator<Item = &'a &'a str>) ->
 /// The look-ups of a type that has a `handle`.
 macro_rules! look_ups_of_handle {
     () => {
+        /// A number from 1 on that rises where what is kept and good may have changed, or the state, or the session. While it is the same, a
+        /// [subtree](Self::subtree), what is [lacking](Self::lacking) and a [snapshot](Self::snapshot) are the same, so ask for them again
+        /// only where it differs. The [last zxid](Self::last_zxid) may rise meanwhile. Of a [`Client`](crate::Client) it rises by one at each
+        /// step that gave a reply, a report or another state; of a [`Machine`](crate::Machine) at each step with bytes too. It rises where
+        /// memory ran out within a step.
+        pub fn revision(&self) -> u64 {
+            self.handle.revision()
+        }
+
         /// The greatest zxid seen, not below 0. A good answer is what the servers' history has at it.
         pub fn last_zxid(&self) -> i64 {
             self.handle.last_zxid()

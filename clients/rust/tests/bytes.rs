@@ -584,6 +584,22 @@ fn a_renewed_client_asks_for_a_new_session_from_its_zxid_on() {
 }
 
 #[test]
+fn the_revision_rises_where_something_may_have_changed() {
+    assert_eq!(Client::open(TIMEOUT).unwrap().revision(), 1);
+    let mut client = watching();
+    assert_eq!(client.revision(), 1 + 3, "connecting, connected, a reply");
+    let _ = client.get_data(START, 8, "/b", Watch::Yes).unwrap();
+    let _ = client.tick(START).unwrap();
+    assert_eq!(client.revision(), 1 + 3);
+    let _ = client.bytes(START, &Record::notice(3, "/a")).unwrap();
+    assert_eq!(client.revision(), 1 + 4, "a report");
+    let _ = client.bytes(START, &Record::notice(3, "/a")).unwrap();
+    assert_eq!(client.revision(), 1 + 4, "nobody watches it");
+    client.renew(TIMEOUT).unwrap();
+    assert_eq!(client.revision(), 1 + 5);
+}
+
+#[test]
 fn what_is_no_timeout_or_session_is_refused() {
     let too_long = Duration::from_millis(1 << 31);
     for timeout in [Duration::ZERO, Duration::from_micros(999), too_long] {

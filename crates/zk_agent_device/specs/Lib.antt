@@ -1,3 +1,4 @@
 pub mod Flats
 pub mod Outputs
+pub mod Revisions
 pub mod Steps

@@ -32,7 +32,7 @@ impl AgentDevice {
         call: Call<Global>,
     ) -> Result<(), Refusal>
         ensures stepped { OnOk result (Stepped now (Calls ticket (call_view call) (limit_of until)) self.old self.new) }
-        ensures stopped { IfErr result (λ refusal. (refusal ≡ refusals.Halted) × Stopped self.new) }
+        ensures stopped { IfErr result (λ refusal. (refusal ≡ refusals.Halted) × Stopped self.old self.new) }
     {
         let until = limit_of(until);
         self.step_at(

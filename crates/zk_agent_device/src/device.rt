@@ -1,24 +1,27 @@
 //! An agent with the actions of its last step.
 
-ghost use Rattle.std.specs.Prelude.{◌≡◌, ◌≢◌, ◌<ℤ◌, pos, [], IfErr, IfOk, OnOk, Ok, Err, unsigned_abs};
+ghost use Rattle.std.specs.Prelude.{◌≡◌, ◌≢◌, ◌<ℤ◌, pos, true, [], IfErr, IfOk, OnOk, Ok, Err, unsigned_abs};
 ghost use Rattle.zk_turns.specs.Turns.{new_start};
 ghost use Rattle.zk_client.specs.Clients.{view_of};
 ghost use Rattle.zk_client.specs.SavedSessions.{PutAway, bytes_read};
 ghost use Rattle.zk_client.specs.declared.saved_fault.SavedFault.{SavedFault};
 ghost use Rattle.zk_client.specs.declared.saved_fault.SavedFault.TheVariants as saved_faults;
 ghost use Rattle.zk_device.specs.declared.refusal.Refusal.TheVariants as refusals;
+ghost use Rattle.zk_conclusions.specs.Revisions.{raised};
 ghost use Rattle.zk_device.specs.Codes.{code_of};
 ghost use Rattle.zk_device.specs.Refused.{RefusesMemory, RefusesNothing, RefusesTimeout};
 ghost use Rattle.zk_device.specs.Sessions.{put_start};
-ghost use Rattle.zk_agent_device.specs.Steps.{Addressed, Bytes, Cut, Dials, Failed, Moment, Opened, Begins, BeginsWith, Stepped, Steps, Stopped, happening};
+ghost use Rattle.zk_agent_device.specs.Steps.{Addressed, Bytes, Cut, Dials, Failed, Forgot, Moment, Opened, Begins, BeginsWith, Stepped, Steps, Stopped, happening};
 
+use crate::revisions::{is_bytes, revise};
 use std::alloc::Global;
 use zk_agent::{Action, Agent, Input, Settings};
 use zk_client::Client;
+use zk_conclusions::Revision;
 use zk_device::{Device, Refusal};
 
-/// An agent, what it said at its last step, how much of that was read, and whether it goes on no further: memory ran out within a step.
-/// Its methods stand by what they are about: calls in `calls`, what is followed in `subjects`, what was said in `outputs`, and here what
+/// An agent, what it said at its last step, how much of that was read, whether it goes on no further, since memory ran out within a step, and
+/// a number that rises where what its client shows may change. Its methods stand by what they are about: calls in `calls`, what is followed in `subjects`, what was said in `outputs`, and here what
 /// comes from a connection. What is kept is looked up by functions of `zk_device` over the agent's client.
 #[derive(Drop)]
 pub struct AgentDevice {
@@ -26,6 +29,7 @@ pub struct AgentDevice {
     pub said: Vec<Action<Global>, Global>,
     pub read: usize,
     pub is_over: bool,
+    pub revision: Revision,
 }
 
 impl AgentDevice {
@@ -71,6 +75,7 @@ impl AgentDevice {
             client,
             said,
             read: _,
+            revision: _,
         } = Device::resume(alloc, timeout_ms, saved)?;
         drop(said);
         let settings = Settings {
@@ -95,26 +100,40 @@ impl AgentDevice {
                 said: Vec::new(alloc),
                 read: 0,
                 is_over: false,
+                revision: Revision::new(),
             }),
             Err(_) => Err(Refusal::Memory),
         }
+    }
+
+    // Memory ran out, within this step or an earlier one.
+    fn stop(&mut self) -> Refusal
+        ensures halted { result ≡ refusals.Halted }
+        ensures over { self.new.is_over ≡ true }
+        ensures said { self.new.said ≡ self.old.said }
+        ensures number { self.new.revision.number ≡ raised self.old.revision.number }
+    {
+        self.is_over = true;
+        self.revision.raise();
+        Refusal::Halted
     }
 
     /// Takes an input that is noticed at this moment. What was said before is forgotten. The one refusal is `Halted`, which each later step
     /// answers too.
     pub(crate) fn step_at(&mut self, now: u64, input: Input<Global>) -> Result<(), Refusal>
         ensures stepped { OnOk result (Stepped now (happening input) self.old self.new) }
-        ensures stopped { IfErr result (λ refusal. (refusal ≡ refusals.Halted) × Stopped self.new) }
+        ensures stopped { IfErr result (λ refusal. (refusal ≡ refusals.Halted) × Stopped self.old self.new) }
     {
         self.said.clear();
         self.read = 0;
         if self.is_over {
-            return Err(Refusal::Halted);
+            return Err(self.stop());
         }
+        let is_bytes = is_bytes(&input);
         let Ok(said) = self.agent.step(now, input) else {
-            self.is_over = true;
-            return Err(Refusal::Halted);
+            return Err(self.stop());
         };
+        revise(&mut self.revision, is_bytes, said.as_slice());
         self.said = said;
         Ok(())
     }
@@ -153,6 +172,13 @@ impl AgentDevice {
         ensures { Steps RefusesNothing now Moment self.old (code_of result) self.new }
     {
         self.step_at(now, Input::Moment)
+    }
+
+    /// Takes the stale answers out of what the client keeps. It is no step: what was said is there still.
+    pub fn forget_stale(&mut self)
+        ensures { Forgot self.old self.new }
+    {
+        self.agent.forget_stale();
     }
 
     /// The list of addresses is another one, of this many.

@@ -7,6 +7,7 @@ mod calls;
 mod device;
 mod flat;
 mod outputs;
+mod revisions;
 mod subjects;
 
 pub use device::AgentDevice;

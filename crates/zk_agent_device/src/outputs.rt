@@ -23,6 +23,7 @@ impl AgentDevice {
         ensures said { self.new.said ≡ self.old.said }
         ensures read { self.new.read ≡ read_after result self.old.read }
         ensures over { self.new.is_over ≡ self.old.is_over }
+        ensures number { self.new.revision ≡ self.old.revision }
     {
         match self.said.as_slice().get(self.read) {
             Some(action) => {

@@ -11,6 +11,7 @@ use Rattle.zk_client.specs.SavedSessions.{PutAway, bytes_read}
 use Rattle.zk_client.specs.Views.{said}
 use Rattle.zk_client.specs.declared.saved_fault.SavedFault.{SavedFault}
 use Rattle.zk_client.proofs.Holding.{holds_here}
+use Rattle.zk_conclusions.specs.Revisions.{raised}
 use Rattle.zk_device.specs.Refused.{RefusesTimeout}
 use Rattle.zk_device.specs.Sessions as session
 use Rattle.zk_device.specs.Sessions.{put_start}
@@ -23,17 +24,17 @@ use Rattle.zk_c.specs.Lives.{Use, Opens, Resumes, Renews, Steps, Ticks, Reads, F
 
 -- ---- a client that stands
 
-abbrev Past_of : Type 1
+abbrev pub Past_of : Type 1
 Past_of = Start → List Item → Type 0
 
 -- the client of a handle, if it has one, stands where it has come
-abbrev StandsIn : Past_of → Option Device → Type 0
+abbrev pub StandsIn : Past_of → Option Device → Type 0
 StandsIn Earlier held = (device : Device) → held ≡ Some device → (start : Start) × (items : List Item) × Earlier start items × Stands start items (view_of device.client)
 
 fresh : (start : Start) → Stands start [] (view_at start [])
 fresh start = record { standing = refl; saved = refl; lists = refl; cache = refl; going = λ goes_on. refl; said = tt; asked = tt }
 
-forget_stands : (start : Start) (items : List Item) (view : View) → Stands start items view → Stands start (turns.Forgets ∷ items) (record view { cache = forgotten view.cache })
+pub forget_stands : (start : Start) (items : List Item) (view : View) → Stands start items view → Stands start (turns.Forgets ∷ items) (record view { cache = forgotten view.cache })
 forget_stands start items view s = record {
   standing = s.standing;
   saved = s.saved;
@@ -46,18 +47,18 @@ forget_stands start items view s = record {
 
 -- ---- what a handle holds
 
-empty_holds_none : {P : Type 0} (device : Device) (held : Option Device) → held ≡ None → held ≡ Some device → P
+pub empty_holds_none : {P : Type 0} (device : Device) (held : Option Device) → held ≡ None → held ≡ Some device → P
 empty_holds_none device held empty is = absurd (let e : None ≡ Some device = sym empty ∙ is in cc)
 
-in_held : (P : Device → Type 0) (device : Device) (held : Option Device) → Holds held P → held ≡ Some device → P device
+pub in_held : (P : Device → Type 0) (device : Device) (held : Option Device) → Holds held P → held ≡ Some device → P device
 in_held P device held holds is = subst (λ h. IfSome h P) is holds.1
 
-begun : (start : Start) (device : Device) → step.BeginsAt start device → Stands start [] (view_of device.client)
-begun start device begins = subst (Stands start []) (sym begins.view) (fresh start)
+begun : (start : Start) (number : ℕ) (device : Device) → step.BeginsAt start number device → Stands start [] (view_of device.client)
+begun start number device begins = subst (Stands start []) (sym begins.view) (fresh start)
 
 made : (Refuses : ℤ → Type 0) (start : Start) (code : ℤ) (after : Option Device) → Makes Refuses start code after → (device : Device) → after ≡ Some device
     → Stands start [] (view_of device.client)
-made Refuses start (pos zero) after makes device is = begun start device (in_held (step.BeginsAt start) device after makes is)
+made Refuses start (pos zero) after makes device is = begun start 1 device (in_held (step.BeginsAt start 1) device after makes is)
 made Refuses start (pos (suc n)) after makes device is = empty_holds_none device after makes.1 is
 made Refuses start (negsuc n) after makes device is = empty_holds_none device after makes.1 is
 
@@ -79,7 +80,7 @@ module _ (Earlier : Past_of) where
   renews timeout code None after stood does device is = empty_holds_none device after does.empty is
   renews timeout (pos zero) (Some old) after stood does device is =
       let renewed = in_held (session.Renews timeout old (pos zero)) device after does is in
-      (renewed_start timeout (view_of old.client), [], (old, refl, refl, refl), begun (renewed_start timeout (view_of old.client)) device renewed)
+      (renewed_start timeout (view_of old.client), [], (old, refl, refl, refl), begun (renewed_start timeout (view_of old.client)) (raised old.revision.number) device renewed)
   renews timeout (pos (suc n)) (Some old) after stood does device is =
       let kept = in_held (session.Renews timeout old (pos (suc n))) device after does is in
       stood device (ap Some (sym kept.1))
@@ -165,7 +166,7 @@ module _ (Earlier : Past_of) where
 
 -- ---- all uses
 
-stands : (uses : List Used) → IsLife uses → StandsIn (Came uses) (held_after uses)
+pub stands : (uses : List Used) → IsLife uses → StandsIn (Came uses) (held_after uses)
 stands [] lived device is = absurd (let e : None ≡ Some device = is in cc)
 stands (used ∷ earlier) lived device is = one (Came earlier) used.use_of (held_after earlier) used.held (stands earlier lived.1) lived.0 device is
 

@@ -11,6 +11,7 @@ use Rattle.zk_client.specs.declared.saved_fault.SavedFault.{SavedFault}
 use Rattle.zk_agent.specs.declared.agent.Agent.{Agent}
 use Rattle.zk_agent.specs.Agents.{IsLed}
 use Rattle.zk_agent.specs.Calls.{IsInTime, IsServed}
+use Rattle.zk_line.specs.declared.line.Line.{Line}
 use Rattle.zk_follow.specs.Following.{IsFollowed}
 use Rattle.zk_device.specs.Refused.{RefusesTimeout}
 use Rattle.zk_device.specs.Sessions.{put_start}
@@ -19,8 +20,8 @@ use Rattle.zk_agent_device.specs.Steps as step
 use Rattle.zk_agent_device.specs.Steps.{BeginsWith, Happening, Stepped}
 use Rattle.zk_agent_device.specs.declared.device.AgentDevice.{AgentDevice}
 use Rattle.zk_c.specs.Held.{Holds}
-use Rattle.zk_c.specs.Sessions.{Makes, Tells}
-use Rattle.zk_c.specs.SessionLives.{Use, Opens, Resumes, Steps, Reads, Looks, Frees, Does, Used, held_after, IsLife, IsSound, RefusesHappening, SoundForLife}
+use Rattle.zk_c.specs.Sessions.{Makes, Tells, ForgetsStale}
+use Rattle.zk_c.specs.SessionLives.{Use, Opens, Resumes, Steps, Reads, Forgets, Looks, Frees, Does, Used, held_after, IsLife, IsSound, RefusesHappening, SoundForLife}
 
 -- the session of a handle, if it has one that goes on, is sound
 abbrev Sound : Option AgentDevice → Type 0
@@ -90,11 +91,26 @@ reads room told code (Some old) after sound does session is on =
     let tells = in_held (λ s. Tells old room code told s) session after does is in
     same_agent old session tells.agent (sound old refl (sym tells.over ∙ on))
 
+forgets : (code : ℤ) (before after : Option AgentDevice) → Sound before → Does before (Forgets code) after → Sound after
+forgets code None after sound does session is on = empty_holds_none session after does.empty is
+forgets code (Some old) after sound does session is on =
+    let gone = (in_held (ForgetsStale old code) session after does is).forgot in
+    let was = sound old refl (sym gone.over ∙ on) in
+    record {
+      led = gone.led was.led;
+      followed = gone.followed was.followed;
+      served = subst (λ (line : Line _). All (IsServed (view_of session.agent.asker.follower.client)) line.entries.items) (sym gone.calls)
+          (subst (λ (view : View). All (IsServed view) old.agent.asker.line.entries.items) (sym gone.view) was.served);
+      limits = subst (λ (line : Line _). All (IsInTime session.agent.latest) line.entries.items) (sym gone.calls)
+          (subst (λ (now : ℕ). All (IsInTime now) old.agent.asker.line.entries.items) (sym gone.latest) was.limits);
+    }
+
 one : (used_by : Use) (before after : Option AgentDevice) → Sound before → Does before used_by after → Sound after
 one (Opens timeout code) before after sound does = made (RefusesTimeout timeout) (new_start (unsigned_abs timeout)) code after does
 one (Resumes timeout saved code) before after sound does = resumed timeout saved code before after (bytes_read saved) refl does
 one (Steps now what code) before after sound does = steps now what code before after sound does
 one (Reads room told code) before after sound does = reads room told code before after sound does
+one (Forgets code) before after sound does = forgets code before after sound does
 one Looks before after sound does = λ session is on. sound session (sym does ∙ is) on
 one Frees before after sound does = λ session is on. empty_holds_none session after does is
 

@@ -26,10 +26,10 @@ pub record LeavesRoom (code : ℤ) (room written : List ℕ) (count : ℕ) : Typ
   pub unwritten : written ≡ room
   pub none : count ≡ 0
 
--- A client is made: 0 where the handle holds one that has begun so, and any other number where it holds nothing, for a reason
+-- A client is made: 0 where the handle holds one that has begun so, at revision 1, and any other number where it holds nothing, for a reason
 -- that this number has.
 abbrev pub Makes : (Refuses : ℤ → Type 0) → Start → ℤ → Option Device → Type 0
-Makes Refuses start (pos zero) held = Holds held (BeginsAt start)
+Makes Refuses start (pos zero) held = Holds held (BeginsAt start 1)
 Makes Refuses start code held = Refuses code × (held ≡ None)
 
 -- A text is written: 0 where as much of it as there is room for stands at the front, and -2 where memory ran out.
@@ -50,6 +50,7 @@ pub record Tells (before : Device) (room : Flat) (code : ℤ) (told : Flat) (aft
   pub client : after.client ≡ before.client
   pub said : after.said ≡ before.said
   pub read : after.read ≡ read_after (option_map flat_of (slice_get before.said.items before.read)) before.read
+  pub number : after.revision ≡ before.revision
 
 -- The stale answers of a device are gone, and nothing else.
 pub record Forgets (before : Device) (code : ℤ) (after : Device) : Type 0 where
@@ -57,3 +58,4 @@ pub record Forgets (before : Device) (code : ℤ) (after : Device) : Type 0 wher
   pub view : view_of after.client ≡ record (view_of before.client) { cache = forgotten (view_of before.client).cache }
   pub said : after.said ≡ before.said
   pub read : after.read ≡ before.read
+  pub number : after.revision ≡ before.revision

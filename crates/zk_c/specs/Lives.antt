@@ -1,5 +1,6 @@
 -- The whole life of a handle: the functions that were called on it, with the numbers that they answered, and what its client has come through.
-use Rattle.std.specs.Prelude.{◌≡◌, ⊤, ◌⊎◌, ℕ, zero, ℤ, pos, negsuc, List, [], ◌∷◌, ◌++◌, Option, Some, None, Ok, Err, unsigned_abs}
+use Rattle.std.specs.Prelude.{◌≡◌, ◌<◌, ◌-◌, ◌^◌, ⊤, ◌⊎◌, ℕ, zero, ℤ, pos, negsuc, List, [], ◌∷◌, ◌++◌, Option, Some, None, Ok, Err, unsigned_abs}
+use Rattle.std.specs.List.{AllByRecursion}
 use Rattle.zk_conversation.specs.Calls as call
 use Rattle.zk_turns.specs.Turns.{Input, Now, Bytes, Item, Turned, Halts, Output, Start, new_start}
 use Rattle.zk_turns.specs.Turns as turns
@@ -8,6 +9,7 @@ use Rattle.zk_client.specs.Runs as run
 use Rattle.zk_client.specs.SavedSessions.{PutAway, bytes_read}
 use Rattle.zk_client.specs.Views.{said}
 use Rattle.zk_client.specs.declared.saved_fault.SavedFault.{SavedFault}
+use Rattle.zk_conclusions.specs.Revisions.{IsUnchanged}
 use Rattle.zk_device.specs.Refused.{RefusesCreate, RefusesMemory, RefusesNothing, RefusesPath, RefusesTimeout}
 use Rattle.zk_device.specs.Sessions as session
 use Rattle.zk_device.specs.Sessions.{put_start}
@@ -124,3 +126,21 @@ Came (used ∷ earlier) start items = CameBy used.use_of (held_after earlier) us
 abbrev pub HoldsForLife : Type 0
 HoldsForLife = (uses : List Used) (device : Device) → IsLife uses → held_after uses ≡ Some device
     → (start : Start) × (items : List Item) × Came uses start items × run.Holds start items (view_of device.client)
+
+-- ---- the revision
+
+-- A function that makes no client again, and frees none.
+abbrev pub GoesOn : Use → Type 0
+GoesOn (Opens timeout code) = ⊥
+GoesOn (Resumes timeout saved code) = ⊥
+GoesOn Closes = ⊥
+GoesOn used = ⊤
+
+abbrev pub AllGoOn : List Used → Type 0
+AllGoOn uses = AllByRecursion (λ used. GoesOn used.use_of) uses
+
+-- THE law of a revision: whoever was told the same number twice, below the last one, of a client that was not made again in between, has what is
+-- kept and good, the state and the session as they were, whatever functions were called between.
+abbrev pub SameForLife : Type 0
+SameForLife = (more earlier : List Used) (before after : Device) → IsLife (more ++ earlier) → AllGoOn more → held_after earlier ≡ Some before → held_after (more ++ earlier) ≡ Some after
+    → before.revision.number < 2 ^ 64 - 1 → after.revision.number ≡ before.revision.number → IsUnchanged (view_of before.client) (view_of after.client)

@@ -14,15 +14,16 @@ use Rattle.zk_agent_device.specs.Steps.{Happening, AreFollowed}
 use Rattle.zk_agent_device.specs.declared.device.AgentDevice.{AgentDevice}
 use Rattle.zk_c.specs.Held.{Holds, IsClosed}
 use Rattle.zk_c.specs.Lives.{RefusesCall}
-use Rattle.zk_c.specs.Sessions.{Makes, Tells}
+use Rattle.zk_c.specs.Sessions.{Makes, Tells, ForgetsStale}
 
 -- A function that was called on a handle, with what was handed in, and the number that it answered. `Steps` is that of each input, call and
--- subject, `Reads` that of dw_session_next; `Looks` is that of those that leave the handle as it is.
+-- subject, `Reads` that of dw_session_next, `Forgets` that of dw_session_forget; `Looks` is that of those that leave the handle as it is.
 pub data Use : Type 0 where
   Opens : (timeout code : ℤ) → Use
   Resumes : (timeout : ℤ) → (saved : List ℕ) → (code : ℤ) → Use
   Steps : (now : ℕ) → Happening → (code : ℤ) → Use
   Reads : (room told : Flat) → (code : ℤ) → Use
+  Forgets : (code : ℤ) → Use
   Looks Frees : Use
 
 -- what is refused before a step
@@ -45,6 +46,7 @@ Does before (Resumes timeout saved code) after =
     × ((fault : SavedFault) → bytes_read saved ≡ Err fault → after ≡ None)
 Does before (Steps now what code) after = Drives (step.Steps (RefusesHappening what) now what) before code after
 Does before (Reads room told code) after = Drives (λ session code. Tells session room code told) before code after
+Does before (Forgets code) after = Drives ForgetsStale before code after
 Does before Looks after = after ≡ before
 Does before Frees after = after ≡ None
 

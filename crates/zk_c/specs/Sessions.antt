@@ -7,7 +7,7 @@ use Rattle.zk_turns.specs.View.{view_at}
 use Rattle.zk_agent.specs.Agents.{NothingAt}
 use Rattle.zk_agent_device.specs.declared.device.AgentDevice.{AgentDevice}
 use Rattle.zk_agent_device.specs.Flats.{action_flat}
-use Rattle.zk_agent_device.specs.Steps.{BeginsWith}
+use Rattle.zk_agent_device.specs.Steps.{BeginsWith, Forgot}
 use Rattle.zk_device.specs.Outputs.{read_after}
 use Rattle.zk_device.specs.declared.flat.Flat.{Flat}
 use Rattle.zk_c.specs.Held.{Holds, TellsOf}
@@ -25,6 +25,12 @@ pub record Tells (before : AgentDevice) (room : Flat) (code : ℤ) (told : Flat)
   pub said : after.said ≡ before.said
   pub read : after.read ≡ read_after (option_map action_flat (slice_get before.said.items before.read)) before.read
   pub over : after.is_over ≡ before.is_over
+  pub number : after.revision ≡ before.revision
+
+-- The stale answers are gone, which is told by 0, and nothing else is another one.
+pub record ForgetsStale (before : AgentDevice) (code : ℤ) (after : AgentDevice) : Type 0 where
+  pub told : code ≡ pos 0
+  pub forgot : Forgot before after
 
 -- The first moment at which something is due, with 0; or that nothing will be due, with 1.
 abbrev pub FirstDue : AgentDevice → ℤ → ℕ → Type 0

@@ -1,6 +1,6 @@
 //! What follows for a whole life of a handle, over definitions alone.
 
-ghost use Rattle.zk_c.specs.Lives.{HoldsForLife};
+ghost use Rattle.zk_c.specs.Lives.{HoldsForLife, SameForLife};
 ghost use Rattle.zk_c.specs.SessionLives.{SoundForLife};
 
 /// Whoever took a handle of zeros, used it by the functions of this library alone, one after the other and whatever they answered, and has a
@@ -8,6 +8,13 @@ ghost use Rattle.zk_c.specs.SessionLives.{SoundForLife};
 /// the outputs that `dw_next` gave: its good answers are the history's, and each notice that ended one was told once.
 pub fn holds_for_life()
     ensures { HoldsForLife }
+{}
+
+/// Whoever was told the same number twice by `dw_revision`, below the last one, of a handle that was not opened, resumed or closed in between,
+/// has each good answer as it was, and no other is good; state and session are the same, whatever functions were called between. So
+/// `dw_subtree` and its like tell the same (`same_conclusions` of `zk_conclusions`).
+pub fn same_for_life()
+    ensures { SameForLife }
 {}
 
 /// Whoever took a session's handle of zeros, used it by the functions of this library alone, one after the other and whatever they answered,

@@ -1,6 +1,6 @@
 //! What a client shows of its session, the session put away and taken up, and a new one after it.
 
-ghost use Rattle.std.specs.Prelude.{◌≡◌, ◌≢◌, ◌<ℤ◌, ◌++◌, pos, negsuc, Some, None, Ok, Err, drop, length, take};
+ghost use Rattle.std.specs.Prelude.{◌≡◌, ◌≢◌, ◌≤◌, ◌<ℤ◌, ◌++◌, pos, negsuc, Some, None, Ok, Err, drop, length, take};
 ghost use Rattle.zk_client.specs.Clients.{view_of};
 ghost use Rattle.zk_client.specs.SavedSessions.{PutAway, bytes_read, saved_bytes};
 ghost use Rattle.zk_client.specs.declared.saved_fault.SavedFault.{SavedFault};
@@ -72,6 +72,22 @@ pub extern "C" fn dw_last_zxid(alloc: Global, handle: &mut DwClient) -> i64
     let last = device.client.last_zxid();
     *handle = DwClient::of(device);
     last
+}
+
+/// A number that rises where what the client keeps and shows as good may have changed, or 0 where the handle holds no client.
+#[unsafe(no_mangle)]
+pub extern "C" fn dw_revision(alloc: Global, handle: &mut DwClient) -> u64
+    ensures closed { handle.old.slot.held ≡ None → result ≡ 0 }
+    ensures number { (d : Device) → handle.old.slot.held ≡ Some d → result ≡ d.revision.number }
+    ensures begun { (d : Device) → handle.old.slot.held ≡ Some d → 1 ≤ result }
+    ensures same { handle.new.slot.held ≡ handle.old.slot.held }
+{
+    let Some(device) = take(alloc, handle) else {
+        return 0;
+    };
+    let number = device.revision.number();
+    *handle = DwClient::of(device);
+    number
 }
 
 /// The timeout of the session in milliseconds, or -3 where the handle holds no client.

@@ -8,20 +8,21 @@ use Rattle.zk_turns.specs.Taken.{NothingIsDue}
 use Rattle.zk_turns.specs.View.{View}
 use Rattle.zk_client.specs.Clients.{view_of, renewed_start}
 use Rattle.zk_client.specs.SavedSessions.{PutAway}
+use Rattle.zk_conclusions.specs.Revisions.{raised}
 use Rattle.zk_device.specs.declared.device.Device.{Device}
 use Rattle.zk_device.specs.declared.refusal.Refusal.{Refusal}
 use Rattle.zk_device.specs.Codes.{refusal_code}
 use Rattle.zk_device.specs.Refused.{RefusesTimeout}
 use Rattle.zk_device.specs.Steps.{BeginsAt}
 
--- a device that has begun so, or a refusal for a reason that its number has
+-- a device that has begun so, at revision 1, or a refusal for a reason that its number has
 abbrev pub Begins : (Refuses : ℤ → Type 0) → Start → Result Device Refusal → Type 0
-Begins Refuses start made = MatchResult made (BeginsAt start) (λ refusal. Refuses (refusal_code refusal))
+Begins Refuses start made = MatchResult made (BeginsAt start 1) (λ refusal. Refuses (refusal_code refusal))
 
--- Another session: 0 where the client begins so, with no outputs, and any other number where nothing happened, for a reason that this
+-- Another session: 0 where the client begins so, with no outputs and at the next revision, and any other number where nothing happened, for a reason that this
 -- number has.
 abbrev pub Renews : (timeout : ℤ) → (before : Device) → (code : ℤ) → (after : Device) → Type 0
-Renews timeout before (pos zero) after = BeginsAt (renewed_start timeout (view_of before.client)) after
+Renews timeout before (pos zero) after = BeginsAt (renewed_start timeout (view_of before.client)) (raised before.revision.number) after
 Renews timeout before code after = RefusesTimeout timeout code × (after ≡ before)
 
 -- what is put away of a session

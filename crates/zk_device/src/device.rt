@@ -2,8 +2,9 @@
 
 ghost use Rattle.std.specs.Prelude.{◌≡◌, ◌<ℤ◌, pos, [], IfErr, OnOk, unsigned_abs};
 ghost use Rattle.zk_turns.specs.Turns.{Bytes, Opened, Cut, new_start};
-ghost use Rattle.zk_client.specs.Views.{input_view};
+ghost use Rattle.zk_client.specs.Views.{input_view, said as said_by};
 ghost use Rattle.zk_client.specs.Clients.{view_of};
+ghost use Rattle.zk_conclusions.specs.Revisions.{noted, raised};
 ghost use Rattle.zk_device.specs.Codes.{code_of};
 ghost use Rattle.zk_device.specs.Refused.{RefusesMemory, RefusesNothing, RefusesTimeout};
 ghost use Rattle.zk_device.specs.Sessions.{Begins};
@@ -12,15 +13,17 @@ ghost use Rattle.zk_device.specs.Steps.{Halted, Heard, Steps, Ticks};
 use crate::refusal::Refusal;
 use std::alloc::Global;
 use zk_client::{Client, Input, Output};
+use zk_conclusions::Revision;
 
-/// A client, what it said at its last step, and how much of that was read. Its methods stand by what they are about: calls in
-/// `calls`, what was said in `outputs`, another session in `sessions`, and here what comes from a connection. What is kept is looked up by
-/// functions over the client, as [`peek_data`](crate::peek_data).
+/// A client, what it said at its last step, how much of that was read, and a number that rises where what it shows may change. Its methods
+/// stand by what they are about: calls in `calls`, what was said in `outputs`, another session in `sessions`, and here what comes from a
+/// connection. What is kept is looked up by functions over the client, as [`peek_data`](crate::peek_data).
 #[derive(Drop)]
 pub struct Device {
     pub client: Client<Global>,
     pub said: Vec<Output<Global>, Global>,
     pub read: usize,
+    pub revision: Revision,
 }
 
 impl Device {
@@ -39,11 +42,13 @@ impl Device {
     pub(crate) fn of(alloc: Global, client: Client<Global>) -> Device
         ensures client { view_of result.client ≡ view_of client }
         ensures silent { result.said.items ≡ [] }
+        ensures number { result.revision.number ≡ 1 }
     {
         Device {
             client,
             said: Vec::new(alloc),
             read: 0,
+            revision: Revision::new(),
         }
     }
 
@@ -52,9 +57,32 @@ impl Device {
         ensures client { self.new.client ≡ self.old.client }
         ensures silent { self.new.said.items ≡ [] }
         ensures unread { self.new.read ≡ 0 }
+        ensures number { self.new.revision ≡ self.old.revision }
     {
         self.said.clear();
         self.read = 0;
+    }
+
+    // What a step gave is there to be read, and is noted.
+    fn tell(&mut self, said: Vec<Output<Global>, Global>)
+        ensures client { self.new.client ≡ self.old.client }
+        ensures said { self.new.said ≡ said }
+        ensures read { self.new.read ≡ self.old.read }
+        ensures number { self.new.revision.number ≡ noted (said_by said.items) self.old.revision.number }
+    {
+        self.revision.note(said.as_slice());
+        self.said = said;
+    }
+
+    // Memory ran out within a step.
+    fn stop(&mut self) -> Refusal
+        ensures halted { result ≡ Refusal.Halted }
+        ensures client { self.new.client ≡ self.old.client }
+        ensures said { self.new.said ≡ self.old.said }
+        ensures number { self.new.revision.number ≡ raised self.old.revision.number }
+    {
+        self.revision.raise();
+        Refusal::Halted
     }
 
     /// Takes an input that is noticed at this moment. What was said before is forgotten. The one refusal is `Halted`.
@@ -64,9 +92,9 @@ impl Device {
     {
         self.forget_said();
         let Ok(said) = self.client.step_at(now, input) else {
-            return Err(Refusal::Halted);
+            return Err(self.stop());
         };
-        self.said = said;
+        self.tell(said);
         Ok(())
     }
 
@@ -90,9 +118,9 @@ impl Device {
     {
         self.forget_said();
         let Ok(said) = self.client.step(Input::Now(now)) else {
-            return Err(Refusal::Halted);
+            return Err(self.stop());
         };
-        self.said = said;
+        self.tell(said);
         Ok(())
     }
 

@@ -61,6 +61,7 @@ impl Device {
         ensures client { self.new.client ≡ self.old.client }
         ensures said { self.new.said ≡ self.old.said }
         ensures read { self.new.read ≡ read_after result self.old.read }
+        ensures number { self.new.revision ≡ self.old.revision }
     {
         match self.said.as_slice().get(self.read) {
             Some(output) => {

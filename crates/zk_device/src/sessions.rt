@@ -50,8 +50,8 @@ impl Device {
         }
     }
 
-    /// Begins a new session, which asks for this timeout in milliseconds. The last seen zxid is kept, and nothing else. A refusal is
-    /// `BadTimeout`, else `Memory`.
+    /// Begins a new session, which asks for this timeout in milliseconds. The last seen zxid is kept, and nothing else; the revision goes on,
+    /// with the next number. A refusal is `BadTimeout`, else `Memory`.
     pub fn renew(&mut self, alloc: Global, timeout_ms: i32) -> Result<(), Refusal>
         ensures { Renews timeout_ms self.old (code_of result) self.new }
     {
@@ -59,7 +59,10 @@ impl Device {
             return Err(Refusal::BadTimeout);
         }
         let client = self.client.renewed(alloc, timeout_ms)?;
-        *self = Device::of(alloc, client);
+        let mut device = Device::of(alloc, client);
+        device.revision = self.revision;
+        device.revision.raise();
+        *self = device;
         Ok(())
     }
 }

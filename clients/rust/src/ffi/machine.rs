@@ -8,7 +8,7 @@ use super::{
     dw_session_holder, dw_session_lacking, dw_session_last_zxid, dw_session_moment,
     dw_session_name, dw_session_names, dw_session_next, dw_session_open, dw_session_opened,
     dw_session_peek_children, dw_session_peek_data, dw_session_peek_names, dw_session_resume,
-    dw_session_saved, dw_session_set_data, dw_session_snapshot, dw_session_standing,
+    dw_session_revision, dw_session_saved, dw_session_set_data, dw_session_snapshot, dw_session_standing,
     dw_session_state, dw_session_subtree, dw_session_timeout_ms, dw_session_unfollow,
     dw_session_words, Call, Functions, Handle, Raw, OK,
 };
@@ -38,6 +38,7 @@ static OF_SESSIONS: Functions = Functions {
     names: dw_session_names,
     words: dw_session_words,
     state: dw_session_state,
+    revision: dw_session_revision,
     last_zxid: dw_session_last_zxid,
     timeout_ms: dw_session_timeout_ms,
     deadline: dw_session_deadline,

@@ -5,8 +5,9 @@ ghost use Rattle.zk_client.specs.Clients.{view_of};
 ghost use Rattle.zk_agent_device.specs.declared.device.AgentDevice.{AgentDevice};
 ghost use Rattle.zk_device.specs.Kept.{WritesName, WritesNames};
 ghost use Rattle.zk_device.specs.Refused.{RefusesPath};
-ghost use Rattle.zk_c.specs.Held.{LeavesRoom};
+ghost use Rattle.zk_c.specs.Held.{Holds, IsClosed, LeavesRoom};
 ghost use Rattle.zk_c.specs.Kept.{FindsData, FindsNames, FindsText};
+ghost use Rattle.zk_c.specs.Sessions.{ForgetsStale};
 
 use crate::sessions::handle::DwSession;
 use crate::sessions::taking::take;
@@ -124,4 +125,18 @@ pub extern "C" fn dw_session_peek_names(
         }
         Err(refusal) => refusal.code(),
     }
+}
+
+/// Takes the stale answers out of what the session keeps.
+#[unsafe(no_mangle)]
+pub extern "C" fn dw_session_forget(alloc: Global, handle: &mut DwSession) -> i32
+    ensures closed { handle.old.slot.held ≡ None → IsClosed result handle.new.slot.held }
+    ensures forgets { (d : AgentDevice) → handle.old.slot.held ≡ Some d → Holds handle.new.slot.held (ForgetsStale d result) }
+{
+    let Some(mut session) = take(alloc, handle) else {
+        return CLOSED;
+    };
+    session.forget_stale();
+    *handle = DwSession::of(session);
+    0
 }

@@ -1,6 +1,6 @@
 //! What a session shows of itself.
 
-ghost use Rattle.std.specs.Prelude.{◌≡◌, ◌≢◌, pos, negsuc, Some, None};
+ghost use Rattle.std.specs.Prelude.{◌≡◌, ◌≢◌, ◌≤◌, pos, negsuc, Some, None};
 ghost use Rattle.zk_client.specs.Clients.{view_of};
 ghost use Rattle.zk_client.specs.SavedSessions.{saved_bytes};
 ghost use Rattle.zk_agent_device.specs.declared.device.AgentDevice.{AgentDevice};
@@ -42,6 +42,22 @@ pub extern "C" fn dw_session_last_zxid(alloc: Global, handle: &mut DwSession) ->
     let last = session.agent.client().last_zxid();
     *handle = DwSession::of(session);
     last
+}
+
+/// A number that rises where what the session's client keeps and shows as good may have changed, or 0 where the handle holds no session.
+#[unsafe(no_mangle)]
+pub extern "C" fn dw_session_revision(alloc: Global, handle: &mut DwSession) -> u64
+    ensures closed { handle.old.slot.held ≡ None → result ≡ 0 }
+    ensures number { (d : AgentDevice) → handle.old.slot.held ≡ Some d → result ≡ d.revision.number }
+    ensures begun { (d : AgentDevice) → handle.old.slot.held ≡ Some d → 1 ≤ result }
+    ensures same { handle.new.slot.held ≡ handle.old.slot.held }
+{
+    let Some(session) = take(alloc, handle) else {
+        return 0;
+    };
+    let number = session.revision.number();
+    *handle = DwSession::of(session);
+    number
 }
 
 /// The timeout of the session in milliseconds, or -3 where the handle holds no session.
