@@ -307,24 +307,15 @@ impl<'a> Contender<'a> {
     /// Takes in an answer. A call that was lost is due still: a node is made once more, with the same tag.
     fn answer(&mut self, outcome: Outcome) -> Result<()> {
         self.is_asked = false;
-        match outcome {
-            Outcome::Replied { zxid, result } => self.take(zxid, result),
-            _ => Ok(()),
-        }
-    }
-
-    /// Takes in a reply.
-    fn take(&mut self, zxid: i64, reply: CallResult) -> Result<()> {
-        match reply {
+        let Outcome::Replied { zxid, result } = outcome else {
+            return Ok(());
+        };
+        match result {
             CallResult::Created(_path) => self.made = Some(zxid),
             CallResult::Names { names, stat: _stat } => return self.settle(zxid, names),
             CallResult::Done => self.finish(),
             CallResult::Code(code) => return self.refuse(code),
-            CallResult::Stat(_stat) => {}
-            CallResult::Data {
-                bytes: _bytes,
-                stat: _stat,
-            } => {}
+            _ => {}
         }
         Ok(())
     }

@@ -52,29 +52,13 @@ fn serve<P: Program + Drop, W: Write>(
     served
 }
 
-/// Follows the nodes at and below a root.
-fn follow<W: Write>(
-    rt: &HostRuntime,
-    seconds: u64,
-    root: Path,
-    addresses: &[&str],
-    out: &mut W,
-) -> Result<()> {
-    serve(rt, Tree::new(rt.alloc(), root), seconds, addresses, out)
-}
-
 /// Does what the words ask for, of which the first is the program's name. Whether they ask for something.
 fn run<W: Write>(rt: &HostRuntime, words: &[&str], out: &mut W) -> Result<bool> {
     match words {
         [] | [_] => memory::run_in_memory(rt.alloc(), out)?,
         [_, "tree", seconds, root, addresses @ ..] => {
-            follow(
-                rt,
-                seconds.parse()?,
-                Path::new(rt.alloc(), root)?,
-                addresses,
-                out,
-            )?;
+            let (seconds, root) = (seconds.parse()?, Path::new(rt.alloc(), root)?);
+            serve(rt, Tree::new(rt.alloc(), root), seconds, addresses, out)?;
         }
         [_, "lock", ms, name, marker, directory, addresses @ ..] => {
             let (ms, directory) = (ms.parse()?, Path::new(rt.alloc(), directory)?);
@@ -90,7 +74,10 @@ fn main(rt: HostRuntime) -> Result<ExitCode> {
     let words: Vec<String> = std::env::args(&rt)?.collect(rt.alloc())?;
     let texts: Vec<&str> = words.iter().map(|word| word.as_str()).collect(rt.alloc())?;
     let mut out = rt.stdout();
-    if run(&rt, texts.as_slice(), &mut out)? {
+    let done = run(&rt, texts.as_slice(), &mut out);
+    drop(texts);
+    drop(words);
+    if done? {
         return Ok(ExitCode::SUCCESS);
     }
     out.write_all(USAGE.as_bytes())?;

@@ -134,15 +134,6 @@ static SHORT: [(u64, Step); 2] = [(900, Step::World(Event::Parts)), (5_000, Step
 
 const SHORT_MS: u64 = 1_000;
 
-/// The nodes that are there at first.
-fn fill(alloc: Global, history: &mut History<Global>) -> Result<()> {
-    for (node, text) in &FIRST {
-        let bytes = Vec::from_slice(alloc, text.as_bytes())?;
-        history.node(Path::new(alloc, node)?, Some(bytes), 0)?;
-    }
-    Ok(())
-}
-
 /// A transaction for each of the numbers.
 fn count(alloc: Global, numbers: &[&'static str], history: &mut History<Global>) -> Result<()> {
     for number in numbers {
@@ -154,6 +145,15 @@ fn count(alloc: Global, numbers: &[&'static str], history: &mut History<Global>)
         )?;
     }
     Ok(())
+}
+
+/// The nodes that are there at first, and a transaction for each of the numbers.
+fn fill(alloc: Global, numbers: &[&'static str], history: &mut History<Global>) -> Result<()> {
+    for (node, text) in &FIRST {
+        let bytes = Vec::from_slice(alloc, text.as_bytes())?;
+        history.node(Path::new(alloc, node)?, Some(bytes), 0)?;
+    }
+    count(alloc, numbers, history)
 }
 
 /// A program acts, and things happen to it.
@@ -188,8 +188,7 @@ fn run<P: Program + Drop, W: Write>(
     out: &mut W,
 ) -> Result<()> {
     let mut history = History::new(alloc);
-    fill(alloc, &mut history)?;
-    count(alloc, numbers, &mut history)?;
+    fill(alloc, numbers, &mut history)?;
     let mut world = World::new(alloc, history, usize::MAX);
     world.be_busy();
     let (world, moments) = (RefCell::new(world), Moments::new());

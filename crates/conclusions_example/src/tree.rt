@@ -35,21 +35,15 @@ fn is_absent(client: &Client, node: &Path) -> bool {
     )
 }
 
-/// Adds the data of a node, if there are some.
-fn put_data(answer: &DataAnswer, line: &mut Vec<u8>) -> Result<()> {
-    if let DataAnswer::Full(Some(bytes), _) = answer {
-        line.push(b'=')?;
-        line.extend_from_slice(bytes.as_slice())?;
-    }
-    Ok(())
-}
-
 /// Adds all nodes with their data, each before those below it.
 fn put_all(subtree: &Subtree<'_>, line: &mut Vec<u8>) -> Result<()> {
     for (place, node) in subtree.paths().iter().enumerate() {
         line.push(b' ')?;
         line.extend_from_slice(node.as_str().as_bytes())?;
-        put_data(subtree.data(place), line)?;
+        if let DataAnswer::Full(Some(bytes), _) = subtree.data(place) {
+            line.push(b'=')?;
+            line.extend_from_slice(bytes.as_slice())?;
+        }
     }
     Ok(())
 }
@@ -113,10 +107,6 @@ impl Tree {
             return Ok(());
         }
         self.line = line;
-        self.print(zxid, out)
-    }
-
-    fn print<W: Write>(&self, zxid: i64, out: &mut W) -> Result<()> {
         write!(out, "at {zxid}")?;
         out.write_all(self.line.as_slice())?;
         out.write_all(b"\n").map_err(From::from)

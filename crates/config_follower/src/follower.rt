@@ -16,7 +16,7 @@ pub fn follow<D: Dial + Drop, C: Clock + Drop, W: Write>(
     for _ in 0..u64::MAX {
         match driver.next(until)? {
             Some(Action::Shown { .. }) => tell(driver.client(), node, out)?,
-            Some(Action::Renewed) => writeln!(out, "another session")?,
+            Some(Action::Renewed) => out.write_all(b"another session\n")?,
             Some(_) => {}
             None => break,
         }
@@ -26,10 +26,11 @@ pub fn follow<D: Dial + Drop, C: Clock + Drop, W: Write>(
 
 /// What is kept of the node, which is good.
 fn tell<W: Write>(client: &Client, node: &Path, out: &mut W) -> Result<()> {
-    match client.peek_data(node) {
-        Some((DataAnswer::Full(Some(bytes), _), _)) => out.write_all(bytes.as_slice())?,
-        Some((DataAnswer::Full(None, _), _)) => out.write_all(b"no data")?,
-        _ => out.write_all(b"no node")?,
-    }
-    Ok(out.write_all(b"\n")?)
+    let shown = match client.peek_data(node) {
+        Some((DataAnswer::Full(Some(bytes), _), _)) => bytes.as_slice(),
+        Some((DataAnswer::Full(None, _), _)) => b"no data",
+        _ => b"no node",
+    };
+    out.write_all(shown)?;
+    out.write_all(b"\n").map_err(From::from)
 }

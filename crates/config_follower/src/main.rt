@@ -24,11 +24,11 @@ fn add<D: Dial + Drop, C: Clock + Drop>(
     node: &Path,
 ) -> Result<()> {
     let path = Path::new(alloc, node.as_str())?;
-    Ok(driver.follow(1, Side::Data, path)?)
+    driver.follow(1, Side::Data, path).map_err(From::from)
 }
 
 /// Follows a node of real servers.
-fn run<W: Write>(rt: &HostRuntime, node: &str, addresses: &[&str], out: &mut W) -> Result<()> {
+fn serve<W: Write>(rt: &HostRuntime, node: &str, addresses: &[&str], out: &mut W) -> Result<()> {
     let node = Path::new(rt.alloc(), node)?;
     let (dial, clock) = (Tcp::new(rt), SystemClock::new(rt));
     let mut driver = Driver::begin(rt.alloc(), TIMEOUT_MS, dial, clock, addresses)?;
@@ -40,17 +40,28 @@ fn run<W: Write>(rt: &HostRuntime, node: &str, addresses: &[&str], out: &mut W) 
     followed
 }
 
+/// Does what the words ask for, of which the first is the program's name. Whether they ask for something.
+fn run<W: Write>(rt: &HostRuntime, words: &[&str], out: &mut W) -> Result<bool> {
+    match words {
+        [] | [_] => memory::run(rt.alloc(), out)?,
+        [_, _] => {
+            out.write_all(b"usage: config_follower [PATH IP:PORT..]\n")?;
+            return Ok(false);
+        }
+        [_, node, addresses @ ..] => serve(rt, node, addresses, out)?,
+    }
+    Ok(true)
+}
+
 fn main(rt: HostRuntime) -> Result<ExitCode> {
     let words: Vec<String> = std::env::args(&rt)?.collect(rt.alloc())?;
     let texts: Vec<&str> = words.iter().map(|word| word.as_str()).collect(rt.alloc())?;
-    let mut out = rt.stdout();
-    match texts.as_slice() {
-        [] | [_] => memory::run(rt.alloc(), &mut out)?,
-        [_, _] => {
-            writeln!(out, "usage: config_follower [PATH IP:PORT..]")?;
-            return Ok(ExitCode::from(2));
-        }
-        [_, node, addresses @ ..] => run(&rt, node, addresses, &mut out)?,
-    }
-    Ok(ExitCode::SUCCESS)
+    let done = run(&rt, texts.as_slice(), &mut rt.stdout());
+    drop(texts);
+    drop(words);
+    Ok(if done? {
+        ExitCode::SUCCESS
+    } else {
+        ExitCode::from(2)
+    })
 }

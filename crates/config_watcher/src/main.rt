@@ -27,6 +27,8 @@ fn run(world: &mut World) -> Result<()> {
 fn main(rt: HostRuntime) -> Result<()> {
     let mut world = World::new(rt.alloc(), NODE)?;
     let ended = run(&mut world);
-    print!(rt; "{}", world.told())?;
+    let printed = print!(rt; "{}", world.told());
+    drop(world);
+    printed?;
     ended
 }

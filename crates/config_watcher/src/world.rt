@@ -42,26 +42,20 @@ pub struct World {
     told: String,
 }
 
-/// The node is there, before any change.
-fn make(alloc: Global, path: &str, history: &mut History<Global>) -> Result<()> {
-    let node = Path::new(alloc, path)?;
-    let bytes = Vec::from_slice(alloc, FIRST.as_bytes())?;
-    Ok(history.node(node, Some(bytes), 0)?)
+/// The node, and bytes that it holds.
+fn node(alloc: Global, path: &str, text: &str) -> Result<(Path, Option<Vec<u8>>)> {
+    let bytes = Vec::from_slice(alloc, text.as_bytes())?;
+    Ok((Path::new(alloc, path)?, Some(bytes)))
 }
 
-/// One more transaction, which sets the node.
-fn set(alloc: Global, path: &str, value: &str, history: &mut History<Global>) -> Result<()> {
-    history.begin(history.last_zxid().saturating_add(1), 0)?;
-    let node = Path::new(alloc, path)?;
-    let bytes = Vec::from_slice(alloc, value.as_bytes())?;
-    Ok(history.change(Change::Set(node, Some(bytes)))?)
-}
-
-/// The node takes one value after the other.
+/// The node is there before any change, and takes one value after the other, each by a transaction of its own.
 fn fill(alloc: Global, path: &str, history: &mut History<Global>) -> Result<()> {
-    make(alloc, path, history)?;
+    let (first, bytes) = node(alloc, path, FIRST)?;
+    history.node(first, bytes, 0)?;
     for value in &LATER {
-        set(alloc, path, value, history)?;
+        history.begin(history.last_zxid().saturating_add(1), 0)?;
+        let (again, bytes) = node(alloc, path, value)?;
+        history.change(Change::Set(again, bytes))?;
     }
     Ok(())
 }
@@ -70,14 +64,16 @@ impl World {
     /// A world in which nothing has happened.
     pub fn new(alloc: Global, path: &str) -> Result<World> {
         let mut history = History::new(alloc);
-        fill(alloc, path, &mut history)?;
-        Ok(World {
-            alloc,
-            bench: Bench::new(alloc, history),
-            now: 0,
-            done: 0,
-            told: String::new(alloc),
-        })
+        match fill(alloc, path, &mut history) {
+            Ok(()) => Ok(World {
+                alloc,
+                bench: Bench::new(alloc, history),
+                now: 0,
+                done: 0,
+                told: String::new(alloc),
+            }),
+            Err(fault) => Err(fault),
+        }
     }
 
     /// Where memory comes from.
@@ -142,13 +138,13 @@ impl World {
 
     /// Takes down what the client says.
     pub fn tell(&mut self, output: &Output) -> Result<()> {
-        Ok(writeln!(self.told, "{output:?}")?)
+        writeln!(self.told, "{output:?}").map_err(From::from)
     }
 
     /// Takes down what the node holds.
     pub fn show(&mut self, data: &[u8]) -> Result<()> {
-        let text = std::str::from_utf8(data)?;
-        Ok(writeln!(self.told, "{text}")?)
+        self.told.push_str(std::str::from_utf8(data)?)?;
+        self.told.push('\n').map_err(From::from)
     }
 
     /// What was taken down.

@@ -1,5 +1,6 @@
 //! The tests: a module for each thing that they try, and those that several of them use.
 
+mod checks;
 mod counts;
 mod faults;
 mod happens;

@@ -1,9 +1,11 @@
 //! How often steps request memory: a notice as often as its report needs, a small reply as often as its answers do.
 
+use crate::tests::checks::holds;
 use crate::tests::happens::{ACCEPTED, Asks, CHANGED, HI, Happens, NULL, REST};
 use crate::tests::said::said;
 use refusing::Refusing;
-use std::alloc::{Allocator, Global};
+use std::alloc::Global;
+use std::process::Abort;
 use zk_client::Client;
 
 /// What happens, and how often the step requests memory, the one request for its piece among them.
@@ -37,20 +39,14 @@ const COURSE: &[Row] = &[
     (Happens::Comes(CHANGED), Some(1)),
 ];
 
-/// Whether no step halts.
-fn passes<A: Allocator + Copy>(client: &mut Client<A>, alloc: A, rows: &[Row]) -> bool {
-    let mut passes = true;
-    for (what, _) in rows {
-        passes = passes && said(client, alloc, *what, 0) != "halted";
-    }
-    passes
-}
-
 /// Whether these steps request memory more often than this.
 fn exceeds(alloc: Global, rows: &[Row], passed: u32) -> bool {
     let heap = Refusing::after(passed, alloc);
     let mut client = Client::new(&heap, 30_000);
-    let passes = passes(&mut client, &heap, rows);
+    let mut passes = true;
+    for (what, _) in rows {
+        passes = passes && said(&mut client, &heap, *what, 0) != "halted";
+    }
     drop(client);
     !passes || heap.has_refused()
 }
@@ -71,7 +67,7 @@ fn a_notice_costs_its_report(rt: HostRuntime) {
     for at in 0..COURSE.len() {
         let sum = requests(rt.alloc(), &COURSE[..at + 1]);
         let count = sum.wrapping_sub(before);
-        assert!(rt; COURSE[at].1.unwrap_or(count) == count, "step {at}");
+        holds(&rt, COURSE[at].1.unwrap_or(count) == count, at);
         before = sum;
     }
 }

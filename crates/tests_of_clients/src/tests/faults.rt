@@ -1,5 +1,6 @@
 //! What each fault and each refusal is called, by its code, and what it says.
 
+use crate::tests::checks::holds;
 use std::alloc::Global;
 use std::fmt::Display;
 use std::process::Abort;
@@ -81,12 +82,17 @@ const OUTCOMES: [(Outcome<Global>, Option<&str>, &str); 8] = [
     ),
 ];
 
-// Ends the test where a value says something else, or does not have its code.
-fn tells<D: Display>(rt: &(impl Abort + AllocGlobal), value: &D, has_code: bool, words: &str) {
+/// Ends the test where a value says something else, or does not have its code.
+pub(crate) fn tells<D: Display>(
+    rt: &(impl Abort + AllocGlobal),
+    value: &D,
+    has_code: bool,
+    words: &str,
+) {
     let said = format!(in rt.alloc(); "{value}").expect(rt, words);
-    if !has_code || said.as_str() != words {
-        rt.panic(words);
-    }
+    let is_said = said.as_str() == words;
+    drop(said);
+    holds(rt, has_code && is_said, words);
 }
 
 #[test]

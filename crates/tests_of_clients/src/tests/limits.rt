@@ -1,5 +1,6 @@
 //! The limits of calls: of a payload, of pending calls, and of watched paths; and which of two reasons a call is refused for.
 
+use crate::tests::checks::holds;
 use crate::tests::happens::{ABSENT, ACCEPTED, Asks, EXPIRED, Happens, LOST};
 use crate::tests::said::said;
 use std::alloc::Global;
@@ -122,47 +123,43 @@ fn is_said(
     is
 }
 
-/// The first round in which something else is said.
-fn first_wrong(client: &mut Client<Global>, alloc: Global, rounds: Rounds) -> Option<u32> {
-    let (start, end, steps) = rounds;
+/// Ends the test where something else is said in a round, and names the round.
+fn meets_each(rt: &(impl Abort + AllocGlobal), client: &mut Client<Global>, rounds: &Rounds) {
+    let (start, end, steps) = *rounds;
     for round in start..end {
-        if !is_said(client, alloc, steps, round) {
-            return Some(round);
-        }
+        holds(rt, is_said(client, rt.alloc(), steps, round), round);
     }
-    None
 }
 
-fn meets(rt: &impl Abort, alloc: Global, script: &[Rounds]) {
-    let mut client = Client::new(alloc, 30_000);
+fn meets(rt: &(impl Abort + AllocGlobal), script: &[Rounds]) {
+    let mut client = Client::new(rt.alloc(), 30_000);
     for rounds in script {
-        let wrong = first_wrong(&mut client, alloc, *rounds);
-        assert!(rt; wrong.is_none(), "{wrong:?}");
+        meets_each(rt, &mut client, rounds);
     }
     drop(client);
 }
 
 #[test]
 fn a_payload_has_its_limit(rt: HostRuntime) {
-    meets(&rt, rt.alloc(), PAYLOADS);
+    meets(&rt, PAYLOADS);
 }
 
 #[test]
 fn pending_calls_have_their_limit(rt: HostRuntime) {
-    meets(&rt, rt.alloc(), PENDING);
+    meets(&rt, PENDING);
 }
 
 #[test]
 fn watches_have_their_limit(rt: HostRuntime) {
-    meets(&rt, rt.alloc(), WATCHES);
+    meets(&rt, WATCHES);
 }
 
 #[test]
 fn the_first_of_two_reasons_is_told(rt: HostRuntime) {
-    meets(&rt, rt.alloc(), PAIRS);
+    meets(&rt, PAIRS);
 }
 
 #[test]
 fn a_close_that_fails_closes(rt: HostRuntime) {
-    meets(&rt, rt.alloc(), CLOSED);
+    meets(&rt, CLOSED);
 }

@@ -1,8 +1,11 @@
 //! Moments that come with what happens: what is heard counts at its own moment, and the next deadline is told.
 
+use crate::tests::checks::holds;
 use crate::tests::happens::{ACCEPTED, Happens, input};
-use std::alloc::{AllocError, Allocator};
-use zk_client::{Client, Fault, Halt, Input, Output};
+use crate::tests::said::said;
+use std::alloc::Allocator;
+use std::process::Abort;
+use zk_client::{Client, Fault, Input, Output};
 
 /// A moment, what happens at it, if anything does, whether the connection is given up for silence, the next deadline, and the timeout
 /// in milliseconds.
@@ -40,23 +43,17 @@ fn is_given_up<A: Allocator>(outputs: &[Output<A>]) -> bool {
         .any(|output| matches!(output, Output::Drop(Fault::Silent)))
 }
 
-fn happens<A: Allocator + Copy>(
-    alloc: A,
-    client: &mut Client<A>,
-    now: u64,
-    what: Option<Happens>,
-) -> Result<Vec<Output<A>, A>, Halt> {
-    let input = match what {
-        Some(what) => input(alloc, what, 0).map_err(|_error| Halt)?,
-        None => Input::Now(now),
-    };
-    client.step_at(now, input)
-}
-
 /// Whether the row is followed.
 fn follows<A: Allocator + Copy>(alloc: A, client: &mut Client<A>, row: &Row) -> bool {
     let (now, what, silent, deadline, timeout) = *row;
-    match happens(alloc, client, now, what) {
+    let came = match what {
+        Some(what) => input(alloc, what, 0),
+        None => Ok(Input::Now(now)),
+    };
+    let Ok(input) = came else {
+        return false;
+    };
+    match client.step_at(now, input) {
         Ok(outputs) => {
             is_given_up(outputs.as_slice()) == silent
                 && client.deadline() == deadline
@@ -66,41 +63,36 @@ fn follows<A: Allocator + Copy>(alloc: A, client: &mut Client<A>, row: &Row) -> 
     }
 }
 
-/// How many rows are followed before the first that is not.
-fn followed<A: Allocator + Copy>(alloc: A, rows: &[Row]) -> usize {
-    let mut client = Client::new(alloc, 40_000);
-    rows.iter()
-        .take_while(|row| follows(alloc, &mut client, row))
-        .count()
+/// Goes through the rows.
+fn follows_each(rt: &(impl Abort + AllocGlobal), rows: &[Row]) {
+    let mut client = Client::new(rt.alloc(), 40_000);
+    for (place, row) in rows.iter().enumerate() {
+        holds(rt, follows(rt.alloc(), &mut client, row), place);
+    }
+    drop(client);
 }
 
 #[test]
 fn what_is_heard_counts_at_its_own_moment(rt: HostRuntime) {
-    assert!(rt; followed(rt.alloc(), &HEALTHY) == HEALTHY.len());
+    follows_each(&rt, &HEALTHY);
 }
 
 #[test]
 fn silence_is_given_up(rt: HostRuntime) {
-    assert!(rt; followed(rt.alloc(), &SILENT) == SILENT.len());
+    follows_each(&rt, &SILENT);
 }
 
 // The trap: told of moments by a timer alone, a client takes what came at 15,000 for what came at 0.
 #[test]
 fn a_step_counts_at_the_moment_told_last(rt: HostRuntime) {
     let mut client = Client::new(rt.alloc(), 40_000);
-    let is_so = is_trapped(rt.alloc(), &mut client).unwrap_or(false);
+    let opened = said(&mut client, rt.alloc(), Happens::Opens, 0);
+    let accepted = said(&mut client, rt.alloc(), Happens::Comes(ACCEPTED), 0);
+    let is_given_up = match client.step(Input::Now(21_000)) {
+        Ok(outputs) => is_given_up(outputs.as_slice()),
+        Err(_) => false,
+    };
     drop(client);
-    assert!(rt; is_so);
-}
-
-fn is_trapped<A: Allocator + Copy>(alloc: A, client: &mut Client<A>) -> Result<bool, AllocError> {
-    for what in [Happens::Opens, Happens::Comes(ACCEPTED)] {
-        if client.step(input(alloc, what, 0)?).is_err() {
-            return Ok(false);
-        }
-    }
-    match client.step(Input::Now(21_000)) {
-        Ok(outputs) => Ok(is_given_up(outputs.as_slice())),
-        Err(_) => Ok(false),
-    }
+    holds(&rt, opened == "sent" && accepted == "other", "is connected");
+    holds(&rt, is_given_up, "is given up");
 }

@@ -2,31 +2,21 @@
 
 use crate::tests::happens::{Happens, input};
 use std::alloc::Allocator;
-use zk_client::{Client, Input, Outcome, Output};
-
-fn word<A: Allocator>(output: &Output<A>) -> &'static str {
-    match output {
-        Output::Send(_) => "sent",
-        Output::Answer { outcome, .. } => answer(outcome),
-        _ => "other",
-    }
-}
-
-fn answer<A: Allocator>(outcome: &Outcome<A>) -> &'static str {
-    outcome.code().unwrap_or("replied")
-}
-
-fn first<A: Allocator>(outputs: &[Output<A>]) -> &'static str {
-    match outputs.first() {
-        Some(output) => word(output),
-        None => "nothing",
-    }
-}
+use zk_client::{Client, Input, Output};
 
 /// What a step says first, or that it halts.
 pub(crate) fn step<A: Allocator + Copy>(client: &mut Client<A>, input: Input<A>) -> &'static str {
     match client.step(input) {
-        Ok(outputs) => first(&outputs),
+        Ok(outputs) => {
+            let said = match outputs.first() {
+                Some(Output::Send(_)) => "sent",
+                Some(Output::Answer { outcome, .. }) => outcome.code().unwrap_or("replied"),
+                Some(_) => "other",
+                None => "nothing",
+            };
+            drop(outputs);
+            said
+        }
         Err(_) => "halted",
     }
 }

@@ -1,6 +1,8 @@
 //! Sessions that are put away: what texts are read as and what is written again, faults as text, refused memory, and a client
 //! that takes one up.
 
+use crate::tests::checks::{Steps, holds, refuse_each};
+use crate::tests::faults::tells;
 use refusing::Refusing;
 use std::alloc::{AllocError, Allocator, Global};
 use std::process::Abort;
@@ -135,13 +137,6 @@ static CONNECT: [u8; 35] = [
     0xbc, 0, 0, 0, 2, b'h', b'i', 0,
 ];
 
-// Ends the test where a row came otherwise than wanted, and names the row.
-fn holds(rt: &impl Abort, is: bool, row: &str) {
-    if !is {
-        rt.panic(row);
-    }
-}
-
 // Whether this text is written of a session.
 fn is_written<A: Allocator + Copy>(
     alloc: A,
@@ -159,23 +154,25 @@ fn is_read_again<A: Allocator + Copy>(
     want: &Saved<'static>,
 ) -> Result<bool, SavedFault> {
     let bytes = saved.to_bytes(alloc)?;
-    let again = SavedSession::from_bytes(alloc, bytes.as_slice())?;
-    Ok(again.as_saved() == *want)
+    let again = SavedSession::from_bytes(alloc, bytes.as_slice());
+    drop(bytes);
+    Ok(again?.as_saved() == *want)
 }
 
 // Whether a row is read, written, and read again.
 fn comes_right<A: Allocator + Copy>(alloc: A, row: &Row) -> Result<bool, SavedFault> {
     let saved = SavedSession::from_text(alloc, row.0)?;
-    let written = is_written(alloc, &saved, row.2)?;
-    let again = is_read_again(alloc, &saved, &row.1)?;
-    Ok(written && again && saved.as_saved() == row.1)
+    let written = is_written(alloc, &saved, row.2);
+    let again = is_read_again(alloc, &saved, &row.1);
+    let is_read = saved.as_saved() == row.1;
+    drop(saved);
+    Ok(written? && again? && is_read)
 }
 
 #[test]
 fn reads_and_writes_sessions(rt: HostRuntime) {
     for row in &ROWS {
-        let is = comes_right(rt.alloc(), row).unwrap_or(false);
-        holds(&rt, is, row.0);
+        holds(&rt, comes_right(rt.alloc(), row) == Ok(true), row.0);
     }
 }
 
@@ -183,7 +180,7 @@ fn reads_and_writes_sessions(rt: HostRuntime) {
 fn tells_why_a_text_is_refused(rt: HostRuntime) {
     for (text, want) in &REFUSED {
         let fault = SavedSession::from_text(rt.alloc(), text).err();
-        holds(&rt, fault == Some(*want), text);
+        holds(&rt, fault == Some(*want), *text);
     }
 }
 
@@ -196,23 +193,38 @@ fn refused_at(alloc: Global, length: usize, last_zxid: i64) -> Option<SavedFault
     SavedSession::new(alloc, 1, zeros.as_slice(), last_zxid).err()
 }
 
+// How long a password is, the last seen zxid, and what the session is refused for.
+static LIMITS: [(&str, usize, i64, Option<SavedFault>); 3] = [
+    ("the longest password", 4_194_284, 0, None),
+    (
+        "a zxid below 0",
+        4_194_284,
+        -1,
+        Some(SavedFault::NegativeZxid { last_zxid: -1 }),
+    ),
+    (
+        "a byte more",
+        4_194_285,
+        -1,
+        Some(SavedFault::LongPassword { length: 4_194_285 }),
+    ),
+];
+
 #[test]
 fn a_password_has_its_limit(rt: HostRuntime) {
-    let longest = refused_at(rt.alloc(), 4_194_284, 0);
-    let negative = refused_at(rt.alloc(), 4_194_284, -1);
-    let longer = refused_at(rt.alloc(), 4_194_285, -1);
-    holds(&rt, longest.is_none(), "the longest password");
-    let below = SavedFault::NegativeZxid { last_zxid: -1 };
-    holds(&rt, negative == Some(below), "a zxid below 0");
-    let long = SavedFault::LongPassword { length: 4_194_285 };
-    holds(&rt, longer == Some(long), "a byte more");
+    for (row, length, last_zxid, want) in &LIMITS {
+        holds(
+            &rt,
+            refused_at(rt.alloc(), *length, *last_zxid) == *want,
+            *row,
+        );
+    }
 }
 
 #[test]
 fn prints_faults(rt: HostRuntime) {
     for (fault, want) in &TEXTS {
-        let text = format!(in rt.alloc(); "{fault}").expect(&rt, want);
-        holds(&rt, text.as_str() == *want, want);
+        tells(&rt, fault, true, want);
     }
 }
 
@@ -222,72 +234,65 @@ fn shows_no_password(rt: HostRuntime) {
     let text = format!(in rt.alloc(); "{saved:?}").expect(&rt, "is shown");
     drop(saved);
     let is = text.as_str() == "SavedSession { session: 2748, last_zxid: 5, .. }";
+    drop(text);
     holds(&rt, is, "the session without its password");
 }
 
-// Goes through a row over memory that refuses one request. Whether it came to that: then it is told that memory ran out.
-fn is_refused(rt: &impl Abort, alloc: Global, passed: u32) -> bool {
-    let heap = Refusing::after(passed, alloc);
-    let came = comes_right(&heap, &ROWS[0]);
-    let refused = heap.has_refused();
-    let is = if refused {
-        came == Err(SavedFault::Memory)
-    } else {
-        came == Ok(true)
-    };
-    holds(rt, is, "refused memory");
-    refused
+// The first row over memory that refuses one request: it is told that memory ran out.
+struct FirstRow;
+
+impl Steps for FirstRow {
+    fn come_right(&self, _alloc: Global, heap: &Refusing<Global>) -> bool {
+        let came = comes_right(heap, &ROWS[0]);
+        if heap.has_refused() {
+            came == Err(SavedFault::Memory)
+        } else {
+            came == Ok(true)
+        }
+    }
 }
 
 #[test]
 fn tells_each_refusal(rt: HostRuntime) {
-    let mut passed = 0u32;
-    for _ in 0..100u32 {
-        if is_refused(&rt, rt.alloc(), passed) {
-            passed = passed.saturating_add(1);
-        }
-    }
-    holds(&rt, 5 < passed && passed < 100, "the count of requests");
+    refuse_each(&rt, &FirstRow, 6, 99);
 }
 
 // A client that takes up the first row.
 fn taken_up(alloc: Global) -> Result<Client<Global>, SavedFault> {
     let saved = SavedSession::from_text(alloc, ROWS[0].0)?;
-    let client = Client::resume(alloc, 10_000, &saved.as_saved())?;
-    Ok(client)
-}
-
-// Whether this frame is sent.
-fn is_sent(outputs: &[Output<Global>], frame: &[u8]) -> bool {
-    for output in outputs {
-        if let Output::Send(bytes) = output {
-            return bytes.as_slice() == frame;
-        }
+    match Client::resume(alloc, 10_000, &saved.as_saved()) {
+        Ok(client) => Ok(client),
+        Err(fault) => Err(fault.into()),
     }
-    false
 }
 
 // Whether a client asks for the session of the first row as a connection begins.
 fn asks(client: &mut Client<Global>) -> bool {
-    match client.step(Input::Opened) {
-        Ok(outputs) => is_sent(outputs.as_slice(), &CONNECT),
-        Err(_) => false,
-    }
+    let Ok(outputs) = client.step(Input::Opened) else {
+        return false;
+    };
+    let is = match outputs.first() {
+        Some(Output::Send(frame)) => frame.as_slice() == CONNECT.as_slice(),
+        _ => false,
+    };
+    drop(outputs);
+    is
 }
 
 // Whether what a client says of its session is put away as the first row.
 fn is_put_away(alloc: Global, client: &Client<Global>) -> Result<bool, SavedFault> {
     let told = client.saved();
     let saved = SavedSession::new(alloc, told.session, told.password, told.last_zxid)?;
-    let written = is_written(alloc, &saved, ROWS[0].2)?;
-    Ok(written)
+    let written = is_written(alloc, &saved, ROWS[0].2);
+    drop(saved);
+    written.map_err(From::from)
 }
 
 #[test]
 fn a_client_takes_a_session_up(rt: HostRuntime) {
     let mut client = taken_up(rt.alloc()).expect(&rt, "is taken up");
     let asked = asks(&mut client);
-    let away = is_put_away(rt.alloc(), &client).unwrap_or(false);
+    let away = is_put_away(rt.alloc(), &client) == Ok(true);
     drop(client);
     holds(&rt, asked, "what is asked for");
     holds(&rt, away, "what is put away");

@@ -35,20 +35,11 @@ fn add<A: Allocator + Copy>(
     }
 }
 
-fn add_all<A: Allocator + Copy>(
-    heap: A,
-    history: &mut History<A>,
-    lines: &[Line],
-) -> Result<(), HistoryFault> {
-    for line in lines {
-        add(heap, history, *line)?;
-    }
-    Ok(())
-}
-
 fn bench_over<A: Allocator + Copy>(heap: A, lines: &[Line]) -> Result<Bench<A>, HistoryFault> {
     let mut history = History::new(heap);
-    add_all(heap, &mut history, lines)?;
+    for line in lines {
+        add(heap, &mut history, *line)?;
+    }
     Ok(Bench::new(heap, history))
 }
 
@@ -89,63 +80,31 @@ fn act<A: Allocator + Copy>(
     Ok(())
 }
 
-fn push_line(all: &mut String, line: &str) -> Result<(), AllocError> {
-    all.push_str(line)?;
-    all.push('\n')
-}
-
-// Adds what is sent after a move, in hex.
-fn push_sent<A: Allocator + Copy>(
-    alloc: Global,
-    bench: &mut Bench<A>,
-    all: &mut String,
-) -> Result<(), AllocError> {
-    let sent = bench.output(usize::MAX)?;
-    let line = hex::encode(alloc, sent.as_slice())?;
-    push_line(all, line.as_str())
-}
-
-fn push_all<A: Allocator + Copy>(
+// Whether each move sends the text beside it, in hex.
+fn sends<A: Allocator + Copy>(
     alloc: Global,
     bench: &mut Bench<A>,
     rows: &[Row],
-    all: &mut String,
-) -> Result<(), AllocError> {
-    for (action, _) in rows {
+) -> Result<bool, AllocError> {
+    let mut is = true;
+    for (action, want) in rows {
         act(alloc, bench, *action)?;
-        push_sent(alloc, bench, all)?;
+        let sent = bench.output(usize::MAX)?;
+        let text = hex::encode(alloc, sent.as_slice());
+        drop(sent);
+        is &= text?.as_str() == *want;
     }
-    Ok(())
+    Ok(is)
 }
 
-fn push_script<A: Allocator + Copy>(
+/// Whether a server over a script's history sends the text beside each move.
+pub(crate) fn plays<A: Allocator + Copy>(
     alloc: Global,
     heap: A,
-    script: Script,
-    all: &mut String,
-) -> Result<(), HistoryFault> {
+    script: &Script,
+) -> Result<bool, HistoryFault> {
     let mut bench = bench_over(heap, script.lines)?;
-    let done = push_all(alloc, &mut bench, script.rows, all);
+    let sent = sends(alloc, &mut bench, script.rows);
     drop(bench);
-    Ok(done?)
-}
-
-/// What is sent after each move of a script, a line each.
-pub(crate) fn play<A: Allocator + Copy>(
-    alloc: Global,
-    heap: A,
-    script: Script,
-) -> Result<String, HistoryFault> {
-    let mut all = String::new(alloc);
-    push_script(alloc, heap, script, &mut all)?;
-    Ok(all)
-}
-
-/// The text beside each move, a line each.
-pub(crate) fn wanted(alloc: Global, rows: &[Row]) -> Result<String, HistoryFault> {
-    let mut all = String::new(alloc);
-    for (_, want) in rows {
-        push_line(&mut all, want)?;
-    }
-    Ok(all)
+    sent.map_err(From::from)
 }

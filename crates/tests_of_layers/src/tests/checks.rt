@@ -29,6 +29,7 @@ pub(crate) fn again<'a, P: Pass<'a>>(
     row: &str,
 ) {
     let mut out = Vec::new(rt.alloc());
-    let is_written = P::pass(rt.alloc(), payload, &mut out);
-    holds(rt, is_written && out.as_slice() == payload, row);
+    let is = P::pass(rt.alloc(), payload, &mut out) && out.as_slice() == payload;
+    drop(out);
+    holds(rt, is, row);
 }

@@ -2,13 +2,13 @@
 ghost use Rattle.std.specs.Prelude.{◌≡◌};
 ghost use Rattle.zk_conversation.specs.Pending.{new_talk};
 
-use crate::tests::refusals::{Course, refuse_each};
-use crate::tests::rows::{Follow, follow_each};
+use crate::tests::checks::holds;
+use crate::tests::refused_memory::{Steps, refuse_each};
 use refusing::Refusing;
 use std::alloc::{Allocator, Global};
 use std::process::Abort;
 use zk_conversation::{
-    Arrival, Asked, Call, Connect, Conversation, CreateMode, Pending, Phase, TalkFault,
+    Arrival, Call, Connect, Conversation, CreateMode, Pending, Phase, TalkFault,
 };
 use zk_frames::{FrameReader, put_frame};
 use zk_nodes::Path;
@@ -132,17 +132,13 @@ static NOTICE_CUTS: [(usize, Want); 6] = [
     (30, Want::Notice("/a")),
 ];
 
-fn is_text<A: Allocator + Copy>(alloc: A, fault: TalkFault, want: &str) -> bool {
+fn is_fault<A: Allocator + Copy>(alloc: A, fault: TalkFault, want: &Want) -> bool {
+    let Want::Fault(words) = want else {
+        return false;
+    };
     match format!(in alloc; "{fault}") {
-        Ok(text) => text.as_str() == want,
+        Ok(text) => text.as_str() == *words,
         Err(_) => false,
-    }
-}
-
-fn is_told<A: Allocator + Copy>(alloc: A, fault: TalkFault, want: &Want) -> bool {
-    match want {
-        Want::Fault(want) => is_text(alloc, fault, want),
-        _ => false,
     }
 }
 
@@ -162,17 +158,6 @@ fn is_that<A: Allocator + Copy>(arrival: &Arrival<'_, A>, want: &Want) -> bool {
     }
 }
 
-fn is<A: Allocator + Copy>(
-    alloc: A,
-    came: &Result<Arrival<'_, A>, TalkFault>,
-    want: &Want,
-) -> bool {
-    match came {
-        Ok(arrival) => is_that(arrival, want),
-        Err(fault) => is_told(alloc, *fault, want),
-    }
-}
-
 // Whether the next payload is that.
 fn arrives<A: Allocator + Copy>(
     alloc: A,
@@ -180,7 +165,13 @@ fn arrives<A: Allocator + Copy>(
     payload: &[u8],
     want: &Want,
 ) -> bool {
-    conversation.phase() != Phase::Closed && is(alloc, &conversation.arrived(payload), want)
+    if conversation.phase() == Phase::Closed {
+        return false;
+    }
+    match conversation.arrived(payload) {
+        Ok(arrival) => is_that(&arrival, want),
+        Err(fault) => is_fault(alloc, fault, want),
+    }
 }
 
 const PASSWORD: [u8; 16] = [0; 16];
@@ -202,55 +193,52 @@ fn is_accepted<A: Allocator + Copy>(alloc: A, conversation: &mut Conversation<A>
     arrives(alloc, conversation, &RESPONSE, &Want::Connected)
 }
 
-// What is to be sent.
+// What is asked before a payload comes.
+#[derive(Clone, Copy)]
+enum Before {
+    Opening,
+    Nothing,
+    // The data of `/a`, by ticket 7.
+    Data,
+    // The names below `/a`, by ticket 8.
+    Names,
+    // That `/l/n-` is made, by ticket 8.
+    Create,
+    Part,
+}
+
+// The call, where there is memory for it.
+fn call<A: Allocator + Copy>(alloc: A, text: &str, before: Before) -> Option<Call<A>> {
+    let path = Path::new(alloc, text).ok()?;
+    Some(match before {
+        Before::Names => Call::GetChildren { path, watch: true },
+        Before::Create => Call::Create {
+            path,
+            bytes: None,
+            mode: CreateMode::EphemeralSequential,
+        },
+        _ => Call::GetData { path, watch: true },
+    })
+}
+
+// The frame that is to be sent.
 fn ask<A: Allocator + Copy>(
+    alloc: A,
     conversation: &mut Conversation<A>,
-    ticket: u64,
-    call: Call<A>,
-) -> Option<Asked<A>> {
+    before: Before,
+) -> Option<Vec<u8, A>> {
+    let (ticket, text) = match before {
+        Before::Data => (7, "/a"),
+        Before::Create => (8, "/l/n-"),
+        _ => (8, "/a"),
+    };
+    let call = call(alloc, text, before)?;
     if conversation.phase() != Phase::Talking {
+        drop(call);
         return None;
     }
-    conversation.ask(ticket, call).ok()
-}
-
-// Ticket 7 reads the data of `/a`.
-fn ask_data<A: Allocator + Copy>(conversation: &mut Conversation<A>, alloc: A) -> Option<Asked<A>> {
-    match Path::new(alloc, "/a") {
-        Ok(path) => ask(conversation, 7, Call::GetData { path, watch: true }),
-        Err(_) => None,
-    }
-}
-
-// Ticket 8 lists the names below `/a`.
-fn ask_names<A: Allocator + Copy>(
-    conversation: &mut Conversation<A>,
-    alloc: A,
-) -> Option<Asked<A>> {
-    match Path::new(alloc, "/a") {
-        Ok(path) => ask(conversation, 8, Call::GetChildren { path, watch: true }),
-        Err(_) => None,
-    }
-}
-
-// Ticket 8 makes `/l/n-`.
-fn ask_create<A: Allocator + Copy>(
-    conversation: &mut Conversation<A>,
-    alloc: A,
-) -> Option<Asked<A>> {
-    match Path::new(alloc, "/l/n-") {
-        Ok(path) => {
-            let mode = CreateMode::EphemeralSequential;
-            ask(
-                conversation,
-                8,
-                Call::Create {
-                    path,
-                    bytes: None,
-                    mode,
-                },
-            )
-        }
+    match conversation.ask(ticket, call) {
+        Ok(asked) => Some(asked.frame),
         Err(_) => None,
     }
 }
@@ -276,32 +264,19 @@ fn ping<A: Allocator + Copy>(conversation: &Conversation<A>) -> Option<Vec<u8, A
     conversation.ping().ok()
 }
 
-// What is asked before a payload comes.
-#[derive(Clone, Copy)]
-enum Before {
-    Opening,
-    Nothing,
-    Data,
-    Names,
-    Part,
-}
-
-fn asks(alloc: Global, conversation: &mut Conversation<Global>, before: Before) -> bool {
-    match before {
-        Before::Opening => true,
-        Before::Nothing => is_accepted(alloc, conversation),
-        Before::Data => is_accepted(alloc, conversation) && ask_data(conversation, alloc).is_some(),
-        Before::Names => is_accepted(alloc, conversation)
-            && ask_names(conversation, alloc).is_some(),
-        Before::Part => is_accepted(alloc, conversation) && send_part(conversation).is_some(),
-    }
-}
-
 // Opens a connection, and asks.
 fn begins_by(alloc: Global, conversation: &mut Conversation<Global>, before: Before) -> bool
     requires { conversation.old ≡ new_talk }
 {
-    open(conversation).is_some() && asks(alloc, conversation, before)
+    if open(conversation).is_none() {
+        return false;
+    }
+    match before {
+        Before::Opening => true,
+        Before::Nothing => is_accepted(alloc, conversation),
+        Before::Part => is_accepted(alloc, conversation) && send_part(conversation).is_some(),
+        _ => is_accepted(alloc, conversation) && ask(alloc, conversation, before).is_some(),
+    }
 }
 
 // How many of the whole frames that the reader holds are that.
@@ -318,39 +293,28 @@ fn count_of(
     count
 }
 
-// How many frames of a stream are that, where it comes in pieces of this size.
-fn count_in(
-    alloc: Global,
-    conversation: &mut Conversation<Global>,
-    stream: &[u8],
-    size: usize,
-    want: &Want,
-) -> usize {
+// How many frames of a stream are that, where it comes in pieces of this size after a read of the data of `/a`.
+fn count_in(alloc: Global, stream: &[u8], size: usize, want: &Want) -> usize {
+    let mut conversation = Conversation::new(alloc);
+    let is_begun = begins_by(alloc, &mut conversation, Before::Data);
     let mut reader = FrameReader::new(alloc);
     let mut count = 0usize;
     for piece in stream.chunks(size.max(1)) {
-        if reader.feed(piece).is_ok() {
-            count = count.saturating_add(count_of(alloc, conversation, &mut reader, want));
+        if is_begun && reader.feed(piece).is_ok() {
+            count = count.saturating_add(count_of(alloc, &mut conversation, &mut reader, want));
         }
     }
+    drop(reader);
+    drop(conversation);
     count
-}
-
-fn streamed(alloc: Global, stream: &[u8], size: usize, want: &Want) -> usize {
-    let mut conversation = Conversation::new(alloc);
-    if begins_by(alloc, &mut conversation, Before::Data) {
-        count_in(alloc, &mut conversation, stream, size, want)
-    } else {
-        0
-    }
 }
 
 // Whether a payload is that, as a frame whole and one byte at a time.
 fn comes(alloc: Global, payload: &[u8], want: &Want) -> bool {
     let mut stream = Vec::new(alloc);
     put_frame(payload, &mut stream).is_ok()
-        && streamed(alloc, &stream, stream.len(), want) == 1
-        && streamed(alloc, &stream, 1, want) == 1
+        && count_in(alloc, &stream, stream.len(), want) == 1
+        && count_in(alloc, &stream, 1, want) == 1
 }
 
 // What that many bytes are.
@@ -365,17 +329,17 @@ fn wanted(cuts: &[(usize, Want)], length: usize) -> Want {
 }
 
 // Each beginning of a payload.
-fn cut_rows<R: Abort>(rt: &R, alloc: Global, payload: &[u8], cuts: &[(usize, Want)]) {
+fn cut_rows(rt: &(impl Abort + AllocGlobal), payload: &[u8], cuts: &[(usize, Want)]) {
     for n in 0..=payload.len() {
         let (front, _) = payload.split_at_checked(n).unwrap_or((&[], &[]));
-        assert!(rt; comes(alloc, front, &wanted(cuts, n)), "{n}");
+        holds(rt, comes(rt.alloc(), front, &wanted(cuts, n)), n);
     }
 }
 
 #[test]
 fn tells_where_a_cut_payload_ends(rt: HostRuntime) {
-    cut_rows(&rt, rt.alloc(), &READ, &READ_CUTS);
-    cut_rows(&rt, rt.alloc(), &NOTICE, &NOTICE_CUTS);
+    cut_rows(&rt, &READ, &READ_CUTS);
+    cut_rows(&rt, &NOTICE, &NOTICE_CUTS);
 }
 
 // That many notices, as frames of 34 bytes.
@@ -391,8 +355,10 @@ fn notices(alloc: Global, count: u32) -> Vec<u8> {
 fn many_notices_come_in_any_pieces(rt: HostRuntime) {
     let stream = notices(rt.alloc(), 1000);
     for size in [stream.len(), 34] {
-        assert!(rt; streamed(rt.alloc(), &stream, size, &Want::Notice("/a")) == 1000);
+        let count = count_in(rt.alloc(), &stream, size, &Want::Notice("/a"));
+        holds(&rt, count == 1000, size);
     }
+    drop(stream);
 }
 
 // Payloads that break the protocol, or say nothing, by what was asked before.
@@ -477,26 +443,16 @@ static HOSTILE: [(Before, &[u8], Want); 13] = [
     ),
 ];
 
-#[derive(Drop)]
-struct Peer {
-    alloc: Global,
-}
-
-impl Follow<(Before, &'static [u8], Want), Global> for Peer {
-    fn new(alloc: Global) -> Peer {
-        Peer { alloc }
-    }
-
-    fn follows(&mut self, row: &(Before, &'static [u8], Want)) -> bool {
-        let mut conversation = Conversation::new(self.alloc);
-        begins_by(self.alloc, &mut conversation, row.0)
-            && arrives(self.alloc, &mut conversation, row.1, &row.2)
-    }
+fn sends(alloc: Global, before: Before, payload: &[u8], want: &Want) -> bool {
+    let mut conversation = Conversation::new(alloc);
+    begins_by(alloc, &mut conversation, before) && arrives(alloc, &mut conversation, payload, want)
 }
 
 #[test]
 fn tells_what_a_peer_sends(rt: HostRuntime) {
-    follow_each::<Peer, _, _, _>(&rt, rt.alloc(), &HOSTILE);
+    for (place, (before, payload, want)) in HOSTILE.iter().enumerate() {
+        holds(&rt, sends(rt.alloc(), *before, payload, want), place);
+    }
 }
 
 // The ConnectRequest of a new session, getData of `/a` with a watch, a create of `/l/n-` with null data, a part with
@@ -512,26 +468,15 @@ static FRAMES: [u8; 174] = [
 ];
 
 // Takes a frame off what is to be sent, which begins with it.
-fn begins(rest: &mut &[u8], frame: &[u8]) -> bool {
-    match rest.strip_prefix(frame) {
+fn is_sent<A: Allocator>(rest: &mut &[u8], frame: Option<Vec<u8, A>>) -> bool {
+    let Some(frame) = frame else {
+        return false;
+    };
+    match rest.strip_prefix(frame.as_slice()) {
         Some(left) => {
             *rest = left;
             true
         }
-        None => false,
-    }
-}
-
-fn is_sent<A: Allocator>(rest: &mut &[u8], frame: Option<Vec<u8, A>>) -> bool {
-    match frame {
-        Some(frame) => begins(rest, &frame),
-        None => false,
-    }
-}
-
-fn is_asked<A: Allocator>(rest: &mut &[u8], asked: Option<Asked<A>>) -> bool {
-    match asked {
-        Some(asked) => begins(rest, &asked.frame),
         None => false,
     }
 }
@@ -548,14 +493,12 @@ fn goes<A: Allocator + Copy>(
     if !is_sent(rest, open(conversation)) || !is_accepted(alloc, conversation) {
         return false;
     }
-    if !is_asked(rest, ask_data(conversation, alloc)) {
-        return false;
+    for before in [Before::Data, Before::Create] {
+        if !is_sent(rest, ask(alloc, conversation, before)) {
+            return false;
+        }
+        *last = conversation.pending();
     }
-    *last = conversation.pending();
-    if !is_asked(rest, ask_create(conversation, alloc)) {
-        return false;
-    }
-    *last = conversation.pending();
     is_sent(rest, send_part(conversation)) && is_sent(rest, ping(conversation))
 }
 
@@ -567,32 +510,25 @@ fn leaves<A: Allocator + Copy>(conversation: &mut Conversation<A>) -> bool {
         && conversation.take_pending().is_none()
 }
 
-fn goes_or_stays<A: Allocator + Copy>(
-    conversation: &mut Conversation<A>,
-    alloc: A,
-    refusals: &mut u32,
-) -> bool
-    requires { conversation.old ≡ new_talk }
-{
-    let mut last = conversation.pending();
-    let mut rest = FRAMES.as_slice();
-    if !goes(conversation, alloc, &mut rest, &mut last) {
-        *refusals = 1;
-        return conversation.pending() == last;
-    }
-    rest.is_empty() && conversation.pending() == last && leaves(conversation)
-}
-
+// All calls go, unless a request for memory is refused, and no other call is pending then.
 struct Calls;
 
-impl Course for Calls {
-    fn goes(heap: &Refusing<Global>, refusals: &mut u32) -> bool {
+impl Steps for Calls {
+    fn come_right(_alloc: Global, heap: &Refusing<Global>) -> bool {
         let mut conversation = Conversation::new(heap);
-        goes_or_stays(&mut conversation, heap, refusals)
+        let mut last = conversation.pending();
+        let mut rest = FRAMES.as_slice();
+        let goes = goes(&mut conversation, heap, &mut rest, &mut last);
+        let mut is = conversation.pending() == last && goes != heap.has_refused();
+        if goes {
+            is = is && rest.is_empty() && leaves(&mut conversation);
+        }
+        drop(conversation);
+        is
     }
 }
 
 #[test]
 fn refused_memory_leaves_it_as_it_was(rt: HostRuntime) {
-    refuse_each::<Calls, _>(&rt, rt.alloc(), 0, 5, 99);
+    refuse_each::<Calls>(&rt, 5, 99);
 }

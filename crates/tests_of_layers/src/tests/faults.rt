@@ -1,5 +1,6 @@
 //! What each fault is called, by its code, and what it says.
 
+use crate::tests::checks::holds;
 use std::fmt::Display;
 use std::process::Abort;
 use zk_conversation::{AskFault, TalkFault};
@@ -154,69 +155,59 @@ static REGISTERING: [(RegisterFault, &str, &str); 2] = [
     (RegisterFault::Memory, "W2", "out of memory"),
 ];
 
-// Ends the test where a fault says something else.
-fn says<D: Display>(rt: &(impl Abort + AllocGlobal), fault: &D, words: &str) {
+// Ends the test where a fault does not have its code, or says something else.
+fn tells<D: Display>(rt: &(impl Abort + AllocGlobal), fault: &D, has_code: bool, words: &str) {
     let said = format!(in rt.alloc(); "{fault}").expect(rt, words);
-    assert!(rt; said.as_str() == words, "{words}");
-}
-
-// Ends the test where a fault has another code, or says something else.
-fn tells<D: Display>(
-    rt: &(impl Abort + AllocGlobal),
-    fault: &D,
-    code: &str,
-    want: &str,
-    words: &str,
-) {
-    assert!(rt; code == want, "{want}");
-    says(rt, fault, words);
+    let is_said = said.as_str() == words;
+    drop(said);
+    holds(rt, has_code && is_said, words);
 }
 
 #[test]
 fn faults_of_reading_say_what_is_wrong(rt: HostRuntime) {
     for (fault, code, words) in &READING {
-        tells(&rt, fault, fault.code(), code, words);
+        tells(&rt, fault, fault.code() == *code, words);
     }
 }
 
 #[test]
 fn faults_of_paths_say_what_is_wrong(rt: HostRuntime) {
     for (fault, code, words) in &PATHS {
-        tells(&rt, fault, fault.code(), code, words);
+        tells(&rt, fault, fault.code() == *code, words);
     }
 }
 
 #[test]
 fn faults_of_histories_say_what_is_wrong(rt: HostRuntime) {
     for (fault, code, words) in &HISTORIES {
-        tells(&rt, fault, fault.code(), code, words);
+        tells(&rt, fault, fault.code() == *code, words);
     }
 }
 
 #[test]
 fn faults_of_frames_say_what_is_wrong(rt: HostRuntime) {
     for (fault, code, words) in &FRAMES {
-        tells(&rt, fault, fault.code(), code, words);
+        tells(&rt, fault, fault.code() == *code, words);
     }
     for (fault, code, words) in &PUTTING {
-        tells(&rt, fault, fault.code(), code, words);
+        tells(&rt, fault, fault.code() == *code, words);
     }
 }
 
 #[test]
 fn faults_of_conversations_say_what_is_wrong(rt: HostRuntime) {
     for (fault, code, words) in &ASKING {
-        tells(&rt, fault, fault.code(), code, words);
+        tells(&rt, fault, fault.code() == *code, words);
     }
     for (fault, code, words) in &TALKING {
-        tells(&rt, fault, fault.code(), code, words);
+        tells(&rt, fault, fault.code() == *code, words);
     }
 }
 
 #[test]
 fn faults_of_watches_say_what_is_wrong(rt: HostRuntime) {
     for (fault, code, words) in &REGISTERING {
-        tells(&rt, fault, fault.code(), code, words);
+        tells(&rt, fault, fault.code() == *code, words);
     }
 }
 
@@ -224,10 +215,9 @@ fn faults_of_watches_say_what_is_wrong(rt: HostRuntime) {
 fn some_faults_have_no_code(rt: HostRuntime) {
     let unknown = RequestFault::Unknown(99);
     let unread = RequestFault::Unread(TakeError::Short(8));
-    assert!(rt; unknown.code().is_none(), "no code");
-    assert!(rt; unread.code() == Some("J1"), "J1");
-    says(&rt, &unknown, "unknown type 99");
-    says(&rt, &unread, "a value at byte 8 is cut off");
-    says(&rt, &PutError::TooLong, "too long");
-    says(&rt, &PutError::Memory, "out of memory");
+    tells(&rt, &unknown, unknown.code().is_none(), "unknown type 99");
+    let short = "a value at byte 8 is cut off";
+    tells(&rt, &unread, unread.code() == Some("J1"), short);
+    tells(&rt, &PutError::TooLong, true, "too long");
+    tells(&rt, &PutError::Memory, true, "out of memory");
 }

@@ -3,7 +3,7 @@
 use crate::tests::checks::holds;
 use crate::tests::refused_memory::{Steps, refuse_each};
 use refusing::Refusing;
-use std::alloc::{AllocError, Allocator, Global};
+use std::alloc::{Allocator, Global};
 use std::process::Abort;
 use zk_frames::{FrameFault, FrameReader, PutFault, put_frame, seal_frame};
 use zk_limits::LONGEST_OUTGOING;
@@ -29,76 +29,59 @@ fn take_whole<A: Allocator>(
 }
 
 // The stream in two pieces.
-fn cut_at(cut: usize) -> (&'static [u8], &'static [u8]) {
-    STREAM.split_at_checked(cut).unwrap_or((&[], &[]))
+fn cut_at(cut: usize) -> [&'static [u8]; 2] {
+    let (front, back) = STREAM.split_at_checked(cut).unwrap_or((&[], &[]));
+    [front, back]
 }
 
-// Feeds a piece, once more where it is refused, and copies what is whole then. Tells whether it was refused.
-fn feed<A: Allocator>(
-    reader: &mut FrameReader<A>,
-    piece: &[u8],
-    out: &mut Vec<u8>,
-) -> Result<bool, FrameFault> {
-    let is_refused = reader.feed(piece) == Err(FrameFault::Memory);
-    if is_refused {
-        reader.feed(piece)?;
-    }
-    take_whole(reader, out)?;
-    Ok(is_refused)
-}
-
-// Feeds the stream in two pieces to a reader over the allocator.
+// Feeds the stream in two pieces to a reader, each once more where it is refused, and copies what is whole after each. Tells
+// how often one was refused.
 fn feed_both<A: Allocator>(
-    heap: A,
+    reader: &mut FrameReader<A>,
     cut: usize,
     out: &mut Vec<u8>,
-) -> [Result<bool, FrameFault>; 2] {
-    let (front, back) = cut_at(cut);
-    let mut reader = FrameReader::new(heap);
-    [feed(&mut reader, front, out), feed(&mut reader, back, out)]
+) -> Result<u32, FrameFault> {
+    let mut refusals = 0u32;
+    for piece in cut_at(cut) {
+        if reader.feed(piece) == Err(FrameFault::Memory) {
+            refusals = refusals.saturating_add(1);
+            reader.feed(piece)?;
+        }
+        take_whole(reader, out)?;
+    }
+    Ok(refusals)
 }
 
-// Takes a copy of the piece over, and copies what is whole then.
-fn adopt(
+// Gives copies of two pieces of the stream to a reader that takes them over, and copies what is whole after each.
+fn adopt_both(
     alloc: Global,
     reader: &mut FrameReader<Global>,
-    piece: &[u8],
+    cut: usize,
     out: &mut Vec<u8>,
 ) -> Result<(), FrameFault> {
-    reader.adopt(Vec::from_slice(alloc, piece)?)?;
-    take_whole(reader, out)
-}
-
-// Gives the stream in two pieces to a reader that takes them over.
-fn adopt_both(alloc: Global, cut: usize, out: &mut Vec<u8>) -> [Result<(), FrameFault>; 2] {
-    let (front, back) = cut_at(cut);
-    let mut reader = FrameReader::new(alloc);
-    [
-        adopt(alloc, &mut reader, front, out),
-        adopt(alloc, &mut reader, back, out),
-    ]
-}
-
-// Whether all payloads come out of two pieces that are fed.
-fn are_fed(alloc: Global, cut: usize) -> bool {
-    let mut out = Vec::new(alloc);
-    let came = feed_both(alloc, cut, &mut out);
-    came == [Ok(false), Ok(false)] && out.as_slice() == PAYLOADS
-}
-
-// Whether all payloads come out of two pieces that are taken over.
-fn are_adopted(alloc: Global, cut: usize) -> bool {
-    let mut out = Vec::new(alloc);
-    let came = adopt_both(alloc, cut, &mut out);
-    came == [Ok(()), Ok(())] && out.as_slice() == PAYLOADS
+    for piece in cut_at(cut) {
+        reader.adopt(Vec::from_slice(alloc, piece)?)?;
+        take_whole(reader, out)?;
+    }
+    Ok(())
 }
 
 #[test]
 fn gives_the_frames_however_cut(rt: HostRuntime) {
+    let mut reader = FrameReader::new(rt.alloc());
+    let mut out = Vec::new(rt.alloc());
     for cut in 0..=STREAM.len() {
-        holds(&rt, are_fed(rt.alloc(), cut), cut);
-        holds(&rt, are_adopted(rt.alloc(), cut), cut);
+        let fed = feed_both(&mut reader, cut, &mut out);
+        holds(&rt, fed == Ok(0) && out.as_slice() == PAYLOADS, cut);
+        reader.reset();
+        out.clear();
+        let adopted = adopt_both(rt.alloc(), &mut reader, cut, &mut out);
+        holds(&rt, adopted == Ok(()) && out.as_slice() == PAYLOADS, cut);
+        reader.reset();
+        out.clear();
     }
+    drop(reader);
+    drop(out);
 }
 
 // All payloads come, and a piece is refused exactly where a request is.
@@ -106,46 +89,35 @@ struct Feeding;
 
 impl Steps for Feeding {
     fn come_right(alloc: Global, heap: &Refusing<Global>) -> bool {
+        let mut reader = FrameReader::new(heap);
         let mut out = Vec::new(alloc);
-        let came = feed_both(heap, 5, &mut out);
-        let is = heap.has_refused();
-        let is_told = came == [Ok(is), Ok(false)] || came == [Ok(false), Ok(is)];
-        is_told && out.as_slice() == PAYLOADS
+        let came = feed_both(&mut reader, 5, &mut out);
+        drop(reader);
+        came == Ok(u32::from(heap.has_refused())) && out.as_slice() == PAYLOADS
     }
 }
 
 #[test]
 fn tells_each_refusal_and_goes_on(rt: HostRuntime) {
-    holds(&rt, refuse_each::<Feeding>(&rt) > 0, "no request");
+    refuse_each::<Feeding>(&rt, 1, 999);
 }
 
-// Gives the stream's first two bytes and the others to a reader over the allocator, which refuses the third request,
-// and feeds the others again.
-fn adopt_and_feed<A: Allocator + Copy>(
-    heap: A,
-    out: &mut Vec<u8>,
-) -> Result<[Result<(), FrameFault>; 4], AllocError> {
-    let (front, back) = cut_at(2);
-    let first = Vec::from_slice(heap, front)?;
-    let second = Vec::from_slice(heap, back)?;
-    let mut reader = FrameReader::new(heap);
-    Ok([
-        reader.adopt(first),
-        reader.adopt(second),
-        reader.feed(back),
-        take_whole(&mut reader, out),
-    ])
-}
-
-// Where nothing is held a piece costs no memory. Else the same bytes are held where it is refused.
+// Where nothing is held a piece costs no memory. Else the same bytes are held where it is refused, and are fed again. The third
+// request is refused: the pieces themselves take two.
 #[test]
 fn adopts_without_memory(rt: HostRuntime) {
     let heap = Refusing::after(2, rt.alloc());
+    let [front, back] = cut_at(2);
+    let first = Vec::from_slice(&heap, front).expect(&rt, "memory");
+    let second = Vec::from_slice(&heap, back).expect(&rt, "memory");
+    let mut reader = FrameReader::new(&heap);
     let mut out = Vec::new(rt.alloc());
-    let came = adopt_and_feed(&heap, &mut out);
-    let want = [Ok(()), Err(FrameFault::Memory), Ok(()), Ok(())];
-    let is_told = came == Ok(want);
-    holds(&rt, is_told && out.as_slice() == PAYLOADS, "the pieces");
+    let adopted = [reader.adopt(first), reader.adopt(second)];
+    let fed = [reader.feed(back), take_whole(&mut reader, &mut out)];
+    drop(reader);
+    holds(&rt, adopted == [Ok(()), Err(FrameFault::Memory)], "adopted");
+    holds(&rt, fed == [Ok(()), Ok(())], "fed");
+    holds(&rt, out.as_slice() == PAYLOADS, "the pieces");
 }
 
 // Lengths, and what is answered where they are fed.
@@ -157,33 +129,22 @@ static LENGTHS: [([u8; 4], Result<(), FrameFault>); 5] = [
     ([0xff, 0xff, 0xff, 0xff], Err(FrameFault::Negative)),
 ];
 
-// What a reader that begins again answers to a length, twice more after it, and when it is asked for frames.
-fn answers(
-    alloc: Global,
-    reader: &mut FrameReader<Global>,
-    length: &[u8],
-) -> [Result<(), FrameFault>; 4] {
-    let mut out = Vec::new(alloc);
-    reader.reset();
-    [
-        reader.feed(length),
-        take_whole(reader, &mut out),
-        reader.feed(b""),
-        reader.adopt(Vec::new(alloc)),
-    ]
-}
-
+// A reader that begins again answers so twice after a length, and when it is asked for frames.
 #[test]
 fn keeps_to_the_limits(rt: HostRuntime) {
     let mut reader = FrameReader::new(rt.alloc());
     for (length, want) in &LENGTHS {
-        let came = answers(rt.alloc(), &mut reader, length);
-        holds(
-            &rt,
-            came == [Ok(()), *want, *want, *want],
-            i32::from_be_bytes(*length),
-        );
+        reader.reset();
+        let came = [
+            reader.feed(length),
+            take_whole(&mut reader, &mut Vec::new(rt.alloc())),
+            reader.feed(b""),
+            reader.adopt(Vec::new(rt.alloc())),
+        ];
+        let is = came == [Ok(()), *want, *want, *want];
+        holds(&rt, is, i32::from_be_bytes(*length));
     }
+    drop(reader);
 }
 
 #[test]
@@ -224,19 +185,15 @@ fn puts_up_to_the_limit(rt: HostRuntime) {
 
 static SEVENS: [u8; 300] = [7; 300];
 
-// Whether the second of two frames is refused where the second request is, the first stays, and it is put again.
-fn is_put_again(heap: &Refusing<Global>) -> bool {
-    let mut out = Vec::new(heap);
-    let first = put_frame(b"hi", &mut out);
-    let second = put_frame(&SEVENS, &mut out);
-    let is_kept = out.as_slice() == &STREAM[..6];
-    let again = put_frame(&SEVENS, &mut out);
-    let came = [first, second, again] == [Ok(()), Err(PutFault::Memory), Ok(())];
-    came && is_kept && out.len() == 310
-}
-
+// The second of two frames is refused where the second request is; the first stays, and it is put again.
 #[test]
 fn refused_put_leaves_what_was_there(rt: HostRuntime) {
     let heap = Refusing::after(1, rt.alloc());
-    holds(&rt, is_put_again(&heap), "the second frame");
+    let mut out = Vec::new(&heap);
+    let put = [put_frame(b"hi", &mut out), put_frame(&SEVENS, &mut out)];
+    let is_kept = out.as_slice() == &STREAM[..6];
+    let again = (put_frame(&SEVENS, &mut out), out.len());
+    drop(out);
+    holds(&rt, put == [Ok(()), Err(PutFault::Memory)], "refused");
+    holds(&rt, is_kept && again == (Ok(()), 310), "the two frames");
 }

@@ -6,7 +6,7 @@ use refusing::Refusing;
 use std::alloc::{AllocError, Allocator, Global};
 use std::process::Abort;
 use zk_history::{Change, Data, History, HistoryFault};
-use zk_nodes::{DataStat, Names, Path};
+use zk_nodes::{Names, Path, Stat};
 
 // What a line does at its path.
 enum What {
@@ -159,13 +159,18 @@ fn data_of<A: Allocator + Copy>(
     }
 }
 
-// Gives a history what a line does at its path.
-fn give<A: Allocator + Copy>(
+// Gives a history what a line does.
+fn take<A: Allocator + Copy>(
+    alloc: A,
     history: &mut History<A>,
-    what: &What,
-    path: Path<A>,
-    bytes: Option<Vec<u8, A>>,
+    line: &Line,
 ) -> Result<(), HistoryFault> {
+    let (what, text, data) = match line {
+        Line::Tx(zxid, time) => return history.begin(*zxid, *time),
+        Line::At(what, text, data) => (what, text, data),
+    };
+    let bytes = data_of(alloc, *data)?;
+    let path = path_of(alloc, text)?;
     match what {
         What::Node(time) => history.node(path, bytes, *time),
         What::Create(owner) => history.change(Change::Create(path, bytes, *owner)),
@@ -177,142 +182,67 @@ fn give<A: Allocator + Copy>(
     }
 }
 
-fn take<A: Allocator + Copy>(
-    alloc: A,
-    history: &mut History<A>,
-    line: &Line,
-) -> Result<(), HistoryFault> {
-    match line {
-        Line::Tx(zxid, time) => history.begin(*zxid, *time),
-        Line::At(what, text, data) => {
-            let path = path_of(alloc, text)?;
-            match data_of(alloc, *data) {
-                Ok(bytes) => give(history, what, path, bytes),
-                Err(_) => Err(HistoryFault::Memory),
-            }
-        }
-    }
-}
-
 // Takes the lines; one that is refused since memory ran out is given again.
 fn take_all<A: Allocator + Copy>(
     alloc: A,
     history: &mut History<A>,
     lines: &[Line],
     refusals: &mut u32,
-) -> Result<(), HistoryFault> {
+) -> bool {
+    let mut is = true;
     for line in lines {
         let mut done = take(alloc, history, line);
         if done == Err(HistoryFault::Memory) {
             *refusals = refusals.saturating_add(1);
             done = take(alloc, history, line);
         }
-        done?;
+        is = is && done.is_ok();
     }
-    Ok(())
+    is
 }
 
-// The fields of data, in their order.
-fn fields_of(stat: &DataStat) -> [i64; 7] {
-    [
-        stat.czxid,
-        stat.mzxid,
-        stat.ctime,
-        stat.mtime,
-        i64::from(stat.version),
-        stat.ephemeral_owner,
-        i64::from(stat.data_length),
-    ]
-}
-
-// Whether the bytes are those of a text, or both are null.
-fn are_bytes<A: Allocator>(kept: &Option<Vec<u8, A>>, told: Option<&str>) -> bool {
-    match (kept, told) {
+// Whether the data are those of the node.
+fn are_data<A: Allocator>(data: &Data<A>, node: &Node) -> bool {
+    let are_bytes = match (&data.bytes, node.bytes) {
         (Some(kept), Some(told)) => kept.as_slice() == told.as_bytes(),
         (None, None) => true,
         _ => false,
+    };
+    let fields = [
+        data.stat.czxid,
+        data.stat.mzxid,
+        data.stat.ctime,
+        data.stat.mtime,
+        i64::from(data.stat.version),
+        data.stat.ephemeral_owner,
+        i64::from(data.stat.data_length),
+    ];
+    are_bytes && fields.as_slice() == node.fields.as_slice()
+}
+
+// Whether the names are those of the node.
+fn are_names<A: Allocator>(names: &Names<A>, node: &Node) -> bool {
+    let mut are = names.names.len() == node.names.len();
+    for name in node.names {
+        are = are && names.names.contains(*name);
     }
+    are && names.pzxid == node.pzxid
 }
 
-// Whether the data are those of the node, or none.
-fn are_data<A: Allocator>(data: &Option<Data<A>>, node: &Option<Node>) -> bool {
-    match (data, node) {
-        (Some(data), Some(node)) => {
-            let fields = fields_of(&data.stat);
-            are_bytes(&data.bytes, node.bytes) && fields.as_slice() == node.fields.as_slice()
-        }
-        (None, None) => true,
-        _ => false,
-    }
-}
-
-// Whether each of these names is there.
-fn are_there<A: Allocator>(names: &Names<A>, those: &[&str]) -> bool {
-    for name in those {
-        if !names.names.contains(*name) {
-            return false;
-        }
-    }
-    names.names.len() == those.len()
-}
-
-// Whether the names are those of the node, or none.
-fn are_names<A: Allocator>(names: &Option<Names<A>>, node: &Option<Node>) -> bool {
-    match (names, node) {
-        (Some(names), Some(node)) => are_there(names, node.names) && names.pzxid == node.pzxid,
-        (None, None) => true,
-        _ => false,
-    }
-}
-
-fn tells_data<A: Allocator + Copy>(
-    history: &History<A>,
-    z: i64,
-    path: &Path<A>,
-    node: &Option<Node>,
-) -> Result<bool, AllocError> {
-    let data = history.data_at(z, path)?;
-    let is_told = are_data(&data, node);
-    drop(data);
-    Ok(is_told)
-}
-
-fn tells_names<A: Allocator + Copy>(
-    history: &History<A>,
-    z: i64,
-    path: &Path<A>,
-    node: &Option<Node>,
-) -> Result<bool, AllocError> {
-    let names = history.names_at(z, path)?;
-    let is_told = are_names(&names, node);
-    drop(names);
-    Ok(is_told)
-}
-
-// Whether as many names are told by the Stat, or none is there.
-fn tells_count<A: Allocator + Copy>(
-    history: &History<A>,
-    z: i64,
-    path: &Path<A>,
+// Whether what is told is of the node, or nothing is told where there is none.
+fn is_told<A: Allocator>(
+    data: &Option<Data<A>>,
+    names: &Option<Names<A>>,
+    stat: Option<Stat>,
     node: &Option<Node>,
 ) -> bool {
-    match (history.stat_at(z, path), node) {
-        (Some(stat), Some(node)) => stat.num_children == node.num_children,
-        (None, None) => true,
+    match (data, names, stat, node) {
+        (Some(data), Some(names), Some(stat), Some(node)) => {
+            are_data(data, node) && are_names(names, node) && stat.num_children == node.num_children
+        }
+        (None, None, None, None) => true,
         _ => false,
     }
-}
-
-// Whether a history tells of a path what a row says.
-fn tells_of<A: Allocator + Copy>(
-    history: &History<A>,
-    z: i64,
-    path: &Path<A>,
-    node: &Option<Node>,
-) -> Result<bool, AllocError> {
-    let are_data = tells_data(history, z, path, node)?;
-    let are_names = tells_names(history, z, path, node)?;
-    Ok(are_data && are_names && tells_count(history, z, path, node))
 }
 
 // Whether a history tells what a row says.
@@ -323,9 +253,12 @@ fn tells<A: Allocator + Copy>(
 ) -> Result<bool, HistoryFault> {
     let (z, text, node) = row;
     let path = path_of(alloc, text)?;
-    let told = tells_of(history, *z, &path, node);
+    let told = match (history.data_at(*z, &path), history.names_at(*z, &path)) {
+        (Ok(data), Ok(names)) => Ok(is_told(&data, &names, history.stat_at(*z, &path), node)),
+        _ => Err(HistoryFault::Memory),
+    };
     drop(path);
-    Ok(told?)
+    told
 }
 
 // Whether a history tells what the rows say; a question that is refused since memory ran out is asked again.
@@ -335,17 +268,16 @@ fn tells_all<A: Allocator + Copy>(
     rows: &[Row],
     refusals: &mut u32,
 ) -> bool {
+    let mut is = true;
     for row in rows {
-        let mut is_told = tells(alloc, history, row);
-        if is_told == Err(HistoryFault::Memory) {
+        let mut told = tells(alloc, history, row);
+        if told == Err(HistoryFault::Memory) {
             *refusals = refusals.saturating_add(1);
-            is_told = tells(alloc, history, row);
+            told = tells(alloc, history, row);
         }
-        if is_told != Ok(true) {
-            return false;
-        }
+        is = is && told == Ok(true);
     }
-    true
+    is
 }
 
 struct Example;
@@ -354,23 +286,24 @@ impl Steps for Example {
     fn come_right(_alloc: Global, heap: &Refusing<Global>) -> bool {
         let mut history = History::new(heap);
         let mut refusals = 0;
-        let is_taken = take_all(heap, &mut history, &EXAMPLE, &mut refusals).is_ok();
-        let is_told = tells_all(heap, &history, &EXAMPLE_TOLD, &mut refusals);
-        let is_counted = (refusals == 1) == heap.has_refused();
-        is_taken && is_told && is_counted && history.last_zxid() == 5
+        let is = take_all(heap, &mut history, &EXAMPLE, &mut refusals)
+            && tells_all(heap, &history, &EXAMPLE_TOLD, &mut refusals)
+            && history.last_zxid() == 5;
+        drop(history);
+        is && (refusals == 1) == heap.has_refused()
     }
 }
 
 #[test]
 fn answers_through_each_refusal(rt: HostRuntime) {
-    holds(&rt, refuse_each::<Example>(&rt) > 0, "no request");
+    refuse_each::<Example>(&rt, 1, 999);
 }
 
 // The history of lines.
 fn history_of(rt: &(impl Abort + AllocGlobal), lines: &[Line]) -> History<Global> {
-    let mut none = 0;
     let mut history = History::new(rt.alloc());
-    take_all(rt.alloc(), &mut history, lines, &mut none).expect(rt, "the lines");
+    let is = take_all(rt.alloc(), &mut history, lines, &mut 0);
+    holds(rt, is, "the lines");
     history
 }
 
@@ -381,22 +314,29 @@ fn tells_what_was_made_and_deleted(rt: HostRuntime) {
         let is_told = tells(rt.alloc(), &history, row) == Ok(true);
         holds(&rt, is_told, row.0);
     }
+    drop(history);
 }
 
 #[test]
 fn tells_transactions(rt: HostRuntime) {
     let history = history_of(&rt, &MADE_AND_DELETED);
-    let (zxid, time, changes) = history.transaction(0).expect(&rt, "the first");
-    let told = (zxid, time, changes.len());
-    holds(&rt, told == (2, 5, 2), "its changes");
-    holds(&rt, history.transaction(1).is_none(), "no other");
+    let first = match history.transaction(0) {
+        Some((zxid, time, changes)) => (zxid, time, changes.len()),
+        None => (0, 0, 0),
+    };
+    let is_last = history.transaction(1).is_none();
+    drop(history);
+    holds(&rt, first == (2, 5, 2), "its changes");
+    holds(&rt, is_last, "no other");
 }
 
 #[test]
 fn refuses_by_number(rt: HostRuntime) {
     for (lines, last, told) in &REFUSED {
         let mut history = history_of(&rt, *lines);
-        let fault = take(rt.alloc(), &mut history, last).expect_err(&rt, told);
+        let came = take(rt.alloc(), &mut history, last);
+        drop(history);
+        let fault = came.expect_err(&rt, told);
         holds(&rt, fault.code() == *told, *told);
     }
 }

@@ -1,9 +1,9 @@
 //! Rows of kept answers, and refused memory.
-use crate::tests::refusals::{Course, refuse_each};
-use crate::tests::rows::{Follow, follow_each};
+use crate::tests::checks::holds;
+use crate::tests::refused_memory::{Steps, refuse_each};
 use refusing::Refusing;
 use std::alloc::{Allocator, Global};
-use std::collections::BTreeSet;
+use std::process::Abort;
 use zk_cache::{Cache, DataAnswer, Mark};
 use zk_jute::TextRef;
 use zk_nodes::{DataStat, Path, Side};
@@ -24,22 +24,6 @@ fn stat(mzxid: i64) -> DataStat {
 
 // What is kept of the data: a word for it, the zxid of its last change, and its mark.
 type Data = (&'static str, i64, Option<Mark>);
-
-fn seen(cache: &Cache<Global>) -> Data {
-    match cache.peek_data("/a") {
-        None => ("none", 0, None),
-        Some((DataAnswer::Absent, mark)) => ("absent", 0, Some(mark)),
-        Some((DataAnswer::Known(stat), mark)) => ("known", stat.mzxid, Some(mark)),
-        Some((DataAnswer::Full(bytes, stat), mark)) => (word_of(bytes), stat.mzxid, Some(mark)),
-    }
-}
-
-fn word_of(bytes: &Option<Vec<u8>>) -> &'static str {
-    match bytes {
-        Some(bytes) if bytes.as_slice() == BYTES.as_slice() => "full",
-        _ => "other bytes",
-    }
-}
 
 // What happens to a path.
 #[derive(Clone, Copy)]
@@ -90,65 +74,6 @@ const FEW: [TextRef<'static>; 3] = [
     TextRef { text: Some("b") },
 ];
 
-// What goes through the rows.
-#[derive(Drop)]
-struct Kept {
-    alloc: Global,
-    cache: Cache<Global>,
-}
-
-impl Kept {
-    fn empty(alloc: Global) -> Kept {
-        let cache = Cache::new(alloc);
-        Kept { alloc, cache }
-    }
-
-    fn keeps(&mut self, answer: DataAnswer<Global>) -> bool {
-        match Path::new(self.alloc, "/a") {
-            Ok(path) => self.cache.keep_data(&path, answer).is_ok(),
-            Err(_) => false,
-        }
-    }
-
-    fn keeps_full(&mut self, mzxid: i64) -> bool {
-        match Vec::from_slice(self.alloc, &BYTES) {
-            Ok(bytes) => self.keeps(DataAnswer::Full(Some(bytes), stat(mzxid))),
-            Err(_) => false,
-        }
-    }
-
-    fn keeps_names(&mut self, names: &[TextRef<'_>], pzxid: i64) -> bool {
-        match Path::new(self.alloc, "/a") {
-            Ok(path) => self.cache.keep_children(&path, names, pzxid).is_ok(),
-            Err(_) => false,
-        }
-    }
-
-    fn takes(&mut self, step: Step) -> bool {
-        match step {
-            Step::Absent => return self.keeps(DataAnswer::Absent),
-            Step::Known(mzxid) => return self.keeps(DataAnswer::Known(stat(mzxid))),
-            Step::Full(mzxid) => return self.keeps_full(mzxid),
-            Step::Few(pzxid) => return self.keeps_names(&FEW, pzxid),
-            Step::Listing(pzxid) => return self.keeps_names(&LISTING, pzxid),
-            Step::Spoil(side) => self.cache.stale(side, "/a"),
-            Step::Forget => self.cache.forget_stale(),
-            Step::Clear => self.cache.clear(),
-        }
-        true
-    }
-}
-
-impl Follow<(Step, Data), Global> for Kept {
-    fn new(alloc: Global) -> Kept {
-        Kept::empty(alloc)
-    }
-
-    fn follows(&mut self, row: &(Step, Data)) -> bool {
-        self.takes(row.0) && seen(&self.cache) == row.1
-    }
-}
-
 // Names in the order of their bytes, the zxid of their last change, and their mark.
 type Listed = (&'static [&'static str], i64, Option<Mark>);
 
@@ -168,42 +93,90 @@ static NAMES_ROWS: [(Step, Listed); 9] = [
     (Step::Spoil(Side::Child), (&[], 0, None)),
 ];
 
-fn are(names: &BTreeSet<String>, want: &[&str]) -> bool {
-    for (place, name) in names.iter().enumerate() {
-        if want.get(place) != Some(&name.as_str()) {
-            return false;
-        }
-    }
-    names.len() == want.len()
+// What a row says of the node.
+trait IsKept {
+    // Whether it is what the cache keeps.
+    fn is_kept(&self, cache: &Cache<Global>) -> bool;
 }
 
-fn lists(cache: &Cache<Global>, want: Listed) -> bool {
-    match cache.peek_children("/a") {
-        None => want.2.is_none(),
-        Some((kept, mark)) => {
-            are(&kept.names, want.0) && kept.pzxid == want.1 && Some(mark) == want.2
-        }
+impl IsKept for Data {
+    fn is_kept(&self, cache: &Cache<Global>) -> bool {
+        let kept = match cache.peek_data("/a") {
+            None => ("none", 0, None),
+            Some((DataAnswer::Absent, mark)) => ("absent", 0, Some(mark)),
+            Some((DataAnswer::Known(stat), mark)) => ("known", stat.mzxid, Some(mark)),
+            Some((DataAnswer::Full(bytes, stat), mark)) => match bytes {
+                Some(bytes) if bytes.as_slice() == BYTES.as_slice() => {
+                    ("full", stat.mzxid, Some(mark))
+                }
+                _ => ("other bytes", stat.mzxid, Some(mark)),
+            },
+        };
+        kept == *self
     }
 }
 
-impl Follow<(Step, Listed), Global> for Kept {
-    fn new(alloc: Global) -> Kept {
-        Kept::empty(alloc)
+impl IsKept for Listed {
+    fn is_kept(&self, cache: &Cache<Global>) -> bool {
+        let (names, pzxid, want) = *self;
+        let Some((kept, mark)) = cache.peek_children("/a") else {
+            return want.is_none();
+        };
+        let mut are = kept.names.len() == names.len();
+        for (name, wanted) in kept.names.iter().zip(names) {
+            are = are && name.as_str() == *wanted;
+        }
+        are && kept.pzxid == pzxid && Some(mark) == want
     }
+}
 
-    fn follows(&mut self, row: &(Step, Listed)) -> bool {
-        self.takes(row.0) && lists(&self.cache, row.1)
+fn keeps_full(alloc: Global, cache: &mut Cache<Global>, path: &Path<Global>, mzxid: i64) -> bool {
+    match Vec::from_slice(alloc, &BYTES) {
+        Ok(bytes) => {
+            let full = DataAnswer::Full(Some(bytes), stat(mzxid));
+            cache.keep_data(path, full).is_ok()
+        }
+        Err(_) => false,
     }
+}
+
+fn takes(alloc: Global, cache: &mut Cache<Global>, path: &Path<Global>, step: Step) -> bool {
+    match step {
+        Step::Absent => return cache.keep_data(path, DataAnswer::Absent).is_ok(),
+        Step::Known(mzxid) => {
+            let known = DataAnswer::Known(stat(mzxid));
+            return cache.keep_data(path, known).is_ok();
+        }
+        Step::Full(mzxid) => return keeps_full(alloc, cache, path, mzxid),
+        Step::Few(pzxid) => return cache.keep_children(path, &FEW, pzxid).is_ok(),
+        Step::Listing(pzxid) => return cache.keep_children(path, &LISTING, pzxid).is_ok(),
+        Step::Spoil(side) => cache.stale(side, "/a"),
+        Step::Forget => cache.forget_stale(),
+        Step::Clear => cache.clear(),
+    }
+    true
+}
+
+// Goes through the rows.
+fn follows<W: IsKept>(rt: &(impl Abort + AllocGlobal), rows: &[(Step, W)]) {
+    let path = Path::new(rt.alloc(), "/a").expect(rt, "/a");
+    let mut cache = Cache::new(rt.alloc());
+    for (place, (step, want)) in rows.iter().enumerate() {
+        let is = takes(rt.alloc(), &mut cache, &path, *step) && want.is_kept(&cache);
+        holds(rt, is, place);
+    }
+    drop(cache);
+    drop(path);
 }
 
 #[test]
 fn data_answers_follow_their_rows(rt: HostRuntime) {
-    follow_each::<Kept, _, _, _>(&rt, rt.alloc(), &ROWS);
+    follows(&rt, &ROWS);
 }
 
 #[test]
 fn names_follow_their_rows(rt: HostRuntime) {
-    follow_each::<Kept, _, _, _>(&rt, rt.alloc(), &NAMES_ROWS);
+    follows(&rt, &NAMES_ROWS);
 }
 
 // The zxid of the names that are kept of `/a`, or -1, and how many there are.
@@ -214,20 +187,22 @@ fn figures<A: Allocator + Copy>(cache: &Cache<A>) -> (i64, usize) {
     }
 }
 
-// Keeps names, and once more where that is refused: those before stay then.
+// Keeps names, and once more where that is refused: those before stay then. Whether there are as many then.
 fn keeps_names<A: Allocator + Copy>(
     cache: &mut Cache<A>,
     path: &Path<A>,
     names: &[TextRef<'_>],
-    pzxid: i64,
+    want: (i64, usize),
     refusals: &mut u32,
 ) -> bool {
     let before = figures(cache);
-    if cache.keep_children(path, names, pzxid).is_ok() {
-        return true;
+    if cache.keep_children(path, names, want.0).is_ok() {
+        return figures(cache) == want;
     }
     *refusals = refusals.saturating_add(1);
-    figures(cache) == before && cache.keep_children(path, names, pzxid).is_ok()
+    figures(cache) == before
+        && cache.keep_children(path, names, want.0).is_ok()
+        && figures(cache) == want
 }
 
 // Keeps an answer, and another where that is refused: nothing is kept then.
@@ -243,37 +218,27 @@ fn keeps_answer<A: Allocator + Copy>(
     cache.peek_data("/a").is_none() && cache.keep_data(path, DataAnswer::Absent).is_ok()
 }
 
-fn keeps_each<A: Allocator + Copy>(
-    cache: &mut Cache<A>,
-    path: &Path<A>,
-    refusals: &mut u32,
-) -> bool {
-    keeps_answer(cache, path, refusals)
-        && keeps_names(cache, path, &LISTING, 5, refusals)
-        && figures(cache) == (5, 3)
-        && keeps_names(cache, path, &FEW, 6, refusals)
-        && figures(cache) == (6, 2)
-}
-
-fn keeps_at<A: Allocator + Copy>(alloc: A, path: &Path<A>, refusals: &mut u32) -> bool {
-    let mut cache = Cache::new(alloc);
-    keeps_each(&mut cache, path, refusals)
-}
-
 // Keeps an answer, and names twice.
 struct Answers;
 
-impl Course for Answers {
-    fn goes(heap: &Refusing<Global>, refusals: &mut u32) -> bool {
-        match Path::new(heap, "/a") {
-            Ok(path) => keeps_at(heap, &path, refusals),
-            Err(_) => false,
-        }
+impl Steps for Answers {
+    fn come_right(_alloc: Global, heap: &Refusing<Global>) -> bool {
+        let Ok(path) = Path::new(heap, "/a") else {
+            return heap.has_refused();
+        };
+        let mut cache = Cache::new(heap);
+        let mut refusals = 0;
+        let is = keeps_answer(&mut cache, &path, &mut refusals)
+            && keeps_names(&mut cache, &path, &LISTING, (5, 3), &mut refusals)
+            && keeps_names(&mut cache, &path, &FEW, (6, 2), &mut refusals);
+        drop(cache);
+        drop(path);
+        is && refusals == u32::from(heap.has_refused())
     }
 }
 
 // The path takes the first request.
 #[test]
 fn tells_each_refusal_and_goes_on(rt: HostRuntime) {
-    refuse_each::<Answers, _>(&rt, rt.alloc(), 1, 5, 99);
+    refuse_each::<Answers>(&rt, 5, 99);
 }

@@ -33,31 +33,32 @@ static PATHS: [(&str, Option<&str>, Option<&str>); 4] = [
     ("/.../\u{a0}\u{ffef}", Some("/..."), Some("\u{a0}\u{ffef}")),
 ];
 
-// Ends the test where a text is a path, or has a fault of another code.
-fn is_refused(rt: &(impl Abort + AllocGlobal), text: &str, code: &str) {
-    let fault = Path::new(rt.alloc(), text).expect_err(rt, code);
-    holds(rt, fault.code() == code, text);
+// The code of what is wrong with a text, or with the path of it and the name that is joined, if there is one.
+fn code(alloc: Global, text: &str, name: Option<&str>) -> Option<&'static str> {
+    match (Path::new(alloc, text), name) {
+        (Ok(path), Some(name)) => match path.join(alloc, name) {
+            Ok(_) => None,
+            Err(fault) => Some(fault.code()),
+        },
+        (Ok(_), None) => None,
+        (Err(fault), _) => Some(fault.code()),
+    }
 }
 
 #[test]
 fn tells_faults(rt: HostRuntime) {
-    for (text, code) in &FAULTS {
-        is_refused(&rt, text, code);
+    for (text, want) in &FAULTS {
+        holds(&rt, code(rt.alloc(), text, None) == Some(*want), *text);
     }
-}
-
-// Ends the test where a text is no path, or one with another parent or another last name.
-fn is_path(rt: &(impl Abort + AllocGlobal), text: &str, parent: Option<&str>, name: Option<&str>) {
-    let path = Path::new(rt.alloc(), text).expect(rt, text);
-    let is_told = (path.as_str(), path.parent(), path.name()) == (text, parent, name);
-    drop(path);
-    holds(rt, is_told, text);
 }
 
 #[test]
 fn tells_parents_and_names(rt: HostRuntime) {
     for (text, parent, name) in &PATHS {
-        is_path(&rt, text, *parent, *name);
+        let path = Path::new(rt.alloc(), text).expect(&rt, text);
+        let is = (path.as_str(), path.parent(), path.name()) == (*text, *parent, *name);
+        drop(path);
+        holds(&rt, is, *text);
     }
 }
 
@@ -108,63 +109,42 @@ fn long_path(rt: &(impl Abort + AllocGlobal), count: usize) -> String {
     text
 }
 
-#[test]
-fn takes_a_path_of_4096_bytes(rt: HostRuntime) {
-    let longest = long_path(&rt, 4095);
-    holds(
-        &rt,
-        Path::new(rt.alloc(), longest.as_str()).is_ok(),
-        "4,096 bytes",
-    );
-}
+// How many bytes the one name of a path has, what is joined to that, and the code of the fault.
+static LONG: [(&str, usize, Option<&str>, Option<&str>); 4] = [
+    ("a path of 4,096 bytes", 4095, None, None),
+    ("a path of 4,097 bytes", 4096, None, Some("P2")),
+    ("4,096 bytes, joined", 4093, Some("b"), None),
+    ("4,097 bytes, joined", 4093, Some("bc"), Some("P2")),
+];
 
 #[test]
-fn refuses_a_path_of_4097_bytes(rt: HostRuntime) {
-    let longer = long_path(&rt, 4096);
-    is_refused(&rt, longer.as_str(), "P2");
-}
-
-// The code of what is wrong with the child of this name, and none where it is there.
-fn child_code(path: &Path<Global>, alloc: Global, name: &str) -> Option<&'static str> {
-    match path.join(alloc, name) {
-        Ok(_) => None,
-        Err(fault) => Some(fault.code()),
+fn a_path_has_at_most_4096_bytes(rt: HostRuntime) {
+    for (row, count, name, want) in &LONG {
+        let text = long_path(&rt, *count);
+        let is = code(rt.alloc(), text.as_str(), *name) == *want;
+        drop(text);
+        holds(&rt, is, *row);
     }
-}
-
-#[test]
-fn joins_up_to_4096_bytes(rt: HostRuntime) {
-    let text = long_path(&rt, 4093);
-    let path = Path::new(rt.alloc(), text.as_str()).expect(&rt, "4,094 bytes");
-    let longest = child_code(&path, rt.alloc(), "b").is_none();
-    let longer = child_code(&path, rt.alloc(), "bc") == Some("P2");
-    drop(path);
-    drop(text);
-    holds(&rt, longest, "4,096 bytes");
-    holds(&rt, longer, "4,097 bytes");
 }
 
 // A name is joined, and where memory is refused that is what is told.
 struct Joining;
 
 impl Steps for Joining {
-    fn come_right(alloc: Global, heap: &Refusing<Global>) -> bool {
-        match Path::new(heap, "/a") {
-            Ok(path) => is_child(path.join(heap, "b"), heap.has_refused()),
-            Err(_) => heap.has_refused(),
-        }
-    }
-}
-
-// Whether the path of `/a/b` came, or where a request was refused, the fault of that.
-fn is_child<A: Allocator>(came: Result<Path<A>, PathFault>, refused: bool) -> bool {
-    match came {
-        Ok(path) => !refused && path.as_str() == "/a/b",
-        Err(fault) => refused && fault == PathFault::Memory,
+    fn come_right(_alloc: Global, heap: &Refusing<Global>) -> bool {
+        let Ok(path) = Path::new(heap, "/a") else {
+            return heap.has_refused();
+        };
+        let is = match path.join(heap, "b") {
+            Ok(child) => !heap.has_refused() && child.as_str() == "/a/b",
+            Err(fault) => heap.has_refused() && fault == PathFault::Memory,
+        };
+        drop(path);
+        is
     }
 }
 
 #[test]
 fn tells_refused_memory_of_a_child(rt: HostRuntime) {
-    holds(&rt, refuse_each::<Joining>(&rt) > 1, "two requests");
+    refuse_each::<Joining>(&rt, 2, 999);
 }

@@ -74,24 +74,18 @@ fn lent_password(rt: &(impl Abort + AllocGlobal)) -> Option<&'static [u8]> {
     lent.passwd.bytes
 }
 
-// Whether a response is read and written, has no readOnly, and this password.
-fn is_response(alloc: Global, payload: &[u8], password: Option<&[u8]>, out: &mut Vec<u8>) -> bool {
-    let Ok(response) = ConnectResponse::take(alloc, &mut Cursor::new(payload)) else {
-        return false;
-    };
-    let is_password = response.passwd.as_slice() == password;
-    let is_written = response.put(out).is_ok();
-    let flag = response.read_only;
-    drop(response);
-    is_password && is_written && flag.is_none()
-}
-
 #[test]
 fn accepted_with_and_without_read_only(rt: HostRuntime) {
     let payload = bytes(&rt, ACCEPTED);
+    let password = lent_password(&rt);
+    let mut at = Cursor::new(payload);
     let mut out = Vec::new(rt.alloc());
-    let is_response = is_response(rt.alloc(), payload, lent_password(&rt), &mut out);
-    holds(&rt, is_response && out.as_slice() == payload, "another");
+    let owned = ConnectResponse::take(rt.alloc(), &mut at).expect(&rt, "is read");
+    let is_same = owned.passwd.as_slice() == password && owned.read_only.is_none();
+    let is_written = owned.put(&mut out).is_ok() && out.as_slice() == payload;
+    drop(owned);
+    drop(out);
+    holds(&rt, is_same && is_written, "without readOnly");
 }
 
 #[test]
@@ -102,16 +96,12 @@ fn codes_are_those_of_the_protocol(rt: HostRuntime) {
     }
 }
 
-// Whether an event has its number, and concerns what it should.
-fn is_event(number: i32, event: Event, data: bool, child: bool) -> bool {
-    let is_told = Event::new(number) == Some(event) && event.number() == number;
-    is_told && event.concerns(Side::Data) == data && event.concerns(Side::Child) == child
-}
-
 #[test]
 fn events_are_those_of_the_protocol(rt: HostRuntime) {
     for (number, event, data, child) in &EVENTS {
-        holds(&rt, is_event(*number, *event, *data, *child), *number);
+        let is = Event::new(*number) == Some(*event) && event.number() == *number;
+        let concerns = [event.concerns(Side::Data), event.concerns(Side::Child)];
+        holds(&rt, is && concerns == [*data, *child], *number);
     }
 }
 

@@ -11,36 +11,26 @@ pub(crate) trait Steps {
     fn come_right(alloc: Global, heap: &Refusing<Global>) -> bool;
 }
 
-// Does the steps with the request after `passed` others refused, and tells whether there was such a request.
-fn refuse<S: Steps>(rt: &(impl Abort + AllocGlobal), passed: u32) -> bool {
-    let heap = Refusing::after(passed, rt.alloc());
-    holds(rt, S::come_right(rt.alloc(), &heap), passed);
-    heap.has_refused()
-}
-
-/// Does the steps with the first request refused, with the second refused, and so on, until none is. Gives how many
-/// requests there are.
-pub(crate) fn refuse_each<S: Steps>(rt: &(impl Abort + AllocGlobal)) -> u32 {
+/// Does the steps with the first request refused, with the second refused, and so on, until none is. There are at least `least`
+/// requests, and at most `most`.
+pub(crate) fn refuse_each<S: Steps>(rt: &(impl Abort + AllocGlobal), least: u32, most: u32) {
     for passed in 0..1000u32 {
-        if !refuse::<S>(rt, passed) {
-            return passed;
+        let heap = Refusing::after(passed, rt.alloc());
+        holds(rt, S::come_right(rt.alloc(), &heap), passed);
+        if !heap.has_refused() {
+            return holds(rt, least <= passed && passed <= most, "how many requests");
         }
     }
     rt.panic("no run without a refusal")
 }
 
-// Whether a request comes as it should: a refusal is told after the one that was refused, and this one alone is refused.
-fn is_as_told(heap: &Refusing<Global>, passed: u32, request: u32) -> bool {
-    let is_told = heap.has_refused() == (passed < request);
-    let is_refused = Vec::from_slice(heap, &[7u8, 8]).is_err();
-    is_told && is_refused == (passed == request)
-}
-
-// Six requests, of which the one after `passed` others is refused.
+// Six requests, of which the one after `passed` others is refused, and no other: the refusal is told after it.
 fn refuses_one(rt: &(impl Abort + AllocGlobal), passed: u32) {
     let heap = Refusing::after(passed, rt.alloc());
     for request in 0..6u32 {
-        holds(rt, is_as_told(&heap, passed, request), request);
+        let is_told = heap.has_refused() == (passed < request);
+        let is_refused = Vec::from_slice(&heap, &[7u8, 8]).is_err();
+        holds(rt, is_told && is_refused == (passed == request), request);
     }
 }
 

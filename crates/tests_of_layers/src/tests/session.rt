@@ -1,8 +1,9 @@
 //! Rows of calls of a session, what is saved and resumed, and refused memory.
-use crate::tests::refusals::{Course, refuse_each};
-use crate::tests::rows::{Follow, follow_each};
+use crate::tests::checks::holds;
+use crate::tests::refused_memory::{Steps, refuse_each};
 use refusing::Refusing;
 use std::alloc::{Allocator, Global};
+use std::process::Abort;
 use zk_session::{Accepted, ConnectFields, Due, Response, Saved, Session, State};
 
 const PASSWORD: [u8; 16] = [0, 1, 2, 3, 4, 5, 6, 7, 8, 9, 10, 11, 12, 13, 14, 15];
@@ -149,20 +150,6 @@ static QUIET: [(Call, State); 7] = [
     (Call::Saves(0, &NONE, 4), State::Expired),
 ];
 
-fn asked(
-    time_out: i32,
-    session_id: i64,
-    password: &[u8],
-    last_zxid_seen: i64,
-) -> ConnectFields<'_> {
-    ConnectFields {
-        last_zxid_seen,
-        time_out,
-        session_id,
-        password,
-    }
-}
-
 fn saved(session: i64, password: &[u8], last_zxid: i64) -> Saved<'_> {
     Saved {
         session,
@@ -190,102 +177,87 @@ fn is_answered<A: Allocator>(session: &mut Session<A>, time_out: i32, password: 
     }
 }
 
-fn saw<A: Allocator>(session: &mut Session<A>, zxid: i64, last: i64) -> bool {
-    session.saw(zxid);
-    session.last_zxid() == last
+// Has another session begin. Whether there is memory for it.
+fn begins<A: Allocator + Copy>(alloc: A, session: &mut Session<A>, call: &Call) -> bool {
+    let other = match call {
+        Call::Longest => Ok(Session::new(alloc, i32::MAX)),
+        Call::Resumed => {
+            let kept = Saved {
+                session: 2748,
+                password: &PASSWORD,
+                last_zxid: 6,
+            };
+            Session::resume(alloc, 4_000, &kept)
+        }
+        _ => Ok(Session::new(alloc, 30_000)),
+    };
+    match other {
+        Ok(other) => {
+            *session = other;
+            true
+        }
+        Err(_) => false,
+    }
 }
 
-// The session, once this moment is told.
-fn at<A: Allocator>(session: &mut Session<A>, now: u64) -> &mut Session<A> {
-    session.moment(now);
-    session
-}
-
-fn answers<A: Allocator>(session: &mut Session<A>, call: &Call) -> bool {
+// Does the call at its moment, which the session is told first.
+fn goes_on<A: Allocator>(session: &mut Session<A>, call: &Call) {
+    if let Call::Opened(now) | Call::Heard(now) | Call::Sent(now) = call {
+        session.moment(*now);
+    }
     match call {
-        Call::Opened(now) => at(session, *now).opened(),
-        Call::Answered(time_out, password) => return is_answered(session, *time_out, password),
-        Call::Heard(now) => at(session, *now).heard(),
-        Call::Sent(now) => at(session, *now).sent(),
-        Call::Moment(now, due) => return session.moment(*now) == *due,
+        Call::Opened(_) => session.opened(),
+        Call::Heard(_) => session.heard(),
+        Call::Sent(_) => session.sent(),
         Call::Cut => session.cut(),
         Call::Closed => session.closed(),
-        Call::Saw(zxid, last) => return saw(session, *zxid, *last),
-        Call::Last(zxid) => return session.last_zxid() == *zxid,
-        _ => return false,
+        Call::Saw(zxid, _) => session.saw(*zxid),
+        _ => {}
     }
-    true
 }
 
-// What goes through the rows.
-#[derive(Drop)]
-struct Told<A: Allocator + Copy> {
-    alloc: A,
-    session: Session<A>,
-}
-
-impl<A: Allocator + Copy> Told<A> {
-    fn begins(&mut self, session: Session<A>) -> bool {
-        self.session = session;
-        true
-    }
-
-    fn resumes(&mut self) -> bool {
-        let kept = Saved {
-            session: 2748,
-            password: &PASSWORD,
-            last_zxid: 6,
-        };
-        match Session::resume(self.alloc, 4_000, &kept) {
-            Ok(session) => self.begins(session),
-            Err(_) => false,
+// Does the call. Whether it answers what it is to.
+fn answers<A: Allocator + Copy>(alloc: A, session: &mut Session<A>, call: &Call) -> bool {
+    goes_on(session, call);
+    match call {
+        Call::New | Call::Longest | Call::Resumed => begins(alloc, session, call),
+        Call::Answered(time_out, password) => is_answered(session, *time_out, password),
+        Call::Moment(now, due) => session.moment(*now) == *due,
+        Call::Saw(_, last) | Call::Last(last) => session.last_zxid() == *last,
+        Call::Asks(time_out, session_id, password, last_zxid_seen) => {
+            session.connect_fields()
+                == ConnectFields {
+                    last_zxid_seen: *last_zxid_seen,
+                    time_out: *time_out,
+                    session_id: *session_id,
+                    password,
+                }
         }
-    }
-
-    fn asks(&self, fields: ConnectFields<'_>) -> bool {
-        self.session.connect_fields() == fields
-    }
-
-    fn saves(&self, saved: Saved<'_>) -> bool {
-        self.session.saved() == saved
-    }
-
-    // Whether the call answers what it is to.
-    fn answers(&mut self, call: &Call) -> bool {
-        match call {
-            Call::New => self.begins(Session::new(self.alloc, 30_000)),
-            Call::Longest => self.begins(Session::new(self.alloc, i32::MAX)),
-            Call::Resumed => self.resumes(),
-            Call::Asks(time_out, id, password, zxid) => {
-                self.asks(asked(*time_out, *id, password, *zxid))
-            }
-            Call::Saves(id, password, zxid) => self.saves(saved(*id, password, *zxid)),
-            _ => answers(&mut self.session, call),
-        }
+        Call::Saves(id, password, zxid) => session.saved() == saved(*id, password, *zxid),
+        _ => true,
     }
 }
 
-impl<A: Allocator + Copy> Follow<(Call, State), A> for Told<A> {
-    fn new(alloc: A) -> Told<A> {
-        let session = Session::new(alloc, 30_000);
-        Told { alloc, session }
+// Goes through the rows.
+fn follows<A: Allocator + Copy>(rt: &impl Abort, alloc: A, rows: &[(Call, State)]) {
+    let mut session = Session::new(alloc, 30_000);
+    for (place, (call, state)) in rows.iter().enumerate() {
+        let is = answers(alloc, &mut session, call) && session.state() == *state;
+        holds(rt, is, place);
     }
-
-    fn follows(&mut self, row: &(Call, State)) -> bool {
-        self.answers(&row.0) && self.session.state() == row.1
-    }
+    drop(session);
 }
 
 #[test]
 fn sessions_follow_their_rows(rt: HostRuntime) {
-    follow_each::<Told<Global>, _, _, _>(&rt, rt.alloc(), &ROWS);
+    follows(&rt, rt.alloc(), &ROWS);
 }
 
 #[test]
 fn takes_no_memory_but_for_a_password(rt: HostRuntime) {
     let heap = Refusing::after(0, rt.alloc());
-    follow_each::<Told<&Refusing<Global>>, _, _, _>(&rt, &heap, &QUIET);
-    assert!(rt; !heap.has_refused());
+    follows(&rt, &heap, &QUIET);
+    holds(&rt, !heap.has_refused(), "no request");
 }
 
 // A session that is taken up, and once more where that is refused.
@@ -308,47 +280,39 @@ fn figures<A: Allocator>(session: &Session<A>) -> (State, i64, usize) {
     (session.state(), saved.session, saved.password.len())
 }
 
-// Has the session accepted, and once more where that is refused.
+// Has the session accepted, and once more where that is refused. Whether it is saved so.
 fn accepts<A: Allocator>(session: &mut Session<A>, password: &[u8], refusals: &mut u32) -> bool {
     session.opened();
-    if session.state() != State::Connecting {
-        return false;
-    }
     let before = figures(session);
-    if session.accepted(&response(10, password)).is_ok() {
-        return true;
+    let mut is = is_answered(session, 10, password);
+    if !is && figures(session) == before {
+        *refusals = refusals.saturating_add(1);
+        is = is_answered(session, 10, password);
     }
-    *refusals = refusals.saturating_add(1);
-    figures(session) == before && session.accepted(&response(10, password)).is_ok()
-}
-
-fn accepts_each<A: Allocator>(session: &mut Session<A>, refusals: &mut u32) -> bool {
-    for password in [&PASSWORD[..], &LONGER[..], &PASSWORD[..]] {
-        if !accepts(session, password, refusals) || session.saved() != saved(2748, password, 4) {
-            return false;
-        }
-        session.cut();
-    }
-    true
+    is && session.saved() == saved(2748, password, 4)
 }
 
 // Takes a session up, and has it accepted three times.
 struct Acceptances;
 
-impl Course for Acceptances {
-    fn goes(heap: &Refusing<Global>, refusals: &mut u32) -> bool {
-        match resumed(heap, refusals) {
-            Some(session) => {
-                let mut session = session;
-                accepts_each(&mut session, refusals)
-            }
-            None => false,
+impl Steps for Acceptances {
+    fn come_right(_alloc: Global, heap: &Refusing<Global>) -> bool {
+        let mut refusals = 0;
+        let Some(mut session) = resumed(heap, &mut refusals) else {
+            return false;
+        };
+        let mut is = true;
+        for password in [&PASSWORD[..], &LONGER[..], &PASSWORD[..]] {
+            is = is && accepts(&mut session, password, &mut refusals);
+            session.cut();
         }
+        drop(session);
+        is && refusals == u32::from(heap.has_refused())
     }
 }
 
 // One request to resume, one for the longer password.
 #[test]
 fn tells_each_refusal_and_goes_on(rt: HostRuntime) {
-    refuse_each::<Acceptances, _>(&rt, rt.alloc(), 0, 2, 2);
+    refuse_each::<Acceptances>(&rt, 2, 2);
 }

@@ -1,12 +1,14 @@
 //! Rows of watched paths and of their parts, and refused memory.
-use crate::tests::refusals::{Course, refuse_each};
-use crate::tests::rows::{Follow, follow_each};
+use crate::tests::checks::holds;
+use crate::tests::refused_memory::{Steps, refuse_each};
 use refusing::Refusing;
 use std::alloc::{Allocator, Global};
+use std::ops::Range;
+use std::process::Abort;
 use zk_jute::Record;
 use zk_nodes::{Path, Side};
 use zk_records::{Event, SetWatchesRef};
-use zk_watches::{InOrder, RegisterFault, Registry};
+use zk_watches::{RegisterFault, Registry};
 
 // What happens to a path.
 #[derive(Clone, Copy)]
@@ -100,140 +102,77 @@ const RECORD: [u8; 26] = [
 
 static RECORDS: [(Step, &str, Want); 1] = [(Step::Absent, "/b", Want::Record(&RECORD))];
 
-// What goes through the rows.
-#[derive(Drop)]
-struct Watched {
+fn registers(
     alloc: Global,
-    registry: Registry<Global>,
-}
-
-impl Watched {
-    fn registers(&mut self, side: Side, text: &str, present: bool) -> bool {
-        match Path::new(self.alloc, text) {
-            Ok(path) => self.registry.register(side, &path, present).is_ok(),
-            Err(_) => false,
-        }
-    }
-
-    // Numbers make the paths others, and those in the two lists of the data side have to be others.
-    fn registers_long(&mut self, side: Side, first: u32, count: u32, present: bool) -> bool {
-        for number in 0..count {
-            let number = number.saturating_add(first);
-            let is = match format!(in self.alloc; "/{number:x<2043}") {
-                Ok(text) => self.registers(side, text.as_str(), present),
-                Err(_) => false,
-            };
-            if !is {
-                return false;
-            }
-        }
-        true
-    }
-
-    fn fills(&mut self, data: u32, exist: u32, child: u32) -> bool {
-        self.registry.clear();
-        self.registers_long(Side::Data, 0, data, true)
-            && self.registers_long(Side::Data, 1_000, exist, false)
-            && self.registers_long(Side::Child, 0, child, true)
-    }
-
-    fn fires(&mut self, event: Event, path: &str, on_data: bool, on_child: bool) -> bool {
-        let fired = self.registry.fire(event, path);
-        fired.on_data == on_data && fired.on_child == on_child
-    }
-
-    // Takes the step. Whether it answers what it is to.
-    fn answers(&mut self, step: Step, path: &str) -> bool {
-        match step {
-            Step::There => self.registers(Side::Data, path, true),
-            Step::Absent => self.registers(Side::Data, path, false),
-            Step::Listed => self.registers(Side::Child, path, true),
-            Step::Fire(event, on_data, on_child) => self.fires(event, path, on_data, on_child),
-            Step::Clear => {
-                self.registry.clear();
-                true
-            }
-            Step::Fill(data, exist, child) => self.fills(data, exist, child),
-        }
-    }
-
-    fn watches(&self, want: Want) -> bool {
-        match self.registry.in_order() {
-            Ok(lists) => are_cut(self.alloc, &lists, want),
-            Err(_) => false,
-        }
-    }
-}
-
-impl Follow<(Step, &'static str, Want), Global> for Watched {
-    fn new(alloc: Global) -> Watched {
-        let registry = Registry::new(alloc);
-        Watched { alloc, registry }
-    }
-
-    fn follows(&mut self, row: &(Step, &'static str, Want)) -> bool {
-        self.answers(row.0, row.1) && self.watches(row.2)
-    }
-}
-
-fn are_cut(alloc: Global, lists: &InOrder<'_, Global>, want: Want) -> bool {
-    match lists.parts(5) {
-        Ok(parts) => are(alloc, &parts, want),
+    registry: &mut Registry<Global>,
+    side: Side,
+    text: &str,
+    present: bool,
+) -> bool {
+    match Path::new(alloc, text) {
+        Ok(path) => registry.register(side, &path, present).is_ok(),
         Err(_) => false,
     }
 }
 
-fn are(alloc: Global, parts: &[SetWatchesRef<'_>], want: Want) -> bool {
-    match want {
-        Want::Lists(data, exist, child) => are_lists(parts, data, exist, child),
-        Want::Parts(figures) => have(alloc, parts, figures),
-        Want::Record(record) => match parts {
-            [part] => is_spelled(alloc, part, record),
-            _ => false,
-        },
+// Numbers make the paths others, and those in the two lists of the data side have to be others.
+fn registers_long(
+    alloc: Global,
+    registry: &mut Registry<Global>,
+    side: Side,
+    numbers: Range<u32>,
+    present: bool,
+) -> bool {
+    let mut is = true;
+    for number in numbers {
+        is = is
+            && match format!(in alloc; "/{number:x<2043}") {
+                Ok(text) => registers(alloc, registry, side, text.as_str(), present),
+                Err(_) => false,
+            };
     }
+    is
 }
 
-fn are_lists(parts: &[SetWatchesRef<'_>], data: &[&str], exist: &[&str], child: &[&str]) -> bool {
-    match parts {
-        [] => data.is_empty() && exist.is_empty() && child.is_empty(),
-        [part] => {
-            part.data_watches == data && part.exist_watches == exist && part.child_watches == child
+// Takes the step. Whether it answers what it is to.
+fn answers(alloc: Global, registry: &mut Registry<Global>, step: Step, path: &str) -> bool {
+    match step {
+        Step::There => registers(alloc, registry, Side::Data, path, true),
+        Step::Absent => registers(alloc, registry, Side::Data, path, false),
+        Step::Listed => registers(alloc, registry, Side::Child, path, true),
+        Step::Fire(event, on_data, on_child) => {
+            let fired = registry.fire(event, path);
+            fired.on_data == on_data && fired.on_child == on_child
         }
-        _ => false,
+        Step::Clear => {
+            registry.clear();
+            true
+        }
+        Step::Fill(data, exist, child) => {
+            registry.clear();
+            let exist = 1_000..exist.saturating_add(1_000);
+            registers_long(alloc, registry, Side::Data, 0..data, true)
+                && registers_long(alloc, registry, Side::Data, exist, false)
+                && registers_long(alloc, registry, Side::Child, 0..child, true)
+        }
     }
 }
 
-fn spelled(alloc: Global, part: &SetWatchesRef<'_>) -> Option<Vec<u8>> {
+// The record of a part; nothing where memory runs out.
+fn spelled(alloc: Global, part: &SetWatchesRef<'_>) -> Vec<u8> {
     let mut record = Vec::new(alloc);
-    match part.put(&mut record) {
-        Ok(()) => Some(record),
-        Err(_) => None,
-    }
+    let _ = part.put(&mut record);
+    record
 }
 
-fn is_spelled(alloc: Global, part: &SetWatchesRef<'_>, want: &[u8]) -> bool {
-    match spelled(alloc, part) {
-        Some(record) => record.as_slice() == want,
-        None => false,
-    }
-}
-
-// The length of the part's frame: two numbers of the header stand before the record.
-fn length_of(alloc: Global, part: &SetWatchesRef<'_>) -> usize {
-    match spelled(alloc, part) {
-        Some(record) => record.len().saturating_add(8),
-        None => 0,
-    }
-}
-
+// The length of a part's frame has two numbers of the header before the record.
 fn have(alloc: Global, parts: &[SetWatchesRef<'_>], figures: &[[usize; 4]]) -> bool {
     for (part, want) in parts.iter().zip(figures) {
         let lists = [
             part.data_watches.len(),
             part.exist_watches.len(),
             part.child_watches.len(),
-            length_of(alloc, part),
+            spelled(alloc, part).len().saturating_add(8),
         ];
         if lists != *want {
             return false;
@@ -242,19 +181,57 @@ fn have(alloc: Global, parts: &[SetWatchesRef<'_>], figures: &[[usize; 4]]) -> b
     parts.len() == figures.len()
 }
 
+fn are(alloc: Global, parts: &[SetWatchesRef<'_>], want: Want) -> bool {
+    match (want, parts) {
+        (Want::Lists(data, exist, child), [part]) => {
+            part.data_watches == data && part.exist_watches == exist && part.child_watches == child
+        }
+        (Want::Lists(data, exist, child), []) => {
+            data.is_empty() && exist.is_empty() && child.is_empty()
+        }
+        (Want::Parts(figures), parts) => have(alloc, parts, figures),
+        (Want::Record(record), [part]) => spelled(alloc, part).as_slice() == record,
+        _ => false,
+    }
+}
+
+// Whether that is watched.
+fn watches(alloc: Global, registry: &Registry<Global>, want: Want) -> bool {
+    let Ok(lists) = registry.in_order() else {
+        return false;
+    };
+    let is = match lists.parts(5) {
+        Ok(parts) => are(alloc, &parts, want),
+        Err(_) => false,
+    };
+    drop(lists);
+    is
+}
+
+// Goes through the rows.
+fn follows(rt: &(impl Abort + AllocGlobal), rows: &[(Step, &str, Want)]) {
+    let mut registry = Registry::new(rt.alloc());
+    for (place, (step, path, want)) in rows.iter().enumerate() {
+        let is = answers(rt.alloc(), &mut registry, *step, path)
+            && watches(rt.alloc(), &registry, *want);
+        holds(rt, is, place);
+    }
+    drop(registry);
+}
+
 #[test]
 fn lists_follow_their_rows(rt: HostRuntime) {
-    follow_each::<Watched, _, _, _>(&rt, rt.alloc(), &ROWS);
+    follows(&rt, &ROWS);
 }
 
 #[test]
 fn parts_follow_their_rows(rt: HostRuntime) {
-    follow_each::<Watched, _, _, _>(&rt, rt.alloc(), &PARTS);
+    follows(&rt, &PARTS);
 }
 
 #[test]
 fn a_part_is_its_record(rt: HostRuntime) {
-    follow_each::<Watched, _, _, _>(&rt, rt.alloc(), &RECORDS);
+    follows(&rt, &RECORDS);
 }
 
 // What a registry holds of two paths, in figures that take no memory.
@@ -285,7 +262,7 @@ fn keeps<A: Allocator + Copy>(
 }
 
 // A side, whether the path is `/a`, and whether it is there.
-const REGISTRATIONS: [(Side, bool, bool); 5] = [
+static REGISTRATIONS: [(Side, bool, bool); 5] = [
     (Side::Data, true, true),
     (Side::Data, false, false),
     (Side::Child, true, true),
@@ -293,41 +270,29 @@ const REGISTRATIONS: [(Side, bool, bool); 5] = [
     (Side::Data, false, true),
 ];
 
-fn keeps_each<A: Allocator + Copy>(
-    registry: &mut Registry<A>,
-    a: &Path<A>,
-    b: &Path<A>,
-    refusals: &mut u32,
-) -> bool {
+fn keeps_each<A: Allocator + Copy>(alloc: A, a: &Path<A>, b: &Path<A>, refusals: &mut u32) -> bool {
+    let mut registry = Registry::new(alloc);
+    let mut is = true;
     for (side, is_a, present) in &REGISTRATIONS {
         let path = if *is_a { a } else { b };
-        if !keeps(registry, *side, path, *present, refusals) {
-            return false;
-        }
+        is = is && keeps(&mut registry, *side, path, *present, refusals);
     }
-    figures(registry) == (2, 1, true, true)
-}
-
-fn keeps_both<A: Allocator + Copy>(alloc: A, a: &Path<A>, b: &Path<A>, refusals: &mut u32) -> bool {
-    let mut registry = Registry::new(alloc);
-    keeps_each(&mut registry, a, b, refusals)
-}
-
-fn keeps_with<A: Allocator + Copy>(alloc: A, a: &Path<A>, refusals: &mut u32) -> bool {
-    match Path::new(alloc, "/b") {
-        Ok(b) => keeps_both(alloc, a, &b, refusals),
-        Err(_) => false,
-    }
+    let left = figures(&registry);
+    drop(registry);
+    is && left == (2, 1, true, true)
 }
 
 // Registers two paths, one after the other in both lists of the data side.
 struct Registrations;
 
-impl Course for Registrations {
-    fn goes(heap: &Refusing<Global>, refusals: &mut u32) -> bool {
-        match Path::new(heap, "/a") {
-            Ok(a) => keeps_with(heap, &a, refusals),
-            Err(_) => false,
+impl Steps for Registrations {
+    fn come_right(_alloc: Global, heap: &Refusing<Global>) -> bool {
+        let mut refusals = 0;
+        match (Path::new(heap, "/a"), Path::new(heap, "/b")) {
+            (Ok(a), Ok(b)) => {
+                keeps_each(heap, &a, &b, &mut refusals) && refusals == u32::from(heap.has_refused())
+            }
+            _ => heap.has_refused(),
         }
     }
 }
@@ -335,5 +300,5 @@ impl Course for Registrations {
 // The paths take the first two requests.
 #[test]
 fn a_refused_path_changes_nothing(rt: HostRuntime) {
-    refuse_each::<Registrations, _>(&rt, rt.alloc(), 2, 8, 99);
+    refuse_each::<Registrations>(&rt, 8, 99);
 }
