@@ -7,7 +7,7 @@
 
 #include <stdarg.h>
 
-enum { TYPE_EXISTS = 3, TYPE_GET = 4, SHORT_TURNS = 50, MOST_TURNS = 20000, BIG = 1 << 20 };
+enum { TYPE_DELETE = 2, TYPE_EXISTS = 3, TYPE_GET = 4, TYPE_SET = 5, SHORT_TURNS = 50, MOST_TURNS = 20000, BIG = 1 << 20 };
 
 static const dw_stat STAT = {3, 5, 1000, 2000, 0, 4, 7, 2, 9, 3, 0};
 
@@ -91,14 +91,13 @@ static void turn(int number)
     dws_go_on(session, polled.revents);
 }
 
-static void open_session(int tries)
+static void open_session(void)
 {
     char address[32];
     struct sockaddr_in bound;
     socklen_t length = sizeof bound;
     dws_options options;
     memset(&options, 0, sizeof options);
-    options.tries = tries;
     options.told = note;
     options.read = read_counted;
     options.write = write_plain;
@@ -331,7 +330,7 @@ static void tell_change(dws_session *s, dws_call *call)
     dw_kept_data kept;
     uint8_t none;
     const dws_lane_call *lane = (const dws_lane_call *)(void *)call;
-    EXPECT_NUMBER(DW_OK, dw_peek_data(&s->client, "/a", 2, &kept, &none, 0));
+    EXPECT_NUMBER(DW_OK, dw_session_peek_data(&s->machine, "/a", 2, &kept, &none, 0));
     say("change %d mark %d zxid %d made %s version %d\n", (int)call->why, (int)kept.mark, (int)call->zxid, lane->changes[2].path,
         (int)lane->changes[1].stat.version);
 }
@@ -349,7 +348,7 @@ static void release_all(void)
 static void ask_both(size_t first, size_t rest)
 {
     struct bytes came;
-    open_session(0);
+    open_session();
     admit();
     dws_get(session, named(&get.call, "get"), "/a", true);
     named(&sync_call.lane.call, "sync");
@@ -415,7 +414,7 @@ static void begin_within_a_frame(bool is_quick)
     came.length = 0;
     add_data(&came, 1, 5, "one", &STAT);
     for (size_t first = 1; first < came.length; first += is_quick ? 13 : 1) {
-        open_session(0);
+        open_session();
         admit();
         dws_get(session, named(&get.call, "get"), "/a", false);
         hear_request(1, TYPE_GET, NULL);
@@ -434,60 +433,93 @@ static void begin_within_a_frame(bool is_quick)
     }
 }
 
-/* Where a connection ends, each call is lost, in the order of both. */
+/* Where a connection ends, each call is lost, in the order of both, but for reads of the library's, which are asked again. */
 static void lose_both(void)
 {
-    open_session(0);
+    struct bytes came;
+    char why[DWS_LONGEST_LINE];
+    open_session();
     admit();
     named(&sync_call.lane.call, "sync");
     dws_sync(session, &sync_call.lane, "/");
+    dws_set(session, named(&change.call, "set"), "/", "one", 3, -1);
     dws_get(session, named(&get.call, "get"), "/", false);
     named(&acl.lane.call, "acl");
     dws_get_acl(session, &acl.lane, "/");
-    dws_get(session, named(&last.call, "last"), "/", false);
+    dws_delete(session, named(&last.call, "last"), "/a", -1);
     hear_request(-1001, DWS_TYPE_SYNC, NULL);
-    hear_request(1, TYPE_GET, NULL);
-    hear_request(-1002, DWS_TYPE_GET_ACL, NULL);
+    hear_request(1, TYPE_SET, NULL);
     hear_request(2, TYPE_GET, NULL);
+    hear_request(-1002, DWS_TYPE_GET_ACL, NULL);
+    hear_request(3, TYPE_DELETE, NULL);
     close(line);
-    wait_for(&last.call);
-    expect_said("sync 1\nget 1\nacl 1\nlast 1\n");
+    wait_for(&acl.lane.call);
+    expect_said("sync 1\nset 1\nacl 1\nlast 1\n");
+    dws_words(session, &acl.lane.call, why, sizeof why);
+    EXPECT(strcmp(why, "the connection ended before the reply: /; it may or may not have happened: read again") == 0);
+    admit();
+    hear_request(4, TYPE_GET, NULL);
+    came.length = 0;
+    add_data(&came, 4, 5, "one", &STAT);
+    answer_at_once(&came);
+    wait_for(&get.call);
+    expect_said("get 0\n");
     close_all();
     release_all();
 }
 
-/* A read that was lost, or whose answer does not read, is asked again where the options say so. The xids begin again. */
-static void ask_again(void)
+/* A call beside the library waits for a connection, and what is asked after it waits for it. The xids begin again on each connection. */
+static void keep_the_order(void)
 {
     struct bytes came;
-    char why[DWS_LONGEST_LINE];
-    for (int tries = 0; tries < 2; tries++) {
-        open_session(tries);
-        admit();
-        named(&acl.lane.call, "acl");
-        dws_get_acl(session, &acl.lane, "/");
-        hear_request(-1001, DWS_TYPE_GET_ACL, NULL);
-        came.length = 0;
-        size_t begin = begin_answer(&came, -1001, 0);
-        put_int(&came, 7);
-        end_answer(&came, begin);
-        answer_at_once(&came);
-        EXPECT(strchr(events, '0' + DWS_CUT) != NULL);
-        close(line);
-        if (tries > 0) {
-            admit();
-            hear_request(-1001, DWS_TYPE_GET_ACL, NULL);
-            came.length = 0;
-            add_acls(&came, -1001);
-            answer_at_once(&came);
-        }
-        wait_for(&acl.lane.call);
-        expect_said(tries > 0 ? "acl 0\n" : "acl 1\n");
-        dws_words(session, &acl.lane.call, why, sizeof why);
-        EXPECT(tries > 0 || strcmp(why, "the connection ended before the reply: /; it may or may not have happened: read again") == 0);
-        close_all();
-        release_all();
-    }
+    open_session();
+    dws_get(session, named(&get.call, "get"), "/", false);
+    named(&sync_call.lane.call, "sync");
+    dws_sync(session, &sync_call.lane, "/");
+    dws_get(session, named(&last.call, "last"), "/", false);
+    admit();
+    hear_request(1, TYPE_GET, NULL);
+    hear_request(-1001, DWS_TYPE_SYNC, NULL);
+    hear_request(2, TYPE_GET, NULL);
+    close(line);
+    wait_for(&sync_call.lane.call);
+    expect_said("sync 1\n");
+    named(&acl.lane.call, "acl");
+    dws_get_acl(session, &acl.lane, "/");
+    admit();
+    hear_request(3, TYPE_GET, NULL);
+    hear_request(4, TYPE_GET, NULL);
+    hear_request(-1001, DWS_TYPE_GET_ACL, NULL);
+    came.length = 0;
+    add_data(&came, 3, 5, "one", &STAT);
+    add_data(&came, 4, 5, "one", &STAT);
+    add_acls(&came, -1001);
+    answer(&came, 9, 50);
+    wait_for(&acl.lane.call);
+    expect_said("get 0\nlast 0\nacl 0\n");
+    close_all();
+    release_all();
+}
+
+/* An answer that does not read ends the connection. */
+static void give_up(void)
+{
+    struct bytes came;
+    open_session();
+    admit();
+    named(&acl.lane.call, "acl");
+    dws_get_acl(session, &acl.lane, "/");
+    hear_request(-1001, DWS_TYPE_GET_ACL, NULL);
+    came.length = 0;
+    size_t begin = begin_answer(&came, -1001, 0);
+    put_int(&came, 7);
+    end_answer(&came, begin);
+    answer_at_once(&came);
+    EXPECT(strchr(events, '0' + DWS_CUT) != NULL);
+    wait_for(&acl.lane.call);
+    expect_said("acl 1\n");
+    close_all();
+    release_all();
 }
 
 static void expect_words(const dws_call *call, const char *wanted)
@@ -512,7 +544,7 @@ static void tell_refusals(void)
     };
     struct bytes came;
     char *large = (char *)calloc(1, BIG);
-    open_session(0);
+    open_session();
     admit();
     for (size_t i = 0; i < 2; i++) {
         spell_transaction(&change.lane);
@@ -555,7 +587,7 @@ static void expect_credentials(const char *words)
 static void introduce(void)
 {
     struct bytes came;
-    open_session(0);
+    open_session();
     EXPECT(dws_introduce(session, "digest", "ann:secret", 10) && dws_introduce(session, "digest", "ann:secret", 10));
     dws_get(session, named(&get.call, "get"), "/", false);
     admit_by(-4); /* that is no xid */
@@ -590,7 +622,7 @@ static void bar(void)
     struct bytes came;
     came.length = 0;
     add_header(&came, -4, 0, -115);
-    open_session(0);
+    open_session();
     admit();
     EXPECT(dws_add_auth(session, &acl.lane, "digest", "eve:secret", 10) == &acl.lane.call);
     expect_credentials("eve:secret");
@@ -598,7 +630,7 @@ static void bar(void)
     EXPECT(dws_wait(session, &acl.lane.call) == -115 && !dws_is_over(session));
     expect_words(&acl.lane.call, "the server does not take these credentials");
     close_all();
-    open_session(3);
+    open_session();
     EXPECT(dws_introduce(session, "digest", "eve:secret", 10));
     admit();
     expect_credentials("eve:secret");
@@ -618,7 +650,7 @@ static void bar(void)
 static void leave_the_rest(void)
 {
     struct bytes came;
-    open_session(0);
+    open_session();
     admit();
     dws_sync(session, named(&sync_call.lane.call, "sync") != NULL ? &sync_call.lane : NULL, "/");
     hear_request(-1001, DWS_TYPE_SYNC, NULL);
@@ -645,7 +677,8 @@ int main(int argc, char **argv)
     cut_streams(is_quick);
     begin_within_a_frame(is_quick);
     lose_both();
-    ask_again();
+    keep_the_order();
+    give_up();
     tell_refusals();
     introduce();
     bar();
