@@ -196,7 +196,7 @@ static inline void dws_expect_answer(dws_session *s)
     }
 }
 
-/* So many frames came that answer requests. */
+/* This many frames came that answer requests. */
 static inline void dws_note_answers(dws_session *s, size_t count)
 {
     struct dws_waiting *waiting = &s->waiting;

@@ -6,6 +6,7 @@
 static inline bool dws_read_host(struct dws_host *host, const char *text, size_t length)
 {
     const char *end = text + length, *name = text, *after = text;
+    host->turn = 0;
     while (name < end && *name == ' ') {
         name++;
     }

@@ -11,7 +11,9 @@ from programs import BOUND, DATA, EXISTS, GET_DATA, PING, SLACK, STAT, Case, pro
 PROGRAM, ASKS = program("follow"), program("tests/asks")
 
 
-class Follow(Case):
+class Followed(Case):
+    """A test with the program that follows a node."""
+
     def follow(self, servers, path="/config"):
         self.last_zxid = 0
         self.errors = tempfile.TemporaryFile("w+", encoding="utf-8")
@@ -41,6 +43,13 @@ class Follow(Case):
         self.errors.seek(0)
         self.assertEqual("the session is closed" in self.errors.read(), is_closed)
 
+    def server(self, serve):
+        server = super().server(serve)
+        self.follow(server.address)
+        return server
+
+
+class Follow(Followed):
     def test_changes(self):
         partner = self.begin()
         partner.do("set /config second")
@@ -68,11 +77,6 @@ class Follow(Case):
         self.expect("unknown", 'good "first"')
         partner.do("set /config second")
         self.expect('stale "first"', 'good "second"')
-
-    def server(self, serve):
-        server = super().server(serve)
-        self.follow(server.address)
-        return server
 
     def test_session_that_may_live(self):
         """While the session may live, the program dials again within a second."""

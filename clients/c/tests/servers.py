@@ -4,7 +4,7 @@ import struct
 import threading
 import time
 
-from follow import ASKS, Follow
+from follow import ASKS, Followed
 from programs import BOUND, DATA, GET_DATA, PING, SLACK, STAT, Case
 
 CHANGED = struct.pack(">iqi", -1, -1, 0) + struct.pack(">iii", 3, 3, 7) + b"/config"
@@ -15,7 +15,7 @@ def reply(xid, zxid, text):
     return struct.pack(">iqi", xid, zxid, 0) + struct.pack(">i", len(text)) + text + STAT
 
 
-class Servers(Follow):
+class Servers(Followed):
     """Tests of servers, by the program that follows a node."""
 
     def said(self):
@@ -39,7 +39,7 @@ class Servers(Follow):
         self.server(serve)
         self.expect('good "one"', 'stale "one"', 'good "two"', 'stale "two"', 'good "new"')
         self.assertEqual(seen, [0, 9])
-        self.assertIn("the server is behind what was seen", self.said())
+        self.assertIn("zxid 9 was seen, and a reply to a watched read has zxid 8\n", self.said())
 
     def test_server_that_admits_nobody_who_is_ahead(self):
         """So real servers do that are behind: they close the connection. The program tells each server what it has seen."""
@@ -69,7 +69,7 @@ class Servers(Follow):
         end = time.monotonic() + BOUND
         while "nothing was heard" not in self.said() and "an answer does not come" not in self.said() and time.monotonic() < end:
             time.sleep(0.05)
-        self.assertGreater(time.monotonic() - dials[0], 6.6)
+        self.assertGreater(time.monotonic() - dials[0], 6)
         self.assertLess(time.monotonic() - dials[0], 6.7 + SLACK)
 
     def test_server_beside_one_that_never_answers(self):
@@ -99,20 +99,19 @@ class Servers(Follow):
             line.answer(xid)
 
         def serve(_, line):
-            line.admit(3_000)
+            line.admit(12_000)
             admitted.append(time.monotonic())
             line.serve({GET_DATA: lambda xid: line.answer(xid, 0, DATA), PING: lambda xid: note(line, xid)})
 
         self.server(serve)
         self.expect('good "one"')
         end = time.monotonic() + BOUND
-        while len(pings) < 3 and time.monotonic() < end:
+        while len(pings) < 2 and time.monotonic() < end:
             time.sleep(0.02)
         moments = [admitted[0], *pings]
-        self.assertEqual(len(moments), 4)
-        self.assertEqual(len(admitted), 1)
+        self.assertEqual((len(moments), len(admitted)), (3, 1))
         for before, after in zip(moments, moments[1:]):
-            self.assertLess(after - before, 1 + 0.4)
+            self.assertLess(after - before, 4 + SLACK)
 
 
 class Late(Case):
@@ -165,6 +164,3 @@ class Late(Case):
 
         _, said = self.says(serve, "/a", "one")
         self.assertEqual(said, "no answer came in 3 s: /a; it may have happened, or may yet: read again")
-
-
-del Follow  # its own tests are run where they stand

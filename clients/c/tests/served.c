@@ -1,0 +1,236 @@
+/* A session of session.h at a server that the test is itself: the moment of a ping, when the server was heard, expired sessions, and memory that
+ * runs out within a session, each request for it in turn. */
+#define _POSIX_C_SOURCE 200809L
+#include "../lock.h"
+#include "refusing_heap.h"
+#include "served.h"
+
+enum { TYPE_CONNECT = 0, TYPE_EXISTS = 3, TYPE_GET = 4, TYPE_SET = 5, TYPE_PING = 11, TYPE_SET_WATCHES = 101, SOON_MS = 1500 /* of a machine that is busy */ };
+
+static dws_call get, set;
+static dws_subject node;
+
+static bool has_told(enum dws_event event)
+{
+    return strchr(events, '0' + (int)event) != NULL;
+}
+
+static void answer_data(int32_t xid)
+{
+    struct bytes came;
+    came.length = 0;
+    add_data(&came, xid, 5, "one", &STAT);
+    answer_at_once(&came);
+}
+
+/* The first ping comes a third of the timeout that was granted after the session was admitted, and the session wants to be woken for it. */
+static void ping_in_time(void)
+{
+    struct pollfd polled;
+    open_session();
+    EXPECT_NUMBER(-1, dws_heard_ms(session));
+    admit();
+    uint64_t admitted_ms = dws_now_ms();
+    EXPECT(dws_heard_ms(session) >= 0 && dws_heard_ms(session) < SOON_MS);
+    turn(0); /* what there was to tell was told */
+    int wait_ms = dws_wanted(session, &polled);
+    EXPECT(wait_ms > 0 && wait_ms <= GRANTED_MS / 3);
+    hear_request(XID_PING, TYPE_PING, NULL);
+    uint64_t waited_ms = dws_now_ms() - admitted_ms;
+    EXPECT(waited_ms + SOON_MS > GRANTED_MS / 3 && waited_ms < GRANTED_MS / 3 + SOON_MS);
+    EXPECT(dws_heard_ms(session) + SOON_MS > GRANTED_MS / 3);
+    close_all();
+}
+
+/* The session has a connection, loses it, and is told on the next one that it has expired. A read waits meanwhile. */
+static void expire(bool is_over_at_expiry)
+{
+    struct bytes expired;
+    dws_options options;
+    expired.length = 0;
+    memset(&options, 0, sizeof options);
+    options.is_over_at_expiry = is_over_at_expiry;
+    open_session_with(options);
+    admit();
+    EXPECT_NUMBER(SESSION, dws_id(session));
+    dws_get(session, &get, "/a", false);
+    hear_request(1, TYPE_GET, NULL);
+    close(line);
+    accept_line();
+    hear();
+    EXPECT_NUMBER(SESSION, dws_read_long(out.at + 16));
+    add_expired(&expired);
+    answer_at_once(&expired);
+    wait_for(&get);
+    EXPECT_NUMBER(DW_OUTCOME_EXPIRED, get.why);
+    EXPECT(has_told(DWS_EXPIRED));
+}
+
+static void end_at_expiry(void)
+{
+    char why[DWS_LONGEST_LINE];
+    expire(true);
+    EXPECT(dws_is_over(session));
+    dws_words(session, &get, why, sizeof why);
+    EXPECT(strcmp(why, "the session has expired: /a; renew it") == 0);
+    close_all();
+}
+
+static void renew_at_expiry(void)
+{
+    char why[DWS_LONGEST_LINE];
+    expire(false);
+    EXPECT(!dws_is_over(session));
+    dws_words(session, &get, why, sizeof why);
+    EXPECT(strcmp(why, "the session has expired: /a; call again") == 0);
+    close(line);
+    accept_line();
+    hear();
+    EXPECT_NUMBER(0, dws_read_long(out.at + 16));
+    close_all();
+}
+
+/* The limit of a call that is not sent, and of one that is. */
+static void be_late(void)
+{
+    dws_options options;
+    memset(&options, 0, sizeof options);
+    options.patience_ms = 50;
+    open_session_with(options);
+    dws_get(session, &get, "/a", false);
+    wait_for(&get);
+    EXPECT_NUMBER(DW_OUTCOME_NOT_CONNECTED, get.why);
+    admit();
+    dws_get(session, &get, "/a", false);
+    hear_request(1, TYPE_GET, NULL);
+    wait_for(&get);
+    EXPECT_NUMBER(DWS_LATE, get.why);
+    answer_data(1);
+    EXPECT(get.text == NULL && !dws_is_over(session));
+    dws_get(session, &get, "/a", false);
+    hear_request(2, TYPE_GET, NULL);
+    answer_data(2);
+    wait_for(&get);
+    EXPECT_NUMBER(0, get.why);
+    close_all();
+}
+
+/* After the server's word that the session is closed nothing more is done. */
+static void close_once(void)
+{
+    struct bytes closed;
+    open_session();
+    admit();
+    dws_end(session);
+    dws_get(session, &get, "/a", false);
+    EXPECT(get.is_answered && get.why == DW_OUTCOME_CLOSED);
+    hear_request(1, -11, NULL);
+    closed.length = 0;
+    add_header(&closed, 1, 6, 0);
+    answer_at_once(&closed);
+    EXPECT(dws_is_over(session) && has_told(DWS_CLOSED));
+    for (int i = 0; i < SHORT_TURNS; i++) {
+        turn(i);
+    }
+    EXPECT(accept(listener, NULL, NULL) < 0);
+    close_all();
+}
+
+/* Serves what the session asks, over any number of connections, as far as it has asked. */
+static void serve(void)
+{
+    static uint8_t in[1 << 12];
+    static size_t length;
+    static bool is_admitted;
+    int accepted = accept(listener, NULL, NULL);
+    if (accepted >= 0) {
+        close(line);
+        line = accepted;
+        length = 0;
+        is_admitted = false;
+    }
+    ssize_t count = line >= 0 ? recv(line, in + length, sizeof in - length, MSG_DONTWAIT) : -1;
+    length += count > 0 ? (size_t)count : 0;
+    while (length >= 4 && length >= 4 + dws_read_int(in)) {
+        struct bytes came;
+        size_t whole = 4 + dws_read_int(in);
+        int32_t xid = (int32_t)dws_read_int(in + 4), type = is_admitted ? (int32_t)dws_read_int(in + 8) : TYPE_CONNECT;
+        came.length = 0;
+        switch (type) {
+        case TYPE_CONNECT: add_connected(&came); break;
+        case TYPE_GET: add_data(&came, xid, 6, "one", &STAT); break;
+        case TYPE_SET:
+        case TYPE_EXISTS: add_stat(&came, xid, 6, &STAT); break;
+        default: add_header(&came, xid, 6, 0); break;
+        }
+        is_admitted = true;
+        memmove(in, in + whole, length - whole);
+        length -= whole;
+        EXPECT(send(line, came.at, came.length, MSG_NOSIGNAL) != 0);
+    }
+}
+
+/* A session that follows, reads and writes, of which one request of the library for memory is refused. Whether it was, and went on. */
+static bool run_short(long refused_at)
+{
+    dws_options options;
+    memset(&options, 0, sizeof options);
+    heap.asked = 0;
+    heap.refused_at = refused_at;
+    open_session_with(options);
+    if (session == NULL) { /* there was no memory for one */
+        EXPECT(was_refused());
+        return false;
+    }
+    enum dw_result followed = dws_follow(session, &node, "/a", NULL);
+    dws_get(session, &get, "/a", false);
+    dws_set(session, &set, "/a", "one", 3, -1);
+    for (int i = 0; i < MOST_TURNS && !(get.is_answered && set.is_answered && (followed != DW_OK || dws_is_good(&node))); i++) {
+        serve();
+        turn(i);
+        if (dws_is_over(session)) {
+            break;
+        }
+    }
+    EXPECT(get.is_answered && set.is_answered);
+    EXPECT(followed == DW_OK || followed == DW_NO_MEMORY);
+    bool goes_on = !dws_is_over(session);
+    EXPECT(goes_on != has_told(DWS_FAILED));
+    EXPECT(!goes_on || followed != DW_OK || strcmp(node.text, "one") == 0);
+    EXPECT(get.why == 0 || get.why == DWS_REFUSED - DW_NO_MEMORY || !goes_on);
+    EXPECT(set.why == 0 || set.why == DWS_REFUSED - DW_NO_MEMORY || set.why == DW_OUTCOME_LOST || !goes_on);
+    dws_free(session);
+    EXPECT_NUMBER(0, heap.blocks);
+    return goes_on;
+}
+
+/* Each request is refused in turn. Where one call was refused, it says so; where memory ran out within a step, the session is taken up again. */
+static void run_out_of_memory(void)
+{
+    long resumed = 0, refused_at = 1;
+    line = -1;
+    for (bool is_there = true; is_there; refused_at++) {
+        bool goes_on = run_short(refused_at);
+        is_there = was_refused();
+        resumed += is_there && goes_on && has_told(DWS_CUT);
+    }
+    EXPECT(resumed > 10);
+    printf("memory: %ld requests, after %ld of which the session was taken up again\n", refused_at - 2, resumed);
+    close(line);
+}
+
+int main(void)
+{
+    begin_listening();
+    ping_in_time();
+    end_at_expiry();
+    renew_at_expiry();
+    be_late();
+    close_once();
+    run_out_of_memory();
+    dws_release(&get);
+    dws_release(&set);
+    close(listener);
+    printf("served: passed\n");
+    return EXIT_SUCCESS;
+}
