@@ -327,9 +327,12 @@ static inline dws_call *dws_answered(dws_session *s, uint64_t ticket)
 static inline void dws_lose_beside(dws_session *s, uint64_t ticket)
 {
     struct dws_line lost;
+    if (s->wire.socket >= 0) {
+        return;
+    }
     memset(&lost, 0, sizeof lost);
     dws_call **at = &s->sent.first;
-    for (size_t left = s->sent.count; left > 0 && s->wire.socket < 0 && (*at)->ticket < ticket; left--) {
+    for (size_t left = s->sent.count; left > 0 && (*at)->ticket < ticket; left--) {
         if ((*at)->kind == DWS_BESIDE) {
             dws_append(&lost, dws_remove(&s->sent, at));
         } else {

@@ -239,6 +239,40 @@ static void wait_for_a_lock(void)
     dws_lock_release(&lock);
 }
 
+/* With the session a lock is lost that was held, and it is waited for by the next session. */
+static void lose_a_lock(void)
+{
+    static dws_lock lock;
+    char place[256], again[256];
+    struct bytes expired;
+    open_session();
+    admit();
+    EXPECT(dws_lock_take(session, &lock, "/l", DWS_EXCLUSIVE, "me", NULL));
+    make_place(1, "0000000002", place, sizeof place);
+    hear_about(2, TYPE_GET, place);
+    answer_place(2, 6);
+    hear_about(3, TYPE_CHILDREN, "/l");
+    answer_names(3, 7, place + 3, "note");
+    EXPECT(lock.is_held);
+    close(line);
+    accept_line();
+    hear();
+    expired.length = 0;
+    add_expired(&expired);
+    answer_at_once(&expired);
+    turn(0);
+    EXPECT(!lock.is_held && lock.why == 0);
+    close(line);
+    admit();
+    hear_about(1, TYPE_CHILDREN, "/l");
+    answer_names(1, 8, "note", "z__lock__0000000004");
+    make_place(2, "0000000005", again, sizeof again);
+    hear_about(3, TYPE_GET, again);
+    EXPECT(!lock.is_held);
+    close_all();
+    dws_lock_release(&lock);
+}
+
 /* One that shares is held beside others that do, and waits for those that do not. A place whose making was lost is found again. */
 static void share_a_lock(void)
 {
@@ -353,6 +387,7 @@ int main(void)
     be_late();
     close_once();
     wait_for_a_lock();
+    lose_a_lock();
     share_a_lock();
     run_out_of_memory();
     dws_release(&get);
