@@ -394,11 +394,11 @@ static inline uint64_t dws_deadline(dws_session *s)
 /* What is due at a moment. */
 static inline void dws_keep_time(dws_session *s)
 {
-    if (dws_end_of_waiting(s) <= s->now_ms) {
-        dws_cut(s, "an answer does not come");
-    }
-    if (!s->is_over && dws_deadline(s) <= s->now_ms) {
+    if (dws_deadline(s) <= s->now_ms) {
         dws_act(s, dw_session_moment(&s->machine, s->now_ms));
+    }
+    if (!s->is_over && dws_end_of_waiting(s) <= s->now_ms) {
+        dws_cut(s, "an answer does not come");
     }
     s->is_over = s->is_over || (s->is_closing && s->close.until_ms <= s->now_ms);
     if (s->is_dial_due && !s->is_over) {

@@ -398,10 +398,14 @@ static inline void dws_take_state(dws_session *s, enum dw_state state)
     }
 }
 
+/* The connection is given up. Where it was over already, it was told why. */
 static inline void dws_take_drop(dws_session *s)
 {
     char words[256];
     size_t length;
+    if (s->wire.socket < 0) {
+        return;
+    }
     enum dw_result result = dw_session_words(&s->machine, words, sizeof words - 1, &length);
     words[length < sizeof words ? length : sizeof words - 1] = 0;
     dws_hang_up(s);

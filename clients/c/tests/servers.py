@@ -1,5 +1,6 @@
 """Tests of the examples `follow` and `asks` with servers that are behind, silent or away, and of the moment of a ping."""
 
+import socket
 import struct
 import threading
 import time
@@ -66,9 +67,8 @@ class Servers(Followed):
         server = self.server(lambda number, line: (line.frame(), time.sleep(BOUND)))
         dials = server.wait_for_dials(1)
         self.addCleanup(self.followed.end)
-        end = time.monotonic() + BOUND
-        while "nothing was heard" not in self.said() and "an answer does not come" not in self.said() and time.monotonic() < end:
-            time.sleep(0.05)
+        self.wait_for_words("nothing was heard for two thirds of the timeout\n")
+        self.assertNotIn("an answer does not come", self.said())
         self.assertGreater(time.monotonic() - dials[0], 6)
         self.assertLess(time.monotonic() - dials[0], 6.7 + SLACK)
 
@@ -78,6 +78,26 @@ class Servers(Followed):
         partner = self.partner()
         self.follow(f"{mute.address},{partner.address}")
         self.expect("good absent")
+
+    def wait_for_words(self, words):
+        end = time.monotonic() + BOUND
+        while words not in self.said():
+            self.assertLess(time.monotonic(), end, words)
+            time.sleep(0.05)
+
+    def test_server_that_takes_no_connection(self):
+        """An attempt is given up after a third of the timeout, which is 10 seconds."""
+        with socket.socket() as full, socket.socket() as first, socket.socket() as second:
+            full.bind(("127.0.0.1", 0))
+            full.listen(0)
+            for filler in (first, second):
+                filler.setblocking(False)
+                filler.connect_ex(full.getsockname())
+            begun = time.monotonic()
+            self.follow(f"127.0.0.1:{full.getsockname()[1]}")
+            self.wait_for_words("connection timed out\n")
+            self.assertGreater(time.monotonic() - begun, 3)
+            self.assertLess(time.monotonic() - begun, 3.4 + SLACK)
 
     def test_server_that_stays_away(self):
         """It is dialled three times a second at most, and the pauses grow; once it is there it is found."""
