@@ -325,10 +325,10 @@ struct dws_frames {
     size_t held, left;
 };
 
-/* Requests on this connection that are not answered: how many, and how many of them were asked by a moment. */
+/* Requests on this connection that are not answered: since when each waits, from a place on. */
 struct dws_waiting {
-    size_t count, marked;
-    uint64_t since_ms;
+    uint64_t *since_ms;
+    size_t first, count, room;
 };
 
 struct dws_host {
@@ -366,6 +366,8 @@ struct dws_session {
     bool is_dial_due, is_connecting, is_expired, is_closing, is_over, is_resumed;
     bool has_more, has_news;           /* bytes that poll does not tell of, and something that a program may wait for */
     bool must_look, must_follow;       /* marks may be others; subjects are new or gone */
+    bool is_due_known;                 /* no step was made since the library was asked when something is due */
+    uint64_t due_ms;
     struct dws_waiting waiting;
     struct dws_frames came;
     uint64_t now_ms, last_ticket;
@@ -383,13 +385,6 @@ struct dws_session {
 #include "session_wires.h"
 #include "session_subjects.h"
 #include "session_trees.h"
-
-/* The next moment at which the library is to be told the moment. */
-static inline uint64_t dws_deadline(dws_session *s)
-{
-    uint64_t first;
-    return dw_session_deadline(&s->machine, &first) == DW_OK ? first : UINT64_MAX;
-}
 
 /* What is due at a moment. */
 static inline void dws_keep_time(dws_session *s)
@@ -766,6 +761,7 @@ static inline void dws_free(dws_session *s)
     dw_session_free(&s->machine);
     dws_release(&s->close);
     free(s->unsent.bytes);
+    free(s->waiting.since_ms);
     free(s->gone);
     free(s->hosts);
     free(s->hosts_text);

@@ -116,6 +116,16 @@ static inline void dws_finish_all(dws_session *s, struct dws_line *line, int32_t
     }
 }
 
+/* The first moment at which the library is to be told the moment. */
+static inline uint64_t dws_deadline(dws_session *s)
+{
+    if (!s->is_due_known && dw_session_deadline(&s->machine, &s->due_ms) != DW_OK) {
+        s->due_ms = UINT64_MAX;
+    }
+    s->is_due_known = true;
+    return s->due_ms;
+}
+
 static inline bool dws_is_connected(dws_session *s)
 {
     return dw_session_state(&s->machine) == DW_STATE_CONNECTED;
@@ -181,18 +191,24 @@ static inline void dws_hang_up(dws_session *s)
     s->is_connecting = s->has_more = false;
     s->read_wants = s->write_wants = 0;
     s->unsent.length = 0;
-    memset(&s->waiting, 0, sizeof s->waiting);
+    s->waiting.first = s->waiting.count = 0;
     memset(&s->came, 0, sizeof s->came);
 }
 
-/* A request goes out that the server answers by one frame. */
+/* A request goes out that the server answers by one frame. Without memory it is not counted. */
 static inline void dws_expect_answer(dws_session *s)
 {
     struct dws_waiting *waiting = &s->waiting;
-    waiting->count++;
-    if (waiting->marked == 0) {
-        waiting->marked = waiting->count;
-        waiting->since_ms = s->now_ms;
+    size_t entry = sizeof *waiting->since_ms;
+    if (waiting->first > 0 && (waiting->first + waiting->count + 1) * entry > waiting->room) {
+        memmove(waiting->since_ms, waiting->since_ms + waiting->first, waiting->count * entry);
+        waiting->first = 0;
+    }
+    void *block = waiting->since_ms;
+    bool is_there = dws_reserve(&block, &waiting->room, (waiting->first + waiting->count + 1) * entry);
+    waiting->since_ms = (uint64_t *)block;
+    if (is_there) {
+        waiting->since_ms[waiting->first + waiting->count++] = s->now_ms;
     }
 }
 
@@ -200,18 +216,16 @@ static inline void dws_expect_answer(dws_session *s)
 static inline void dws_note_answers(dws_session *s, size_t count)
 {
     struct dws_waiting *waiting = &s->waiting;
-    waiting->count -= (size_t)dws_least(count, waiting->count);
-    waiting->marked -= (size_t)dws_least(count, waiting->marked);
-    if (waiting->marked == 0 && count > 0) {
-        waiting->marked = waiting->count;
-        waiting->since_ms = s->now_ms;
-    }
+    size_t answered = (size_t)dws_least(count, waiting->count);
+    waiting->count -= answered;
+    waiting->first = waiting->count > 0 ? waiting->first + answered : 0;
 }
 
 /* When the connection is to be given up, unless answers come: so that a server that sends other things is not waited for. */
 static inline uint64_t dws_end_of_waiting(dws_session *s)
 {
-    return s->waiting.marked > 0 ? s->waiting.since_ms + dws_timeout_ms(s) * 2 / 3 : UINT64_MAX;
+    const struct dws_waiting *waiting = &s->waiting;
+    return waiting->count > 0 ? waiting->since_ms[waiting->first] + dws_timeout_ms(s) * 2 / 3 : UINT64_MAX;
 }
 
 /* How many frames that are no notices end in these bytes, which come next in the stream. */
@@ -466,6 +480,7 @@ static inline void dws_resume(dws_session *s);
 static inline void dws_act(dws_session *s, enum dw_result result)
 {
     dw_output action;
+    s->is_due_known = false;
     while (result == DW_OK && !s->is_over) {
         result = dw_session_next(&s->machine, &action);
         if (result == DW_OK) {
@@ -529,7 +544,7 @@ static inline void dws_resume(dws_session *s)
         return;
     }
     s->is_resumed = s->must_look = s->must_follow = true;
-    s->is_dial_due = false;
+    s->is_dial_due = s->is_due_known = false;
     s->gone_count = 0;
     for (dws_subject *one = s->subjects; one != NULL; one = one->next) {
         one->ticket = 0;
@@ -545,9 +560,8 @@ static inline void dws_resume(dws_session *s)
  * moment before that. When the bytes came is not known, and a server that has sent something is not silent. */
 static inline uint64_t dws_in_time(dws_session *s)
 {
-    uint64_t due;
-    bool is_late = dw_session_deadline(&s->machine, &due) == DW_OK && due <= s->now_ms;
-    return is_late && due > 0 ? due - 1 : s->now_ms;
+    uint64_t due = dws_deadline(s);
+    return due <= s->now_ms && due > 0 ? due - 1 : s->now_ms;
 }
 
 /* Hands a call to the library, at this moment. */
