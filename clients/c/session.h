@@ -1,5 +1,5 @@
 /* A session over POSIX sockets, for loops by poll and for small programs that wait: connection strings, calls, nodes and trees that are followed.
- * It stands on dw_session of dirwolleu.h, which is proved and says whom to dial and when, what becomes of calls, and what is kept good. What is here
+ * It is built on dw_session of dirwolleu.h, which is proved and says whom to dial and when, what becomes of calls, and what is kept good. What is here
  * is tested: look-ups of names, sockets, callbacks, trees. Define _POSIX_C_SOURCE as 200809L before it. It is C11 and C++11.
  *
  *     static void show(dws_session *session, dws_subject *node)
