@@ -7,7 +7,7 @@
 
 enum { TYPE_CONNECT = 0, TYPE_CREATE = 1, TYPE_EXISTS = 3, TYPE_GET = 4, TYPE_SET = 5, TYPE_PING = 11, TYPE_CHILDREN = 12, SOON_MS = 1500 /* of a machine that is busy */ };
 
-static dws_call get, set;
+static dws_call get, set, many[2 * DWS_MOST_ASKED];
 static dws_subject node;
 
 static bool has_told(enum dws_event event)
@@ -20,6 +20,15 @@ static void answer_data(int32_t xid)
     struct bytes came;
     came.length = 0;
     add_data(&came, xid, 5, "one", &STAT);
+    answer_at_once(&came);
+}
+
+/* A reply that brings nothing. */
+static void answer_nothing(int32_t xid, int64_t zxid)
+{
+    struct bytes came;
+    came.length = 0;
+    add_header(&came, xid, zxid, 0);
     answer_at_once(&came);
 }
 
@@ -39,10 +48,25 @@ static void ping_in_time(void)
     uint64_t waited_ms = dws_now_ms() - admitted_ms;
     EXPECT(waited_ms + SOON_MS > GRANTED_MS / 3 && waited_ms < GRANTED_MS / 3 + SOON_MS);
     EXPECT(dws_heard_ms(session) + SOON_MS > GRANTED_MS / 3);
+    for (int i = 0; i < 2; i++) { /* and the next ones, for longer than two thirds of it */
+        answer_nothing(XID_PING, 5);
+        hear_request(XID_PING, TYPE_PING, NULL);
+    }
+    EXPECT(!has_told(DWS_CUT));
     close_all();
 }
 
-/* The session has a connection, loses it, and is told on the next one that it has expired. A read waits meanwhile. */
+static bool are_all_expired(void)
+{
+    bool are_all = true;
+    for (int i = 0; i < 2 * DWS_MOST_ASKED; i++) {
+        are_all = are_all && many[i].is_answered && many[i].why == DW_OUTCOME_EXPIRED;
+        dws_release(&many[i]);
+    }
+    return are_all;
+}
+
+/* The session has a connection, loses it, and is told on the next one that it has expired. Reads wait meanwhile, and all are told so. */
 static void expire(bool is_over_at_expiry)
 {
     struct bytes expired;
@@ -55,6 +79,9 @@ static void expire(bool is_over_at_expiry)
     EXPECT_NUMBER(SESSION, dws_id(session));
     dws_get(session, &get, "/a", false);
     hear_request(1, TYPE_GET, NULL);
+    for (int i = 0; i < 2 * DWS_MOST_ASKED; i++) {
+        dws_get(session, &many[i], "/b", false);
+    }
     close(line);
     accept_line();
     hear();
@@ -63,7 +90,8 @@ static void expire(bool is_over_at_expiry)
     answer_at_once(&expired);
     wait_for(&get);
     EXPECT_NUMBER(DW_OUTCOME_EXPIRED, get.why);
-    EXPECT(has_told(DWS_EXPIRED));
+    turn(0);
+    EXPECT(has_told(DWS_EXPIRED) && are_all_expired());
 }
 
 static void end_at_expiry(void)
@@ -118,16 +146,13 @@ static void be_late(void)
 /* After the server's word that the session is closed nothing more is done. */
 static void close_once(void)
 {
-    struct bytes closed;
     open_session();
     admit();
     dws_end(session);
     dws_get(session, &get, "/a", false);
     EXPECT(get.is_answered && get.why == DW_OUTCOME_CLOSED);
     hear_request(1, -11, NULL);
-    closed.length = 0;
-    add_header(&closed, 1, 6, 0);
-    answer_at_once(&closed);
+    answer_nothing(1, 6);
     EXPECT(dws_is_over(session) && has_told(DWS_CLOSED));
     for (int i = 0; i < SHORT_TURNS; i++) {
         turn(i);
