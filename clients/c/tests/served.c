@@ -56,6 +56,41 @@ static void ping_in_time(void)
     close_all();
 }
 
+/* The next connection begins with the request to connect, whatever was not written on the one before. */
+static void expect_new_connection(void)
+{
+    close(line);
+    events[0] = 0;
+    for (int i = 0; !has_told(DWS_CUT); i++) {
+        turn(i);
+    }
+    is_blocked = false;
+    accept_line();
+    hear();
+    EXPECT_NUMBER(0, dws_read_int(out.at));
+    EXPECT_NUMBER(SESSION, dws_read_long(out.at + 16));
+}
+
+/* What was not written is forgotten with its connection: a call that it has no room for, and a ping that is due when it ends. */
+static void forget_unsent(void)
+{
+    struct timespec third = {GRANTED_MS / 3000, 100000000};
+    struct bytes connected;
+    open_session();
+    admit();
+    is_blocked = true;
+    dws_set(session, &set, "/a", "one", 3, -1);
+    turn(0);
+    expect_new_connection();
+    EXPECT(set.is_answered && set.why == DW_OUTCOME_LOST);
+    connected.length = 0;
+    add_connected(&connected);
+    answer_at_once(&connected);
+    nanosleep(&third, NULL);
+    expect_new_connection();
+    close_all();
+}
+
 static bool are_all_expired(void)
 {
     bool are_all = true;
@@ -407,6 +442,7 @@ int main(void)
 {
     begin_listening();
     ping_in_time();
+    forget_unsent();
     end_at_expiry();
     renew_at_expiry();
     be_late();

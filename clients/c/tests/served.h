@@ -69,9 +69,15 @@ static inline ssize_t read_counted(dws_wire *wire, void *room, size_t size, void
     return count;
 }
 
+static bool is_blocked; /* the connection takes no bytes */
+
 static inline ssize_t write_plain(dws_wire *wire, const void *bytes, size_t size, void *context)
 {
     (void)context;
+    if (is_blocked) {
+        errno = EAGAIN;
+        return -1;
+    }
     return send(wire->socket, bytes, size, MSG_NOSIGNAL);
 }
 
