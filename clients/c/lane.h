@@ -12,8 +12,9 @@
  *         printf("made %s\n", change.changes[2].path);
  *     }
  *
- * A call is a dws_call too, its first field: it waits for a connection, is answered in the order of all calls, by DW_OUTCOME_LOST where the
- * connection ends, and dws_wait and dws_words take it. It begins as zeros, is used by one question at a time, and lives until it is answered. */
+ * A call is a dws_call too, its first field: it waits for a connection, and what is asked after it waits for it; it is answered in the order of all
+ * calls, by DW_OUTCOME_LOST where the connection ends, reads too, and dws_wait and dws_words take it. Its limit is for the wait for a connection;
+ * once it is sent it is answered or lost. It begins as zeros, is used by one question at a time, and lives until it is answered. */
 #ifndef DIRWOLLEU_LANE_H
 #define DIRWOLLEU_LANE_H
 
@@ -180,9 +181,7 @@ static inline bool dws_put_bytes(struct dws_bytes *bytes, const void *added, siz
 static inline bool dws_put_int(struct dws_bytes *bytes, int32_t number)
 {
     uint8_t spelled[4];
-    for (int i = 0; i < 4; i++) {
-        spelled[i] = (uint8_t)((uint32_t)number >> (24 - 8 * i));
-    }
+    dws_spell_int(spelled, (uint32_t)number);
     return dws_put_bytes(bytes, spelled, sizeof spelled);
 }
 
@@ -416,18 +415,12 @@ static inline bool dws_answer_lane(dws_session *s, dws_call **at, int64_t zxid, 
         if (reading->is_over) {
             return false;
         }
-        s->pause_ms = DWS_FIRST_PAUSE_MS;
     }
     dws_remove(&s->sent, at);
     if (code == 0 && call->type == DWS_TYPE_AUTH) {
         is_kept = dws_know(dws_lane_of(s), &call->body);
     }
-    s->is_taken = s->is_taken || code == DW_CODE_SESSION_EXPIRED || code == DW_CODE_SESSION_MOVED;
-    if (dws_can_repeat(&call->call, code)) {
-        dws_repeat(s, &call->call);
-    } else {
-        dws_finish(s, &call->call, is_kept ? call->call.why : DWS_REFUSED - (int32_t)DW_NO_MEMORY);
-    }
+    dws_finish(s, &call->call, is_kept ? call->call.why : DWS_REFUSED - (int32_t)DW_NO_MEMORY);
     return true;
 }
 
@@ -452,7 +445,7 @@ static inline void dws_take_frame(dws_session *s)
     dws_call **at = dws_lane_place(s, xid);
     if (at != NULL && !dws_answer_lane(s, at, zxid, code, &reading)) {
         dws_cut(s, "an answer does not read");
-    } else if (s->is_taken && s->wire.socket >= 0) {
+    } else if ((code == DW_CODE_SESSION_EXPIRED || code == DW_CODE_SESSION_MOVED) && s->wire.socket >= 0) {
         dws_cut(s, "the session is not of this connection any more");
     }
 }
@@ -568,13 +561,16 @@ static inline bool dws_write_beside(dws_session *s, int32_t xid, int32_t type, c
                   && dws_put_bytes(&frame, body->at, body->length);
     s->unsent.bytes = frame.at;
     s->unsent.room = frame.room;
-    s->unsent.length = is_put ? frame.length : s->unsent.length;
+    if (is_put) {
+        s->unsent.length = frame.length;
+        dws_expect_answer(s);
+    }
     return is_put;
 }
 
 /* Writes a call that was taken out of the queue. After a write of its own the library reads once, so that no server that is behind it is gone to
  * later. */
-static inline enum dw_result dws_ask_beside(dws_session *s, dws_call *asked)
+static inline enum dw_result dws_ask_beside(dws_session *s, dws_call *asked, uint64_t now_ms)
 {
     struct dws_lane *lane = dws_lane_of(s);
     dws_lane_call *call = (dws_lane_call *)(void *)asked;
@@ -591,7 +587,10 @@ static inline enum dw_result dws_ask_beside(dws_session *s, dws_call *asked)
     if (call->type != DWS_TYPE_AUTH) {
         lane->next_xid = lane->next_xid > INT32_MIN ? lane->next_xid - 1 : (int32_t)DWS_FIRST_XID;
     }
-    enum dw_result result = is_write ? dw_exists(&s->client, dws_in_time(s), ++s->last_ticket, "/", 1, false) : DW_OK;
+    if (!is_write) {
+        return DW_OK;
+    }
+    enum dw_result result = dw_session_exists(&s->machine, now_ms, ++s->last_ticket, asked->until_ms, "/", 1, false);
     return result == DW_NO_MEMORY ? DW_OK : result; /* the call itself is on its way */
 }
 
@@ -682,13 +681,13 @@ static inline struct dws_lane *dws_make_lane(dws_session *s)
     lane->hooks.write_words = dws_write_words_beside;
     lane->hooks.release = dws_release_beside;
     lane->next_xid = DWS_FIRST_XID;
-    if (s->came_frames.held == sizeof s->came_frames.head) {
-        lane->left = s->came_frames.left;
+    if (s->came.held == sizeof s->came.head) {
+        lane->left = s->came.left;
     } else {
-        lane->held = lane->handed = s->came_frames.held;
-        memcpy(lane->head, s->came_frames.head, sizeof lane->head);
+        lane->held = lane->handed = s->came.held;
+        memcpy(lane->head, s->came.head, sizeof lane->head);
     }
-    lane->is_begun = lane->left > 0 || (lane->held == 0 && s->is_admitted);
+    lane->is_begun = lane->left > 0 || (lane->held == 0 && dws_is_connected(s));
     s->beside = &lane->hooks;
     return lane;
 }
@@ -735,7 +734,7 @@ static inline char *dws_put_path(dws_session *s, dws_lane_call *call, const char
     char *outer = dws_outer(s, path);
     enum dw_result result = outer == NULL ? DW_NO_MEMORY : words_of_path(path) != NULL ? DW_NOT_PATH : DW_OK;
     if (result == DW_OK) {
-        result = dw_peek_data(&s->client, outer, strlen(outer), &kept, &none, 0);
+        result = dw_session_peek_data(&s->machine, outer, strlen(outer), &kept, &none, 0);
     }
     if (result == DW_OK && !dws_put_text(&call->body, outer)) {
         result = DW_NO_MEMORY;
@@ -752,7 +751,6 @@ static inline void dws_begin_question(dws_session *s, dws_lane_call *call, int32
     dws_forget_question(call);
     call->type = type;
     call->call.kind = DWS_BESIDE;
-    call->call.is_repeatable = type == DWS_TYPE_SYNC || type == DWS_TYPE_GET_ACL || type == DWS_TYPE_AUTH;
     call->call.path = path != NULL ? dws_put_path(s, call, path) : NULL;
 }
 

@@ -1,5 +1,6 @@
-/* A lock over session.h, exclusive or shared, with kazoo's names: each contender makes an ephemeral node below the node of the lock, and the first
- * one holds it; who shares it, once no exclusive one is before it. Tested, and not proved.
+/* A lock over session.h, exclusive or shared, with kazoo's names, among those of kazoo and of Curator: each contender makes an ephemeral node below
+ * the node of the lock, and the first one holds it; who shares it, once no exclusive one is before it. Who holds it is the library's word,
+ * dw_session_standing; what is asked for that is tested, and not proved.
  *
  *     static void changed(dws_session *session, dws_lock *lock)
  *     {
@@ -34,12 +35,14 @@ struct dws_lock {
     enum dws_sharing sharing;
     char path[1024], tag[48], place[1200], data[256];
     dws_call call, removal;
-    dws_subject watched;
-    bool is_let_go;
+    dws_subject own, before;      /* its place, and the one that it waits for */
+    struct dws_texts names;       /* the places, by the last listing, and its zxid */
+    int64_t listed;
+    bool is_asked, is_unsure, is_listed, is_seen, is_let_go;
 };
 
 /* Begins to wait for the lock of a node; `changed` is called when it is held, and when it is lost. The data say to others who waits. False where
- * the path has more than 1,023 bytes or the data have more than 255: then nothing is done. */
+ * the path has more than 1,023 bytes or the data have more than 255, or the lock has a call on its way: then nothing is done. */
 static inline bool dws_lock_take(dws_session *s, dws_lock *lock, const char *path, enum dws_sharing sharing, const char *data,
                                  void (*changed)(dws_session *, dws_lock *));
 
@@ -49,15 +52,10 @@ static inline dws_call *dws_lock_check(dws_session *s, dws_lock *lock, dws_call 
 /* Lets the lock go, or one's place in the line. The call that this gives is answered when it is done; the lock goes with the session at the latest. */
 static inline dws_call *dws_lock_let_go(dws_session *s, dws_lock *lock);
 
-/* The number that the server has added to a name, as its ten digits; NULL where it has none. */
-static inline const char *dws_lock_number(const char *name)
-{
-    size_t length = strlen(name);
-    return length >= 10 && strspn(name + length - 10, "0123456789") == 10 ? name + length - 10 : NULL;
-}
+/* Frees what a lock holds that was let go. */
+static inline void dws_lock_release(dws_lock *lock);
 
-static inline void dws_lock_list(dws_session *s, dws_lock *lock);
-static inline void dws_lock_stand(dws_session *s, dws_lock *lock);
+static inline void dws_lock_go_on(dws_session *s, dws_lock *lock);
 
 static inline void dws_lock_tell(dws_session *s, dws_lock *lock, bool is_held, int32_t why)
 {
@@ -69,79 +67,81 @@ static inline void dws_lock_tell(dws_session *s, dws_lock *lock, bool is_held, i
     }
 }
 
-/* The node that is watched has changed: one's own place where the lock is held, else the one before it. Where it is gone, or the session has
- * expired, one looks again. */
-static inline void dws_lock_see(dws_session *s, dws_subject *watched)
+/* What is kept of a place has changed. */
+static inline void dws_lock_see(dws_session *s, dws_subject *place)
 {
-    dws_lock *lock = (dws_lock *)watched->context;
-    bool is_there = watched->kind == DW_KEPT_FULL || !dws_is_good(watched);
-    if (is_there && watched->kind != DW_KEPT_NOTHING) {
-        return;
+    dws_lock *lock = (dws_lock *)place->context;
+    lock->is_seen = lock->is_seen || (place == &lock->own && place->kind == DW_KEPT_FULL);
+    dws_lock_go_on(s, lock);
+}
+
+static inline void dws_lock_follow(dws_session *s, dws_lock *lock, dws_subject *place, const char *path)
+{
+    place->context = lock;
+    enum dw_result result = dws_follow(s, place, path, dws_lock_see);
+    if (result != DW_OK) {
+        dws_lock_tell(s, lock, false, DWS_REFUSED - (int32_t)result);
     }
-    dws_unfollow(s, watched);
-    dws_lock_list(s, lock);
-    dws_lock_tell(s, lock, false, 0);
 }
 
-static inline void dws_lock_watch(dws_session *s, dws_lock *lock, const char *path)
+static inline void dws_lock_unfollow(dws_session *s, dws_subject *place)
 {
-    lock->watched.context = lock;
-    dws_follow(s, &lock->watched, path, dws_lock_see);
-}
-
-/* It is known when the first place was made: the lock is held. */
-static inline void dws_lock_hold(dws_session *s, dws_call *call)
-{
-    dws_lock *lock = (dws_lock *)call->context;
-    if (lock->is_let_go) {
-        return;
+    if (place->path != NULL) {
+        dws_unfollow(s, place);
     }
-    if (call->why != 0) {
-        dws_lock_list(s, lock);
-        return;
-    }
-    lock->token = call->stat.czxid;
-    dws_lock_watch(s, lock, lock->place);
-    dws_lock_tell(s, lock, true, 0);
 }
 
-/* Whether a place of this name comes before another one. */
-static inline bool dws_lock_is_before(const char *name, const char *other)
+/* The place is known. */
+static inline void dws_lock_know(dws_session *s, dws_lock *lock, const char *place)
 {
-    return other == NULL || strcmp(dws_lock_number(name), dws_lock_number(other)) < 0;
+    end_cut(lock->place, sizeof lock->place, snprintf(lock->place, sizeof lock->place, "%s", place));
+    lock->is_unsure = lock->is_seen = false;
+    dws_lock_follow(s, lock, &lock->own, lock->place);
 }
 
-/* The first place with the tag of this lock. Further ones are of creates whose answers were lost. */
+/* The place is one no more. */
+static inline void dws_lock_lose(dws_session *s, dws_lock *lock)
+{
+    dws_lock_unfollow(s, &lock->own);
+    dws_lock_unfollow(s, &lock->before);
+    lock->place[0] = 0;
+    lock->is_listed = lock->is_seen = false;
+}
+
+/* Keeps the names of a listing as the library wants them, each after its length. */
+static inline bool dws_lock_keep(dws_lock *lock, const dws_call *listed)
+{
+    struct dws_texts *names = &lock->names;
+    names->length = 0;
+    for (size_t i = 0; i < listed->count; i++) {
+        size_t length = strlen(listed->names[i]);
+        if (!dws_reserve_texts(names, names->length + 4 + length)) {
+            return false;
+        }
+        dws_spell_int(names->bytes + names->length, (uint32_t)length);
+        memcpy(names->bytes + names->length + 4, listed->names[i], length);
+        names->length += 4 + length;
+    }
+    lock->listed = listed->zxid;
+    lock->is_listed = true;
+    return true;
+}
+
+/* A name with the tag of this lock, that of a place whose making was lost; NULL where there is none. */
 static inline const char *dws_lock_mine(const dws_lock *lock, const dws_call *listed)
 {
-    const char *mine = NULL;
     for (size_t i = 0; i < listed->count; i++) {
-        const char *name = listed->names[i];
-        if (strncmp(name, lock->tag, strlen(lock->tag)) == 0 && dws_lock_number(name) != NULL && dws_lock_is_before(name, mine)) {
-            mine = name;
+        if (strncmp(listed->names[i], lock->tag, strlen(lock->tag)) == 0) {
+            return listed->names[i];
         }
     }
-    return mine;
+    return NULL;
 }
 
-/* Whether a place is of one who shares the lock: by kazoo's name, or by Curator's. */
-static inline bool dws_lock_is_shared(const char *name)
+/* Whether a call has failed for a reason that passes. */
+static inline bool dws_lock_passes(int32_t why)
 {
-    return strstr(name, "__rlock__") != NULL || strstr(name, "__READ__") != NULL;
-}
-
-/* The last place before one's own that is to be waited for. */
-static inline const char *dws_lock_before(const dws_lock *lock, const dws_call *listed, const char *mine)
-{
-    const char *before = NULL;
-    for (size_t i = 0; i < listed->count; i++) {
-        const char *name = listed->names[i];
-        bool is_awaited = dws_lock_number(name) != NULL && (lock->sharing == DWS_EXCLUSIVE || !dws_lock_is_shared(name));
-        if (is_awaited && dws_lock_is_before(name, mine) && (before == NULL || dws_lock_is_before(before, name))) {
-            before = name;
-        }
-    }
-    return before;
+    return why == DW_OUTCOME_LOST || why == DW_OUTCOME_NOT_CONNECTED || why == DW_OUTCOME_EXPIRED || why == DWS_LATE;
 }
 
 /* The places are listed. */
@@ -149,33 +149,38 @@ static inline void dws_lock_look(dws_session *s, dws_call *call)
 {
     dws_lock *lock = (dws_lock *)call->context;
     const char *mine = call->why == 0 ? dws_lock_mine(lock, call) : NULL;
-    if (lock->is_let_go) {
-        return;
+    lock->is_asked = false;
+    if (call->why == DW_CODE_NO_NODE) {
+        dws_lock_lose(s, lock);
+        lock->is_unsure = false;
+    } else if (call->why == 0 && !dws_lock_keep(lock, call)) {
+        dws_fail(s, DW_NO_MEMORY);
+    } else if (call->why == 0 && lock->is_unsure && mine != NULL && !lock->is_let_go) {
+        char place[DWS_LONGEST_LINE];
+        snprintf(place, sizeof place, "%s/%s", lock->path, mine);
+        dws_lock_know(s, lock, place);
+    } else if (call->why != 0 && !dws_lock_passes(call->why)) {
+        dws_lock_tell(s, lock, false, call->why);
     }
-    if (call->why == DW_OUTCOME_LOST || call->why == DW_OUTCOME_NOT_CONNECTED) {
-        dws_lock_list(s, lock);
-        return;
-    }
-    if (mine == NULL) {
-        dws_lock_stand(s, lock);
-        return;
-    }
-    const char *before = dws_lock_before(lock, call, mine);
-    char path[DWS_LONGEST_LINE];
-    end_cut(path, sizeof path, snprintf(path, sizeof path, "%s/%s", lock->path, before != NULL ? before : mine));
-    end_cut(lock->place, sizeof lock->place, snprintf(lock->place, sizeof lock->place, "%s/%s", lock->path, mine));
-    if (before != NULL) {
-        dws_lock_watch(s, lock, path);
-    } else {
-        lock->call.then = dws_lock_hold;
-        dws_exists(s, &lock->call, lock->place, false);
-    }
+    lock->is_unsure = lock->is_unsure && call->why != 0;
+    dws_lock_go_on(s, lock);
 }
 
-static inline void dws_lock_list(dws_session *s, dws_lock *lock)
+static inline void dws_lock_stood(dws_session *s, dws_call *call);
+
+/* Makes the node of the lock, or a place at the end of the line. */
+static inline void dws_lock_make(dws_session *s, dws_lock *lock, bool is_place)
 {
-    lock->call.then = dws_lock_look;
-    dws_children(s, &lock->call, lock->path, false);
+    char path[1100];
+    end_cut(path, sizeof path, snprintf(path, sizeof path, "%s/%s", lock->path, lock->tag));
+    lock->is_asked = true;
+    lock->is_listed = false;
+    lock->call.then = dws_lock_stood;
+    if (is_place) {
+        dws_create(s, &lock->call, path, lock->data, strlen(lock->data), DW_MODE_EPHEMERAL | DW_MODE_SEQUENTIAL);
+    } else {
+        dws_create(s, &lock->call, lock->path, "", 0, DW_MODE_PERSISTENT);
+    }
 }
 
 /* A place is made, or may be: that is looked at. The node of the lock is made where it is not there. */
@@ -183,36 +188,94 @@ static inline void dws_lock_stood(dws_session *s, dws_call *call)
 {
     dws_lock *lock = (dws_lock *)call->context;
     bool is_of_lock = strcmp(dws_inner(s, call->path), lock->path) == 0;
-    if (lock->is_let_go) { /* meanwhile */
-        if (call->why == 0 && !is_of_lock) {
-            dws_delete(s, &lock->removal, call->text, -1);
-        }
-        return;
-    }
-    if (call->why == DW_CODE_NO_NODE && !is_of_lock) {
-        dws_create(s, call, lock->path, "", 0, DW_MODE_PERSISTENT);
-    } else if (is_of_lock && (call->why == 0 || call->why == DW_CODE_NODE_EXISTS)) {
-        dws_lock_stand(s, lock);
-    } else if (call->why == 0 || call->why == DW_OUTCOME_LOST || call->why == DW_OUTCOME_NOT_CONNECTED) {
-        dws_lock_list(s, lock);
-    } else {
+    lock->is_asked = false;
+    if (lock->is_let_go && call->why == 0 && !is_of_lock) { /* meanwhile */
+        dws_delete(s, &lock->removal, call->text, -1);
+    } else if (!lock->is_let_go && call->why == DW_CODE_NO_NODE && !is_of_lock) {
+        dws_lock_make(s, lock, false);
+    } else if (!lock->is_let_go && call->why == 0 && !is_of_lock) {
+        dws_lock_know(s, lock, call->text);
+    } else if (!lock->is_let_go && call->why != 0 && call->why != DW_CODE_NODE_EXISTS && !dws_lock_passes(call->why)) {
         dws_lock_tell(s, lock, false, call->why);
+    }
+    lock->is_unsure = dws_lock_passes(call->why);
+    dws_lock_go_on(s, lock);
+}
+
+static inline void dws_lock_list(dws_session *s, dws_lock *lock)
+{
+    lock->is_asked = true;
+    lock->call.then = dws_lock_look;
+    dws_children(s, &lock->call, lock->path, false);
+}
+
+/* Where the place stands, is the library's word: the token is written, or the name of the place before it that is waited for. */
+static inline enum dw_result dws_lock_standing(dws_session *s, const dws_lock *lock, int64_t *token, char *before, size_t room, size_t *length)
+{
+    /* the marker of one's own kind, and those of the kinds that are waited for, each after its length */
+    static const char exclusive[] = "\0\0\0\10__lock__" "\0\0\0\6-lock-" "\0\0\0\10__lock__" "\0\0\0\11-__WRIT__" "\0\0\0\11__rlock__" "\0\0\0\11-__READ__";
+    static const char shared[] = "\0\0\0\11__rlock__" "\0\0\0\6-lock-" "\0\0\0\10__lock__" "\0\0\0\11-__WRIT__";
+    bool is_shared = lock->sharing == DWS_SHARED;
+    const uint8_t *markers = (const uint8_t *)(is_shared ? shared : exclusive);
+    const char *name = strrchr(lock->place, '/') + 1;
+    char *directory = dws_outer(s, lock->path);
+    if (directory == NULL) {
+        return DW_NO_MEMORY;
+    }
+    enum dw_result result = dw_session_standing(&s->machine, directory, strlen(directory), name, strlen(name), lock->names.bytes, lock->names.length,
+                                                lock->listed, markers, (is_shared ? sizeof shared : sizeof exclusive) - 1, token, before, room, length);
+    free(directory);
+    return result;
+}
+
+/* Looks whether the lock is held. The place before one's own is watched, and the places are listed again where that is gone. */
+static inline void dws_lock_judge(dws_session *s, dws_lock *lock)
+{
+    char before[DWS_LONGEST_LINE] = "", path[DWS_LONGEST_LINE + sizeof lock->path];
+    size_t length = 0;
+    int64_t token;
+    enum dw_result result = dws_lock_standing(s, lock, &token, before, sizeof before - 1, &length);
+    if (result == DW_OK) {
+        lock->token = token;
+        dws_lock_unfollow(s, &lock->before);
+        dws_lock_tell(s, lock, true, 0);
+    } else if (result == DW_WAITS && lock->before.path == NULL) {
+        snprintf(path, sizeof path, "%s/%s", lock->path, before);
+        dws_lock_follow(s, lock, &lock->before, path);
+    } else if (result == DW_WAITS && lock->before.kind == DW_KEPT_ABSENT && dws_is_good(&lock->before)) {
+        dws_lock_unfollow(s, &lock->before);
+        dws_lock_list(s, lock);
+    } else if (result != DW_WAITS && result != DW_NONE) {
+        dws_lock_tell(s, lock, false, DWS_REFUSED - (int32_t)result);
     }
 }
 
-/* Takes a place at the end of the line. */
-static inline void dws_lock_stand(dws_session *s, dws_lock *lock)
+/* Does what is next. A place is lost where it is gone, or nothing is kept of it any more, as where the session has expired. */
+static inline void dws_lock_go_on(dws_session *s, dws_lock *lock)
 {
-    char path[1100];
-    end_cut(path, sizeof path, snprintf(path, sizeof path, "%s/%s", lock->path, lock->tag));
-    lock->call.then = dws_lock_stood;
-    dws_create(s, &lock->call, path, lock->data, strlen(lock->data), DW_MODE_EPHEMERAL | DW_MODE_SEQUENTIAL);
+    bool is_gone = dws_is_good(&lock->own) && lock->own.kind == DW_KEPT_ABSENT;
+    bool is_unknown = lock->is_seen && lock->own.kind == DW_KEPT_NOTHING;
+    if (is_gone || is_unknown) {
+        dws_lock_lose(s, lock);
+        lock->is_unsure = is_unknown;
+        dws_lock_tell(s, lock, false, lock->why);
+    }
+    if (lock->is_asked || lock->is_let_go || lock->why != 0 || s->is_over) {
+        return;
+    }
+    if (lock->place[0] == 0 && !lock->is_unsure) {
+        dws_lock_make(s, lock, true);
+    } else if (!lock->is_listed) {
+        dws_lock_list(s, lock);
+    } else {
+        dws_lock_judge(s, lock);
+    }
 }
 
 static inline bool dws_lock_take(dws_session *s, dws_lock *lock, const char *path, enum dws_sharing sharing, const char *data,
                                  void (*changed)(dws_session *, dws_lock *))
 {
-    if (strlen(path) >= sizeof lock->path || strlen(data) >= sizeof lock->data) {
+    if (strlen(path) >= sizeof lock->path || strlen(data) >= sizeof lock->data || lock->is_asked) {
         return false;
     }
     strcpy(lock->path, path);
@@ -220,9 +283,11 @@ static inline bool dws_lock_take(dws_session *s, dws_lock *lock, const char *pat
     snprintf(lock->tag, sizeof lock->tag, "%016" PRIx64 "%016" PRIx64 "%s", dws_chance(s), dws_chance(s), sharing == DWS_SHARED ? "__rlock__" : "__lock__");
     lock->sharing = sharing;
     lock->changed = changed;
-    lock->is_let_go = false;
     lock->call.context = lock;
-    dws_lock_stand(s, lock);
+    lock->place[0] = 0;
+    lock->why = 0;
+    lock->is_let_go = lock->is_unsure = lock->is_listed = lock->is_seen = false;
+    dws_lock_go_on(s, lock);
     return true;
 }
 
@@ -235,14 +300,21 @@ static inline dws_call *dws_lock_let_go(dws_session *s, dws_lock *lock)
 {
     lock->is_let_go = true;
     lock->is_held = false;
-    if (lock->watched.path != NULL) {
-        dws_unfollow(s, &lock->watched);
-    }
+    dws_lock_unfollow(s, &lock->own);
+    dws_lock_unfollow(s, &lock->before);
     if (lock->place[0] == 0) { /* no place is known; one that is being made is deleted when that is answered */
         dws_finish(s, &lock->removal, 0);
         return &lock->removal;
     }
     return dws_delete(s, &lock->removal, lock->place, -1);
+}
+
+static inline void dws_lock_release(dws_lock *lock)
+{
+    dws_release(&lock->call);
+    dws_release(&lock->removal);
+    free(lock->names.bytes);
+    memset(&lock->names, 0, sizeof lock->names);
 }
 
 #ifdef __cplusplus

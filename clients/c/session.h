@@ -1,5 +1,6 @@
 /* A session over POSIX sockets, for loops by poll and for small programs that wait: connection strings, calls, nodes and trees that are followed.
- * It is tested, and not proved; what it keeps is the library's, dirwolleu.h. Define _POSIX_C_SOURCE as 200809L before it. It is C11 and C++11.
+ * It is built on dw_session of dirwolleu.h, which is proved and says whom to dial and when, what becomes of calls, and what is kept good. What is here
+ * is tested: look-ups of names, sockets, callbacks, trees. Define _POSIX_C_SOURCE as 200809L before it. It is C11 and C++11.
  *
  *     static void show(dws_session *session, dws_subject *node)
  *     {
@@ -55,21 +56,17 @@ extern "C" {
 enum {
     DWS_TIMEOUT_MS = 10000,      /* of a session, where options name none */
     DWS_CLOSE_MS = 1000,         /* the longest wait for the server's word that the session is closed */
-    DWS_FIRST_PAUSE_MS = 100,    /* the longest before the next attempt to connect, and twice as long after each in vain */
-    DWS_LIVE_PAUSE_MS = 1000,    /* the longest while the session may live, and no longer than a tenth of its timeout */
-    DWS_PAUSE_MS = 10000,        /* the longest of all */
-    DWS_BETWEEN_DIALS_MS = 334,  /* from an attempt to the next one, at least: no more than three begin in a second */
-    DWS_SHORTEST_DIAL_MS = 1000, /* an attempt may take a third of the timeout, and this at least */
-    DWS_BETWEEN_READS_MS = 1000, /* from a read of a subject that was refused to the next one */
-    DWS_MOST_PENDING = 1024,     /* calls that wait for their replies; more of them wait here */
-    DWS_MOST_PINGS = 4,          /* that wait for their answers */
+    DWS_BETWEEN_READS_MS = 1000, /* from a read of a tree that was refused to the next one */
+    DWS_MOST_ASKED = 128,        /* calls that the library has at once, since it looks at all of them at each answer; more of them wait here */
     DWS_MOST_PIECES = 64,        /* that are read before the moment is told */
     DWS_PIECE = 65536,           /* the most bytes that are read at once */
     DWS_LONGEST_HOST = 256,      /* the most bytes of a host's name */
+    DWS_LONGEST_SAVED = 256,     /* the most bytes of a session that is taken up after memory ran out */
     DWS_LONGEST_LINE = 5120,     /* the most bytes of a message with a path */
     DWS_MOST_NODES = 65536,      /* the most nodes of a tree, where a program says nothing else: as many as the library watches */
     DWS_MOST_READS = 256,        /* reads of one tree that are on their way at once */
     DWS_SHARE = 10,              /* a look at a whole tree takes at most this part of the time: after one that took long, the next one waits */
+    DWS_LATE = 99,               /* why a call was not answered: its limit has come after it was sent, and it may have happened, or may yet */
     DWS_REFUSED = 100            /* why a call was not asked: DWS_REFUSED less what the library answered, which is below 0 */
 };
 
@@ -84,7 +81,7 @@ enum dws_event {
     DWS_ATTEMPT_FAILED, /* no connection was made */
     DWS_CONNECTED,      /* a server has accepted the session */
     DWS_CUT,            /* the connection is over; the next one is dialled */
-    DWS_READ_REFUSED,   /* the read of a subject was refused; it is read again */
+    DWS_READ_REFUSED,   /* the read of a subject was refused, for another reason than the last one; it is read again */
     DWS_EXPIRED,        /* the session has expired: its ephemeral nodes and its watches are gone */
     DWS_CLOSED,         /* it was closed, as it was asked */
     DWS_BARRED,         /* the server does not take the credentials of the session, which is over: lane.h */
@@ -104,11 +101,10 @@ struct dws_wire {
 /* How a session is opened. Zeros are the usual way. */
 typedef struct dws_options {
     int32_t timeout_ms;     /* of the session, as it is asked for: 1 to 2147483647; 0 is 10 seconds */
-    int32_t patience_ms;    /* how long a call waits for a connection; 0 is as long as the timeout, and a second at least */
-    int tries;              /* how often a call is asked again, where that can not do it twice */
+    int32_t patience_ms;    /* how long a call waits in all; 0 is as long as timeout_ms, and a second at least; below 0 there is no limit */
     bool is_in_order;       /* hosts are dialled as they are listed, and not in random order */
     bool is_over_at_expiry; /* no new session begins where one has expired */
-    const uint8_t *saved;   /* a session that dw_saved gave, to be taken up; NULL begins one */
+    const uint8_t *saved;   /* a session that dws_saved gave, to be taken up; NULL begins one */
     size_t saved_length;
     void (*told)(dws_session *session, enum dws_event event, const char *server, const char *words);
     /* As recv and send of a socket that does not block: for TLS. NULL is these. */
@@ -125,7 +121,7 @@ struct dws_call {
     void *context;                                      /* the program's own */
     /* The answer. */
     bool is_answered;
-    int32_t why;      /* 0, or the server's code, below 0, or enum dw_outcome, above 0, or above DWS_REFUSED. dws_words has words */
+    int32_t why;      /* 0, or the server's code, below 0, or enum dw_outcome, DWS_LATE, or above DWS_REFUSED. dws_words has words */
     int64_t zxid;     /* at which a reply holds: of a write its own */
     dw_stat stat;     /* to exists, get, children and set */
     char *text;       /* the data, or the path that was made, with a 0 after it: it is the call's, until it asks again or dws_release */
@@ -137,10 +133,9 @@ struct dws_call {
     enum dws_kind kind;
     char *path, *bytes;
     size_t bytes_length, room, names_room;
-    bool watch, is_null_sent, is_repeatable;
+    bool watch, is_null_sent;
     int32_t number;
-    int tries_left;
-    uint64_t ticket, asked_ms, until_ms, again_ms, pause_ms;
+    uint64_t ticket, until_ms;
     dws_call *next;
 };
 
@@ -160,10 +155,9 @@ struct dws_subject {
     void (*changed)(dws_session *session, dws_subject *subject);
     enum dw_side side;
     char *path;
-    dws_call read;
     size_t room, names_room;
-    bool is_asked, is_missing, is_changed;
-    uint64_t read_at_ms;
+    uint64_t ticket; /* 0 until the library follows it */
+    bool is_changed;
     dws_subject *next;
 };
 
@@ -230,8 +224,9 @@ static inline int dws_wanted(dws_session *s, struct pollfd *polled);
 /* Takes what poll has told of the socket of a session (revents, 0 where nothing), and does what is due. */
 static inline void dws_go_on(dws_session *s, short told);
 
-/* Calls. Each gives the call back, so dws_wait(session, dws_get(session, &call, "/a", false)) is why it has failed, or 0. A call waits for a
- * connection, as long as the options say, and then for its answer, which comes by `then` or is looked at. */
+/* Calls. Each gives the call back, so dws_wait(session, dws_get(session, &call, "/a", false)) is why it has failed, or 0. The answer comes by `then`
+ * or is looked at. A call waits for its turn and for a connection, and then for its answer, as long as the options say in all. A read that is lost
+ * with its connection is asked again; a write is answered DW_OUTCOME_LOST. Where the session expires, calls that wait are answered so. */
 
 /* What is known of a node. */
 static inline dws_call *dws_exists(dws_session *s, dws_call *call, const char *path, bool watch);
@@ -308,8 +303,14 @@ static inline void *dws_context(const dws_session *s);
 /* The greatest zxid seen: what is marked good holds at it. */
 static inline int64_t dws_last_zxid(dws_session *s);
 
+/* How many milliseconds ago the server was heard last, or -1 where it was not yet. What is marked good was so at some moment since then, or later. */
+static inline int64_t dws_heard_ms(dws_session *s);
+
 /* The number of the session: the owner of its ephemeral nodes. It is 0 before a server has accepted it. */
 static inline int64_t dws_id(dws_session *s);
+
+/* Writes what the options take up as `saved`, as many bytes as there is room for, and how many there are: as dw_saved does. It is a secret. */
+static inline enum dw_result dws_saved(dws_session *s, uint8_t *room, size_t size, size_t *length);
 
 /* What follows is the session's own. */
 
@@ -324,8 +325,15 @@ struct dws_frames {
     size_t held, left;
 };
 
+/* Requests on this connection that are not answered: since when each waits, from a place on. */
+struct dws_waiting {
+    uint64_t *since_ms;
+    size_t first, count, room;
+};
+
 struct dws_host {
     char name[DWS_LONGEST_HOST], port[6];
+    size_t turn; /* which of the addresses of its name is dialled next */
 };
 
 struct dws_line {
@@ -335,7 +343,7 @@ struct dws_line {
 
 /* What asks beside the library, on the same connection: lane.h. */
 struct dws_beside {
-    enum dw_result (*ask)(dws_session *s, dws_call *call);                                       /* a call is to be written */
+    enum dw_result (*ask)(dws_session *s, dws_call *call, uint64_t now_ms);                      /* a call is to be written */
     void (*begin)(dws_session *s);                                                               /* a connection begins */
     void (*hear)(dws_session *s, uint64_t came_ms, const uint8_t *bytes, size_t length);         /* bytes came from the server */
     void (*end)(dws_session *s);                                                                 /* the connection is over */
@@ -344,31 +352,31 @@ struct dws_beside {
 };
 
 struct dws_session {
-    dw_client client;
+    dw_session machine;
     dws_options options;
     struct dws_beside *beside;         /* NULL where nothing was asked so */
     int32_t barred;                    /* the code of the server that does not take the credentials */
     char *hosts_text, *root;           /* the connection string, and the chroot in it: nothing where there is none */
-    struct dws_host *hosts;            /* in the order in which they are dialled in this round */
-    size_t host_count, host, address;  /* whose turn it is, and which of its addresses */
+    struct dws_host *hosts;
+    size_t host_count, place, dials;   /* which one is to be dialled, and how many times one was */
     char server[DWS_LONGEST_HOST + 8]; /* the one that was dialled last */
     char trouble[256];                 /* what became of the last attempt */
     dws_wire wire;
     short read_wants, write_wants;     /* what poll is to wait for besides, to read and to write */
-    bool is_connecting, is_admitted, is_expired, is_taken, is_closing, is_over;
+    bool is_dial_due, is_connecting, is_expired, is_closing, is_over, is_resumed;
     bool has_more, has_news;           /* bytes that poll does not tell of, and something that a program may wait for */
-    bool must_look;                    /* marks may be others */
-    struct dws_frames sent_frames, came_frames;
-    uint64_t opened_ms, admitted_ms, dialled_ms, heard_ms;
-    uint64_t pinged_ms[DWS_MOST_PINGS];
-    size_t pinged;
-    uint64_t now_ms, due_ms, pause_ms, random;
-    uint64_t rest_ms;                  /* when the first subject is to be read again */
+    bool must_look, must_follow;       /* marks may be others; subjects are new or gone */
+    bool is_due_known;                 /* no step was made since the library was asked when something is due */
+    uint64_t due_ms;
+    struct dws_waiting waiting;
+    struct dws_frames came;
+    uint64_t now_ms, last_ticket;
     struct dws_buffer unsent;
-    struct dws_line queue, sent;
-    uint64_t last_ticket;
+    struct dws_line queue, sent;       /* calls that are to be asked, and those that were, in the order of their tickets */
     dws_call close;
     dws_subject *subjects;
+    uint64_t *gone;                    /* tickets of subjects that the library is to follow no more */
+    size_t gone_count, gone_room;
     dws_tree *trees;
     enum dw_result result;
 };
@@ -378,53 +386,36 @@ struct dws_session {
 #include "session_subjects.h"
 #include "session_trees.h"
 
-/* What a session has to do by itself at a moment. */
+/* What is due at a moment. */
 static inline void dws_keep_time(dws_session *s)
 {
-    if (dws_end_of_waiting(s) <= s->now_ms) {
+    if (dws_deadline(s) <= s->now_ms) {
+        dws_act(s, dw_session_moment(&s->machine, s->now_ms));
+    }
+    if (!s->is_over && dws_end_of_waiting(s) <= s->now_ms) {
         dws_cut(s, "an answer does not come");
     }
-    if (s->now_ms < s->due_ms || s->is_over) {
-        return;
-    }
-    if (s->is_closing) {
-        s->is_over = true;
-    } else if (s->wire.socket < 0) {
+    s->is_over = s->is_over || (s->is_closing && s->close.until_ms <= s->now_ms);
+    if (s->is_dial_due && !s->is_over) {
         dws_dial(s);
-    } else if (s->is_connecting) {
-        dws_miss(s, strerror(ETIMEDOUT));
-    }
-}
-
-/* Begins a new session where one has expired. It keeps the last zxid, so it meets no server that is behind that. */
-static inline void dws_renew_expired(dws_session *s)
-{
-    if (s->is_over || dw_state(&s->client) != DW_STATE_EXPIRED) {
-        return;
-    }
-    enum dw_result result = dw_renew(&s->client, s->options.timeout_ms);
-    if (result != DW_OK) {
-        dws_fail(s, result);
     }
 }
 
 /* Whether something is due on the connection: then what it has is read before the moment is told. */
 static inline bool dws_is_late(dws_session *s)
 {
-    uint64_t due;
-    bool is_due = dw_deadline(&s->client, &due) == DW_OK && due <= s->now_ms;
-    return s->wire.socket >= 0 && !s->is_connecting && (is_due || dws_end_of_waiting(s) <= s->now_ms);
+    return dws_least(dws_deadline(s), dws_end_of_waiting(s)) <= s->now_ms;
 }
 
-/* Looks, shows what has changed, reads what is not good, and asks what waits. */
+/* Follows what is new, shows what has changed, and asks what waits. */
 static inline void dws_work(dws_session *s)
 {
-    if (s->must_look || s->rest_ms <= s->now_ms) {
+    dws_follow_new(s);
+    if (s->must_look && !s->is_over) {
         s->must_look = false;
         dws_look(s);
         while (!s->is_over && dws_show_next(s)) {
         }
-        dws_read_subjects(s);
     }
     dws_grow_trees(s);
     dws_send_queued(s);
@@ -434,31 +425,34 @@ static inline void dws_work(dws_session *s)
 static inline void dws_go_on(dws_session *s, short told)
 {
     s->has_news = false;
-    if (s->is_over) {
-        return;
-    }
     s->now_ms = dws_now_ms();
-    if (s->is_connecting) {
+    if (s->is_connecting && !s->is_over) {
         if (told != 0) {
             dws_finish_connection(s);
         }
-    } else if (s->wire.socket >= 0 && ((told & (~POLLOUT | s->read_wants)) != 0 || s->has_more || dws_is_late(s))) {
+    } else if (s->wire.socket >= 0 && !s->is_over && ((told & (~POLLOUT | s->read_wants)) != 0 || s->has_more || dws_is_late(s))) {
         dws_receive(s);
     }
-    if (s->result == DW_OK) {
-        dws_act(s, dw_tick(&s->client, s->now_ms));
-    }
-    if (s->result == DW_OK) {
-        dws_renew_expired(s);
+    if (!s->is_over) {
         dws_keep_time(s);
+    }
+    if (!s->is_over) {
         dws_work(s);
     }
     dws_answer_rest(s);
 }
 
+/* The first moment at which something is to be done. */
+static inline uint64_t dws_first_due(dws_session *s)
+{
+    uint64_t first = dws_least(dws_deadline(s), dws_end_of_waiting(s));
+    first = dws_least(first, s->queue.count > 0 ? s->queue.first->until_ms : UINT64_MAX);
+    first = dws_least(first, s->is_closing ? s->close.until_ms : UINT64_MAX);
+    return dws_least(first, dws_growth(s));
+}
+
 static inline int dws_wanted(dws_session *s, struct pollfd *polled)
 {
-    uint64_t first;
     s->now_ms = dws_now_ms();
     if (!s->is_over) {
         dws_work(s);
@@ -466,15 +460,10 @@ static inline int dws_wanted(dws_session *s, struct pollfd *polled)
     polled->fd = s->is_over ? -1 : s->wire.socket;
     polled->events = (short)(POLLIN | (s->is_connecting ? POLLOUT : s->read_wants) | (s->unsent.length > 0 ? s->write_wants : 0));
     polled->revents = 0;
-    if (s->has_news || s->is_over || s->has_more) {
+    if (s->has_news || s->is_over || s->has_more || s->is_dial_due || s->must_look || s->must_follow) {
         return 0;
     }
-    if (dw_deadline(&s->client, &first) != DW_OK) {
-        first = UINT64_MAX;
-    }
-    first = dws_least(first, dws_least(s->due_ms, dws_end_of_waiting(s)));
-    first = dws_least(first, dws_least(dws_end_of_queue(s), s->rest_ms));
-    first = dws_least(first, dws_growth(s));
+    uint64_t first = dws_first_due(s);
     if (first == UINT64_MAX) {
         return -1;
     }
@@ -495,18 +484,19 @@ static inline bool dws_turn(dws_session *s)
     return !s->is_over;
 }
 
+/* How long a call waits, where there is a limit. */
+static inline uint64_t dws_patience_ms(const dws_session *s)
+{
+    return s->options.patience_ms > 0 ? (uint64_t)s->options.patience_ms : dws_most(1000, (uint64_t)s->options.timeout_ms);
+}
+
 /* Puts a call into the queue. */
 static inline void dws_put(dws_session *s, dws_call *call)
 {
-    uint64_t now_ms = dws_now_ms();
     call->is_answered = false;
     call->why = 0;
     call->count = call->length = 0;
-    call->again_ms = 0;
-    call->pause_ms = DWS_FIRST_PAUSE_MS;
-    call->tries_left = s->options.tries;
-    call->asked_ms = now_ms;
-    call->until_ms = now_ms + dws_patience_ms(s);
+    call->until_ms = s->options.patience_ms < 0 ? UINT64_MAX : dws_now_ms() + dws_patience_ms(s);
     if (s->is_over || s->is_closing) {
         dws_finish(s, call, dws_why_over(s));
     } else {
@@ -611,6 +601,23 @@ static inline void dws_write_place(const dws_session *s, const dws_call *call, c
     }
 }
 
+/* Writes why the limit of a call has come, before or after it was sent. */
+static inline void dws_write_late(dws_session *s, const dws_call *call, char *room, size_t size, const char *path)
+{
+    double waited_s = (double)(dws_patience_ms(s) / 100) / 10;
+    char reason[64];
+    if (call->why == DWS_LATE) {
+        snprintf(reason, sizeof reason, "no answer came in %g s", waited_s);
+        write_words(room, size, reason, path, "it may have happened, or may yet: read again");
+    } else if (dws_is_connected(s)) {
+        snprintf(reason, sizeof reason, "other calls have waited before it for %g s", waited_s);
+        write_words(room, size, reason, path, "call again later");
+    } else {
+        const char *form = "no server of %s accepted the session in %g s; last: %s: %s";
+        end_cut(room, size, snprintf(room, size, form, s->hosts_text, waited_s, s->server, s->trouble));
+    }
+}
+
 static inline void dws_words(dws_session *s, const dws_call *call, char *room, size_t size)
 {
     char place[DWS_LONGEST_LINE];
@@ -621,12 +628,12 @@ static inline void dws_words(dws_session *s, const dws_call *call, char *room, s
     }
     if (call->why > DWS_REFUSED) {
         write_result(room, size, (enum dw_result)(DWS_REFUSED - call->why), path);
-    } else if (call->why == DW_OUTCOME_NOT_CONNECTED) {
-        double waited_s = (double)(dws_patience_ms(s) / 100) / 10;
-        const char *form = "no server of %s accepted the session in %g s; last: %s: %s";
-        end_cut(room, size, snprintf(room, size, form, s->hosts_text, waited_s, s->server, s->trouble));
+    } else if (call->why == DWS_LATE || call->why == DW_OUTCOME_NOT_CONNECTED) {
+        dws_write_late(s, call, room, size, path);
     } else if (call->why < 0) {
         write_code(room, size, call->why, path);
+    } else if (call->why == DW_OUTCOME_EXPIRED && !s->is_over) {
+        write_words(room, size, dw_outcome_words(DW_OUTCOME_EXPIRED), path, "call again");
     } else {
         write_outcome(room, size, (enum dw_outcome)call->why, path);
     }
@@ -643,16 +650,17 @@ static inline enum dw_result dws_follow_side(dws_session *s, dws_subject *subjec
     subject->changed = changed;
     enum dw_result result = subject->path == NULL ? DW_NO_MEMORY : words_of_path(path) != NULL ? DW_NOT_PATH : DW_OK;
     if (result == DW_OK) {
-        result = dw_peek_data(&s->client, subject->path, strlen(subject->path), &kept, &none, 0);
+        result = dw_session_peek_data(&s->machine, subject->path, strlen(subject->path), &kept, &none, 0);
     }
     if (result != DW_OK) {
         free(subject->path);
         subject->path = NULL;
         return result;
     }
+    subject->ticket = 0;
     subject->next = s->subjects;
     s->subjects = subject;
-    s->must_look = true;
+    s->must_follow = s->must_look = true;
     return DW_OK;
 }
 
@@ -668,7 +676,7 @@ static inline enum dw_result dws_follow_children(dws_session *s, dws_subject *su
     return dws_follow_side(s, subject, path, DW_SIDE_CHILDREN, changed);
 }
 
-/* A read of a subject is on its way no longer: what is answered is nobody's. */
+/* A read of a tree is on its way no longer: what is answered is nobody's. */
 static inline void dws_drop_read(dws_session *s, struct dws_line *line, dws_call *read)
 {
     dws_call **at = &line->first;
@@ -682,6 +690,20 @@ static inline void dws_drop_read(dws_session *s, struct dws_line *line, dws_call
     }
 }
 
+/* The library is to follow the subject of this ticket no more. */
+static inline void dws_let_go(dws_session *s, uint64_t ticket)
+{
+    void *block = s->gone;
+    bool is_there = dws_reserve(&block, &s->gone_room, (s->gone_count + 1) * sizeof ticket);
+    s->gone = (uint64_t *)block;
+    if (!is_there) {
+        dws_fail(s, DW_NO_MEMORY);
+        return;
+    }
+    s->gone[s->gone_count++] = ticket;
+    s->must_follow = true;
+}
+
 static inline void dws_unfollow(dws_session *s, dws_subject *subject)
 {
     dws_subject **at = &s->subjects;
@@ -691,10 +713,9 @@ static inline void dws_unfollow(dws_session *s, dws_subject *subject)
     if (*at != NULL) {
         *at = subject->next;
     }
-    dws_drop_read(s, &s->queue, &subject->read);
-    dws_drop_read(s, &s->sent, &subject->read);
-    free(subject->read.text);
-    free(subject->read.names);
+    if (subject->ticket != 0 && !s->is_over) {
+        dws_let_go(s, subject->ticket);
+    }
     free(subject->path);
     free(subject->text);
     free(subject->names);
@@ -712,12 +733,13 @@ static inline bool dws_check_version(char *why, size_t size)
     return found == DW_VERSION_NUMBER;
 }
 
-static inline enum dw_result dws_make_client(dws_session *s)
+static inline enum dw_result dws_make_machine(dws_session *s)
 {
-    if (s->options.saved != NULL) {
-        return dw_resume(&s->client, s->options.timeout_ms, s->options.saved, s->options.saved_length);
+    const dws_options *options = &s->options;
+    if (options->saved != NULL) {
+        return dw_session_resume(&s->machine, options->timeout_ms, s->host_count, dws_chance(s), options->saved, options->saved_length);
     }
-    return dw_open(&s->client, s->options.timeout_ms);
+    return dw_session_open(&s->machine, options->timeout_ms, s->host_count, dws_chance(s));
 }
 
 static inline void dws_free(dws_session *s)
@@ -733,13 +755,14 @@ static inline void dws_free(dws_session *s)
         dws_unfollow_tree(s, s->trees);
     }
     dws_answer_rest(s);
-    dws_hang_up(s);
     if (s->beside != NULL) {
         s->beside->release(s);
     }
-    dw_close(&s->client);
+    dw_session_free(&s->machine);
     dws_release(&s->close);
     free(s->unsent.bytes);
+    free(s->waiting.since_ms);
+    free(s->gone);
     free(s->hosts);
     free(s->hosts_text);
     free(s);
@@ -760,15 +783,12 @@ static inline dws_session *dws_open(const char *hosts, const dws_options *option
         if (s->options.timeout_ms == 0) {
             s->options.timeout_ms = DWS_TIMEOUT_MS;
         }
-        s->pause_ms = DWS_FIRST_PAUSE_MS;
-        s->now_ms = s->heard_ms = dws_now_ms();
-        s->random = (s->now_ms << 20) ^ (uint64_t)(uintptr_t)s ^ (uint64_t)getpid() << 40 ^ 0x9e3779b97f4a7c15;
+        s->now_ms = dws_now_ms();
         if (!dws_read_string(s, hosts, why, size)) {
             dws_free(s);
             return NULL;
         }
-        s->host = s->host_count;
-        result = dws_make_client(s);
+        result = dws_make_machine(s);
     }
     if (result != DW_OK) {
         snprintf(why, size, "%s", dw_result_words(result));
@@ -780,14 +800,14 @@ static inline dws_session *dws_open(const char *hosts, const dws_options *option
 
 static inline void dws_end(dws_session *s)
 {
-    if (s->is_closing || dw_state(&s->client) != DW_STATE_CONNECTED) {
+    if (s->is_closing || !dws_is_connected(s)) {
         s->is_over = true;
         dws_answer_rest(s);
         return;
     }
     dws_ask(s, &s->close, DWS_CLOSE, "/", NULL, 0);
+    s->close.until_ms = dws_now_ms() + DWS_CLOSE_MS;
     s->is_closing = true;
-    s->due_ms = dws_now_ms() + DWS_CLOSE_MS;
 }
 
 static inline void dws_close(dws_session *s)
@@ -805,21 +825,25 @@ static inline void *dws_context(const dws_session *s)
 
 static inline int64_t dws_last_zxid(dws_session *s)
 {
-    return dw_last_zxid(&s->client);
+    return dw_session_last_zxid(&s->machine);
+}
+
+static inline int64_t dws_heard_ms(dws_session *s)
+{
+    uint64_t moment_ms;
+    return dw_session_heard_at(&s->machine, &moment_ms) == DW_OK ? (int64_t)(dws_most(dws_now_ms(), moment_ms) - moment_ms) : -1;
+}
+
+static inline enum dw_result dws_saved(dws_session *s, uint8_t *room, size_t size, size_t *length)
+{
+    return dw_session_saved(&s->machine, room, size, length);
 }
 
 static inline int64_t dws_id(dws_session *s)
 {
     uint8_t saved[8] = {0};
     size_t count;
-    uint64_t id = 0;
-    if (dw_saved(&s->client, saved, sizeof saved, &count) != DW_OK) {
-        return 0;
-    }
-    for (size_t i = 0; i < sizeof saved; i++) {
-        id = id << 8 | saved[i];
-    }
-    return (int64_t)id;
+    return dws_saved(s, saved, sizeof saved, &count) == DW_OK ? dws_read_long(saved) : 0;
 }
 
 #ifdef __cplusplus

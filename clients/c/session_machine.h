@@ -1,4 +1,4 @@
-/* A part of session.h, which includes it: calls, and what a step of the client says. */
+/* A part of session.h, which includes it: calls, and what a step of the library's session says. */
 #ifndef DIRWOLLEU_SESSION_MACHINE_H
 #define DIRWOLLEU_SESSION_MACHINE_H
 
@@ -19,12 +19,22 @@ static inline uint64_t dws_most(uint64_t one, uint64_t other)
     return one < other ? other : one;
 }
 
-static inline uint64_t dws_chance(dws_session *s)
+/* A random number of the system's; where it has none, one of the moment and the process. */
+static inline uint64_t dws_chance(const dws_session *s)
 {
-    s->random ^= s->random << 13;
-    s->random ^= s->random >> 7;
-    s->random ^= s->random << 17;
-    return s->random;
+    uint64_t number = 0;
+    int source = open("/dev/urandom", O_RDONLY | O_CLOEXEC);
+    ssize_t count = source >= 0 ? read(source, &number, sizeof number) : -1;
+    if (source >= 0) {
+        close(source);
+    }
+    if (count == (ssize_t)sizeof number) {
+        return number;
+    }
+    struct timespec now;
+    clock_gettime(CLOCK_MONOTONIC, &now);
+    number = (uint64_t)now.tv_nsec << 32 ^ (uint64_t)(uintptr_t)s ^ (uint64_t)getpid() << 16;
+    return number * 0x9e3779b97f4a7c15;
 }
 
 /* Makes room for this many bytes in all. */
@@ -106,26 +116,43 @@ static inline void dws_finish_all(dws_session *s, struct dws_line *line, int32_t
     }
 }
 
+/* The first moment at which the library is to be told the moment. */
+static inline uint64_t dws_deadline(dws_session *s)
+{
+    if (!s->is_due_known && dw_session_deadline(&s->machine, &s->due_ms) != DW_OK) {
+        s->due_ms = UINT64_MAX;
+    }
+    s->is_due_known = true;
+    return s->due_ms;
+}
+
+static inline bool dws_is_connected(dws_session *s)
+{
+    return dw_session_state(&s->machine) == DW_STATE_CONNECTED;
+}
+
 /* Why a session takes no calls any more. */
-static inline int32_t dws_why_over(dws_session *s)
+static inline int32_t dws_why_over(const dws_session *s)
 {
     if (s->result != DW_OK || s->barred != 0) {
         return s->result != DW_OK ? DWS_REFUSED - (int32_t)s->result : s->barred;
     }
-    return dw_state(&s->client) == DW_STATE_EXPIRED ? (int32_t)DW_OUTCOME_EXPIRED : (int32_t)DW_OUTCOME_CLOSED;
-}
-
-/* Answers all calls of a session that is over. */
-static inline void dws_answer_rest(dws_session *s)
-{
-    if (s->is_over) {
-        dws_finish_all(s, &s->sent, s->result != DW_OK ? dws_why_over(s) : (int32_t)DW_OUTCOME_LOST);
-        dws_finish_all(s, &s->queue, dws_why_over(s));
-    }
+    return s->is_expired ? (int32_t)DW_OUTCOME_EXPIRED : (int32_t)DW_OUTCOME_CLOSED;
 }
 
 static inline void dws_hang_up(dws_session *s);
 static inline void dws_begin_trees(dws_session *s, bool is_lost);
+
+/* Answers all calls of a session that is over. Those that were asked may have happened, where there is a connection. */
+static inline void dws_answer_rest(dws_session *s)
+{
+    if (s->is_over) {
+        bool may_happen = s->result == DW_OK && s->barred == 0 && dws_is_connected(s);
+        dws_hang_up(s);
+        dws_finish_all(s, &s->sent, may_happen ? (int32_t)DW_OUTCOME_LOST : dws_why_over(s));
+        dws_finish_all(s, &s->queue, dws_why_over(s));
+    }
+}
 
 /* Memory ran out, or what the library answers is not known: the session is over. */
 static inline void dws_fail(dws_session *s, enum dw_result result)
@@ -136,37 +163,12 @@ static inline void dws_fail(dws_session *s, enum dw_result result)
         dws_begin_trees(s, true);
         dws_hang_up(s);
         dws_tell(s, DWS_FAILED, dw_result_words(result));
-        dws_answer_rest(s);
     }
 }
 
 static inline uint64_t dws_timeout_ms(dws_session *s)
 {
-    return (uint64_t)dw_timeout_ms(&s->client);
-}
-
-/* The longest pause at this moment. A session may live that has not expired, and of whose servers one was heard within its timeout. */
-static inline uint64_t dws_longest_pause_ms(dws_session *s)
-{
-    uint64_t timeout_ms = dws_timeout_ms(s);
-    if (s->is_expired || s->now_ms - s->heard_ms > timeout_ms) {
-        return DWS_PAUSE_MS;
-    }
-    return dws_least(DWS_LIVE_PAUSE_MS, timeout_ms / 10);
-}
-
-/* Puts the next attempt off by a pause, half of which is random, so that many clients do not come back at once. The row of failures is over
- * with a connection that has lasted for a third of the timeout. */
-static inline void dws_put_off(dws_session *s)
-{
-    s->now_ms = dws_now_ms();
-    if (s->is_admitted && s->now_ms - s->admitted_ms >= dws_timeout_ms(s) / 3) {
-        s->pause_ms = DWS_FIRST_PAUSE_MS;
-    }
-    uint64_t pause = dws_least(s->pause_ms, dws_longest_pause_ms(s));
-    s->pause_ms = dws_most(DWS_FIRST_PAUSE_MS, 2 * pause);
-    uint64_t spread = pause / 2 + dws_chance(s) % (pause - pause / 2 + 1);
-    s->due_ms = dws_most(s->now_ms + spread, s->dialled_ms + DWS_BETWEEN_DIALS_MS);
+    return (uint64_t)dw_session_timeout_ms(&s->machine);
 }
 
 /* Closes the connection, or gives the attempt up. */
@@ -185,19 +187,51 @@ static inline void dws_hang_up(dws_session *s)
     if (s->beside != NULL) {
         s->beside->end(s);
     }
-    dws_put_off(s);
     s->is_over = s->is_over || s->is_closing;
-    s->is_connecting = s->is_admitted = s->is_taken = s->has_more = false;
+    s->is_connecting = s->has_more = false;
     s->read_wants = s->write_wants = 0;
-    s->unsent.length = s->pinged = 0;
-    memset(&s->sent_frames, 0, sizeof s->sent_frames);
-    memset(&s->came_frames, 0, sizeof s->came_frames);
+    s->unsent.length = 0;
+    s->waiting.first = s->waiting.count = 0;
+    memset(&s->came, 0, sizeof s->came);
 }
 
-/* How many pings, or answers to pings, end in these bytes, which come next in a stream of frames. */
-static inline size_t dws_count_pings(struct dws_frames *frames, const uint8_t *bytes, size_t length)
+/* A request goes out that the server answers by one frame. Without memory it is not counted. */
+static inline void dws_expect_answer(dws_session *s)
 {
-    static const uint8_t ping[] = {0xff, 0xff, 0xff, 0xfe};
+    struct dws_waiting *waiting = &s->waiting;
+    size_t entry = sizeof *waiting->since_ms;
+    if (waiting->first > 0 && (waiting->first + waiting->count + 1) * entry > waiting->room) {
+        memmove(waiting->since_ms, waiting->since_ms + waiting->first, waiting->count * entry);
+        waiting->first = 0;
+    }
+    void *block = waiting->since_ms;
+    bool is_there = dws_reserve(&block, &waiting->room, (waiting->first + waiting->count + 1) * entry);
+    waiting->since_ms = (uint64_t *)block;
+    if (is_there) {
+        waiting->since_ms[waiting->first + waiting->count++] = s->now_ms;
+    }
+}
+
+/* This many frames came that answer requests. */
+static inline void dws_note_answers(dws_session *s, size_t count)
+{
+    struct dws_waiting *waiting = &s->waiting;
+    size_t answered = (size_t)dws_least(count, waiting->count);
+    waiting->count -= answered;
+    waiting->first = waiting->count > 0 ? waiting->first + answered : 0;
+}
+
+/* When the connection is to be given up, unless answers come: so that a server that sends other things is not waited for. */
+static inline uint64_t dws_end_of_waiting(dws_session *s)
+{
+    const struct dws_waiting *waiting = &s->waiting;
+    return waiting->count > 0 ? waiting->since_ms[waiting->first] + dws_timeout_ms(s) * 2 / 3 : UINT64_MAX;
+}
+
+/* How many frames that are no notices end in these bytes, which come next in the stream. */
+static inline size_t dws_count_answers(struct dws_frames *frames, const uint8_t *bytes, size_t length)
+{
+    static const uint8_t notice[] = {0xff, 0xff, 0xff, 0xff};
     const uint8_t *head = frames->head;
     size_t count = 0;
     for (size_t taken, i = 0; i < length; i += taken) {
@@ -205,39 +239,25 @@ static inline size_t dws_count_pings(struct dws_frames *frames, const uint8_t *b
             taken = 1;
             frames->head[frames->held++] = bytes[i];
             frames->left = (size_t)head[0] << 24 | (size_t)head[1] << 16 | (size_t)head[2] << 8 | head[3];
-            frames->left -= frames->left < sizeof ping ? frames->left : sizeof ping;
+            frames->left -= frames->left < sizeof notice ? frames->left : sizeof notice;
         } else {
             taken = (size_t)dws_least(frames->left, length - i);
             frames->left -= taken;
         }
         if (frames->held == sizeof frames->head && frames->left == 0) {
-            count += memcmp(head + 4, ping, sizeof ping) == 0;
+            count += memcmp(head + 4, notice, sizeof notice) != 0;
             frames->held = 0;
         }
     }
     return count;
 }
 
-/* When the connection is to be given up, unless an answer comes: the admission of the session, a call and a ping wait for no longer than two
- * thirds of the timeout, whatever else the server sends. */
-static inline uint64_t dws_end_of_waiting(dws_session *s)
-{
-    uint64_t end = UINT64_MAX, longest = dws_timeout_ms(s) * 2 / 3;
-    if (s->wire.socket < 0 || s->is_connecting) {
-        return UINT64_MAX;
-    }
-    if (!s->is_admitted) {
-        return s->opened_ms + (uint64_t)s->options.timeout_ms * 2 / 3;
-    }
-    if (s->sent.count > 0) {
-        end = s->sent.first->asked_ms + longest;
-    }
-    return s->pinged > 0 ? dws_least(end, s->pinged_ms[0] + longest) : end;
-}
-
-/* Keeps the frame of the output that was told last until it is written. */
+/* Keeps the frame of the action that was told last until it is written. One of a connection that is over is forgotten. */
 static inline void dws_send_later(dws_session *s, size_t length)
 {
+    if (s->wire.socket < 0) {
+        return;
+    }
     void *block = s->unsent.bytes;
     bool is_there = dws_reserve(&block, &s->unsent.room, s->unsent.length + length);
     s->unsent.bytes = (uint8_t *)block;
@@ -245,11 +265,8 @@ static inline void dws_send_later(dws_session *s, size_t length)
         dws_fail(s, DW_NO_MEMORY);
         return;
     }
-    uint8_t *frame = s->unsent.bytes + s->unsent.length;
-    s->unsent.length += dw_copy(&s->client, 0, frame, length);
-    if (dws_count_pings(&s->sent_frames, frame, length) > 0 && s->pinged < DWS_MOST_PINGS) {
-        s->pinged_ms[s->pinged++] = s->now_ms;
-    }
+    s->unsent.length += dw_session_copy(&s->machine, 0, s->unsent.bytes + s->unsent.length, length);
+    dws_expect_answer(s);
 }
 
 /* The path that the program knows, of one that the servers know. */
@@ -263,16 +280,16 @@ static inline const char *dws_inner(const dws_session *s, const char *path)
 }
 
 /* Copies the text of an answer: the data, or the path that was made. */
-static inline bool dws_keep_text(dws_session *s, dws_call *call, const dw_output *output)
+static inline bool dws_keep_text(dws_session *s, dws_call *call, const dw_output *answer)
 {
-    if (!dws_reserve_text(&call->text, &call->room, output->length + 1)) {
+    if (!dws_reserve_text(&call->text, &call->room, answer->length + 1)) {
         return false;
     }
-    dw_copy(&s->client, 0, call->text, output->length);
-    call->text[output->length] = 0;
-    call->length = output->length;
-    call->is_null = output->is_null;
-    if (output->reply == DW_REPLY_CREATED) {
+    dw_session_copy(&s->machine, 0, call->text, answer->length);
+    call->text[answer->length] = 0;
+    call->length = answer->length;
+    call->is_null = answer->is_null;
+    if (answer->reply == DW_REPLY_CREATED) {
         const char *inner = dws_inner(s, call->text);
         call->length = strlen(inner);
         memmove(call->text, inner, call->length + 1);
@@ -286,7 +303,7 @@ static inline size_t dws_measure_names(dws_session *s, size_t count)
     char none;
     size_t total = 0;
     for (size_t i = 0; i < count; i++) {
-        total += dw_name(&s->client, i, &none, 0) + 1;
+        total += dw_session_name(&s->machine, i, &none, 0) + 1;
     }
     return total;
 }
@@ -300,36 +317,11 @@ static inline bool dws_keep_names(dws_session *s, dws_call *call, size_t count)
     char *at = (char *)call->names + table, *end = at + total;
     for (size_t i = 0; i < count; i++) {
         call->names[i] = at;
-        at += dw_name(&s->client, i, at, (size_t)(end - at));
+        at += dw_session_name(&s->machine, i, at, (size_t)(end - at));
         *at++ = 0;
     }
     call->count = count;
     return true;
-}
-
-/* Whether a call can be asked again, without that it is done twice. */
-static inline bool dws_can_repeat(const dws_call *call, int32_t why)
-{
-    enum { THROTTLED = -127 };
-    bool is_read = call->kind == DWS_EXISTS || call->kind == DWS_GET || call->kind == DWS_CHILDREN || call->is_repeatable;
-    bool is_lost = why == DW_OUTCOME_LOST || why == DW_CODE_CONNECTION_LOSS;
-    return call->tries_left > 0 && (why == THROTTLED || (is_read && is_lost));
-}
-
-/* How long a call waits for a connection. */
-static inline uint64_t dws_patience_ms(dws_session *s)
-{
-    return s->options.patience_ms > 0 ? (uint64_t)s->options.patience_ms : dws_most(1000, dws_timeout_ms(s));
-}
-
-/* Asks a call again, after a pause that grows. */
-static inline void dws_repeat(dws_session *s, dws_call *call)
-{
-    call->tries_left--;
-    call->again_ms = s->now_ms + call->pause_ms;
-    call->pause_ms = dws_least(2 * call->pause_ms, 1000);
-    call->until_ms = s->now_ms + dws_patience_ms(s);
-    dws_append(&s->queue, call);
 }
 
 /* The call of a ticket, which waits no longer; NULL where none has it. Calls are mostly answered in the order in which they were asked. */
@@ -345,64 +337,73 @@ static inline dws_call *dws_answered(dws_session *s, uint64_t ticket)
     return NULL;
 }
 
-/* Answers the calls beside the library that have waited longest, where the connection is over: those of the library are answered by it. */
-static inline void dws_lose_beside(dws_session *s)
+/* Answers the calls beside the library that were asked before this ticket, where the connection is over. The library answers its own. */
+static inline void dws_lose_beside(dws_session *s, uint64_t ticket)
 {
-    while (s->wire.socket < 0 && s->sent.count > 0 && s->sent.first->kind == DWS_BESIDE) {
-        dws_call *call = dws_remove(&s->sent, &s->sent.first);
-        if (dws_can_repeat(call, DW_OUTCOME_LOST)) {
-            dws_repeat(s, call);
+    struct dws_line lost;
+    if (s->wire.socket >= 0) {
+        return;
+    }
+    memset(&lost, 0, sizeof lost);
+    dws_call **at = &s->sent.first;
+    for (size_t left = s->sent.count; left > 0 && (*at)->ticket < ticket; left--) {
+        if ((*at)->kind == DWS_BESIDE) {
+            dws_append(&lost, dws_remove(&s->sent, at));
         } else {
-            dws_finish(s, call, DW_OUTCOME_LOST);
+            at = &(*at)->next;
         }
     }
+    dws_finish_all(s, &lost, DW_OUTCOME_LOST);
 }
 
-static inline void dws_take_answer(dws_session *s, const dw_output *output)
+static inline void dws_take_answer(dws_session *s, const dw_output *answer)
 {
-    dws_lose_beside(s);
-    dws_call *call = dws_answered(s, output->ticket);
+    dws_lose_beside(s, answer->ticket);
+    dws_call *call = dws_answered(s, answer->ticket);
     if (call == NULL) {
         return;
     }
-    bool is_reply = output->outcome == DW_OUTCOME_REPLIED, is_kept = true;
-    bool is_code = is_reply && output->reply == DW_REPLY_CODE;
-    int32_t why = is_code ? output->code : (int32_t)output->outcome;
-    s->is_taken = s->is_taken || why == DW_CODE_SESSION_EXPIRED || why == DW_CODE_SESSION_MOVED;
-    if (dws_can_repeat(call, why)) {
-        dws_repeat(s, call);
-        return;
+    bool is_reply = answer->outcome == DW_OUTCOME_REPLIED, is_kept = true;
+    call->zxid = answer->zxid;
+    call->stat = answer->stat;
+    if (is_reply && (answer->reply == DW_REPLY_DATA || answer->reply == DW_REPLY_CREATED)) {
+        is_kept = dws_keep_text(s, call, answer);
+    } else if (is_reply && answer->reply == DW_REPLY_NAMES) {
+        is_kept = dws_keep_names(s, call, answer->names);
     }
-    if (is_reply && !is_code) {
-        s->pause_ms = DWS_FIRST_PAUSE_MS;
-    }
-    call->zxid = output->zxid;
-    call->stat = output->stat;
-    if (is_reply && (output->reply == DW_REPLY_DATA || output->reply == DW_REPLY_CREATED)) {
-        is_kept = dws_keep_text(s, call, output);
-    } else if (is_reply && output->reply == DW_REPLY_NAMES) {
-        is_kept = dws_keep_names(s, call, output->names);
-    }
+    int32_t why = is_reply && answer->reply == DW_REPLY_CODE ? answer->code : (int32_t)answer->outcome;
     dws_finish(s, call, is_kept ? why : DWS_REFUSED - (int32_t)DW_NO_MEMORY);
+}
+
+/* The limit of a call has come. */
+static inline void dws_take_late(dws_session *s, const dw_output *late)
+{
+    dws_call *call = dws_answered(s, late->ticket);
+    if (call != NULL) {
+        dws_finish(s, call, late->was_sent ? (int32_t)DWS_LATE : (int32_t)DW_OUTCOME_NOT_CONNECTED);
+    }
+}
+
+/* The session has expired. The library answers the calls that it has, and here those are answered that wait to be handed to it. */
+static inline void dws_take_expiry(dws_session *s)
+{
+    s->is_expired = s->options.is_over_at_expiry;
+    s->is_over = s->is_over || s->is_expired;
+    dws_begin_trees(s, true);
+    dws_hang_up(s);
+    dws_tell(s, DWS_EXPIRED, "the session has expired");
+    dws_finish_all(s, &s->queue, DW_OUTCOME_EXPIRED);
 }
 
 static inline void dws_take_state(dws_session *s, enum dw_state state)
 {
-    s->has_news = true;
-    dws_lose_beside(s);
+    s->must_look = s->has_news = true;
     if (state == DW_STATE_CONNECTED) {
-        s->is_admitted = true;
-        s->is_expired = false;
-        s->admitted_ms = s->now_ms;
+        s->is_resumed = false;
         dws_begin_trees(s, false);
         dws_tell(s, DWS_CONNECTED, "connected");
     } else if (state == DW_STATE_EXPIRED) {
-        s->is_expired = true;
-        s->is_over = s->is_over || s->options.is_over_at_expiry;
-        s->pause_ms = DWS_FIRST_PAUSE_MS;
-        dws_begin_trees(s, true);
-        dws_hang_up(s);
-        dws_tell(s, DWS_EXPIRED, "the session has expired");
+        dws_take_expiry(s);
     } else if (state == DW_STATE_CLOSED) {
         s->is_over = true;
         dws_begin_trees(s, true);
@@ -411,50 +412,88 @@ static inline void dws_take_state(dws_session *s, enum dw_state state)
     }
 }
 
+/* The connection is given up. Where it was over already, it was told why. */
 static inline void dws_take_drop(dws_session *s)
 {
     char words[256];
     size_t length;
-    enum dw_result result = dw_words(&s->client, words, sizeof words - 1, &length);
+    if (s->wire.socket < 0) {
+        return;
+    }
+    enum dw_result result = dw_session_words(&s->machine, words, sizeof words - 1, &length);
     words[length < sizeof words ? length : sizeof words - 1] = 0;
     dws_hang_up(s);
     dws_tell(s, DWS_CUT, result == DW_OK ? words : dw_result_words(result));
 }
 
-static inline void dws_hear_of_trees(dws_session *s, const dw_output *output);
+static inline void dws_tell_missed(dws_session *s, const char *why);
+
+/* The connection is to be closed. Where it was not said why, the attempt took too long, or a server has told that the session is not its own. */
+static inline void dws_take_hang_up(dws_session *s)
+{
+    if (s->is_connecting || s->is_dial_due) {
+        s->is_dial_due = false;
+        dws_hang_up(s);
+        dws_tell_missed(s, strerror(ETIMEDOUT));
+    } else if (s->wire.socket >= 0) {
+        dws_hang_up(s);
+        dws_tell(s, DWS_CUT, "the session is not of this connection any more");
+    }
+}
+
+static inline void dws_hear_of_trees(dws_session *s, const dw_output *report);
 
 /* What is kept has become stale, which a subject shows. */
-static inline void dws_take_report(dws_session *s, const dw_output *output)
+static inline void dws_take_report(dws_session *s, const dw_output *report)
 {
-    s->has_news = true;
+    s->must_look = s->has_news = true;
     if (s->trees != NULL) {
-        dws_hear_of_trees(s, output);
+        dws_hear_of_trees(s, report);
     }
 }
 
-static inline void dws_take(dws_session *s, const dw_output *output)
+static inline void dws_take_refusal(dws_session *s, const dw_output *refused);
+
+static inline void dws_take(dws_session *s, const dw_output *action)
 {
-    switch (output->kind) {
-    case DW_KIND_SEND: dws_send_later(s, output->length); break;
-    case DW_KIND_ANSWER: dws_take_answer(s, output); break;
-    case DW_KIND_REPORT: dws_take_report(s, output); break;
-    case DW_KIND_STATE: dws_take_state(s, output->state); break;
+    switch (action->kind) {
+    case DW_KIND_SEND: dws_send_later(s, action->length); break;
+    case DW_KIND_ANSWER: dws_take_answer(s, action); break;
+    case DW_KIND_REPORT: dws_take_report(s, action); break;
+    case DW_KIND_STATE: dws_take_state(s, action->state); break;
     case DW_KIND_DROP: dws_take_drop(s); break;
-    default: break; /* a client says no other */
+    case DW_KIND_DIAL:
+        s->is_dial_due = true;
+        s->place = action->place;
+        break;
+    case DW_KIND_HANG_UP: dws_take_hang_up(s); break;
+    case DW_KIND_TIMED_OUT: dws_take_late(s, action); break;
+    case DW_KIND_RENEWED:
+    case DW_KIND_SHOWN: s->must_look = true; break;
+    case DW_KIND_REFUSED: dws_take_refusal(s, action); break;
     }
 }
 
-/* Takes what a step answered: all its outputs, in their order. */
+static inline void dws_resume(dws_session *s);
+
+/* Takes what a step answered: all that it says, in its order. A session that is over does nothing more. */
 static inline void dws_act(dws_session *s, enum dw_result result)
 {
-    dw_output output;
-    if (result == DW_OK) {
-        while ((result = dw_next(&s->client, &output)) == DW_OK) {
-            s->must_look = s->must_look || output.kind != DW_KIND_SEND;
-            dws_take(s, &output);
+    dw_output action;
+    s->is_due_known = false;
+    while (result == DW_OK && !s->is_over) {
+        result = dw_session_next(&s->machine, &action);
+        if (result == DW_OK) {
+            dws_take(s, &action);
         }
     }
-    if (result != DW_NONE) {
+    dws_lose_beside(s, UINT64_MAX);
+    if (s->is_over || result == DW_NONE) {
+        return;
+    }
+    if (result == DW_HALTED) {
+        dws_resume(s);
+    } else {
         dws_fail(s, result);
     }
 }
@@ -464,96 +503,119 @@ static inline void dws_cut(dws_session *s, const char *why)
 {
     dws_hang_up(s);
     dws_tell(s, DWS_CUT, why);
-    dws_act(s, dw_cut(&s->client, s->now_ms));
+    if (!s->is_over) {
+        dws_act(s, dw_session_cut(&s->machine, s->now_ms));
+    }
+}
+
+/* Puts the reads of a line before what waits, and gives the rest of it. */
+static inline struct dws_line dws_ask_again(dws_session *s, struct dws_line *asked)
+{
+    struct dws_line again, rest;
+    memset(&again, 0, sizeof again);
+    memset(&rest, 0, sizeof rest);
+    while (asked->count > 0) {
+        dws_call *call = dws_remove(asked, &asked->first);
+        bool is_read = call->kind == DWS_EXISTS || call->kind == DWS_GET || call->kind == DWS_CHILDREN;
+        dws_append(is_read ? &again : &rest, call);
+    }
+    while (s->queue.count > 0) {
+        dws_append(&again, dws_remove(&s->queue, &s->queue.first));
+    }
+    s->queue = again;
+    return rest;
+}
+
+/* Memory ran out within a step, so the library goes no further: another one takes its session up, and follows what was followed. Reads are asked
+ * again; whether writes have happened is not known. */
+static inline void dws_resume(dws_session *s)
+{
+    uint8_t saved[DWS_LONGEST_SAVED];
+    size_t length = 0;
+    enum dw_result result = s->is_resumed ? DW_HALTED : dw_session_saved(&s->machine, saved, sizeof saved, &length);
+    if (result == DW_OK && length > sizeof saved) {
+        result = DW_NO_MEMORY;
+    }
+    if (result == DW_OK) {
+        result = dw_session_resume(&s->machine, s->options.timeout_ms, s->host_count, dws_chance(s), saved, length);
+    }
+    if (result != DW_OK) {
+        dws_fail(s, result);
+        return;
+    }
+    s->is_resumed = s->must_look = s->must_follow = true;
+    s->is_dial_due = s->is_due_known = false;
+    s->gone_count = 0;
+    for (dws_subject *one = s->subjects; one != NULL; one = one->next) {
+        one->ticket = 0;
+    }
+    struct dws_line rest = dws_ask_again(s, &s->sent);
+    dws_begin_trees(s, true);
+    dws_hang_up(s);
+    dws_tell(s, DWS_CUT, dw_result_words(DW_HALTED));
+    dws_finish_all(s, &rest, DW_OUTCOME_LOST);
 }
 
 /* Whether something was due before this turn, since the program was stopped or worked: then what the connection has is told with the last
  * moment before that. When the bytes came is not known, and a server that has sent something is not silent. */
 static inline uint64_t dws_in_time(dws_session *s)
 {
-    uint64_t due;
-    bool is_late = dw_deadline(&s->client, &due) == DW_OK && due <= s->now_ms;
-    return is_late && due > 0 ? due - 1 : s->now_ms;
+    uint64_t due = dws_deadline(s);
+    return due <= s->now_ms && due > 0 ? due - 1 : s->now_ms;
 }
 
-/* Asks the library. */
-static inline enum dw_result dws_step(dws_session *s, dws_call *call)
+/* Hands a call to the library, at this moment. */
+static inline enum dw_result dws_step(dws_session *s, dws_call *call, uint64_t now_ms)
 {
-    dw_client *client = &s->client;
+    dw_session *machine = &s->machine;
     const uint8_t *bytes = (const uint8_t *)call->bytes;
-    uint64_t now_ms = dws_in_time(s), ticket = call->ticket;
+    uint64_t ticket = call->ticket, until_ms = call->until_ms;
     size_t length = call->path != NULL ? strlen(call->path) : 0;
     switch (call->kind) {
-    case DWS_EXISTS: return dw_exists(client, now_ms, ticket, call->path, length, call->watch);
-    case DWS_GET: return dw_get_data(client, now_ms, ticket, call->path, length, call->watch);
-    case DWS_CHILDREN: return dw_get_children(client, now_ms, ticket, call->path, length, call->watch);
+    case DWS_EXISTS: return dw_session_exists(machine, now_ms, ticket, until_ms, call->path, length, call->watch);
+    case DWS_GET: return dw_session_get_data(machine, now_ms, ticket, until_ms, call->path, length, call->watch);
+    case DWS_CHILDREN: return dw_session_get_children(machine, now_ms, ticket, until_ms, call->path, length, call->watch);
     case DWS_SET:
-        return dw_set_data(client, now_ms, ticket, call->path, length, bytes, call->bytes_length, call->is_null_sent, call->number);
+        return dw_session_set_data(machine, now_ms, ticket, until_ms, call->path, length, bytes, call->bytes_length, call->is_null_sent,
+                                   call->number);
     case DWS_CREATE:
-        return dw_create(client, now_ms, ticket, call->path, length, bytes, call->bytes_length, call->is_null_sent, (uint32_t)call->number);
-    case DWS_DELETE: return dw_delete(client, now_ms, ticket, call->path, length, call->number);
-    case DWS_CLOSE: return dw_close_session(client, now_ms, ticket);
-    case DWS_BESIDE: return s->beside->ask(s, call);
+        return dw_session_create(machine, now_ms, ticket, until_ms, call->path, length, bytes, call->bytes_length, call->is_null_sent,
+                                 (uint32_t)call->number);
+    case DWS_DELETE: return dw_session_delete(machine, now_ms, ticket, until_ms, call->path, length, call->number);
+    case DWS_CLOSE: return dw_session_close(machine, now_ms, ticket, until_ms);
+    case DWS_BESIDE: return s->beside->ask(s, call, now_ms);
     }
     return DW_NOT_PATH;
 }
 
-/* Asks a call that was taken out of the queue. */
-static inline void dws_send(dws_session *s, dws_call *call)
+/* Asks the first call of the queue, at this moment. */
+static inline void dws_send(dws_session *s, uint64_t now_ms)
 {
+    dws_call *call = dws_remove(&s->queue, &s->queue.first);
     call->ticket = ++s->last_ticket;
-    call->asked_ms = s->now_ms;
     dws_append(&s->sent, call);
-    enum dw_result result = dws_step(s, call);
-    if (result == DW_OK) {
+    enum dw_result result = dws_step(s, call, now_ms);
+    if (result == DW_OK || result == DW_HALTED || result == DW_CLOSED) {
         dws_act(s, result);
-    } else if (result == DW_HALTED || result == DW_CLOSED) {
-        dws_fail(s, result);
     } else if (dws_answered(s, call->ticket) != NULL) {
         dws_finish(s, call, DWS_REFUSED - (int32_t)result);
     }
 }
 
-/* The first call of the queue that can be asked, or has waited for a connection for too long; NULL where there is none. */
-static inline dws_call *dws_next_queued(dws_session *s, bool is_connected)
-{
-    dws_call **at = &s->queue.first;
-    for (size_t i = 0; i < s->queue.count && s->sent.count < DWS_MOST_PENDING; i++) {
-        if ((is_connected ? (*at)->again_ms : (*at)->until_ms) <= s->now_ms) {
-            return dws_remove(&s->queue, at);
-        }
-        at = &(*at)->next;
-    }
-    return NULL;
-}
-
-/* Asks what waits, where a server has accepted the session. What has waited for that for too long is answered. */
+/* Asks what waits. Where a server has accepted the session is the library's to know; a call beside it waits for that here, and those after it. */
 static inline void dws_send_queued(dws_session *s)
 {
-    bool is_connected = dw_state(&s->client) == DW_STATE_CONNECTED;
-    dws_call *call = dws_next_queued(s, is_connected);
-    for (size_t count = s->queue.count; call != NULL && s->result == DW_OK; count--) {
-        if (is_connected) {
-            dws_send(s, call);
+    uint64_t now_ms = s->queue.count > 0 ? dws_in_time(s) : s->now_ms;
+    for (size_t count = s->queue.count; count > 0 && s->queue.count > 0 && s->sent.count < DWS_MOST_ASKED && !s->is_over; count--) {
+        dws_call *first = s->queue.first;
+        if (first->until_ms <= s->now_ms) {
+            dws_finish(s, dws_remove(&s->queue, &s->queue.first), DW_OUTCOME_NOT_CONNECTED);
+        } else if (first->kind != DWS_BESIDE || dws_is_connected(s)) {
+            dws_send(s, now_ms);
         } else {
-            dws_finish(s, call, DW_OUTCOME_NOT_CONNECTED);
+            return;
         }
-        is_connected = dw_state(&s->client) == DW_STATE_CONNECTED;
-        call = count > 0 ? dws_next_queued(s, is_connected) : NULL;
     }
-}
-
-/* The next moment at which a call of the queue is to be looked at. */
-static inline uint64_t dws_end_of_queue(dws_session *s)
-{
-    uint64_t first = UINT64_MAX;
-    bool is_connected = dw_state(&s->client) == DW_STATE_CONNECTED;
-    const dws_call *call = s->queue.first;
-    for (size_t i = 0; i < s->queue.count && s->sent.count < DWS_MOST_PENDING; i++) {
-        first = dws_least(first, is_connected ? call->again_ms : call->until_ms);
-        call = call->next;
-    }
-    return first;
 }
 
 #endif

@@ -20,7 +20,7 @@ static inline enum dw_result dws_look_at_names(dws_session *s, dws_subject *subj
 {
     size_t length = 0, table = kept->count * sizeof(char *), path_length = strlen(subject->path);
     uint8_t none;
-    enum dw_result result = dw_peek_names(&s->client, subject->path, path_length, &none, 0, &length);
+    enum dw_result result = dw_session_peek_names(&s->machine, subject->path, path_length, &none, 0, &length);
     if (result != DW_OK) {
         return result;
     }
@@ -28,7 +28,7 @@ static inline enum dw_result dws_look_at_names(dws_session *s, dws_subject *subj
         return DW_NO_MEMORY;
     }
     char *block = (char *)subject->names + table;
-    result = dw_peek_names(&s->client, subject->path, path_length, (uint8_t *)block, length, &length);
+    result = dw_session_peek_names(&s->machine, subject->path, path_length, (uint8_t *)block, length, &length);
     if (result == DW_OK) {
         dws_point_at_names(subject->names, block, kept->count);
         subject->count = kept->count;
@@ -46,7 +46,7 @@ static inline enum dw_result dws_look_at_data(dws_session *s, dws_subject *subje
     subject->length = kept->length;
     subject->is_null = kept->is_null;
     subject->stat = kept->stat;
-    return dw_peek_data(&s->client, subject->path, strlen(subject->path), kept, (uint8_t *)subject->text, kept->length);
+    return dw_session_peek_data(&s->machine, subject->path, strlen(subject->path), kept, (uint8_t *)subject->text, kept->length);
 }
 
 /* Looks at what is kept of the data of a subject. Whether it is another thing than before. */
@@ -54,7 +54,7 @@ static inline bool dws_look_at_node(dws_session *s, dws_subject *subject, enum d
 {
     dw_kept_data kept;
     uint8_t none;
-    *result = dw_peek_data(&s->client, subject->path, strlen(subject->path), &kept, &none, 0);
+    *result = dw_session_peek_data(&s->machine, subject->path, strlen(subject->path), &kept, &none, 0);
     if (*result != DW_OK) {
         return false;
     }
@@ -79,9 +79,9 @@ static inline bool dws_look_at_children(dws_session *s, dws_subject *subject, en
     dw_kept_names kept;
     dw_kept_data data;
     uint8_t none;
-    *result = dw_peek_children(&s->client, subject->path, strlen(subject->path), &kept);
+    *result = dw_session_peek_children(&s->machine, subject->path, strlen(subject->path), &kept);
     if (*result == DW_OK) {
-        *result = dw_peek_data(&s->client, subject->path, strlen(subject->path), &data, &none, 0);
+        *result = dw_session_peek_data(&s->machine, subject->path, strlen(subject->path), &data, &none, 0);
     }
     if (*result != DW_OK) {
         return false;
@@ -134,56 +134,58 @@ static inline bool dws_is_good(const dws_subject *subject)
     return subject->mark == DW_MARK_GOOD;
 }
 
-static inline void dws_put(dws_session *s, dws_call *call);
-
-/* A read of a subject is answered. A read of data or names leaves no watch where there is no node: then it is asked whether there is one,
- * which does. */
-static inline void dws_take_read(dws_session *s, dws_call *call)
+/* A read of a subject was refused, for another reason than the last one. */
+static inline void dws_take_refusal(dws_session *s, const dw_output *refused)
 {
-    dws_subject *subject = (dws_subject *)call->context;
-    bool is_question = call->kind == DWS_EXISTS;
-    subject->is_asked = false;
-    subject->is_missing = !is_question && call->why == DW_CODE_NO_NODE;
-    if (call->why == DW_OUTCOME_LOST || call->why == DW_OUTCOME_NOT_CONNECTED) {
+    char line[DWS_LONGEST_LINE];
+    const dws_subject *subject = s->subjects;
+    while (subject != NULL && subject->ticket != refused->ticket) {
+        subject = subject->next;
+    }
+    if (subject == NULL || refused->refusal == DW_REFUSAL_CLOSED) {
         return;
     }
-    if ((call->why != 0 && call->why != DW_CODE_NO_NODE) || (is_question && call->why == 0)) {
-        subject->read_at_ms = s->now_ms + DWS_BETWEEN_READS_MS; /* a read was refused, or has found no node that is there */
-        s->rest_ms = dws_least(s->rest_ms, subject->read_at_ms);
+    const char *path = dws_inner(s, subject->path);
+    if (refused->refusal == DW_REFUSAL_CODE) {
+        write_code(line, sizeof line, refused->code, path);
+    } else {
+        bool is_large = refused->refusal == DW_REFUSAL_TOO_LARGE;
+        write_outcome(line, sizeof line, is_large ? DW_OUTCOME_TOO_LARGE : DW_OUTCOME_TOO_MANY_WATCHES, path);
     }
-    if (call->why < 0 && call->why != DW_CODE_NO_NODE) {
-        char line[DWS_LONGEST_LINE];
-        write_code(line, sizeof line, call->why, dws_inner(s, subject->path));
-        dws_tell(s, DWS_READ_REFUSED, line);
-    }
+    dws_tell(s, DWS_READ_REFUSED, line);
 }
 
-/* Reads a subject of which nothing good is kept. */
-static inline void dws_read_subject(dws_session *s, dws_subject *subject)
+/* Has the library follow a subject, from this moment on. */
+static inline void dws_begin_subject(dws_session *s, dws_subject *subject, uint64_t now_ms)
 {
-    dws_call *read = &subject->read;
-    enum dws_kind kind = subject->side == DW_SIDE_DATA ? DWS_GET : DWS_CHILDREN;
-    subject->is_asked = true;
-    read->kind = subject->is_missing ? DWS_EXISTS : kind;
-    read->path = subject->path;
-    read->watch = true;
-    read->then = dws_take_read;
-    read->context = subject;
-    dws_put(s, read);
+    const char *path = subject->path;
+    uint64_t ticket = subject->ticket = ++s->last_ticket;
+    dws_act(s, subject->side == DW_SIDE_DATA ? dw_session_follow_data(&s->machine, now_ms, ticket, path, strlen(path))
+                                             : dw_session_follow_names(&s->machine, now_ms, ticket, path, strlen(path)));
 }
 
-static inline void dws_read_subjects(dws_session *s)
+/* A subject that the library does not follow yet; NULL where there is none. */
+static inline dws_subject *dws_next_new(dws_session *s)
 {
-    bool is_connected = dw_state(&s->client) == DW_STATE_CONNECTED && !s->is_closing;
-    s->rest_ms = UINT64_MAX;
-    for (dws_subject *one = s->subjects; one != NULL && is_connected; one = one->next) {
-        if (one->is_asked || dws_is_good(one)) {
-            continue;
+    dws_subject *one = s->subjects;
+    while (one != NULL && one->ticket != 0) {
+        one = one->next;
+    }
+    return one;
+}
+
+/* Has the library follow what is to be followed, and no more what is not. Callbacks may change both. */
+static inline void dws_follow_new(dws_session *s)
+{
+    dws_subject *one;
+    while (s->must_follow && !s->is_over) {
+        uint64_t now_ms = dws_in_time(s);
+        s->must_follow = false;
+        while (!s->is_over && (one = dws_next_new(s)) != NULL) {
+            dws_begin_subject(s, one, now_ms);
         }
-        if (one->read_at_ms <= s->now_ms) {
-            dws_read_subject(s, one);
-        } else {
-            s->rest_ms = dws_least(s->rest_ms, one->read_at_ms);
+        while (!s->is_over && s->gone_count > 0) {
+            dws_act(s, dw_session_unfollow(&s->machine, now_ms, s->gone[--s->gone_count]));
         }
     }
 }

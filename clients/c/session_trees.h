@@ -7,6 +7,13 @@ static inline uint32_t dws_read_int(const uint8_t *at)
     return (uint32_t)at[0] << 24 | (uint32_t)at[1] << 16 | (uint32_t)at[2] << 8 | at[3];
 }
 
+static inline void dws_spell_int(uint8_t *at, uint32_t number)
+{
+    for (int i = 0; i < 4; i++) {
+        at[i] = (uint8_t)(number >> (24 - 8 * i));
+    }
+}
+
 static inline int64_t dws_read_long(const uint8_t *at)
 {
     return (int64_t)((uint64_t)dws_read_int(at) << 32 | dws_read_int(at + 4));
@@ -145,10 +152,8 @@ static inline void dws_want(dws_session *s, dws_tree *tree, const char *path, en
         return;
     }
     uint8_t *at = lacking->bytes + lacking->length;
-    for (int i = 0; i < 4; i++) {
-        at[i] = (uint8_t)(length >> (24 - 8 * i));
-        at[4 + length + i] = (uint8_t)((unsigned)side >> (24 - 8 * i));
-    }
+    dws_spell_int(at, (uint32_t)length);
+    dws_spell_int(at + 4 + length, (uint32_t)side);
     memcpy(at + 4, path, length);
     lacking->length += length + 8;
 }
@@ -157,7 +162,7 @@ static inline void dws_want(dws_session *s, dws_tree *tree, const char *path, en
 static inline void dws_hear_of_trees(dws_session *s, const dw_output *output)
 {
     char path[DWS_LONGEST_LINE];
-    size_t length = dw_copy(&s->client, 0, path, sizeof path - 1);
+    size_t length = dw_session_copy(&s->machine, 0, path, sizeof path - 1);
     if (length >= sizeof path) {
         return;
     }
@@ -204,7 +209,7 @@ static inline void dws_take_tree_read(dws_session *s, dws_call *call)
     dws_tree *tree = (dws_tree *)call->context;
     bool is_question = call->kind == DWS_EXISTS, has_no_root = call->why == DW_CODE_NO_NODE && strcmp(call->path, tree->path) == 0;
     bool is_lost = call->why == DW_OUTCOME_LOST || call->why == DW_OUTCOME_NOT_CONNECTED || call->why == DW_OUTCOME_EXPIRED
-                   || call->why == DW_OUTCOME_CLOSED;
+                   || call->why == DW_OUTCOME_CLOSED || call->why == DWS_LATE;
     free(call->text); /* the library keeps it */
     free(call->names);
     call->text = NULL;
@@ -224,6 +229,8 @@ static inline void dws_take_tree_read(dws_session *s, dws_call *call)
         dws_trouble_tree(s, tree, call->why, call->path);
     }
 }
+
+static inline void dws_put(dws_session *s, dws_call *call);
 
 /* Asks the next read, where one is to be asked. */
 static inline bool dws_ask_tree_read(dws_session *s, dws_tree *tree)
@@ -273,7 +280,7 @@ static inline void dws_show_tree(dws_session *s, dws_tree *tree)
         tree->nodes[tree->count++] = node;
     }
     qsort(tree->nodes, tree->count, sizeof node, dws_compare_nodes);
-    tree->zxid = dw_last_zxid(&s->client);
+    tree->zxid = dw_session_last_zxid(&s->machine);
     tree->is_good = tree->is_changed = true;
     tree->why = 0;
 }
@@ -283,25 +290,25 @@ static inline bool dws_has_no_root(dws_session *s, const dws_tree *tree)
 {
     dw_kept_data kept;
     uint8_t none;
-    enum dw_result result = dw_peek_data(&s->client, tree->path, strlen(tree->path), &kept, &none, 0);
+    enum dw_result result = dw_session_peek_data(&s->machine, tree->path, strlen(tree->path), &kept, &none, 0);
     return result == DW_OK && kept.kind == DW_KEPT_ABSENT && kept.mark == DW_MARK_GOOD;
 }
 
 /* Copies what this function of the library finds at and below the root of a tree. */
 static inline enum dw_result dws_collect(dws_session *s, const dws_tree *tree, struct dws_texts *texts,
-                                         enum dw_result (*find)(dw_client *, const char *, size_t, size_t, uint8_t *, size_t, size_t *))
+                                         enum dw_result (*find)(dw_session *, const char *, size_t, size_t, uint8_t *, size_t, size_t *))
 {
     size_t length = strlen(tree->path);
     texts->length = texts->at = 0;
     if (!dws_reserve_texts(texts, 4096)) {
         return DW_NO_MEMORY;
     }
-    enum dw_result result = find(&s->client, tree->path, length, tree->most, texts->bytes, texts->room, &texts->length);
+    enum dw_result result = find(&s->machine, tree->path, length, tree->most, texts->bytes, texts->room, &texts->length);
     if (result == DW_OK && texts->length > texts->room) {
         if (!dws_reserve_texts(texts, texts->length + texts->length / 8)) {
             return DW_NO_MEMORY;
         }
-        result = find(&s->client, tree->path, length, tree->most, texts->bytes, texts->room, &texts->length);
+        result = find(&s->machine, tree->path, length, tree->most, texts->bytes, texts->room, &texts->length);
     }
     return result;
 }
@@ -319,7 +326,7 @@ static inline enum dw_result dws_learn(dws_session *s, dws_tree *tree)
         return DW_OK;
     }
     tree->has_moved = false;
-    return dws_collect(s, tree, &tree->lacking, dw_lacking);
+    return dws_collect(s, tree, &tree->lacking, dw_session_lacking);
 }
 
 /* Shows a tree where it is whole, and else has what is lacking be read. */
@@ -328,7 +335,7 @@ static inline void dws_look_at_tree(dws_session *s, dws_tree *tree)
     struct timespec begun, ended;
     clock_gettime(CLOCK_MONOTONIC, &begun);
     tree->must_look = false;
-    enum dw_result result = dws_collect(s, tree, &tree->text, dw_subtree);
+    enum dw_result result = dws_collect(s, tree, &tree->text, dw_session_subtree);
     if (result == DW_OK) {
         dws_show_tree(s, tree);
     } else if (result == DW_NOT_WHOLE) {
@@ -369,7 +376,7 @@ static inline bool dws_show_next_tree(dws_session *s)
 /* Has trees go on, where a server has accepted the session. */
 static inline void dws_grow_trees(dws_session *s)
 {
-    bool is_connected = dw_state(&s->client) == DW_STATE_CONNECTED && !s->is_closing;
+    bool is_connected = dws_is_connected(s) && !s->is_closing;
     for (dws_tree *tree = s->trees; tree != NULL && is_connected && !s->is_over; tree = tree->next) {
         if (dws_may_look(tree) && tree->look_at_ms <= s->now_ms) {
             dws_look_at_tree(s, tree);
@@ -385,7 +392,7 @@ static inline void dws_grow_trees(dws_session *s)
 static inline uint64_t dws_growth(dws_session *s)
 {
     uint64_t first = UINT64_MAX;
-    bool is_connected = dw_state(&s->client) == DW_STATE_CONNECTED && !s->is_closing;
+    bool is_connected = dws_is_connected(s) && !s->is_closing;
     for (dws_tree *tree = s->trees; tree != NULL && is_connected; tree = tree->next) {
         first = dws_may_look(tree) ? dws_least(first, tree->look_at_ms) : first;
     }
@@ -416,7 +423,7 @@ static inline enum dw_result dws_follow_tree(dws_session *s, dws_tree *tree, con
     tree->path = dws_outer(s, path);
     enum dw_result result = tree->path == NULL ? DW_NO_MEMORY : words_of_path(path) != NULL ? DW_NOT_PATH : DW_OK;
     if (result == DW_OK) {
-        result = dw_peek_data(&s->client, tree->path, strlen(tree->path), &kept, &none, 0);
+        result = dw_session_peek_data(&s->machine, tree->path, strlen(tree->path), &kept, &none, 0);
     }
     if (result == DW_OK && !dws_make_reads(tree)) {
         result = DW_NO_MEMORY;

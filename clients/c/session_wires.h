@@ -6,6 +6,7 @@
 static inline bool dws_read_host(struct dws_host *host, const char *text, size_t length)
 {
     const char *end = text + length, *name = text, *after = text;
+    host->turn = 0;
     while (name < end && *name == ' ') {
         name++;
     }
@@ -70,22 +71,9 @@ static inline bool dws_read_string(dws_session *s, const char *text, char *why, 
     return dws_read_hosts(s, length, why, size);
 }
 
-/* Begins a round over the hosts: in another order, unless they are dialled as they are listed. */
-static inline void dws_begin_round(dws_session *s)
+/* An address of the host, of which a name may have several: the next one at each look-up, which may take a while. */
+static inline bool dws_find_address(dws_session *s, struct dws_host *host, struct sockaddr_storage *address, socklen_t *length)
 {
-    s->host = s->address = 0;
-    for (size_t last = s->host_count; last > 1 && !s->options.is_in_order; last--) {
-        size_t other = (size_t)(dws_chance(s) % last);
-        struct dws_host held = s->hosts[last - 1];
-        s->hosts[last - 1] = s->hosts[other];
-        s->hosts[other] = held;
-    }
-}
-
-/* An address of a host, of the number whose turn it is. The name is looked up, which may take a while; no connection waits for it. */
-static inline bool dws_find_address(dws_session *s, struct sockaddr_storage *address, socklen_t *length)
-{
-    struct dws_host *host = &s->hosts[s->host];
     struct addrinfo wanted, *found = NULL;
     memset(&wanted, 0, sizeof wanted);
     wanted.ai_family = AF_UNSPEC;
@@ -97,33 +85,14 @@ static inline bool dws_find_address(dws_session *s, struct sockaddr_storage *add
         return false;
     }
     struct addrinfo *one = found;
-    for (size_t i = 0; i < s->address && one != NULL; i++) {
+    for (size_t i = 0; i < host->turn && one->ai_next != NULL; i++) {
         one = one->ai_next;
     }
-    bool is_found = one != NULL;
-    if (is_found) {
-        memcpy(address, one->ai_addr, one->ai_addrlen);
-        *length = one->ai_addrlen;
-        s->address++;
-    }
+    host->turn = one->ai_next != NULL ? host->turn + 1 : 0;
+    memcpy(address, one->ai_addr, one->ai_addrlen);
+    *length = one->ai_addrlen;
     freeaddrinfo(found);
-    return is_found;
-}
-
-/* The address whose turn it is: each address of each host is dialled once in a round. */
-static inline bool dws_next_address(dws_session *s, struct sockaddr_storage *address, socklen_t *length)
-{
-    for (size_t i = 0; i <= s->host_count; i++) {
-        if (s->host == s->host_count) {
-            dws_begin_round(s);
-        }
-        if (dws_find_address(s, address, length)) {
-            return true;
-        }
-        s->host++;
-        s->address = 0;
-    }
-    return false;
+    return true;
 }
 
 /* A socket that does not block and is connecting to the address, or -1 with errno. */
@@ -144,39 +113,46 @@ static inline int dws_begin_connection(const struct sockaddr_storage *address, s
     return -1;
 }
 
-/* An attempt to connect has failed. */
-static inline void dws_miss(dws_session *s, const char *why)
+/* Tells why an attempt to connect has failed. */
+static inline void dws_tell_missed(dws_session *s, const char *why)
 {
     if (why != s->trouble) {
         snprintf(s->trouble, sizeof s->trouble, "%s", why);
     }
     s->trouble[0] = (char)tolower((unsigned char)s->trouble[0]);
-    if (s->wire.socket >= 0) {
-        dws_hang_up(s);
-    } else {
-        dws_put_off(s);
-    }
     dws_tell(s, DWS_ATTEMPT_FAILED, s->trouble);
 }
 
+/* An attempt to connect has failed. */
+static inline void dws_miss(dws_session *s, const char *why)
+{
+    dws_hang_up(s);
+    dws_tell_missed(s, why);
+    if (!s->is_over) {
+        dws_act(s, dw_session_failed(&s->machine, s->now_ms));
+    }
+}
+
+/* Dials the host that the library has named; or, where they are dialled in order, the next one. */
 static inline void dws_dial(dws_session *s)
 {
+    struct dws_host *host = &s->hosts[s->options.is_in_order ? s->dials++ % s->host_count : s->place];
     struct sockaddr_storage address;
     socklen_t length = 0;
-    s->dialled_ms = s->now_ms;
-    if (!dws_next_address(s, &address, &length)) {
+    s->is_dial_due = false;
+    bool is_found = dws_find_address(s, host, &address, &length);
+    s->now_ms = dws_now_ms();
+    if (!is_found) {
         dws_miss(s, s->trouble);
         return;
     }
     s->wire.socket = dws_begin_connection(&address, length);
-    s->now_ms = dws_now_ms();
     if (s->wire.socket < 0) {
         dws_miss(s, strerror(errno));
         return;
     }
-    s->wire.host = s->hosts[s->host].name;
+    s->wire.host = host->name;
     s->is_connecting = true;
-    s->due_ms = s->now_ms + dws_most(DWS_SHORTEST_DIAL_MS, dws_timeout_ms(s) / 3);
 }
 
 /* The attempt to connect is over. */
@@ -192,11 +168,9 @@ static inline void dws_finish_connection(dws_session *s)
         return;
     }
     s->is_connecting = false;
-    s->opened_ms = s->now_ms;
-    s->due_ms = UINT64_MAX;
     s->write_wants = POLLOUT;
     snprintf(s->trouble, sizeof s->trouble, "connected, and it has not accepted the session");
-    dws_act(s, dw_opened(&s->client, s->now_ms));
+    dws_act(s, dw_session_opened(&s->machine, s->now_ms));
     if (s->beside != NULL && s->wire.socket >= 0) {
         s->beside->begin(s);
     }
@@ -231,21 +205,25 @@ static inline ssize_t dws_write(dws_session *s, const void *bytes, size_t size)
     return send(s->wire.socket, bytes, size, MSG_NOSIGNAL);
 }
 
-/* Takes bytes from the server. */
+/* Hands bytes from the server to the library. */
 static inline void dws_hear(dws_session *s, uint64_t came_ms, const uint8_t *bytes, size_t length)
 {
-    size_t answered = (size_t)dws_least(dws_count_pings(&s->came_frames, bytes, length), s->pinged);
-    s->pinged -= answered;
-    memmove(s->pinged_ms, s->pinged_ms + answered, s->pinged * sizeof s->pinged_ms[0]);
-    s->heard_ms = s->now_ms;
-    enum dw_result result = dw_bytes(&s->client, came_ms, bytes, length);
+    enum dw_result result = dw_session_bytes(&s->machine, came_ms, bytes, length);
     if (result == DW_NO_MEMORY) {
         dws_cut(s, dw_result_words(result)); /* no step was made */
-        return;
+    } else {
+        dws_act(s, result);
     }
-    dws_act(s, result);
-    if (s->is_taken && s->wire.socket >= 0) {
-        dws_cut(s, "the session is not of this connection any more");
+}
+
+/* Takes bytes from the server. */
+static inline void dws_hear_all(dws_session *s, uint64_t came_ms, const uint8_t *bytes, size_t length)
+{
+    dws_note_answers(s, dws_count_answers(&s->came, bytes, length));
+    if (s->beside != NULL) {
+        s->beside->hear(s, came_ms, bytes, length);
+    } else {
+        dws_hear(s, came_ms, bytes, length);
     }
 }
 
@@ -257,10 +235,9 @@ static inline void dws_receive(dws_session *s)
     s->has_more = true;
     for (int i = 0; i < DWS_MOST_PIECES && s->wire.socket >= 0 && s->has_more; i++) {
         ssize_t count = dws_read(s, piece, sizeof piece);
-        if (count > 0 && s->beside != NULL) {
-            s->beside->hear(s, came_ms, piece, (size_t)count);
-        } else if (count > 0) {
-            dws_hear(s, came_ms, piece, (size_t)count);
+        if (count > 0) {
+            dws_hear_all(s, came_ms, piece, (size_t)count);
+            s->has_more = s->options.read != NULL || count == (ssize_t)sizeof piece || s->waiting.count > 0; /* else poll tells of more */
         } else if (count == 0) {
             dws_cut(s, "the server has ended the connection");
         } else if (dws_is_passing(errno)) {

@@ -1,4 +1,5 @@
-/* A session by session.h that does what it is told, for the table of cases: session HOSTS TRIES. */
+/* A session by session.h that does what it is told, for the table of cases: session HOSTS TRIES. Reads that are lost are asked again by the library,
+ * whatever the tries. */
 #define _POSIX_C_SOURCE 200809L
 #include "lane.h"
 #include "lock.h"
@@ -358,17 +359,13 @@ static bool next_line(dws_session *session, char *line, int size)
 int main(int argc, char **argv)
 {
     char line[1000];
-    dws_options options;
-    memset(&options, 0, sizeof options);
-    options.tries = argc == 3 ? (int)strtol(argv[2], NULL, 10) : 0;
-    dws_session *session = argc == 3 ? dws_open(argv[1], &options, NULL, 0) : NULL;
+    dws_session *session = argc == 3 ? dws_open(argv[1], NULL, NULL, 0) : NULL;
     setvbuf(stdin, NULL, _IONBF, 0); /* so that poll tells of each line */
     while (session != NULL && next_line(session, line, sizeof line) && obey(session, line)) {
     }
     dws_release(&call);
     dws_lane_release(&lane);
-    dws_release(&lock.call);
-    dws_release(&lock.removal);
+    dws_lock_release(&lock);
     if (session != NULL) {
         dws_close(session);
         print_line("closed");

@@ -11,7 +11,9 @@ from programs import BOUND, DATA, EXISTS, GET_DATA, PING, SLACK, STAT, Case, pro
 PROGRAM, ASKS = program("follow"), program("tests/asks")
 
 
-class Follow(Case):
+class Followed(Case):
+    """A test with the program that follows a node."""
+
     def follow(self, servers, path="/config"):
         self.last_zxid = 0
         self.errors = tempfile.TemporaryFile("w+", encoding="utf-8")
@@ -41,6 +43,13 @@ class Follow(Case):
         self.errors.seek(0)
         self.assertEqual("the session is closed" in self.errors.read(), is_closed)
 
+    def server(self, serve):
+        server = super().server(serve)
+        self.follow(server.address)
+        return server
+
+
+class Follow(Followed):
     def test_changes(self):
         partner = self.begin()
         partner.do("set /config second")
@@ -68,11 +77,6 @@ class Follow(Case):
         self.expect("unknown", 'good "first"')
         partner.do("set /config second")
         self.expect('stale "first"', 'good "second"')
-
-    def server(self, serve):
-        server = super().server(serve)
-        self.follow(server.address)
-        return server
 
     def test_session_that_may_live(self):
         """While the session may live, the program dials again within a second."""
@@ -113,8 +117,8 @@ class Follow(Case):
         self.assertEqual(len(server.dials), 1)
 
     def test_refused_reads(self):
-        """The program goes on at each code, and reads once a second at most."""
-        codes, reads = [-127, -118, -112, -4, -102], []
+        """The program goes on at each code, and reads once a second at most on a connection. It says each reason once."""
+        codes, reads = [-127, -4, -102, -102], []
 
         def read(line, xid):
             reads.append(time.monotonic())
@@ -128,23 +132,25 @@ class Follow(Case):
         self.server(serve)
         self.expect('good "one"')
         self.assertGreater(min(after - before for before, after in zip(reads, reads[1:])), 0.95)
+        self.errors.seek(0)
+        self.assertEqual(self.errors.read().count("does not admit this client: /config\n"), 1)
 
-    def test_denied_data(self):
-        """Data that are denied of a node that is there are read once a second at most."""
-        reads = []
+    def test_lost_session(self):
+        """Where a server says that the session is not its own, another connection is made at once."""
+        codes = [-118, -112]
 
-        def deny(line, xid):
-            reads.append(xid)
-            line.answer(xid, -101)
+        def read(line, xid):
+            code = codes.pop() if codes else 0
+            line.answer(xid, code, b"" if code else DATA)
 
         def serve(_, line):
             line.admit(10_000)
-            kinds = {GET_DATA: lambda xid: deny(line, xid), EXISTS: lambda xid: line.answer(xid, 0, STAT), PING: line.answer}
-            line.serve(kinds)
+            line.serve({GET_DATA: lambda xid: read(line, xid), PING: line.answer})
 
-        self.server(serve).wait_for_dials(1)
-        time.sleep(3)
-        self.assertIn(len(reads), range(1, 6))
+        server = self.server(serve)
+        self.expect('good "one"')
+        self.assertEqual(len(server.dials), 3)
+        self.assertLess(server.dials[2] - server.dials[0], 1 + SLACK)
 
     def test_server_that_dribbles(self):
         """A read and a ping that are not answered end the connection, whatever else comes."""

@@ -2,50 +2,9 @@
  * `quick` the stream is cut at few places. Frames are spelled by zookeeper.jute. */
 #define _POSIX_C_SOURCE 200809L
 #include "../lane.h"
-#include "expect.h"
-#include "frames.h"
+#include "served.h"
 
-#include <stdarg.h>
-
-enum { TYPE_EXISTS = 3, TYPE_GET = 4, SHORT_TURNS = 50, MOST_TURNS = 20000, BIG = 1 << 20 };
-
-static const dw_stat STAT = {3, 5, 1000, 2000, 0, 4, 7, 2, 9, 3, 0};
-
-static dws_session *session;
-static int listener, line;
-static char said[8192], events[64];
-static struct bytes out;
-static size_t heard; /* bytes that the session has read of this connection */
-
-/* Adds to what was said, as printf does. */
-static void say(const char *format, ...)
-{
-    va_list words;
-    size_t length = strlen(said);
-    va_start(words, format);
-    vsnprintf(said + length, sizeof said - length, format, words);
-    va_end(words);
-}
-
-static void expect_said(const char *wanted)
-{
-    if (strcmp(said, wanted) != 0) {
-        fprintf(stderr, "it is said:\n%s\nand not:\n%s\n", said, wanted);
-        exit(EXIT_FAILURE);
-    }
-    said[0] = 0;
-}
-
-static void note(dws_session *s, enum dws_event event, const char *server, const char *words)
-{
-    char number[2] = {(char)('0' + (int)event), 0};
-    (void)s;
-    (void)server;
-    (void)words;
-    if (strlen(events) < sizeof events - 1) {
-        strcat(events, number);
-    }
-}
+enum { TYPE_DELETE = 2, TYPE_EXISTS = 3, TYPE_GET = 4, TYPE_SET = 5, BIG = 1 << 20 };
 
 /* A call that says how it was answered, by its name. */
 struct named {
@@ -53,161 +12,6 @@ struct named {
     dws_lane_call lane;
     const char *name;
 };
-
-static void tell(dws_session *s, dws_call *call)
-{
-    (void)s;
-    say("%s %d\n", (const char *)call->context, (int)call->why);
-}
-
-static dws_call *named(dws_call *call, const char *name)
-{
-    call->then = tell;
-    call->context = (void *)(uintptr_t)name;
-    return call;
-}
-
-static ssize_t read_counted(dws_wire *wire, void *room, size_t size, void *context)
-{
-    ssize_t count = recv(wire->socket, room, size, 0);
-    (void)context;
-    heard += count > 0 ? (size_t)count : 0;
-    return count;
-}
-
-static ssize_t write_plain(dws_wire *wire, const void *bytes, size_t size, void *context)
-{
-    (void)context;
-    return send(wire->socket, bytes, size, MSG_NOSIGNAL);
-}
-
-/* The turn of this number of a wait: the first ones do not wait for the socket. */
-static void turn(int number)
-{
-    struct pollfd polled;
-    EXPECT(number < MOST_TURNS);
-    dws_wanted(session, &polled);
-    poll(&polled, 1, number < SHORT_TURNS ? 0 : 1);
-    dws_go_on(session, polled.revents);
-}
-
-static void open_session(int tries)
-{
-    char address[32];
-    struct sockaddr_in bound;
-    socklen_t length = sizeof bound;
-    dws_options options;
-    memset(&options, 0, sizeof options);
-    options.tries = tries;
-    options.told = note;
-    options.read = read_counted;
-    options.write = write_plain;
-    EXPECT(getsockname(listener, (struct sockaddr *)&bound, &length) == 0);
-    snprintf(address, sizeof address, "127.0.0.1:%d", ntohs(bound.sin_port));
-    session = dws_open(address, &options, NULL, 0);
-    EXPECT(session != NULL);
-    events[0] = 0;
-}
-
-static void close_all(void)
-{
-    dws_free(session);
-    close(line);
-}
-
-/* The payload of the next frame that the session sends, into `out`. */
-static void hear(void)
-{
-    size_t wanted = 4, count = 0;
-    uint8_t *at = out.at;
-    for (int i = 0; count < wanted; i++) {
-        ssize_t read = recv(line, at + count, wanted - count, MSG_DONTWAIT);
-        if (read > 0) {
-            count += (size_t)read;
-        } else {
-            turn(i);
-        }
-        if (count == 4 && wanted == 4) {
-            wanted += dws_read_int(at);
-            EXPECT(wanted < sizeof out.at);
-        }
-    }
-    memmove(at, at + 4, count - 4);
-    out.length = count - 4;
-}
-
-/* The next frame has this xid and type, and this body. */
-static void hear_request(int32_t xid, int32_t type, const struct bytes *body)
-{
-    hear();
-    EXPECT_NUMBER(xid, (int32_t)dws_read_int(out.at));
-    EXPECT_NUMBER(type, (int32_t)dws_read_int(out.at + 4));
-    if (body != NULL) {
-        EXPECT_NUMBER(body->length, out.length - 8);
-        EXPECT(memcmp(body->at, out.at + 8, body->length) == 0);
-    }
-}
-
-/* Sends bytes, and has the session take them. */
-static void send_all(const uint8_t *bytes, size_t length)
-{
-    size_t wanted = heard + length;
-    while (length > 0) {
-        ssize_t sent = send(line, bytes, length, MSG_NOSIGNAL);
-        EXPECT(sent > 0);
-        bytes += sent;
-        length -= (size_t)sent;
-    }
-    for (int i = 0; heard < wanted && session->wire.socket >= 0; i++) {
-        turn(i);
-    }
-}
-
-/* Sends bytes: this many by themselves at first, and then pieces of a number of bytes. Each piece is taken before the next one. */
-static void answer(const struct bytes *bytes, size_t first, size_t rest)
-{
-    for (size_t at = 0, count = first; at < bytes->length; at += count, count = rest) {
-        count = (size_t)dws_least(count > 0 ? count : rest, bytes->length - at);
-        send_all(bytes->at + at, count);
-    }
-}
-
-static void answer_at_once(const struct bytes *bytes)
-{
-    answer(bytes, bytes->length, bytes->length);
-}
-
-/* Takes the next connection, and admits the session, in this version of the protocol. */
-static void admit_by(int32_t version)
-{
-    struct bytes connected, spelled;
-    int on = 1;
-    connected.length = spelled.length = 0;
-    for (int i = 0; (line = accept(listener, NULL, NULL)) < 0; i++) {
-        EXPECT(errno == EAGAIN);
-        turn(i);
-    }
-    EXPECT(setsockopt(line, IPPROTO_TCP, TCP_NODELAY, &on, sizeof on) == 0);
-    heard = 0;
-    hear();
-    add_connected(&connected);
-    put_int(&spelled, version);
-    memcpy(connected.at + 4, spelled.at, 4);
-    answer_at_once(&connected);
-}
-
-static void admit(void)
-{
-    admit_by(0);
-}
-
-/* Goes on until a call is answered. */
-static void wait_for(const dws_call *call)
-{
-    for (int i = 0; !call->is_answered; i++) {
-        turn(i);
-    }
-}
 
 static void put_words(struct bytes *bytes, const char *text)
 {
@@ -331,7 +135,7 @@ static void tell_change(dws_session *s, dws_call *call)
     dw_kept_data kept;
     uint8_t none;
     const dws_lane_call *lane = (const dws_lane_call *)(void *)call;
-    EXPECT_NUMBER(DW_OK, dw_peek_data(&s->client, "/a", 2, &kept, &none, 0));
+    EXPECT_NUMBER(DW_OK, dw_session_peek_data(&s->machine, "/a", 2, &kept, &none, 0));
     say("change %d mark %d zxid %d made %s version %d\n", (int)call->why, (int)kept.mark, (int)call->zxid, lane->changes[2].path,
         (int)lane->changes[1].stat.version);
 }
@@ -349,7 +153,7 @@ static void release_all(void)
 static void ask_both(size_t first, size_t rest)
 {
     struct bytes came;
-    open_session(0);
+    open_session();
     admit();
     dws_get(session, named(&get.call, "get"), "/a", true);
     named(&sync_call.lane.call, "sync");
@@ -415,7 +219,7 @@ static void begin_within_a_frame(bool is_quick)
     came.length = 0;
     add_data(&came, 1, 5, "one", &STAT);
     for (size_t first = 1; first < came.length; first += is_quick ? 13 : 1) {
-        open_session(0);
+        open_session();
         admit();
         dws_get(session, named(&get.call, "get"), "/a", false);
         hear_request(1, TYPE_GET, NULL);
@@ -434,60 +238,93 @@ static void begin_within_a_frame(bool is_quick)
     }
 }
 
-/* Where a connection ends, each call is lost, in the order of both. */
+/* Where a connection ends, calls are lost, in the order of both. The library's reads are asked again. */
 static void lose_both(void)
 {
-    open_session(0);
+    struct bytes came;
+    char why[DWS_LONGEST_LINE];
+    open_session();
     admit();
     named(&sync_call.lane.call, "sync");
     dws_sync(session, &sync_call.lane, "/");
+    dws_set(session, named(&change.call, "set"), "/", "one", 3, -1);
     dws_get(session, named(&get.call, "get"), "/", false);
     named(&acl.lane.call, "acl");
     dws_get_acl(session, &acl.lane, "/");
-    dws_get(session, named(&last.call, "last"), "/", false);
+    dws_delete(session, named(&last.call, "last"), "/a", -1);
     hear_request(-1001, DWS_TYPE_SYNC, NULL);
-    hear_request(1, TYPE_GET, NULL);
-    hear_request(-1002, DWS_TYPE_GET_ACL, NULL);
+    hear_request(1, TYPE_SET, NULL);
     hear_request(2, TYPE_GET, NULL);
+    hear_request(-1002, DWS_TYPE_GET_ACL, NULL);
+    hear_request(3, TYPE_DELETE, NULL);
     close(line);
-    wait_for(&last.call);
-    expect_said("sync 1\nget 1\nacl 1\nlast 1\n");
+    wait_for(&acl.lane.call);
+    expect_said("sync 1\nset 1\nacl 1\nlast 1\n");
+    dws_words(session, &acl.lane.call, why, sizeof why);
+    EXPECT(strcmp(why, "the connection ended before the reply: /; it may or may not have happened: read again") == 0);
+    admit();
+    hear_request(4, TYPE_GET, NULL);
+    came.length = 0;
+    add_data(&came, 4, 5, "one", &STAT);
+    answer_at_once(&came);
+    wait_for(&get.call);
+    expect_said("get 0\n");
     close_all();
     release_all();
 }
 
-/* A read that was lost, or whose answer does not read, is asked again where the options say so. The xids begin again. */
-static void ask_again(void)
+/* A call beside the library waits for a connection, and what is asked after it waits for it. The xids begin again on each connection. */
+static void keep_the_order(void)
 {
     struct bytes came;
-    char why[DWS_LONGEST_LINE];
-    for (int tries = 0; tries < 2; tries++) {
-        open_session(tries);
-        admit();
-        named(&acl.lane.call, "acl");
-        dws_get_acl(session, &acl.lane, "/");
-        hear_request(-1001, DWS_TYPE_GET_ACL, NULL);
-        came.length = 0;
-        size_t begin = begin_answer(&came, -1001, 0);
-        put_int(&came, 7);
-        end_answer(&came, begin);
-        answer_at_once(&came);
-        EXPECT(strchr(events, '0' + DWS_CUT) != NULL);
-        close(line);
-        if (tries > 0) {
-            admit();
-            hear_request(-1001, DWS_TYPE_GET_ACL, NULL);
-            came.length = 0;
-            add_acls(&came, -1001);
-            answer_at_once(&came);
-        }
-        wait_for(&acl.lane.call);
-        expect_said(tries > 0 ? "acl 0\n" : "acl 1\n");
-        dws_words(session, &acl.lane.call, why, sizeof why);
-        EXPECT(tries > 0 || strcmp(why, "the connection ended before the reply: /; it may or may not have happened: read again") == 0);
-        close_all();
-        release_all();
-    }
+    open_session();
+    dws_get(session, named(&get.call, "get"), "/", false);
+    named(&sync_call.lane.call, "sync");
+    dws_sync(session, &sync_call.lane, "/");
+    dws_get(session, named(&last.call, "last"), "/", false);
+    admit();
+    hear_request(1, TYPE_GET, NULL);
+    hear_request(-1001, DWS_TYPE_SYNC, NULL);
+    hear_request(2, TYPE_GET, NULL);
+    close(line);
+    wait_for(&sync_call.lane.call);
+    expect_said("sync 1\n");
+    named(&acl.lane.call, "acl");
+    dws_get_acl(session, &acl.lane, "/");
+    admit();
+    hear_request(3, TYPE_GET, NULL);
+    hear_request(4, TYPE_GET, NULL);
+    hear_request(-1001, DWS_TYPE_GET_ACL, NULL);
+    came.length = 0;
+    add_data(&came, 3, 5, "one", &STAT);
+    add_data(&came, 4, 5, "one", &STAT);
+    add_acls(&came, -1001);
+    answer(&came, 9, 50);
+    wait_for(&acl.lane.call);
+    expect_said("get 0\nlast 0\nacl 0\n");
+    close_all();
+    release_all();
+}
+
+/* An answer that does not read ends the connection. */
+static void give_up(void)
+{
+    struct bytes came;
+    open_session();
+    admit();
+    named(&acl.lane.call, "acl");
+    dws_get_acl(session, &acl.lane, "/");
+    hear_request(-1001, DWS_TYPE_GET_ACL, NULL);
+    came.length = 0;
+    size_t begin = begin_answer(&came, -1001, 0);
+    put_int(&came, 7);
+    end_answer(&came, begin);
+    answer_at_once(&came);
+    EXPECT(strchr(events, '0' + DWS_CUT) != NULL);
+    wait_for(&acl.lane.call);
+    expect_said("acl 1\n");
+    close_all();
+    release_all();
 }
 
 static void expect_words(const dws_call *call, const char *wanted)
@@ -512,7 +349,7 @@ static void tell_refusals(void)
     };
     struct bytes came;
     char *large = (char *)calloc(1, BIG);
-    open_session(0);
+    open_session();
     admit();
     for (size_t i = 0; i < 2; i++) {
         spell_transaction(&change.lane);
@@ -555,7 +392,7 @@ static void expect_credentials(const char *words)
 static void introduce(void)
 {
     struct bytes came;
-    open_session(0);
+    open_session();
     EXPECT(dws_introduce(session, "digest", "ann:secret", 10) && dws_introduce(session, "digest", "ann:secret", 10));
     dws_get(session, named(&get.call, "get"), "/", false);
     admit_by(-4); /* that is no xid */
@@ -590,7 +427,7 @@ static void bar(void)
     struct bytes came;
     came.length = 0;
     add_header(&came, -4, 0, -115);
-    open_session(0);
+    open_session();
     admit();
     EXPECT(dws_add_auth(session, &acl.lane, "digest", "eve:secret", 10) == &acl.lane.call);
     expect_credentials("eve:secret");
@@ -598,7 +435,7 @@ static void bar(void)
     EXPECT(dws_wait(session, &acl.lane.call) == -115 && !dws_is_over(session));
     expect_words(&acl.lane.call, "the server does not take these credentials");
     close_all();
-    open_session(3);
+    open_session();
     EXPECT(dws_introduce(session, "digest", "eve:secret", 10));
     admit();
     expect_credentials("eve:secret");
@@ -618,7 +455,7 @@ static void bar(void)
 static void leave_the_rest(void)
 {
     struct bytes came;
-    open_session(0);
+    open_session();
     admit();
     dws_sync(session, named(&sync_call.lane.call, "sync") != NULL ? &sync_call.lane : NULL, "/");
     hear_request(-1001, DWS_TYPE_SYNC, NULL);
@@ -635,17 +472,12 @@ static void leave_the_rest(void)
 int main(int argc, char **argv)
 {
     bool is_quick = argc == 2 && strcmp(argv[1], "quick") == 0;
-    struct sockaddr_in any;
-    memset(&any, 0, sizeof any);
-    any.sin_family = AF_INET;
-    any.sin_addr.s_addr = htonl(INADDR_LOOPBACK);
-    listener = socket(AF_INET, SOCK_STREAM, 0);
-    EXPECT(listener >= 0 && bind(listener, (struct sockaddr *)&any, sizeof any) == 0 && listen(listener, 8) == 0);
-    EXPECT(fcntl(listener, F_SETFL, O_NONBLOCK) == 0);
+    begin_listening();
     cut_streams(is_quick);
     begin_within_a_frame(is_quick);
     lose_both();
-    ask_again();
+    keep_the_order();
+    give_up();
     tell_refusals();
     introduce();
     bar();

@@ -1,0 +1,459 @@
+/* A session of session.h at a server that the test is itself: the moment of a ping, when the server was heard, expired sessions, a lock, and memory
+ * that runs out within a session, each request for it in turn. */
+#define _POSIX_C_SOURCE 200809L
+#include "../lock.h"
+#include "refusing_heap.h"
+#include "served.h"
+
+enum { TYPE_CONNECT = 0, TYPE_CREATE = 1, TYPE_EXISTS = 3, TYPE_GET = 4, TYPE_SET = 5, TYPE_PING = 11, TYPE_CHILDREN = 12, SOON_MS = 1500 /* of a machine that is busy */ };
+
+static dws_call get, set, many[2 * DWS_MOST_ASKED];
+static dws_subject node;
+
+static bool has_told(enum dws_event event)
+{
+    return strchr(events, '0' + (int)event) != NULL;
+}
+
+static void answer_data(int32_t xid)
+{
+    struct bytes came;
+    came.length = 0;
+    add_data(&came, xid, 5, "one", &STAT);
+    answer_at_once(&came);
+}
+
+/* A reply that brings nothing. */
+static void answer_nothing(int32_t xid, int64_t zxid)
+{
+    struct bytes came;
+    came.length = 0;
+    add_header(&came, xid, zxid, 0);
+    answer_at_once(&came);
+}
+
+/* The first ping comes a third of the timeout that was granted after the session was admitted, and the session wants to be woken for it. */
+static void ping_in_time(void)
+{
+    struct pollfd polled;
+    open_session();
+    EXPECT_NUMBER(-1, dws_heard_ms(session));
+    admit();
+    uint64_t admitted_ms = dws_now_ms();
+    EXPECT(dws_heard_ms(session) >= 0 && dws_heard_ms(session) < SOON_MS);
+    turn(0); /* what there was to tell was told */
+    int wait_ms = dws_wanted(session, &polled);
+    EXPECT(wait_ms > 0 && wait_ms <= GRANTED_MS / 3);
+    hear_request(XID_PING, TYPE_PING, NULL);
+    uint64_t waited_ms = dws_now_ms() - admitted_ms;
+    EXPECT(waited_ms + SOON_MS > GRANTED_MS / 3 && waited_ms < GRANTED_MS / 3 + SOON_MS);
+    EXPECT(dws_heard_ms(session) + SOON_MS > GRANTED_MS / 3);
+    for (int i = 0; i < 2; i++) { /* and the next ones, for longer than two thirds of it */
+        answer_nothing(XID_PING, 5);
+        hear_request(XID_PING, TYPE_PING, NULL);
+    }
+    EXPECT(!has_told(DWS_CUT));
+    close_all();
+}
+
+/* The next connection begins with the request to connect, whatever was not written on the one before. */
+static void expect_new_connection(void)
+{
+    close(line);
+    events[0] = 0;
+    for (int i = 0; !has_told(DWS_CUT); i++) {
+        turn(i);
+    }
+    is_blocked = false;
+    accept_line();
+    hear();
+    EXPECT_NUMBER(0, dws_read_int(out.at));
+    EXPECT_NUMBER(SESSION, dws_read_long(out.at + 16));
+}
+
+/* What was not written is forgotten with its connection: a call that it has no room for, and a ping that is due when it ends. */
+static void forget_unsent(void)
+{
+    struct timespec third = {GRANTED_MS / 3000, 100000000};
+    struct bytes connected;
+    open_session();
+    admit();
+    is_blocked = true;
+    dws_set(session, &set, "/a", "one", 3, -1);
+    turn(0);
+    expect_new_connection();
+    EXPECT(set.is_answered && set.why == DW_OUTCOME_LOST);
+    connected.length = 0;
+    add_connected(&connected);
+    answer_at_once(&connected);
+    nanosleep(&third, NULL);
+    expect_new_connection();
+    close_all();
+}
+
+static bool are_all_expired(void)
+{
+    bool are_all = true;
+    for (int i = 0; i < 2 * DWS_MOST_ASKED; i++) {
+        are_all = are_all && many[i].is_answered && many[i].why == DW_OUTCOME_EXPIRED;
+        dws_release(&many[i]);
+    }
+    return are_all;
+}
+
+/* The session has a connection, loses it, and is told on the next one that it has expired. Reads wait meanwhile, and all are told so. */
+static void expire(bool is_over_at_expiry)
+{
+    struct bytes expired;
+    dws_options options;
+    expired.length = 0;
+    memset(&options, 0, sizeof options);
+    options.is_over_at_expiry = is_over_at_expiry;
+    open_session_with(options);
+    admit();
+    EXPECT_NUMBER(SESSION, dws_id(session));
+    dws_get(session, &get, "/a", false);
+    hear_request(1, TYPE_GET, NULL);
+    for (int i = 0; i < 2 * DWS_MOST_ASKED; i++) {
+        dws_get(session, &many[i], "/b", false);
+    }
+    close(line);
+    accept_line();
+    hear();
+    EXPECT_NUMBER(SESSION, dws_read_long(out.at + 16));
+    add_expired(&expired);
+    answer_at_once(&expired);
+    wait_for(&get);
+    EXPECT_NUMBER(DW_OUTCOME_EXPIRED, get.why);
+    turn(0);
+    EXPECT(has_told(DWS_EXPIRED) && are_all_expired());
+}
+
+static void end_at_expiry(void)
+{
+    char why[DWS_LONGEST_LINE];
+    expire(true);
+    EXPECT(dws_is_over(session));
+    dws_words(session, &get, why, sizeof why);
+    EXPECT(strcmp(why, "the session has expired: /a; renew it") == 0);
+    close_all();
+}
+
+static void renew_at_expiry(void)
+{
+    char why[DWS_LONGEST_LINE];
+    expire(false);
+    EXPECT(!dws_is_over(session));
+    dws_words(session, &get, why, sizeof why);
+    EXPECT(strcmp(why, "the session has expired: /a; call again") == 0);
+    close(line);
+    accept_line();
+    hear();
+    EXPECT_NUMBER(0, dws_read_long(out.at + 16));
+    close_all();
+}
+
+/* The limit of a call that is not sent, and of one that is. */
+static void be_late(void)
+{
+    dws_options options;
+    memset(&options, 0, sizeof options);
+    options.patience_ms = 50;
+    open_session_with(options);
+    dws_get(session, &get, "/a", false);
+    wait_for(&get);
+    EXPECT_NUMBER(DW_OUTCOME_NOT_CONNECTED, get.why);
+    admit();
+    dws_get(session, &get, "/a", false);
+    hear_request(1, TYPE_GET, NULL);
+    wait_for(&get);
+    EXPECT_NUMBER(DWS_LATE, get.why);
+    answer_data(1);
+    EXPECT(get.text == NULL && !dws_is_over(session));
+    dws_get(session, &get, "/a", false);
+    hear_request(2, TYPE_GET, NULL);
+    answer_data(2);
+    wait_for(&get);
+    EXPECT_NUMBER(0, get.why);
+    close_all();
+}
+
+/* After the server's word that the session is closed nothing more is done. */
+static void close_once(void)
+{
+    open_session();
+    admit();
+    dws_end(session);
+    dws_get(session, &get, "/a", false);
+    EXPECT(get.is_answered && get.why == DW_OUTCOME_CLOSED);
+    hear_request(1, -11, NULL);
+    answer_nothing(1, 6);
+    EXPECT(dws_is_over(session) && has_told(DWS_CLOSED));
+    for (int i = 0; i < SHORT_TURNS; i++) {
+        turn(i);
+    }
+    EXPECT(accept(listener, NULL, NULL) < 0);
+    close_all();
+}
+
+/* The text that stands at this place of the request that was read last. */
+static void text_at(size_t place, char *room, size_t size)
+{
+    snprintf(room, size, "%.*s", (int)dws_read_int(out.at + place), (const char *)out.at + place + 4);
+}
+
+/* The place that a lock asks for is made, with this number. */
+static void make_place(int32_t xid, const char *number, char *place, size_t size)
+{
+    struct bytes came;
+    hear_request(xid, TYPE_CREATE, NULL);
+    text_at(8, place, size);
+    strncat(place, number, size - strlen(place) - 1);
+    came.length = 0;
+    add_created(&came, xid, 6, place);
+    answer_at_once(&came);
+}
+
+/* The next request is about this path. */
+static void hear_about(int32_t xid, int32_t type, const char *path)
+{
+    char asked[256];
+    hear_request(xid, type, NULL);
+    text_at(8, asked, sizeof asked);
+    EXPECT(strcmp(asked, path) == 0);
+}
+
+static void answer_place(int32_t xid, int64_t zxid)
+{
+    dw_stat stat = STAT;
+    struct bytes came;
+    stat.czxid = 6;
+    stat.ephemeral_owner = SESSION;
+    came.length = 0;
+    add_data(&came, xid, zxid, "", &stat);
+    answer_at_once(&came);
+}
+
+static void answer_names(int32_t xid, int64_t zxid, const char *first, const char *second)
+{
+    struct bytes came;
+    came.length = 0;
+    add_names(&came, xid, zxid, first, second, &STAT);
+    answer_at_once(&came);
+}
+
+static void answer_none(int32_t xid, int64_t zxid)
+{
+    struct bytes came;
+    came.length = 0;
+    add_header(&came, xid, zxid, CODE_NO_NODE);
+    answer_at_once(&came);
+}
+
+static void notice(int32_t event, const char *path)
+{
+    struct bytes came;
+    came.length = 0;
+    add_notice(&came, event, path);
+    answer_at_once(&came);
+}
+
+/* An exclusive lock waits for one of Curator's that shares, and is held once that is gone. Where its place is deleted, it takes another one. */
+static void wait_for_a_lock(void)
+{
+    static dws_lock lock;
+    char place[256], again[256];
+    open_session();
+    admit();
+    EXPECT(dws_lock_take(session, &lock, "/l", DWS_EXCLUSIVE, "me", NULL));
+    make_place(1, "0000000002", place, sizeof place);
+    hear_about(2, TYPE_GET, place);
+    hear_about(3, TYPE_CHILDREN, "/l");
+    answer_place(2, 6);
+    answer_names(3, 7, place + 3, "a-__READ__0000000001");
+    EXPECT(!lock.is_held);
+    hear_about(4, TYPE_GET, "/l/a-__READ__0000000001");
+    answer_place(4, 8);
+    EXPECT(!lock.is_held);
+    notice(DW_EVENT_DELETED, "/l/a-__READ__0000000001");
+    hear_about(5, TYPE_GET, "/l/a-__READ__0000000001");
+    answer_none(5, 9);
+    hear_about(6, TYPE_EXISTS, "/l/a-__READ__0000000001");
+    answer_none(6, 9);
+    hear_about(7, TYPE_CHILDREN, "/l");
+    answer_names(7, 9, place + 3, "note");
+    EXPECT(lock.is_held && lock.token == 6);
+    notice(DW_EVENT_DELETED, place);
+    hear_about(8, TYPE_GET, place);
+    EXPECT(lock.is_held); /* it is not known yet what has become of it */
+    answer_none(8, 10);
+    hear_about(9, TYPE_EXISTS, place);
+    answer_none(9, 10);
+    EXPECT(!lock.is_held);
+    make_place(10, "0000000003", again, sizeof again);
+    dws_lock_let_go(session, &lock);
+    hear_about(11, TYPE_GET, again);
+    hear_about(12, TYPE_CHILDREN, "/l");
+    hear_about(13, 2, again);
+    close_all();
+    dws_lock_release(&lock);
+}
+
+/* With the session a lock is lost that was held, and it is waited for by the next session. */
+static void lose_a_lock(void)
+{
+    static dws_lock lock;
+    char place[256], again[256];
+    struct bytes expired;
+    open_session();
+    admit();
+    EXPECT(dws_lock_take(session, &lock, "/l", DWS_EXCLUSIVE, "me", NULL));
+    make_place(1, "0000000002", place, sizeof place);
+    hear_about(2, TYPE_GET, place);
+    answer_place(2, 6);
+    hear_about(3, TYPE_CHILDREN, "/l");
+    answer_names(3, 7, place + 3, "note");
+    EXPECT(lock.is_held);
+    close(line);
+    accept_line();
+    hear();
+    expired.length = 0;
+    add_expired(&expired);
+    answer_at_once(&expired);
+    turn(0);
+    EXPECT(!lock.is_held && lock.why == 0);
+    close(line);
+    admit();
+    hear_about(1, TYPE_CHILDREN, "/l");
+    answer_names(1, 8, "note", "z__lock__0000000004");
+    make_place(2, "0000000005", again, sizeof again);
+    hear_about(3, TYPE_GET, again);
+    EXPECT(!lock.is_held);
+    close_all();
+    dws_lock_release(&lock);
+}
+
+/* One that shares is held beside others that do, and waits for those that do not. A place whose making was lost is found again. */
+static void share_a_lock(void)
+{
+    static dws_lock lock;
+    char place[256];
+    open_session();
+    admit();
+    EXPECT(dws_lock_take(session, &lock, "/l", DWS_SHARED, "me", NULL));
+    hear_request(1, TYPE_CREATE, NULL);
+    text_at(8, place, sizeof place);
+    strcat(place, "0000000007");
+    close(line);
+    admit();
+    hear_about(2, TYPE_CHILDREN, "/l");
+    answer_names(2, 7, place + 3, "a__rlock__0000000001");
+    hear_about(3, TYPE_GET, place);
+    answer_place(3, 7);
+    EXPECT(lock.is_held && lock.token == 6);
+    close_all();
+    dws_lock_release(&lock);
+}
+
+/* Serves what the session asks, over any number of connections, as far as it has asked. */
+static void serve(void)
+{
+    static uint8_t in[1 << 12];
+    static size_t length;
+    static bool is_admitted;
+    int accepted = accept(listener, NULL, NULL);
+    if (accepted >= 0) {
+        close(line);
+        line = accepted;
+        length = 0;
+        is_admitted = false;
+    }
+    ssize_t count = line >= 0 ? recv(line, in + length, sizeof in - length, MSG_DONTWAIT) : -1;
+    length += count > 0 ? (size_t)count : 0;
+    while (length >= 4 && length >= 4 + dws_read_int(in)) {
+        struct bytes came;
+        size_t whole = 4 + dws_read_int(in);
+        int32_t xid = (int32_t)dws_read_int(in + 4), type = is_admitted ? (int32_t)dws_read_int(in + 8) : TYPE_CONNECT;
+        came.length = 0;
+        switch (type) {
+        case TYPE_CONNECT: add_connected(&came); break;
+        case TYPE_GET: add_data(&came, xid, 6, "one", &STAT); break;
+        case TYPE_SET:
+        case TYPE_EXISTS: add_stat(&came, xid, 6, &STAT); break;
+        default: add_header(&came, xid, 6, 0); break;
+        }
+        is_admitted = true;
+        memmove(in, in + whole, length - whole);
+        length -= whole;
+        EXPECT(send(line, came.at, came.length, MSG_NOSIGNAL) != 0);
+    }
+}
+
+/* A session that follows, reads and writes, of which one request of the library for memory is refused. Whether it was, and went on. */
+static bool run_short(long refused_at)
+{
+    dws_options options;
+    memset(&options, 0, sizeof options);
+    heap.asked = 0;
+    heap.refused_at = refused_at;
+    open_session_with(options);
+    if (session == NULL) { /* there was no memory for one */
+        EXPECT(was_refused());
+        return false;
+    }
+    enum dw_result followed = dws_follow(session, &node, "/a", NULL);
+    dws_get(session, &get, "/a", false);
+    dws_set(session, &set, "/a", "one", 3, -1);
+    for (int i = 0; i < MOST_TURNS && !(get.is_answered && set.is_answered && (followed != DW_OK || dws_is_good(&node))); i++) {
+        serve();
+        turn(i);
+        if (dws_is_over(session)) {
+            break;
+        }
+    }
+    EXPECT(get.is_answered && set.is_answered);
+    EXPECT(followed == DW_OK || followed == DW_NO_MEMORY);
+    bool goes_on = !dws_is_over(session);
+    EXPECT(goes_on != has_told(DWS_FAILED));
+    EXPECT(!goes_on || followed != DW_OK || strcmp(node.text, "one") == 0);
+    EXPECT(get.why == 0 || get.why == DWS_REFUSED - DW_NO_MEMORY || !goes_on);
+    EXPECT(set.why == 0 || set.why == DWS_REFUSED - DW_NO_MEMORY || set.why == DW_OUTCOME_LOST || !goes_on);
+    dws_free(session);
+    EXPECT_NUMBER(0, heap.blocks);
+    return goes_on;
+}
+
+/* Each request is refused in turn. Where one call was refused, it says so; where memory ran out within a step, the session is taken up again. */
+static void run_out_of_memory(void)
+{
+    long resumed = 0, refused_at = 1;
+    line = -1;
+    for (bool is_there = true; is_there; refused_at++) {
+        bool goes_on = run_short(refused_at);
+        is_there = was_refused();
+        resumed += is_there && goes_on && has_told(DWS_CUT);
+    }
+    EXPECT(resumed > 10);
+    printf("memory: %ld requests, after %ld of which the session was taken up again\n", refused_at - 2, resumed);
+    close(line);
+}
+
+int main(void)
+{
+    begin_listening();
+    ping_in_time();
+    forget_unsent();
+    end_at_expiry();
+    renew_at_expiry();
+    be_late();
+    close_once();
+    wait_for_a_lock();
+    lose_a_lock();
+    share_a_lock();
+    run_out_of_memory();
+    dws_release(&get);
+    dws_release(&set);
+    close(listener);
+    printf("served: passed\n");
+    return EXIT_SUCCESS;
+}

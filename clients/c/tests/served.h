@@ -1,0 +1,234 @@
+/* A session and a server that is the test itself, over 127.0.0.1: it reads each request, and answers in pieces. Frames are spelled by zookeeper.jute. */
+#ifndef DIRWOLLEU_TESTS_SERVED_H
+#define DIRWOLLEU_TESTS_SERVED_H
+
+#include "../session.h"
+#include "expect.h"
+#include "frames.h"
+
+#include <stdarg.h>
+
+enum { SHORT_TURNS = 50, MOST_TURNS = 20000 };
+
+static const dw_stat STAT = {3, 5, 1000, 2000, 0, 4, 7, 2, 9, 3, 0};
+
+static dws_session *session;
+static int listener, line;
+static char said[8192], events[64];
+static struct bytes out;
+static size_t heard; /* bytes that the session has read of this connection */
+
+/* Adds to what was said, as printf does. */
+static inline void say(const char *format, ...)
+{
+    va_list words;
+    size_t length = strlen(said);
+    va_start(words, format);
+    vsnprintf(said + length, sizeof said - length, format, words);
+    va_end(words);
+}
+
+static inline void expect_said(const char *wanted)
+{
+    if (strcmp(said, wanted) != 0) {
+        fprintf(stderr, "it is said:\n%s\nand not:\n%s\n", said, wanted);
+        exit(EXIT_FAILURE);
+    }
+    said[0] = 0;
+}
+
+static inline void note(dws_session *s, enum dws_event event, const char *server, const char *words)
+{
+    char number[2] = {(char)('0' + (int)event), 0};
+    (void)s;
+    (void)server;
+    (void)words;
+    if (strlen(events) < sizeof events - 1) {
+        strcat(events, number);
+    }
+}
+
+static inline void tell(dws_session *s, dws_call *call)
+{
+    (void)s;
+    say("%s %d\n", (const char *)call->context, (int)call->why);
+}
+
+static inline dws_call *named(dws_call *call, const char *name)
+{
+    call->then = tell;
+    call->context = (void *)(uintptr_t)name;
+    return call;
+}
+
+static inline ssize_t read_counted(dws_wire *wire, void *room, size_t size, void *context)
+{
+    ssize_t count = recv(wire->socket, room, size, 0);
+    (void)context;
+    heard += count > 0 ? (size_t)count : 0;
+    return count;
+}
+
+static bool is_blocked; /* the connection takes no bytes */
+
+static inline ssize_t write_plain(dws_wire *wire, const void *bytes, size_t size, void *context)
+{
+    (void)context;
+    if (is_blocked) {
+        errno = EAGAIN;
+        return -1;
+    }
+    return send(wire->socket, bytes, size, MSG_NOSIGNAL);
+}
+
+/* The turn of this number of a wait: the first ones do not wait for the socket. */
+static inline void turn(int number)
+{
+    struct pollfd polled;
+    EXPECT(number < MOST_TURNS);
+    dws_wanted(session, &polled);
+    poll(&polled, 1, number < SHORT_TURNS ? 0 : 1);
+    dws_go_on(session, polled.revents);
+}
+
+static inline void open_session_with(dws_options options)
+{
+    char address[32];
+    struct sockaddr_in bound;
+    socklen_t length = sizeof bound;
+    options.told = note;
+    options.read = read_counted;
+    options.write = write_plain;
+    EXPECT(getsockname(listener, (struct sockaddr *)&bound, &length) == 0);
+    snprintf(address, sizeof address, "127.0.0.1:%d", ntohs(bound.sin_port));
+    session = dws_open(address, &options, NULL, 0);
+    events[0] = 0;
+}
+
+static inline void open_session(void)
+{
+    dws_options options;
+    memset(&options, 0, sizeof options);
+    open_session_with(options);
+    EXPECT(session != NULL);
+}
+
+static inline void close_all(void)
+{
+    dws_free(session);
+    close(line);
+}
+
+/* The payload of the next frame that the session sends, into `out`. */
+static inline void hear(void)
+{
+    size_t wanted = 4, count = 0;
+    uint8_t *at = out.at;
+    for (int i = 0; count < wanted; i++) {
+        ssize_t read = recv(line, at + count, wanted - count, MSG_DONTWAIT);
+        if (read > 0) {
+            count += (size_t)read;
+        } else {
+            turn(i);
+        }
+        if (count == 4 && wanted == 4) {
+            wanted += dws_read_int(at);
+            EXPECT(wanted < sizeof out.at);
+        }
+    }
+    memmove(at, at + 4, count - 4);
+    out.length = count - 4;
+}
+
+/* The next frame has this xid and type, and this body. */
+static inline void hear_request(int32_t xid, int32_t type, const struct bytes *body)
+{
+    hear();
+    EXPECT_NUMBER(xid, (int32_t)dws_read_int(out.at));
+    EXPECT_NUMBER(type, (int32_t)dws_read_int(out.at + 4));
+    if (body != NULL) {
+        EXPECT_NUMBER(body->length, out.length - 8);
+        EXPECT(memcmp(body->at, out.at + 8, body->length) == 0);
+    }
+}
+
+/* Sends bytes, and has the session take them. */
+static inline void send_all(const uint8_t *bytes, size_t length)
+{
+    size_t wanted = heard + length;
+    while (length > 0) {
+        ssize_t sent = send(line, bytes, length, MSG_NOSIGNAL);
+        EXPECT(sent > 0);
+        bytes += sent;
+        length -= (size_t)sent;
+    }
+    for (int i = 0; heard < wanted && session->wire.socket >= 0; i++) {
+        turn(i);
+    }
+}
+
+/* Sends bytes: this many by themselves at first, and then pieces of a number of bytes. Each piece is taken before the next one. */
+static inline void answer(const struct bytes *bytes, size_t first, size_t rest)
+{
+    for (size_t at = 0, count = first; at < bytes->length; at += count, count = rest) {
+        count = (size_t)dws_least(count > 0 ? count : rest, bytes->length - at);
+        send_all(bytes->at + at, count);
+    }
+}
+
+static inline void answer_at_once(const struct bytes *bytes)
+{
+    answer(bytes, bytes->length, bytes->length);
+}
+
+/* Takes the next connection. */
+static inline void accept_line(void)
+{
+    int on = 1;
+    for (int i = 0; (line = accept(listener, NULL, NULL)) < 0; i++) {
+        EXPECT(errno == EAGAIN);
+        turn(i);
+    }
+    EXPECT(setsockopt(line, IPPROTO_TCP, TCP_NODELAY, &on, sizeof on) == 0);
+    heard = 0;
+}
+
+/* Takes the next connection, and admits the session, in this version of the protocol. */
+static inline void admit_by(int32_t version)
+{
+    struct bytes connected, spelled;
+    connected.length = spelled.length = 0;
+    accept_line();
+    hear();
+    add_connected(&connected);
+    put_int(&spelled, version);
+    memcpy(connected.at + 4, spelled.at, 4);
+    answer_at_once(&connected);
+}
+
+static inline void admit(void)
+{
+    admit_by(0);
+}
+
+/* Goes on until a call is answered. */
+static inline void wait_for(const dws_call *call)
+{
+    for (int i = 0; !call->is_answered; i++) {
+        turn(i);
+    }
+}
+
+/* Listens, for all sessions of the test. */
+static inline void begin_listening(void)
+{
+    struct sockaddr_in any;
+    memset(&any, 0, sizeof any);
+    any.sin_family = AF_INET;
+    any.sin_addr.s_addr = htonl(INADDR_LOOPBACK);
+    listener = socket(AF_INET, SOCK_STREAM, 0);
+    EXPECT(listener >= 0 && bind(listener, (struct sockaddr *)&any, sizeof any) == 0 && listen(listener, 8) == 0);
+    EXPECT(fcntl(listener, F_SETFL, O_NONBLOCK) == 0);
+}
+
+#endif
