@@ -33,13 +33,15 @@ static END: [Event; 2] = [Event::Expires, Event::Cuts];
 static NOTHING: [Event; 0] = [];
 
 /// Rows of which each is played once.
-fn single_rows() -> [Row; 4] {
+fn single_rows() -> [Row; 6] {
     let data = |name, events| Row::new(name, Side::Data, "/config", events);
     [
         data("an expiry, after a change", &END).after(1),
         data("a reply that the session is over", &NOTHING).refused(-112),
         data("a reply that the session has moved", &NOTHING).refused(-118),
-        data("a node that is there and has no data", &NOTHING).refused(-101),
+        data("a read that is refused", &NOTHING).refused(-102),
+        data("an address that refuses", &EXPIRY).away(1, 2_000),
+        data("no server ever", &NOTHING).away(u32::MAX, 1_000),
     ]
 }
 

@@ -1,1 +1,5 @@
-pub mod WatchLemmas
+mod Ending
+mod Pieces
+mod Printing
+mod Showing
+mod Telling

@@ -1,20 +1,26 @@
--- What a watch prints: what its clients say, and what they keep of its subjects.
-use Rattle.std.specs.Prelude.{◌≡◌, ◌⊎◌, ⊤, ℕ, ℤ, Bool, true, false, List, [], ◌∷◌, ◌++◌, map, codes, Some}
-use Rattle.std.specs.List.{flat_map, Contains, FoldsTo}
+-- What a watch does, and what it prints.
+use Rattle.std.specs.Prelude.{◌≡◌, ◌≢◌, ◌≤◌, ◌+◌, ◌||◌, min, ◌^◌, ◌-◌, ◌⊎◌, ⊤, ℕ, ℤ, Bool, true, false, if◌then◌else◌, bytes_eq, List, [], ◌∷◌, ◌++◌, length, map, Option, Some, None, string_bytes}
+use Rattle.std.specs.List.{flat_map, FoldsTo}
+use Rattle.std.specs.Io.KnownBytes.{Appends}
 use Rattle.zk_nodes.specs.Path.{Text}
 use Rattle.zk_nodes.specs.declared.side.Side.{Side}
-use Rattle.zk_session.specs.declared.states.State.TheVariants.{Expired}
-use Rattle.zk_turns.specs.Turns.{Output, Answer, Enters, Drop, Turn, Start, Item, new_start}
+use Rattle.zk_session.specs.declared.states.State.TheVariants.{Connected}
+use Rattle.zk_conversation.specs.declared.call.Call.TheVariants as call
+use Rattle.zk_turns.specs.Turns.{Enters, new_start}
 use Rattle.zk_turns.specs.View.{View, view_at}
-use Rattle.zk_turns.specs.Rule.{Rule, Stands}
-use Rattle.zk_client.specs.Clients.{renewed_start}
-use Rattle.zk_script.specs.Lines.{TellsInOrder}
-use Rattle.zk_script.specs.Values.{spaced}
-use Rattle.zk_script.specs.Words.{text_word}
-use Rattle.zk_replay.specs.ClientLines.{PeekLine}
-use Rattle.zk_replay.specs.Played.{DoesClient}
-use Rattle.zk_replay.specs.Shown.{last_line, TellsOutput}
+use Rattle.zk_client.specs.Clients.{view_of}
+use Rattle.zk_agent.specs.Agents.{IsLed}
+use Rattle.zk_agent.specs.Telling.{Told, Says, action_view}
+use Rattle.zk_agent.specs.declared.input.Input.{Input}
+use Rattle.zk_agent.specs.declared.input.Input.TheVariants as happens
+use Rattle.zk_driver.specs.declared.engine.Engine.{Engine}
+use Rattle.zk_driver.specs.Driving.{closed, course_of, passed_by, AreFollowed, Course, Hands}
+use Rattle.zk_driver.specs.Noting.{notes_of, passed_in, GoesBy}
+use Rattle.zk_driver.specs.declared.turn.Turn.{Turn}
+use Rattle.zk_driver.specs.declared.turn.Turn.TheVariants as turn
+use Rattle.zk_watch.specs.Lines.{line_of, none_words, stamp_of, subject_words, turn_words, Looks}
 use Rattle.zk_watch.specs.declared.plan.Subject.{Subject}
+use Rattle.zk_watch.specs.declared.shown.Watched.{Watched}
 
 -- a side of a path
 abbrev pub aim_of : {A : Type 0} → Subject A → Side × Text
@@ -23,85 +29,196 @@ aim_of subject = (subject.side, subject.path)
 abbrev pub aims_of : {A : Type 0} → List (Subject A) → List (Side × Text)
 aims_of subjects = map aim_of subjects
 
--- What is printed of an output: the line of a state, and of a connection that is given up; of an answer its line or nothing; nothing of
--- the rest.
-abbrev pub TellsHeard : Output → List ℕ → Type 0
-TellsHeard (Answer ticket outcome) text = (text ≡ []) ⊎ TellsOutput (Answer ticket outcome) text
-TellsHeard (Enters state) text = TellsOutput (Enters state) text
-TellsHeard (Drop fault) text = TellsOutput (Drop fault) text
-TellsHeard _ text = text ≡ []
+-- ---- what is shown of subjects
 
--- Whether the line of an output is printed.
-abbrev pub IsToldAs : Output → Bool → Type 0
-IsToldAs (Answer ticket outcome) is_told = ⊤
-IsToldAs (Enters state) is_told = is_told ≡ true
-IsToldAs (Drop fault) is_told = is_told ≡ true
-IsToldAs _ is_told = is_told ≡ false
+-- the line of a subject, where the words are not those that were printed last
+abbrev pub changed_line : (stamp : List ℕ) → Text → (old new : List ℕ) → (zxid : ℤ) → List ℕ
+changed_line stamp path old new zxid = if bytes_eq new old then [] else line_of stamp (subject_words path new zxid)
 
--- What is printed of outputs, in order.
-abbrev pub TellsEach : List Output → List ℕ → Type 0
-TellsEach outputs text = TellsInOrder TellsHeard outputs text
+-- A subject is shown: what was printed of it last is the look-up then, and it is printed where it was not.
+pub record ShowsSo {A : Type 0} (stamp : List ℕ) (view : View) (old new : Watched A) (text : List ℕ) : Type 0 where
+  pub aim : aim_of new.subject ≡ aim_of old.subject
+  pub looks : Looks new.subject.side new.subject.path view (string_bytes new.words)
+  pub line : text ≡ changed_line stamp new.subject.path (string_bytes old.words) (string_bytes new.words) view.saved.last
 
--- the path of a subject, the words of what is kept of it, and the last seen zxid
-abbrev pub subject_line : Text → List ℕ → ℤ → List ℕ
-subject_line path words zxid = text_word (Some path) ++ (spaced words ++ spaced (last_line zxid))
+-- Each is, in order.
+abbrev pub ShowsAll : {A : Type 0} → (stamp : List ℕ) → View → (old new : List (Watched A)) → (text : List ℕ) → Type 0
+ShowsAll stamp view [] [] text = text ≡ []
+ShowsAll stamp view (old ∷ olds) (new ∷ news) text = (first rest : List ℕ) × ShowsSo stamp view old new first × ShowsAll stamp view olds news rest × (text ≡ first ++ rest)
+ShowsAll stamp view olds news text = ⊥
 
--- What is printed of a subject: the words are those of a look-up, and with the zxid they are of one client at one time.
-pub record TellsSubject (side : Side) (path : Text) (view : View) (text : List ℕ) : Type 0 where
-  pub words : List ℕ
-  pub kept : DoesClient (PeekLine side path) view view (words ++ 10 ∷ [])
-  pub line : text ≡ subject_line path words view.saved.last
+-- ---- how far a watch has come
 
--- What happens in a watch: a client goes through turns, what one keeps of a subject is shown, or another session begins, which asks for a
--- timeout.
-pub data Move : Type 0 where
-  Turns : List Turn → Move
-  Shows : View → Side → Text → Move
-  Begins : ℤ → Move
+-- The agent and its connection, with what it has told that was not taken yet; the subjects with what was printed of each last; and whether a
+-- server has accepted a session.
+pub record Stand (A : Type 0) : Type 0 where
+  pub course : Course A
+  pub watched : List (Watched A)
+  pub is_accepted : Bool
 
--- what turns said
-abbrev pub outputs_in : List Turn → List Output
-outputs_in turns = flat_map (λ turn. turn.outputs) turns
+abbrev pub stand_of : {A S : Type 0} → Engine A S → List (Watched A) → (is_accepted : Bool) → Stand A
+stand_of engine watched is_accepted = record { course = course_of engine None; watched = watched; is_accepted = is_accepted }
 
--- What a move makes of a client, and what it prints. Turns are by the rule. Another session begins after an expiry alone,
--- and with the last seen zxid.
-abbrev pub Does : List (Side × Text) → Move → View → List ℕ → View → Type 0
-Does aims (Turns turns) old text new = FoldsTo Rule old turns new × TellsEach (outputs_in turns) text
-Does aims (Shows view side path) old text new = (view ≡ old) × (new ≡ old) × Contains aims (side, path) × TellsSubject side path old text
-Does aims (Begins timeout) old text new =
-    (old.standing.state ≡ Expired) × (new ≡ view_at (renewed_start timeout old) []) × (text ≡ codes "session new\n")
+abbrev pub view_in : {A : Type 0} → Stand A → View
+view_in stand = view_of stand.course.agent.asker.follower.client
 
--- What moves make of a client, and what they print, in order.
-abbrev pub Runs : List (Side × Text) → List Move → View → List ℕ → View → Type 0
-Runs aims [] old text new = (new ≡ old) × (text ≡ [])
-Runs aims (move ∷ moves) old text new =
-    (between : View) × (first rest : List ℕ) × Does aims move old first between × Runs aims moves between rest new × (text ≡ first ++ rest)
+-- that a server has accepted a session
+abbrev pub accepts_by : Told → Bool
+accepts_by (Says (Enters Connected)) = true
+accepts_by told = false
+
+abbrev pub accepts : {A : Type 0} → Turn A → Bool
+accepts (turn.Told action) = accepts_by (action_view action)
+accepts turn = false
+
+-- The line of a turn, with some address.
+abbrev pub LinesOf : {A : Type 0} → (stamp : List ℕ) → Turn A → View → List (Watched A) → List ℕ → Type 0
+LinesOf stamp turn view watched text = (at : Text) × (text ≡ line_of stamp (turn_words watched at view turn))
+
+-- Subjects are shown where nothing waits to be told, and this is added to a text.
+pub record ShowsThen {A : Type 0} (stamp : List ℕ) (view : View) (waits : List Told) (old new : List (Watched A)) (before after : List ℕ) : Type 0 where
+  pub shown : List ℕ
+  pub shows : waits ≡ [] → ShowsAll stamp view old new shown
+  pub rests : waits ≢ [] → (new ≡ old) × (shown ≡ [])
+  pub added : after ≡ before ++ shown
+
+-- What is printed of a turn: its words, after some time. Where nothing waits to be told then, each subject is printed after them of which what
+-- the client keeps is not what was printed last: so what was printed last of each subject is the look-up then.
+pub record TellsTurn {A : Type 0} (turn : Turn A) (view : View) (waits : List Told) (old new : List (Watched A)) (text : List ℕ) : Type 0 where
+  pub ms : ℕ
+  pub at : Text
+  pub shown : List ℕ
+  pub shows : waits ≡ [] → ShowsAll (stamp_of ms) view old new shown
+  pub rests : waits ≢ [] → (new ≡ old) × (shown ≡ [])
+  pub are : text ≡ line_of (stamp_of ms) (turn_words old at view turn) ++ shown
+
+-- One turn of the driver, and what is printed of it. What waits to be told is neither lost nor told twice.
+pub record Turns {A : Type 0} (turn : Turn A) (old : Stand A) (text : List ℕ) (new : Stand A) : Type 0 where
+  pub goes : GoesBy (notes_of turn) old.course (record new.course { told = passed_by (passed_in turn) ++ new.course.told })
+  pub tells : TellsTurn turn (view_in new) new.course.told old.watched new.watched text
+  pub accepted : new.is_accepted ≡ (old.is_accepted || accepts turn)
+
+-- A subject is followed, by the ticket that is its place, counted from 1: as if nothing were kept of it and that were printed.
+pub record FollowsSo {A : Type 0} (aim : Side × Text) (old new : Stand A) : Type 0 where
+  pub hands : Hands (happens.Follow (length old.watched + 1) aim.0 aim.1) old.course new.course
+  pub one : Watched A
+  pub its_aim : aim_of one.subject ≡ aim
+  pub its_words : string_bytes one.words ≡ none_words aim.0
+  pub watched : new.watched ≡ old.watched ++ one ∷ []
+  pub accepted : new.is_accepted ≡ old.is_accepted
+
+-- Each of these is, in order.
+abbrev pub FollowsAll : {A : Type 0} → List (Side × Text) → (old new : Stand A) → Type 0
+FollowsAll aims old new = FoldsTo (λ at aim after. FollowsSo aim at after) old aims new
+
+-- One turn, by whose moment this one may have come.
+pub record Heard {A : Type 0} (until : ℕ) (is_over : Bool) (old : Stand A) (text : List ℕ) (new : Stand A) : Type 0 where
+  pub turn : Turn A
+  pub turns : Turns turn old text new
+  pub comes : is_over ≡ true → (until ≤ new.course.agent.latest) × (new.course.told ≡ [])
+
+pub data Move (A : Type 0) : Type 0 where
+  Takes : (turn : Turn A) → (text : List ℕ) → Move A
+  Closes : (until : ℕ) → Move A
+
+abbrev pub text_of : {A : Type 0} → Move A → List ℕ
+text_of (Takes turn text) = text
+text_of (Closes until) = []
+
+-- A turn is made and printed, or the end of the session is asked for.
+abbrev pub Does : {A : Type 0} → Stand A → Move A → Stand A → Type 0
+Does old (Takes turn text) new = Turns turn old text new
+Does old (Closes until) new = Hands (happens.Call 0 call.Close (Some until)) old.course new.course × (new.watched ≡ old.watched) × (new.is_accepted ≡ old.is_accepted)
 
 -- Some moves print this.
-pub record Prints (aims : List (Side × Text)) (old : View) (text : List ℕ) (new : View) : Type 0 where
-  pub moves : List Move
-  pub runs : Runs aims moves old text new
+pub record Prints {A : Type 0} (old : Stand A) (text : List ℕ) (new : Stand A) : Type 0 where
+  pub moves : List (Move A)
+  pub does : FoldsTo Does old moves new
+  pub are : text ≡ flat_map text_of moves
 
--- They add it to a text.
-abbrev pub Adds : List (Side × Text) → View → List ℕ → View → List ℕ → Type 0
-Adds aims old before new after = (told : List ℕ) × Prints aims old told new × (after ≡ before ++ told)
+-- They do, and it is written.
+abbrev pub Writes : {A : Type 0} → (old new : Stand A) → (before after : Option (List ℕ)) → Type 0
+Writes old new before after = (text : List ℕ) × Prints old text new × Appends before after text
 
--- A client has come through all its turns to this view.
-pub record Stood (view : View) : Type 0 where
-  pub start : Start
-  pub items : List Item
-  pub stands : Stands start items view
+-- some do, to where nobody sees
+abbrev pub WritesOn : {A : Type 0} → (old : Stand A) → (before after : Option (List ℕ)) → Type 0
+WritesOn {A} old before after = (last : Stand A) × Writes old last before after
 
--- Each client of which something is shown has.
-abbrev pub AllStood : List Move → Type 0
-AllStood [] = ⊤
-AllStood (Shows view side path ∷ moves) = Stood view × AllStood moves
-AllStood (move ∷ moves) = AllStood moves
+-- The moment has come, and nothing waits to be told.
+abbrev pub HasCome : {A : Type 0} → (until : ℕ) → Stand A → Type 0
+HasCome until stand = (until ≤ stand.course.agent.latest) × (stand.course.told ≡ [])
 
--- What a watch of these prints, from a session that begins with a timeout on.
-pub record IsPrinted (aims : List (Side × Text)) (text : List ℕ) : Type 0 where
+-- the moment at which a watch is over
+abbrev pub end_of : (begins : ℕ) → Option ℕ → ℕ
+end_of begins None = 2 ^ 64 - 1
+end_of begins (Some ms) = min (begins + ms) (2 ^ 64 - 1)
+
+-- the first move is that the end of the session is asked for
+abbrev pub AsksFirst : {A : Type 0} → List (Move A) → Type 0
+AsksFirst [] = ⊥
+AsksFirst (Takes turn text ∷ moves) = ⊥
+AsksFirst (Closes until ∷ moves) = ⊤
+
+-- Where the client is connected, the end of the session is asked for, and what comes of that is printed; else nothing happens.
+pub record EndsBy {A : Type 0} (old : Stand A) (moves : List (Move A)) : Type 0 where
+  pub asks : (view_in old).standing.state ≡ Connected → AsksFirst moves
+  pub rests : (view_in old).standing.state ≢ Connected → moves ≡ []
+
+-- The session is ended so, and that is written.
+abbrev pub WritesEnd : {A : Type 0} → (old new : Stand A) → (before after : Option (List ℕ)) → Type 0
+WritesEnd old new before after = (text : List ℕ) × (prints : Prints old text new) × EndsBy old prints.moves × Appends before after text
+
+-- The moment has come at which a watch is over, and then the session is ended.
+pub record IsOver {A : Type 0} (for_ms : Option ℕ) (ready last : Stand A) (text : List ℕ) : Type 0 where
+  pub begins : ℕ
+  pub over : Stand A
+  pub told : List ℕ
+  pub rest : List ℕ
+  pub prints : Prints ready told over
+  pub comes : HasCome (end_of begins for_ms) over
+  pub closes : Prints over rest last
+  pub ends : EndsBy over closes.moves
+  pub are : text ≡ told ++ rest
+
+-- ---- the whole
+
+-- A new session, which asks for some timeout, and no connection.
+pub record IsBegun {A : Type 0} (first : Stand A) : Type 0 where
   pub timeout : ℕ
-  pub moves : List Move
-  pub last : View
-  pub runs : Runs aims moves (view_at (new_start timeout) []) text last
-  pub stood : AllStood moves
+  pub client : view_in first ≡ view_at (new_start timeout) []
+  pub followed : AreFollowed first.course.agent
+  pub channel : first.course.channel ≡ closed
+  pub told : first.course.told ≡ []
+  pub watched : first.watched ≡ []
+  pub accepted : first.is_accepted ≡ false
+
+-- What a watch of these has printed, wherever it stopped: nothing before each is followed.
+pub record PrintsFrom {A : Type 0} (aims : List (Side × Text)) (first : Stand A) (text : List ℕ) : Type 0 where
+  pub ready : Stand A
+  pub last : Stand A
+  pub follows : FollowsAll aims first ready
+  pub prints : Prints ready text last
+
+-- What it has printed whose time is over, and whether a server has accepted a session.
+pub record EndsFrom {A : Type 0} (aims : List (Side × Text)) (for_ms : Option ℕ) (first : Stand A) (text : List ℕ) (is_accepted : Bool) : Type 0 where
+  pub ready : Stand A
+  pub last : Stand A
+  pub follows : FollowsAll aims first ready
+  pub over : IsOver for_ms ready last text
+  pub accepted : last.is_accepted ≡ is_accepted
+
+-- Each client that something is printed of stands where turns by the rule have led it.
+abbrev pub AllStood : {A : Type 0} → (moves : List (Move A)) → (old new : Stand A) → FoldsTo Does old moves new → Type 0
+AllStood [] old new does = ⊤
+AllStood (move ∷ moves) old new does = IsLed (view_in does.0) × AllStood moves does.0 new does.2
+
+abbrev pub IsStood : {A : Type 0} → (old : Stand A) → (text : List ℕ) → (new : Stand A) → Prints old text new → Type 0
+IsStood old text new prints = AllStood prints.moves old new prints.does
+
+abbrev pub IsPrinted : (A : Type 0) → List (Side × Text) → List ℕ → Type 0
+IsPrinted A aims text = (text ≡ []) ⊎ ((first : Stand A) × IsBegun first × (from : PrintsFrom aims first text) × IsStood from.ready text from.last from.prints)
+
+abbrev pub IsWatched : (A : Type 0) → List (Side × Text) → Option ℕ → List ℕ → (is_accepted : Bool) → Type 0
+IsWatched A aims for_ms text is_accepted =
+    (first : Stand A) × IsBegun first × (from : EndsFrom aims for_ms first text is_accepted)
+    × IsStood from.ready from.over.told from.over.over from.over.prints × IsStood from.over.over from.over.rest from.last from.over.closes

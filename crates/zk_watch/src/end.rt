@@ -1,13 +1,17 @@
 //! How a watch ends.
 
+ghost use Rattle.std.specs.Prelude.{◌≢◌};
+
 use std::alloc::AllocError;
-use zk_link::Stop;
+use zk_driver::Stop;
 
 /// How a watch ended.
 #[derive(Clone, Copy, Debug, PartialEq, Eq)]
 pub enum End {
-    /// Its time was over, and it is closed.
+    /// Its time was over, and it is closed. A server has accepted its session.
     Over,
+    /// Its time was over, and no server has ever accepted a session of it.
+    NeverConnected,
     /// A step of the client ran out of memory.
     Halted,
     /// Memory ran out elsewhere.
@@ -16,22 +20,50 @@ pub enum End {
     Stream,
 }
 
-impl From<AllocError> for End {
-    ghost use Rattle.std.specs.Prelude.{◌≡◌};
-    ghost use Rattle.zk_watch.specs.declared.end.End.TheVariants.{Memory};
+/// Why a watch cannot go on.
+#[derive(Clone, Copy)]
+pub(crate) enum Failure {
+    Halted,
+    Memory,
+    Stream,
+}
 
-    ghost from_gives = { λ _ end. end ≡ Memory };
+impl From<AllocError> for Failure {
+    ghost use Rattle.std.specs.Prelude.{◌≢◌};
+    ghost use Rattle.zk_watch.specs.declared.end.Failure.TheVariants.{Stream};
 
-    fn from(_fault: AllocError) -> End {
-        End::Memory
+    ghost from_gives = { λ _ why. why ≢ Stream };
+
+    fn from(_fault: AllocError) -> Failure {
+        Failure::Memory
     }
 }
 
-impl From<Stop> for End {
-    fn from(stop: Stop) -> End {
+impl From<Stop> for Failure {
+    ghost use Rattle.std.specs.Prelude.{◌≢◌};
+    ghost use Rattle.zk_watch.specs.declared.end.Failure.TheVariants.{Stream};
+
+    ghost from_gives = { λ _ why. why ≢ Stream };
+
+    fn from(stop: Stop) -> Failure {
         match stop {
-            Stop::Halted => End::Halted,
-            Stop::Memory => End::Memory,
+            Stop::Halted => Failure::Halted,
+            Stop::Memory => Failure::Memory,
+        }
+    }
+}
+
+impl Failure {
+    /// How a watch ends that cannot go on.
+    pub(crate) fn end(self) -> End
+        ensures over { result ≢ End.Over }
+        ensures never { result ≢ End.NeverConnected }
+        ensures stream { result ≢ End.Stream → self ≢ Failure.Stream }
+    {
+        match self {
+            Failure::Halted => End::Halted,
+            Failure::Memory => End::Memory,
+            Failure::Stream => End::Stream,
         }
     }
 }

@@ -1,18 +1,18 @@
-//! What is kept of named nodes, printed as it changes.
+//! What is kept of named nodes, and what becomes of a session, printed as it changes.
 //!
-//! [`watch`] connects, reads each [`Subject`] with a watch, and prints a line at each change that it learns: what is kept now, its mark and
-//! the last seen zxid, as the look-ups of `zk_replay` print them, with the states of the session between them. What it prints of an answer
-//! is what the client keeps, and each client stands where its turns have led: so what the law `holds` of `zk_client` says is so of each
-//! answer that is printed.
+//! [`watch`] has a driver of `zk_driver` follow each [`Subject`], and decides nothing of the session: it prints a line for each thing that the
+//! driver tells of the session, of its connections and of reads that are refused, and a line wherever what the client keeps of a subject is
+//! not what was printed of it last.
 #![tactic(auto)]
 
 mod end;
-mod lines;
-mod notes;
+mod looks;
 mod plan;
 mod planned;
-mod told;
+mod shown;
+mod stamp;
 mod watcher;
+mod words;
 
 pub use end::End;
 pub use plan::{Plan, Subject};

@@ -1,37 +1,42 @@
 //! A watch.
 
-ghost use Rattle.std.specs.Prelude.{◌≢◌, ℕ, List};
+ghost use Rattle.std.specs.Prelude.{◌≡◌, ◌≢◌, ℕ, List, true, false};
 ghost use Rattle.std.specs.Io.KnownBytes.{Appends};
-ghost use Rattle.zk_watch.specs.Watching.{aims_of, IsPrinted};
+ghost use Rattle.zk_watch.specs.Watching.{aims_of, IsPrinted, IsWatched};
 
 use crate::end::End;
 use crate::plan::Plan;
 use crate::watcher::Watcher;
 use std::alloc::Allocator;
 use std::io::Write;
-use zk_client::Client;
-use zk_link::{Clock, Dial, Link};
+use zk_driver::Driver;
+use zk_link::{Clock, Dial};
 
 /// Watches the subjects of a plan, and prints to `out` what changes, until its time is over or a write fails. Then the session is ended,
 /// which is waited for, a third of the timeout at most.
 ///
-/// A line tells each state of the session, each connection that is given up, and each session that begins after one that expired; and of
-/// a subject its path, what is kept of it now with its mark, and the last seen zxid, where more than this differs from what was printed
-/// last. At first it is as if nothing that is kept had been printed. A read that a server refuses, other than for a node that is not
-/// there, is told once, as the answer to the ticket that is the place of its subject, counted from 1; it is read again a second later at
-/// the earliest, also where the connection is lost meanwhile, and so is a node of which one read finds nothing and the other that it is
-/// there. Addresses are dialled in turn, again and again, with the pauses of the link.
+/// A driver follows each subject, and decides when it is read, which address is dialled, and when another session begins. A line tells each
+/// thing that it tells of the session, of its connections and of reads that are refused; and of a subject its path, what is kept of it now,
+/// and the last seen zxid, where that is not what was printed of it last. At first it is as if nothing that is kept had been printed. Each
+/// line begins with the time since the watch began.
 ///
-/// Lines are written whole, those of one round in one write, and flushed. Where memory runs out, a round is not written.
+/// Lines are written whole, those of one turn in one write, and flushed. Where memory runs out, those of the last turn are not written.
 pub fn watch<A: Allocator + Copy, D: Dial + Drop, C: Clock + Drop, O: Write>(
     alloc: A,
     dial: D,
-    mut clock: C,
+    clock: C,
     plan: Plan<'_, A>,
     out: &mut O,
 ) -> End
-    // Each line is by the rules of what a client says and keeps, and each client of which an answer is shown stands where its turns led.
-    ensures printed { result ≢ End.Stream → (text : List ℕ) × IsPrinted (aims_of plan.entry.subjects.items) text
+    // Its time is over. Each subject was followed; each turn of the driver was printed; after each, what was printed last of each subject was what
+    // the client kept of it; and a server had accepted a session.
+    ensures over { result ≡ End.Over → (text : List ℕ) × IsWatched A (aims_of plan.entry.subjects.items) plan.entry.for_ms text true
+        × Appends (O.contents out.old) (O.contents out.new) text }
+    // The same, where none had.
+    ensures never { result ≡ End.NeverConnected → (text : List ℕ) × IsWatched A (aims_of plan.entry.subjects.items) plan.entry.for_ms text false
+        × Appends (O.contents out.old) (O.contents out.new) text }
+    // Turns are printed so, wherever it stopped.
+    ensures printed { result ≢ End.Stream → (text : List ℕ) × IsPrinted A (aims_of plan.entry.subjects.items) text
         × Appends (O.contents out.old) (O.contents out.new) text }
 {
     let Plan {
@@ -40,14 +45,15 @@ pub fn watch<A: Allocator + Copy, D: Dial + Drop, C: Clock + Drop, O: Write>(
         timeout_ms,
         for_ms,
     } = plan;
-    let timeout_ms = timeout_ms.max(1);
-    let client = Client::new(alloc, timeout_ms);
-    let seed = clock.now();
+    let Ok(driver) = Driver::begin(alloc, timeout_ms.max(1), dial, clock, addresses) else {
+        return End::Memory;
+    };
     let mut watcher = Watcher {
         alloc,
-        timeout_ms,
-        link: Link::new(alloc, client, dial, clock, addresses, seed),
-        notes: Vec::new(alloc),
+        driver,
+        watched: Vec::new(alloc),
+        is_accepted: false,
+        begins: 0,
     };
     let end = watcher.watch_for(subjects.as_slice(), for_ms, out);
     drop(watcher);

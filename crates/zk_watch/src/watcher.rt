@@ -1,343 +1,302 @@
-//! A link, and what was printed of subjects.
+//! A driver, and what was printed of subjects.
 
-ghost use Rattle.std.specs.Prelude.{◌≡◌, ◌≢◌, ◌++◌, true, IfErr, List, [], ℕ, ℤ, OnOk, string_bytes};
+ghost use Rattle.std.specs.Prelude.{◌≡◌, ◌≢◌, ◌⊎◌, ◌||◌, ℕ, List, [], true, false, IfErr, IfOk, OnOk, string_bytes};
 ghost use Rattle.std.specs.Io.KnownBytes.{Appends};
-ghost use Rattle.zk_client.specs.Clients.{renewed_start, view_of};
-ghost use Rattle.zk_turns.specs.View.{View, view_at};
-ghost use Rattle.zk_client.specs.Views.{said};
-ghost use Rattle.zk_watch.specs.Watching.{aims_of, Adds, Prints, TellsEach};
+ghost use Rattle.zk_agent.specs.Telling.{told_by};
+ghost use Rattle.zk_client.specs.Clients.{view_of};
+ghost use Rattle.zk_driver.specs.Noting.{is_come};
+ghost use Rattle.zk_watch.specs.Watching.{accepts, aim_of, aims_of, end_of, stand_of, EndsFrom, FollowsAll, FollowsSo, HasCome, Closes, Does, Heard, IsOver, LinesOf, PrintsFrom, ShowsThen, TellsTurn, Writes, WritesEnd, WritesOn};
 
-use crate::end::End;
-use crate::lines::{is_known, kept_line, none_line, push_subject};
-use crate::notes::{Note, begin_read, first_moment, is_told, new_notes, set_told};
+use crate::end::{End, Failure};
 use crate::plan::Subject;
-use crate::told::heard_text;
+use crate::shown::{Watched, copy_of, show_all};
+use crate::stamp::{push_line, stamp_of};
+use crate::words::turn_words;
 use std::alloc::{AllocError, Allocator};
-use std::io::Write;
-use zk_client::{Call, Output, Path, Side, State};
-use zk_link::{Clock, Dial, Link};
+use std::io::{self, Write};
+use zk_client::{Call, State};
+use zk_driver::{Action, Driver, Stop, Turn};
+use zk_link::{Clock, Dial};
 
-/// The ticket of the call that ends the session. Those of reads begin at 1.
+/// The ticket of the call that ends the session. Those of subjects begin at 1.
 const CLOSE: u64 = 0;
 
-/// A link, and what is known of the reads of the subjects and was printed of them.
+/// A driver, what was printed of the subjects, whether a server has accepted a session, and when the watch began.
 #[derive(Drop)]
 pub(crate) struct Watcher<'a, A: Allocator + Copy, D: Dial + Drop, C: Clock + Drop> {
     pub(crate) alloc: A,
-    pub(crate) timeout_ms: i32,
-    pub(crate) link: Link<'a, A, D, C>,
-    pub(crate) notes: Vec<Note<A>, A>,
-}
-
-/// The call that reads a subject, where it is known whether the node was not there: getData and getChildren leave no watch then.
-fn read_of<A: Allocator + Copy>(
-    alloc: A,
-    subject: &Subject<A>,
-    is_missing: bool,
-) -> Result<Call<A>, AllocError> {
-    let Ok(path) = Path::new(alloc, subject.path.as_str()) else {
-        return Err(AllocError);
-    };
-    let watch = true;
-    Ok(if is_missing {
-        Call::Exists { path, watch }
-    } else {
-        match subject.side {
-            Side::Data => Call::GetData { path, watch },
-            Side::Child => Call::GetChildren { path, watch },
-        }
-    })
+    pub(crate) driver: Driver<'a, A, D, C>,
+    pub(crate) watched: Vec<Watched<A>, A>,
+    pub(crate) is_accepted: bool,
+    pub(crate) begins: u64,
 }
 
 /// Writes what was made, if anything was.
-fn write<O: Write>(out: &mut O, text: &str) -> Result<(), End>
+fn write<O: Write>(out: &mut O, text: &str) -> Result<(), Failure>
     ensures ok { OnOk result (Appends (O.contents out.old) (O.contents out.new) text.now) }
-    ensures err { IfErr result (λ end. end ≡ End.Stream) }
+    ensures err { IfErr result (λ why. why ≡ Failure.Stream) }
 {
     if text.is_empty() {
         return Ok(());
     }
     if out.write_all(text.as_bytes()).is_err() || out.flush().is_err() {
-        return Err(End::Stream);
+        return Err(Failure::Stream);
     }
     Ok(())
 }
 
 /// The moment at which a watch ends that begins at this one.
-fn end_of(begins: u64, for_ms: Option<u64>) -> u64 {
+fn end_of(begins: u64, for_ms: Option<u64>) -> u64
+    ensures { result ≡ end_of begins for_ms }
+{
     match for_ms {
         Some(ms) => begins.saturating_add(ms),
         None => u64::MAX,
     }
 }
 
+/// Whether a server has accepted a session.
+fn accepts<A: Allocator>(turn: &Turn<A>) -> bool
+    ensures { result ≡ accepts turn.now }
+{
+    matches!(turn, Turn::Told(Action::State(State::Connected)))
+}
+
+/// Whether the moment has come.
+fn is_come<A: Allocator>(turn: &Turn<A>) -> bool
+    ensures { result ≡ is_come turn.now }
+{
+    matches!(turn, Turn::Come)
+}
+
 impl<'a, A: Allocator + Copy, D: Dial + Drop, C: Clock + Drop> Watcher<'a, A, D, C> {
     /// Whether the client is connected.
-    fn is_connected(&self) -> bool {
-        matches!(self.link.client().state(), State::Connected)
+    fn is_connected(&self) -> bool
+        ensures yes { result ≡ true → (view_of self.now.driver.engine.agent.asker.follower.client).standing.state ≡ State.Connected }
+        ensures no { result ≡ false → (view_of self.now.driver.engine.agent.asker.follower.client).standing.state ≢ State.Connected }
+    {
+        matches!(self.driver.client().state(), State::Connected)
     }
 
-    /// Takes what a client said, and adds what is printed of it.
-    fn hear(&mut self, outputs: &[Output<A>], text: &mut String<A>) -> Result<(), AllocError>
-        ensures joint { self.new.link.joint ≡ self.old.link.joint }
-        ensures told { OnOk result ((told : List ℕ) × TellsEach (said outputs.now) told × (string_bytes text.new ≡ string_bytes text.old ++ told)) }
+    /// The time since the watch began, in milliseconds.
+    fn elapsed(&mut self) -> u64
+        ensures engine { self.new.driver.engine ≡ self.old.driver.engine }
+        ensures watched { self.new.watched ≡ self.old.watched }
+        ensures accepted { self.new.is_accepted ≡ self.old.is_accepted }
     {
-        let now = self.link.now();
-        let told = heard_text(self.alloc, &mut self.notes, outputs, now)?;
-        text.push_str(told.as_str())
+        self.driver.now().saturating_sub(self.begins)
     }
 
-    /// Goes on until this moment, or until the client says something, and adds what is printed of that.
-    fn come(&mut self, subjects: &[Subject<A>], until: u64, text: &mut String<A>) -> Result<(), End>
-        ensures { OnOk result (Adds (aims_of subjects.now) (view_of self.old.link.joint.client) (string_bytes text.old) (view_of self.new.link.joint.client) (string_bytes text.new)) }
+    /// Adds each subject of which what is kept is not what was printed last, where nothing waits to be told.
+    fn show(&mut self, stamp: &str, text: &mut String<A>) -> Result<(), AllocError>
+        ensures engine { self.new.driver.engine ≡ self.old.driver.engine }
+        ensures accepted { self.new.is_accepted ≡ self.old.is_accepted }
+        ensures shows { OnOk result (ShowsThen stamp.now (view_of self.old.driver.engine.agent.asker.follower.client) (told_by self.old.driver.engine.waiting.items) self.old.watched.items self.new.watched.items (string_bytes text.old) (string_bytes text.new)) }
     {
-        let mut outputs = Vec::new(self.alloc);
-        self.link.go_on(until, &mut outputs)?;
-        self.hear(outputs.as_slice(), text)?;
-        Ok(())
-    }
-
-    /// Hands in a call, and adds what is printed of what the client says.
-    fn ask(
-        &mut self,
-        subjects: &[Subject<A>],
-        ticket: u64,
-        call: Call<A>,
-        text: &mut String<A>,
-    ) -> Result<(), End>
-        ensures { OnOk result (Adds (aims_of subjects.now) (view_of self.old.link.joint.client) (string_bytes text.old) (view_of self.new.link.joint.client) (string_bytes text.new)) }
-    {
-        let mut outputs = Vec::new(self.alloc);
-        self.link.ask(ticket, call, &mut outputs)?;
-        self.hear(outputs.as_slice(), text)?;
-        Ok(())
-    }
-
-    /// Whether the session has expired.
-    fn is_expired(&self) -> bool
-        ensures { result ≡ true → (view_of self.now.link.joint.client).standing.state ≡ State.Expired }
-    {
-        matches!(self.link.client().state(), State::Expired)
-    }
-
-    /// Goes on with a client of a new session.
-    fn renew(&mut self) -> Result<(), AllocError>
-        ensures { OnOk result ((timeout : ℤ) × (view_of self.new.link.joint.client ≡ view_at (renewed_start timeout (view_of self.old.link.joint.client)) [])) }
-    {
-        self.link.renew(self.timeout_ms.max(1))
-    }
-
-    /// Begins another session where this one has expired, and says so.
-    fn begin_anew(&mut self, subjects: &[Subject<A>], text: &mut String<A>) -> Result<(), End>
-        ensures { OnOk result (Adds (aims_of subjects.now) (view_of self.old.link.joint.client) (string_bytes text.old) (view_of self.new.link.joint.client) (string_bytes text.new)) }
-    {
-        if self.is_expired() {
-            self.renew()?;
-            text.push_str("session new\n")?;
-        }
-        Ok(())
-    }
-
-    /// The call that reads the subject at this place now, where it is to be read.
-    fn due_read(
-        &mut self,
-        subjects: &[Subject<A>],
-        index: usize,
-    ) -> Result<Option<Call<A>>, AllocError>
-        ensures { self.new.link.joint ≡ self.old.link.joint }
-    {
-        let Some(subject) = subjects.get(index) else {
-            return Ok(None);
-        };
-        let now = self.link.now();
-        let is_known = is_known(self.link.client(), subject);
-        match begin_read(&mut self.notes, index, is_known, now) {
-            Some(is_missing) => Ok(Some(read_of(self.alloc, subject, is_missing)?)),
-            None => Ok(None),
-        }
-    }
-
-    /// Reads the subject at this place where it is to be read, and the client is connected.
-    fn read_at(
-        &mut self,
-        subjects: &[Subject<A>],
-        index: usize,
-        text: &mut String<A>,
-    ) -> Result<(), End>
-        ensures { OnOk result (Adds (aims_of subjects.now) (view_of self.old.link.joint.client) (string_bytes text.old) (view_of self.new.link.joint.client) (string_bytes text.new)) }
-    {
-        if !self.is_connected() {
+        if self.driver.has_told() {
             return Ok(());
         }
-        match self.due_read(subjects, index)? {
-            Some(call) => self.ask(subjects, (index as u64).saturating_add(1), call, text),
-            None => Ok(()),
-        }
+        let client = self.driver.client();
+        let watched = self.watched.as_mut_slice();
+        show_all(self.alloc, client, stamp, watched, text)
     }
 
-    /// Reads each subject that is to be read.
-    fn read_all(&mut self, subjects: &[Subject<A>], text: &mut String<A>) -> Result<(), End>
-        ensures { OnOk result (Adds (aims_of subjects.now) (view_of self.old.link.joint.client) (string_bytes text.old) (view_of self.new.link.joint.client) (string_bytes text.new)) }
+    /// The line of a turn, and none where it is not printed.
+    fn line(&self, turn: &Turn<A>, stamp: &str) -> Result<String<A>, AllocError>
+        ensures { IfOk result (λ text. LinesOf stamp.now turn.now (view_of self.now.driver.engine.agent.asker.follower.client) self.now.watched.items (string_bytes text)) }
     {
-        for index in 0..subjects.len() {
-            self.read_at(subjects, index, text)?;
-        }
-        Ok(())
-    }
-
-    /// Adds the line of the subject at this place, where it is not the one that was printed last.
-    fn show_at(
-        &mut self,
-        subjects: &[Subject<A>],
-        index: usize,
-        text: &mut String<A>,
-    ) -> Result<(), AllocError>
-        ensures { OnOk result (Adds (aims_of subjects.now) (view_of self.old.link.joint.client) (string_bytes text.old) (view_of self.new.link.joint.client) (string_bytes text.new)) }
-    {
-        let Some(subject) = subjects.get(index) else {
-            return Ok(());
-        };
-        let line = kept_line(self.alloc, self.link.client(), subject)?;
-        let none = none_line(subject.side);
-        if is_told(self.notes.as_slice(), index, none, line.as_str()) {
-            return Ok(());
-        }
-        push_subject(text, self.alloc, self.link.client(), subject, line.as_str())?;
-        set_told(&mut self.notes, index, line);
-        Ok(())
-    }
-
-    /// Adds the line of each subject of which it is not the one that was printed last.
-    fn show_all(&mut self, subjects: &[Subject<A>], text: &mut String<A>) -> Result<(), End>
-        ensures { OnOk result (Adds (aims_of subjects.now) (view_of self.old.link.joint.client) (string_bytes text.old) (view_of self.new.link.joint.client) (string_bytes text.new)) }
-    {
-        for index in 0..subjects.len() {
-            self.show_at(subjects, index, text)?;
-        }
-        Ok(())
-    }
-
-    /// The moment until which to go on: the end, or before it one at which a subject that was refused is read again.
-    fn next_moment(&mut self, end: u64) -> u64
-        ensures { self.new.link.joint ≡ self.old.link.joint }
-    {
-        let now = self.link.now();
-        first_moment(self.notes.as_slice(), now, end)
-    }
-
-    /// Goes on once, reads what is to be read, and adds what is printed.
-    fn round(&mut self, subjects: &[Subject<A>], end: u64, text: &mut String<A>) -> Result<(), End>
-        ensures { OnOk result (Adds (aims_of subjects.now) (view_of self.old.link.joint.client) (string_bytes text.old) (view_of self.new.link.joint.client) (string_bytes text.new)) }
-    {
-        let until = self.next_moment(end);
-        self.come(subjects, until, text)?;
-        self.begin_anew(subjects, text)?;
-        self.read_all(subjects, text)?;
-        self.show_all(subjects, text)
-    }
-
-    /// Goes on once, and writes what is printed.
-    fn turn<O: Write>(&mut self, subjects: &[Subject<A>], end: u64, out: &mut O) -> Result<(), End>
-        ensures ok { OnOk result ((told : List ℕ) × Prints (aims_of subjects.now) (view_of self.old.link.joint.client) told (view_of self.new.link.joint.client) × Appends (O.contents out.old) (O.contents out.new) told) }
-        ensures err { IfErr result (λ why. why ≢ End.Stream → out.new ≡ out.old) }
-    {
+        let client = self.driver.client();
+        let at = self.driver.address().unwrap_or("");
+        let words = turn_words(self.alloc, client, self.watched.as_slice(), at, turn)?;
         let mut text = String::new(self.alloc);
-        self.round(subjects, end, &mut text)?;
-        write(out, text.as_str())
+        push_line(&mut text, stamp, words.as_str())?;
+        Ok(text)
     }
 
-    /// Goes on until the session is over, or the client is not connected any more, but not past this moment.
-    fn await_close(
-        &mut self,
-        subjects: &[Subject<A>],
-        until: u64,
-        text: &mut String<A>,
-    ) -> Result<(), End>
-        ensures { OnOk result (Adds (aims_of subjects.now) (view_of self.old.link.joint.client) (string_bytes text.old) (view_of self.new.link.joint.client) (string_bytes text.new)) }
+    /// What is printed of a turn, after this time, and where nothing waits to be told after it, of what is kept.
+    fn tell(&mut self, turn: &Turn<A>, ms: u64) -> Result<String<A>, AllocError>
+        ensures engine { self.new.driver.engine ≡ self.old.driver.engine }
+        ensures accepted { self.new.is_accepted ≡ self.old.is_accepted }
+        ensures tells { IfOk result (λ text. TellsTurn turn.now (view_of self.old.driver.engine.agent.asker.follower.client) (told_by self.old.driver.engine.waiting.items) self.old.watched.items self.new.watched.items (string_bytes text)) }
+    {
+        let time = stamp_of(self.alloc, ms)?;
+        let stamp = time.as_str();
+        let mut text = self.line(turn, stamp)?;
+        self.show(stamp, &mut text)?;
+        Ok(text)
+    }
+
+    /// Notes whether a server has accepted a session.
+    fn note(&mut self, turn: &Turn<A>)
+        ensures accepted { self.new.is_accepted ≡ (self.old.is_accepted || accepts turn.now) }
+        ensures engine { self.new.driver.engine ≡ self.old.driver.engine }
+        ensures watched { self.new.watched ≡ self.old.watched }
+    {
+        if accepts(turn) {
+            self.is_accepted = true;
+        }
+    }
+
+    /// One turn, and what is printed of it. Whether the moment has come, and nothing waits to be told.
+    fn hear(&mut self, until: u64) -> Result<(bool, String<A>), Failure>
+        ensures ok { IfOk result (λ heard. Heard until heard.0 (stand_of self.old.driver.engine self.old.watched.items self.old.is_accepted) (string_bytes heard.1) (stand_of self.new.driver.engine self.new.watched.items self.new.is_accepted)) }
+        ensures err { IfErr result (λ why. why ≢ Failure.Stream) }
+    {
+        let turn = self.driver.turn(until)?;
+        let ms = self.elapsed();
+        let text = self.tell(&turn, ms)?;
+        self.note(&turn);
+        Ok((is_come(&turn), text))
+    }
+
+    /// One turn, which is printed. Whether the moment has come, and nothing waits to be told.
+    fn round<O: Write>(&mut self, until: u64, out: &mut O) -> Result<bool, Failure>
+        ensures ok { OnOk result (Writes (stand_of self.old.driver.engine self.old.watched.items self.old.is_accepted) (stand_of self.new.driver.engine self.new.watched.items self.new.is_accepted) (O.contents out.old) (O.contents out.new)) }
+        ensures come { IfOk result (λ is_over. is_over ≡ true → HasCome until (stand_of self.new.driver.engine self.new.watched.items self.new.is_accepted)) }
+        ensures err { IfErr result (λ why. why ≢ Failure.Stream → out.new ≡ out.old) }
+    {
+        let (is_over, text) = self.hear(until)?;
+        write(out, text.as_str())?;
+        Ok(is_over)
+    }
+
+    /// Goes on until this moment.
+    fn run<O: Write>(&mut self, end: u64, out: &mut O) -> Result<(), Failure>
+        ensures ok { OnOk result (Writes (stand_of self.old.driver.engine self.old.watched.items self.old.is_accepted) (stand_of self.new.driver.engine self.new.watched.items self.new.is_accepted) (O.contents out.old) (O.contents out.new)) }
+        ensures come { OnOk result (HasCome end (stand_of self.new.driver.engine self.new.watched.items self.new.is_accepted)) }
+        ensures err { IfErr result (λ why. why ≢ Failure.Stream → WritesOn (stand_of self.old.driver.engine self.old.watched.items self.old.is_accepted) (O.contents out.old) (O.contents out.new)) }
     {
         for _ in 0..u64::MAX {
-            if !self.is_connected() || until <= self.link.now() {
+            match self.round(end, out) {
+                Ok(true) => return Ok(()),
+                Ok(false) => (),
+                Err(why) => return Err(why),
+            }
+        }
+        Err(Failure::Memory)
+    }
+
+    /// Goes on until the client is not connected any more, and nothing waits to be told, but not past this moment.
+    fn await_close<O: Write>(&mut self, until: u64, out: &mut O) -> Result<(), Failure>
+        ensures ok { OnOk result (Writes (stand_of self.old.driver.engine self.old.watched.items self.old.is_accepted) (stand_of self.new.driver.engine self.new.watched.items self.new.is_accepted) (O.contents out.old) (O.contents out.new)) }
+        ensures err { IfErr result (λ why. why ≢ Failure.Stream → WritesOn (stand_of self.old.driver.engine self.old.watched.items self.old.is_accepted) (O.contents out.old) (O.contents out.new)) }
+    {
+        for _ in 0..u64::MAX {
+            if !self.is_connected() && !self.driver.has_told() {
                 return Ok(());
             }
-            self.come(subjects, until, text)?;
+            match self.round(until, out) {
+                Ok(true) => return Ok(()),
+                Ok(false) => (),
+                Err(why) => return Err(why),
+            }
         }
         Ok(())
+    }
+
+    /// Asks for the end of the session. The answer is the moment until which it is waited for: a third of the timeout.
+    fn ask_close(&mut self) -> Result<u64, Stop>
+        ensures { IfOk result (λ until. Does (stand_of self.old.driver.engine self.old.watched.items self.old.is_accepted) (Closes until) (stand_of self.new.driver.engine self.new.watched.items self.new.is_accepted)) }
+    {
+        let wait = u64::from(self.driver.client().timeout_ms() / 3);
+        let until = self.driver.now().saturating_add(wait);
+        self.driver.ask(CLOSE, Call::Close, Some(until))?;
+        Ok(until)
     }
 
     /// Ends the session where the client is connected, and waits for that a third of the timeout at most.
-    fn close(&mut self, subjects: &[Subject<A>], text: &mut String<A>) -> Result<(), End>
-        ensures { OnOk result (Adds (aims_of subjects.now) (view_of self.old.link.joint.client) (string_bytes text.old) (view_of self.new.link.joint.client) (string_bytes text.new)) }
+    fn close<O: Write>(&mut self, out: &mut O) -> Result<(), Failure>
+        ensures ok { OnOk result (WritesEnd (stand_of self.old.driver.engine self.old.watched.items self.old.is_accepted) (stand_of self.new.driver.engine self.new.watched.items self.new.is_accepted) (O.contents out.old) (O.contents out.new)) }
+        ensures err { IfErr result (λ why. why ≢ Failure.Stream → WritesOn (stand_of self.old.driver.engine self.old.watched.items self.old.is_accepted) (O.contents out.old) (O.contents out.new)) }
     {
         if !self.is_connected() {
             return Ok(());
         }
-        let wait = u64::from(self.link.client().timeout_ms() / 3);
-        let until = self.link.now().saturating_add(wait);
-        self.ask(subjects, CLOSE, Call::Close, text)?;
-        self.await_close(subjects, until, text)
+        let until = self.ask_close()?;
+        self.await_close(until, out)
     }
 
-    /// Ends the session, and writes what is printed.
-    fn finish<O: Write>(&mut self, subjects: &[Subject<A>], out: &mut O) -> End
-        ensures { result ≢ End.Stream → (told : List ℕ) × (last : View) × Prints (aims_of subjects.now) (view_of self.old.link.joint.client) told last × Appends (O.contents out.old) (O.contents out.new) told }
+    /// How a watch ends that cannot go on: where a write has failed, the session is ended first.
+    fn give_up(&mut self, why: Failure) -> End
+        ensures over { result ≢ End.Over }
+        ensures never { result ≢ End.NeverConnected }
+        ensures stream { result ≢ End.Stream → why ≢ Failure.Stream }
     {
-        let mut text = String::new(self.alloc);
-        if let Err(why) = self.close(subjects, &mut text) {
-            return why;
+        if matches!(why, Failure::Stream) {
+            let _ = self.close(&mut io::sink());
         }
-        match write(out, text.as_str()) {
-            Ok(()) => End::Over,
-            Err(why) => why,
-        }
+        why.end()
     }
 
-    /// How a watch ends that ends for this reason: where a write has failed, the session is ended first.
-    fn give_up(&mut self, subjects: &[Subject<A>], why: End) -> End
-        ensures { result ≡ why }
+    /// Follows a subject, by the ticket that is its place, counted from 1.
+    fn follow(&mut self, subject: &Subject<A>) -> Result<(), Stop>
+        ensures { OnOk result (FollowsSo (aim_of subject.now) (stand_of self.old.driver.engine self.old.watched.items self.old.is_accepted) (stand_of self.new.driver.engine self.new.watched.items self.new.is_accepted)) }
     {
-        if matches!(why, End::Stream) {
-            let mut text = String::new(self.alloc);
-            let _ = self.close(subjects, &mut text);
+        let Ok(path) = copy_of(self.alloc, &subject.path) else {
+            return Err(Stop::Memory);
+        };
+        let Ok(one) = Watched::new(self.alloc, subject) else {
+            return Err(Stop::Memory);
+        };
+        if self.watched.push(one).is_err() {
+            return Err(Stop::Memory);
         }
-        why
+        self.driver
+            .follow(self.watched.len() as u64, subject.side, path)
     }
 
-    /// Goes on until this moment, and then ends the session.
-    fn run<O: Write>(&mut self, subjects: &[Subject<A>], end: u64, out: &mut O) -> End
-        ensures { result ≢ End.Stream → (told : List ℕ) × (last : View) × Prints (aims_of subjects.now) (view_of self.old.link.joint.client) told last × Appends (O.contents out.old) (O.contents out.new) told }
+    /// Follows each subject.
+    fn follow_all(&mut self, subjects: &[Subject<A>]) -> Result<(), Stop>
+        ensures { OnOk result (FollowsAll (aims_of subjects.now) (stand_of self.old.driver.engine self.old.watched.items self.old.is_accepted) (stand_of self.new.driver.engine self.new.watched.items self.new.is_accepted)) }
     {
-        for _ in 0..u64::MAX {
-            if end <= self.link.now() {
-                return self.finish(subjects, out);
-            }
-            if let Err(why) = self.turn(subjects, end, out) {
-                return self.give_up(subjects, why);
-            }
+        for subject in subjects {
+            self.follow(subject)?;
         }
-        self.finish(subjects, out)
-    }
-
-    /// Begins a note for each subject.
-    fn begin_notes(&mut self, count: usize) -> Result<(), AllocError>
-        ensures { self.new.link ≡ self.old.link }
-    {
-        self.notes = new_notes(self.alloc, count)?;
         Ok(())
     }
 
     /// Goes on for this many milliseconds, and then ends the session.
+    fn go_on<O: Write>(&mut self, for_ms: Option<u64>, out: &mut O) -> Result<(), Failure>
+        ensures ok { OnOk result ((text : List ℕ) × IsOver for_ms (stand_of self.old.driver.engine self.old.watched.items self.old.is_accepted) (stand_of self.new.driver.engine self.new.watched.items self.new.is_accepted) text × Appends (O.contents out.old) (O.contents out.new) text) }
+        ensures err { IfErr result (λ why. why ≢ Failure.Stream → WritesOn (stand_of self.old.driver.engine self.old.watched.items self.old.is_accepted) (O.contents out.old) (O.contents out.new)) }
+    {
+        self.begins = self.driver.now();
+        let end = end_of(self.begins, for_ms);
+        match self.run(end, out) {
+            Ok(()) => self.close(out),
+            Err(why) => Err(why),
+        }
+    }
+
+    /// How a watch ends whose time is over.
+    fn end(&self) -> End
+        ensures over { result ≡ End.Over → self.now.is_accepted ≡ true }
+        ensures never { result ≡ End.NeverConnected → self.now.is_accepted ≡ false }
+        ensures well { result ≢ End.Stream }
+    {
+        if self.is_accepted {
+            return End::Over;
+        }
+        End::NeverConnected
+    }
+
+    /// Follows these subjects for this many milliseconds, and then ends the session.
     pub(crate) fn watch_for<O: Write>(
         &mut self,
         subjects: &[Subject<A>],
         for_ms: Option<u64>,
         out: &mut O,
     ) -> End
-        ensures { result ≢ End.Stream → (told : List ℕ) × (last : View) × Prints (aims_of subjects.now) (view_of self.old.link.joint.client) told last × Appends (O.contents out.old) (O.contents out.new) told }
+        ensures over { result ≡ End.Over → (text : List ℕ) × EndsFrom (aims_of subjects.now) for_ms (stand_of self.old.driver.engine self.old.watched.items self.old.is_accepted) text true × Appends (O.contents out.old) (O.contents out.new) text }
+        ensures never { result ≡ End.NeverConnected → (text : List ℕ) × EndsFrom (aims_of subjects.now) for_ms (stand_of self.old.driver.engine self.old.watched.items self.old.is_accepted) text false × Appends (O.contents out.old) (O.contents out.new) text }
+        ensures printed { result ≢ End.Stream → (text : List ℕ) × ((text ≡ []) ⊎ PrintsFrom (aims_of subjects.now) (stand_of self.old.driver.engine self.old.watched.items self.old.is_accepted) text) × Appends (O.contents out.old) (O.contents out.new) text }
     {
-        if self.begin_notes(subjects.len()).is_err() {
-            return End::Memory;
+        if let Err(stop) = self.follow_all(subjects) {
+            return Failure::from(stop).end();
         }
-        let end = end_of(self.link.now(), for_ms);
-        self.run(subjects, end, out)
+        match self.go_on(for_ms, out) {
+            Ok(()) => self.end(),
+            Err(why) => self.give_up(why),
+        }
     }
 }

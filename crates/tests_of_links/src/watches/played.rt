@@ -17,11 +17,8 @@ static ADDRESSES: [&str; 1] = ["a"];
 /// The timeout that is asked for, in milliseconds.
 const TIMEOUT: i32 = 9_000;
 
-/// How long is watched, in milliseconds.
-const FOR_MS: u64 = 2_000;
-
-/// A row of the test: what is watched, what happens, how many transactions have happened before, and with which code the data of /config
-/// are refused, unless it is 0.
+/// A row of the test: what is watched, what happens, how many transactions have happened before, with which code the data of /config are
+/// refused, unless it is 0, how many attempts to connect are refused, and how long is watched, in milliseconds.
 #[derive(Drop)]
 pub struct Row {
     name: &'static str,
@@ -30,6 +27,8 @@ pub struct Row {
     events: &'static [Event],
     taken: u32,
     code: i32,
+    refusals: u32,
+    for_ms: u64,
 }
 
 impl Row {
@@ -47,6 +46,8 @@ impl Row {
             events,
             taken: 0,
             code: 0,
+            refusals: 0,
+            for_ms: 2_000,
         }
     }
 
@@ -58,6 +59,15 @@ impl Row {
     /// The same where the data of /config are refused with this code.
     pub fn refused(self, code: i32) -> Row {
         Row { code, ..self }
+    }
+
+    /// The same where this many attempts to connect are refused, for this many milliseconds.
+    pub fn away(self, refusals: u32, for_ms: u64) -> Row {
+        Row {
+            refusals,
+            for_ms,
+            ..self
+        }
     }
 }
 
@@ -85,7 +95,7 @@ fn watched<A: Allocator + Copy, W: Write>(
     out: &mut W,
 ) -> Result<End> {
     let (world, moments) = (
-        RefCell::new(World::new(global, row.events, row.taken, row.code, piece)?),
+        RefCell::new(World::new(global, row.events, row.taken, row.code, row.refusals, piece)?),
         Moments::new(),
     );
     let Ok(subjects) = subjects(alloc, row) else {
@@ -95,7 +105,7 @@ fn watched<A: Allocator + Copy, W: Write>(
         addresses: &ADDRESSES,
         subjects,
         timeout_ms: TIMEOUT,
-        for_ms: Some(FOR_MS),
+        for_ms: Some(row.for_ms),
     };
     let (dial, clock) = (Shared::new(&world, &moments), Shared::new(&world, &moments));
     Ok(watch(alloc, dial, clock, plan, out))
@@ -182,7 +192,7 @@ fn fails_well(global: Global, row: &Row, whole: &[u8], passed: u32) -> Result<Op
     let mut out = Fails::after(Vec::new(global), passed);
     let end = watched(global, global, row, usize::MAX, &mut out)?;
     Ok(match end {
-        End::Over => None,
+        End::Over | End::NeverConnected => None,
         end => Some(end == End::Stream && whole.starts_with(out.bytes())),
     })
 }

@@ -37,6 +37,7 @@ pub struct World {
     is_answered: bool,
     piece: usize,
     code: i32,
+    refusals: u32,
     connections: u32,
 }
 
@@ -105,13 +106,14 @@ fn history(alloc: Global) -> Result<History<Global>> {
 }
 
 impl World {
-    /// A world in which this many transactions have happened. A read brings this many bytes at most. On the first connection the data of
-    /// /config are refused with this code, unless it is 0; with -101 they are on each.
+    /// A world in which this many transactions have happened. A read brings this many bytes at most. This many attempts to connect are refused.
+    /// On the first connection the data of /config are refused with this code, unless it is 0.
     pub fn new(
         alloc: Global,
         events: &'static [Event],
         taken: u32,
         code: i32,
+        refusals: u32,
         piece: usize,
     ) -> Result<World> {
         let mut world = World {
@@ -125,6 +127,7 @@ impl World {
             is_answered: false,
             piece,
             code,
+            refusals,
             connections: 0,
         };
         world.begin_anew()?;
@@ -133,11 +136,7 @@ impl World {
 
     /// With which code the data of /config are refused on this connection, and 0 where they are not.
     fn code(&self) -> i32 {
-        if self.connections == 1 || self.code == -101 {
-            self.code
-        } else {
-            0
-        }
+        if self.connections == 1 { self.code } else { 0 }
     }
 
     /// Lets all events happen where their moment has come, and they have not happened yet.
@@ -203,6 +202,10 @@ impl Server for World {
     type Held = ();
 
     fn dial(&mut self, _within_ms: u64, _moments: &Moments) -> io::Result<()> {
+        if self.refusals > 0 {
+            self.refusals -= 1;
+            return Err(ErrorKind::ConnectionRefused.into());
+        }
         or_memory(self.connect())
     }
 

@@ -1,15 +1,30 @@
-use Rattle.std.proofs.Common.{refl}
-use Rattle.std.specs.Prelude.{string_bytes}
-use Rattle.zk_client.specs.Clients.{view_of}
-use Rattle.zk_watch.specs.Watching.{aims_of}
-use Rattle.zk_watch.proofs.WatchLemmas.{adds_behind, from_same}
+use Rattle.std.proofs.Common.{ap}
+use Rattle.zk_watch.specs.Watching.{stand_of}
+use Rattle.zk_watch.proofs.Printing.{writes_after, writes_on}
 use Rattle.zk_watch.proofs.watcher.Watcher.await_close.Goals as goal
 
 pub loop-preserved : goal.loop-preserved
 loop-preserved g c =
-    let aims = aims_of c.args.subjects.now in
-    let here = view_of c.loop.self.link.joint.client in
-    let text = string_bytes c.loop.text in
-    let came = view_of c.come.new.self.link.joint.client in
-    adds_behind aims (view_of c.args.self.now.link.joint.client) (string_bytes c.args.text.now) here text came (string_bytes c.come.new.text) c.loop.invariant
-    (from_same aims here (view_of c.now.new.self.joint.client) text came (string_bytes c.come.new.text) (rw c.now.ensures.joint refl) c.in_ok-come.ensures)
+    let contents = g.O.Write.contents in
+    let first = c.args.self.now in
+    let here = c.loop.self in
+    let new = c.round.new.self in
+    writes_after (stand_of first.driver.engine first.watched.items first.is_accepted) (stand_of here.driver.engine here.watched.items here.is_accepted) (stand_of new.driver.engine new.watched.items new.is_accepted)
+    (contents c.args.out.now) (contents c.loop.out) (contents c.round.new.out) c.loop.invariant c.in-Ok-false.ensures.ok
+
+pub returns-in-Ok-true-clause-ok : goal.returns-in-Ok-true-clause-ok
+returns-in-Ok-true-clause-ok g c =
+    let contents = g.O.Write.contents in
+    let first = c.args.self.now in
+    let here = c.loop.self in
+    let new = c.round.new.self in
+    writes_after (stand_of first.driver.engine first.watched.items first.is_accepted) (stand_of here.driver.engine here.watched.items here.is_accepted) (stand_of new.driver.engine new.watched.items new.is_accepted)
+    (contents c.args.out.now) (contents c.loop.out) (contents c.round.new.out) c.loop.invariant c.in-Ok-true.ensures.ok
+
+pub returns-in-Err-clause-err : goal.returns-in-Err-clause-err
+returns-in-Err-clause-err g c = λ well.
+    let contents = g.O.Write.contents in
+    let first = c.args.self.now in
+    let here = c.loop.self in
+    writes_on (stand_of first.driver.engine first.watched.items first.is_accepted) (stand_of here.driver.engine here.watched.items here.is_accepted)
+    (contents c.args.out.now) (contents c.loop.out) (contents c.round.new.out) (ap contents (c.in-Err.ensures.err well)) c.loop.invariant

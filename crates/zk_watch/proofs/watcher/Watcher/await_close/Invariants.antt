@@ -1,8 +1,7 @@
-use Rattle.std.specs.Prelude.{string_bytes}
-use Rattle.zk_client.specs.Clients.{view_of}
-use Rattle.zk_watch.specs.Watching.{aims_of, Adds}
+use Rattle.zk_watch.specs.Watching.{stand_of, Writes}
 use Rattle.zk_watch.proofs.watcher.Watcher.await_close.Given as goal
 
--- what was added so far
+-- what was printed so far
 abbrev pub invariant-loop : goal.invariant-loop
-invariant-loop g l = Adds (aims_of l.subjects) (view_of l.fn.self.link.joint.client) (string_bytes l.fn.text) (view_of l.self.link.joint.client) (string_bytes l.text)
+invariant-loop g l = Writes (stand_of l.fn.self.driver.engine l.fn.self.watched.items l.fn.self.is_accepted) (stand_of l.self.driver.engine l.self.watched.items l.self.is_accepted)
+    (g.O.Write.contents l.fn.out) (g.O.Write.contents l.out)

@@ -1,12 +1,30 @@
-use Rattle.std.proofs.Common.{refl}
-use Rattle.std.specs.Prelude.{string_bytes}
-use Rattle.zk_client.specs.Clients.{view_of}
-use Rattle.zk_watch.proofs.WatchLemmas.{from_same, ok_behind}
+use Rattle.zk_watch.specs.Watching.{stand_of}
+use Rattle.zk_watch.proofs.Ending.{ends_none, err_asked, err_none, ok_ends}
 use Rattle.zk_watch.proofs.watcher.Watcher.close.Goals as goal
 
-pub returns : goal.returns
-returns g c =
-    let old = view_of c.args.self.now.link.joint.client in
-    let text = string_bytes c.args.text.now in
-    let first = from_same _ old (view_of c.now.new.self.joint.client) text _ _ (rw c.now.ensures.joint refl) c.in_ok-ask.ensures in
-    ok_behind _ c.await_close.result old text _ _ _ _ first c.await_close.ensures
+pub returns-then-not-is_connected-clause-ok : goal.returns-then-not-is_connected-clause-ok
+returns-then-not-is_connected-clause-ok g c =
+    let first = c.args.self.now in
+    ends_none (stand_of first.driver.engine first.watched.items first.is_accepted) (g.O.Write.contents c.args.out.now) (c.is_connected.ensures.no c.if-not-is_connected.true)
+
+pub returns-in_err-until-clause-err : goal.returns-in_err-until-clause-err
+returns-in_err-until-clause-err g c =
+    let first = c.args.self.now in
+    let here = (stand_of first.driver.engine first.watched.items first.is_accepted) in
+    let a = g.O.Write.contents c.args.out.now in
+    err_none _ c.from_residual.result here a
+
+pub returns-clause-ok : goal.returns-clause-ok
+returns-clause-ok g c =
+    let first = c.args.self.now in
+    let asked = c.ask_close.new.self in
+    let last = c.await_close.new.self in
+    ok_ends c.await_close.result c.in_ok-until.until (stand_of first.driver.engine first.watched.items first.is_accepted) (stand_of asked.driver.engine asked.watched.items asked.is_accepted) (stand_of last.driver.engine last.watched.items last.is_accepted)
+    (g.O.Write.contents c.args.out.now) (g.O.Write.contents c.await_close.new.out) (c.is_connected.ensures.yes c.if-not-is_connected.false) c.in_ok-until.ensures c.await_close.ensures.ok
+
+pub returns-clause-err : goal.returns-clause-err
+returns-clause-err g c =
+    let first = c.args.self.now in
+    let asked = c.ask_close.new.self in
+    err_asked _ c.await_close.result c.in_ok-until.until (stand_of first.driver.engine first.watched.items first.is_accepted) (stand_of asked.driver.engine asked.watched.items asked.is_accepted)
+    (g.O.Write.contents c.args.out.now) (g.O.Write.contents c.await_close.new.out) c.in_ok-until.ensures c.await_close.ensures.err

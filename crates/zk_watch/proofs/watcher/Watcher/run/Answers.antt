@@ -1,24 +1,30 @@
-use Rattle.std.proofs.Common.{refl}
-use Rattle.zk_client.specs.Clients.{view_of}
-use Rattle.zk_watch.specs.Watching.{aims_of}
-use Rattle.zk_watch.proofs.WatchLemmas.{more, more_last}
+use Rattle.std.proofs.Common.{ap}
+use Rattle.zk_watch.specs.Watching.{stand_of}
+use Rattle.zk_watch.proofs.Printing.{writes_after, writes_on}
 use Rattle.zk_watch.proofs.watcher.Watcher.run.Goals as goal
 
 pub loop-preserved : goal.loop-preserved
 loop-preserved g c =
     let contents = g.O.Write.contents in
-    more (aims_of c.args.subjects.now) (view_of c.args.self.now.link.joint.client) (view_of c.loop.self.link.joint.client) (view_of c.now.new.self.joint.client) (view_of c.turn.new.self.link.joint.client)
-    (contents c.args.out.now) (contents c.loop.out) (contents c.turn.new.out) (rw c.now.ensures.joint refl) c.loop.invariant c.in_default.ensures.ok
+    let first = c.args.self.now in
+    let here = c.loop.self in
+    let new = c.round.new.self in
+    writes_after (stand_of first.driver.engine first.watched.items first.is_accepted) (stand_of here.driver.engine here.watched.items here.is_accepted) (stand_of new.driver.engine new.watched.items new.is_accepted)
+    (contents c.args.out.now) (contents c.loop.out) (contents c.round.new.out) c.loop.invariant c.in-Ok-false.ensures.ok
 
-pub returns : goal.returns
-returns g c = λ is.
+pub returns-in-Ok-true-clause-ok : goal.returns-in-Ok-true-clause-ok
+returns-in-Ok-true-clause-ok g c =
     let contents = g.O.Write.contents in
-    let here = view_of c.loop.self.link.joint.client in
-    more_last (aims_of c.args.subjects.now) (view_of c.args.self.now.link.joint.client) here here (contents c.args.out.now) (contents c.loop.out) (contents c.finish-2.new.out) refl c.loop.invariant
-    (c.finish-2.ensures is)
+    let first = c.args.self.now in
+    let here = c.loop.self in
+    let new = c.round.new.self in
+    writes_after (stand_of first.driver.engine first.watched.items first.is_accepted) (stand_of here.driver.engine here.watched.items here.is_accepted) (stand_of new.driver.engine new.watched.items new.is_accepted)
+    (contents c.args.out.now) (contents c.loop.out) (contents c.round.new.out) c.loop.invariant c.in-Ok-true.ensures.ok
 
-pub returns-then-end-now : goal.returns-then-end-now
-returns-then-end-now g c = λ is.
+pub returns-in-Err-clause-err : goal.returns-in-Err-clause-err
+returns-in-Err-clause-err g c = λ well.
     let contents = g.O.Write.contents in
-    more_last (aims_of c.args.subjects.now) (view_of c.args.self.now.link.joint.client) (view_of c.loop.self.link.joint.client) (view_of c.now.new.self.joint.client)
-    (contents c.args.out.now) (contents c.loop.out) (contents c.finish.new.out) (rw c.now.ensures.joint refl) c.loop.invariant (c.finish.ensures is)
+    let first = c.args.self.now in
+    let here = c.loop.self in
+    writes_on (stand_of first.driver.engine first.watched.items first.is_accepted) (stand_of here.driver.engine here.watched.items here.is_accepted)
+    (contents c.args.out.now) (contents c.loop.out) (contents c.round.new.out) (ap contents (c.in-Err.ensures.err well)) c.loop.invariant

@@ -1,0 +1,126 @@
+-- What is printed, one move after another.
+use Rattle.std.proofs.Common.{◌≡◌, ◌≤◌, ◌<◌, ◌+◌, ◌++◌, ◌∙◌, ℕ, Bool, true, List, [], ◌∷◌, length, get_or, take, Option, refl, sym, ap, subst, append_assoc, append-nil}
+use Rattle.std.proofs.lemmas.List.{map-append, take_more}
+use Rattle.std.specs.Prelude.{Result, Ok, Err, OnOk, IfErr}
+use Rattle.std.specs.Io.KnownBytes.{Appends}
+use Rattle.std.proofs.KnownBytes.{Appends-nil, Appends-trans}
+use Rattle.std.specs.List.{flat_map, FoldsTo}
+use Rattle.std.specs.Prelude.{◌||◌, None, string_bytes}
+use Rattle.zk_client.specs.Clients.{view_of}
+use Rattle.zk_agent.specs.Telling.{told_by}
+use Rattle.zk_driver.specs.declared.engine.Engine.{Engine}
+use Rattle.zk_driver.specs.declared.turn.Turn.{Turn}
+use Rattle.zk_agent.specs.declared.input.Input.TheVariants as happens
+use Rattle.zk_driver.specs.Driving.{course_of, Hands}
+use Rattle.zk_driver.specs.Noting.{is_come, notes_of, passed_in, GoesBy}
+use Rattle.zk_watch.specs.declared.shown.Watched.{Watched}
+use Rattle.zk_nodes.specs.Path.{Text}
+use Rattle.zk_nodes.specs.declared.side.Side.{Side}
+use Rattle.zk_watch.specs.declared.plan.Subject.{Subject}
+use Rattle.zk_watch.specs.Lines.{none_words}
+use Rattle.zk_watch.specs.Watching.{accepts, aim_of, aims_of, stand_of, text_of, FollowsAll, FollowsSo, TellsTurn, Does, HasCome, Heard, Move, Prints, Stand, Takes, Turns, Writes, WritesOn}
+
+pub does_on : {A : Type 0} (moves more : List (Move A)) (old between new : Stand A) → FoldsTo Does old moves between → FoldsTo Does between more new → FoldsTo Does old (moves ++ more) new
+does_on {A} [] more old between new same rest = subst (λ (s : Stand A). FoldsTo Does s more new) (sym same) rest
+does_on (move ∷ moves) more old between new does rest = (does.0, does.1, does_on moves more does.0 between new does.2 rest)
+
+pub texts_on : {A : Type 0} (moves more : List (Move A)) → flat_map text_of (moves ++ more) ≡ flat_map text_of moves ++ flat_map text_of more
+texts_on [] more = refl
+texts_on (move ∷ moves) more = ap (λ l. text_of move ++ l) (texts_on moves more) ∙ sym (append_assoc (text_of move) (flat_map text_of moves) (flat_map text_of more))
+
+abbrev pub none : {A : Type 0} (here : Stand A) → Prints here [] here
+none here = record { moves = []; does = refl; are = refl }
+
+abbrev pub one : {A : Type 0} (move : Move A) (old new : Stand A) → Does old move new → Prints old (text_of move) new
+one move old new does = record { moves = move ∷ []; does = (new, does, refl); are = sym (append-nil (text_of move)) }
+
+-- what comes first, and what comes after it
+abbrev pub after : {A : Type 0} (old between new : Stand A) (a b : List ℕ) → Prints old a between → Prints between b new → Prints old (a ++ b) new
+after old between new a b first rest = record {
+  moves = first.moves ++ rest.moves;
+  does = does_on first.moves rest.moves old between new first.does rest.does;
+  are = ap (λ l. l ++ b) first.are ∙ ap (λ l. flat_map text_of first.moves ++ l) rest.are ∙ sym (texts_on first.moves rest.moves);
+}
+
+-- ---- written
+
+pub writes_none : {A : Type 0} (here : Stand A) (a : Option (List ℕ)) → Writes here here a a
+writes_none here a = ([], none here, Appends-nil a)
+
+pub writes_after : {A : Type 0} (old between new : Stand A) (a b c : Option (List ℕ)) → Writes old between a b → Writes between new b c → Writes old new a c
+writes_after old between new a b c first rest =
+    (first.0 ++ rest.0, after old between new first.0 rest.0 first.1 rest.1, Appends-trans a b c first.0 rest.0 first.2 rest.2)
+
+pub ok_writes_after : {A X E : Type 0} (result : Result X E) (old between new : Stand A) (a b c : Option (List ℕ)) → Writes old between a b → OnOk result (Writes between new b c)
+    → OnOk result (Writes old new a c)
+ok_writes_after (Ok x) old between new a b c first rest = writes_after old between new a b c first rest
+ok_writes_after (Err e) old between new a b c first rest = tt
+
+-- what was written stays, where nothing more is
+pub writes_on : {A : Type 0} (old between : Stand A) (a b c : Option (List ℕ)) → c ≡ b → Writes old between a b → WritesOn old a c
+writes_on old between a b c same writes = (between, subst (Writes old between a) (sym same) writes)
+
+pub on_after : {A : Type 0} (old between : Stand A) (a b c : Option (List ℕ)) → Writes old between a b → WritesOn between b c → WritesOn old a c
+on_after old between a b c first rest = (rest.0, writes_after old between rest.0 a b c first rest.1)
+
+-- one turn
+pub heard : {A : Type 0} (until : ℕ) (is_over : Bool) (old : Stand A) (text : List ℕ) (new : Stand A) → Heard until is_over old text new → Prints old text new
+heard until is_over old text new is = one (Takes is.turn text) old new is.turns
+
+-- where what comes after may end otherwise
+pub err_after : {A X E : Type 0} (P : E → Type 0) (result : Result X E) (old between : Stand A) (a b c : Option (List ℕ)) → Writes old between a b
+    → IfErr result (λ why. P why → WritesOn between b c) → IfErr result (λ why. P why → WritesOn old a c)
+err_after P (Ok x) old between a b c first rest = tt
+err_after P (Err e) old between a b c first rest = λ well. on_after old between a b c first (rest well)
+
+-- ---- followed
+
+-- one more
+pub follows_more : {A : Type 0} (subjects : List (Subject A)) (index : ℕ) (subject : Subject A) (first here new : Stand A) → index < length subjects → subject ≡ get_or subjects index subject
+    → FollowsAll (aims_of (take index subjects)) first here → FollowsSo (aim_of subject) here new → FollowsAll (aims_of (take (index + 1) subjects)) first new
+follows_more {A} subjects index subject first here new within is follows next =
+    subst (λ aims. FollowsAll aims first new)
+    (sym (ap aims_of (take_more subjects index subject within) ∙ map-append aim_of (take index subjects) (get_or subjects index subject ∷ [])
+    ∙ ap (λ s. aims_of (take index subjects) ++ aim_of s ∷ []) (sym is)))
+    (on (aims_of (take index subjects)) first follows)
+  where
+    on : (aims : List (Side × Text)) (first : Stand A) → FollowsAll aims first here → FollowsAll (aims ++ aim_of subject ∷ []) first new
+    on [] first same = (new, subst (λ (s : Stand A). FollowsSo (aim_of subject) s new) (sym same) next, refl)
+    on (aim ∷ aims) first all = (all.0, all.1, on aims all.0 all.2)
+
+pub ok_follows : {A S X E : Type 0} (result : Result X E) (aim : Side × Text) (first last : Engine A S) (olds news : List (Watched A)) (one : Watched A) (is_accepted : Bool) (ticket : ℕ)
+    → aim_of one.subject ≡ aim → string_bytes one.words ≡ none_words aim.0 → news ≡ olds ++ one ∷ [] → ticket ≡ length olds + 1
+    → OnOk result (Hands (happens.Follow ticket aim.0 aim.1) (course_of first None) (course_of last None)) → OnOk result (FollowsSo aim (stand_of first olds is_accepted) (stand_of last news is_accepted))
+ok_follows {A} (Ok x) aim first last olds news one is_accepted ticket is words more place hands = record {
+  hands = subst (λ (t : ℕ). Hands (happens.Follow t aim.0 aim.1) (course_of first None) (course_of last None)) place hands;
+  one = one;
+  its_aim = is;
+  its_words = words;
+  watched = more;
+  accepted = refl;
+}
+ok_follows (Err e) aim first last olds news one is_accepted ticket is words more place hands = tt
+
+-- ---- one turn, heard
+
+-- what a driver has come to, with what it hands on
+pub heard_so : {A S : Type 0} (until : ℕ) (is_over : Bool) (turn : Turn A) (first between last : Engine A S) (olds news : List (Watched A)) (was is : Bool) (text : List ℕ) → last ≡ between
+    → GoesBy (notes_of turn) (course_of first None) (course_of between (passed_in turn))
+    → TellsTurn turn (view_of between.agent.asker.follower.client) (told_by between.waiting.items) olds news text → is ≡ (was || accepts turn) → is_over ≡ is_come turn
+    → (is_come turn ≡ true → until ≤ between.agent.latest) → (is_come turn ≡ true → between.waiting.items ≡ [])
+    → Heard until is_over (stand_of first olds was) text (stand_of last news is)
+heard_so {A} {S} until is_over turn first between last olds news was is text same goes tells accepted over comes waits =
+    subst (λ (e : Engine A S). Heard until is_over (stand_of first olds was) text (stand_of e news is)) (sym same) (record {
+      turn = turn;
+      turns = record { goes = goes; tells = tells; accepted = accepted };
+      comes = λ is_so. (comes (sym over ∙ is_so), ap told_by (waits (sym over ∙ is_so)));
+    })
+
+-- the same of a driver that is the same, and of the same subjects
+pub same_tells : {A S : Type 0} (turn : Turn A) (text : List ℕ) (engine other : Engine A S) (olds others news nexts : List (Watched A)) → other ≡ engine → others ≡ olds → nexts ≡ news
+    → TellsTurn turn (view_of other.agent.asker.follower.client) (told_by other.waiting.items) others news text
+    → TellsTurn turn (view_of engine.agent.asker.follower.client) (told_by engine.waiting.items) olds nexts text
+same_tells {A} {S} turn text engine other olds others news nexts is was now tells =
+    subst (λ (e : Engine A S). TellsTurn turn (view_of e.agent.asker.follower.client) (told_by e.waiting.items) olds nexts text) is
+    (subst (λ (ws : List (Watched A)). TellsTurn turn (view_of other.agent.asker.follower.client) (told_by other.waiting.items) ws nexts text) was
+    (subst (λ (ws : List (Watched A)). TellsTurn turn (view_of other.agent.asker.follower.client) (told_by other.waiting.items) others ws text) (sym now) tells))

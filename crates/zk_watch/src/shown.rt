@@ -1,0 +1,105 @@
+//! What was printed of subjects.
+
+ghost use Rattle.std.specs.Prelude.{◌≡◌, ◌++◌, ℕ, List, IfOk, OnOk, string_bytes};
+ghost use Rattle.zk_client.specs.Clients.{view_of};
+ghost use Rattle.zk_watch.specs.Lines.{none_words, subject_words};
+ghost use Rattle.zk_watch.specs.Watching.{aim_of, ShowsAll, ShowsSo};
+
+use crate::looks::{look, none_words};
+use crate::plan::Subject;
+use crate::stamp::push_line;
+use std::alloc::{AllocError, Allocator};
+use zk_client::{Client, Path};
+use zk_replay::words::push_spaced;
+use zk_script::values::push_word;
+use zk_script::words::text_to_word;
+
+/// A copy of a path.
+pub(crate) fn copy_of<A: Allocator + Copy>(alloc: A, path: &Path<A>) -> Result<Path<A>, AllocError>
+    ensures { IfOk result (λ copy. copy ≡ path.now) }
+{
+    match Path::new(alloc, path.as_str()) {
+        Ok(copy) => Ok(copy),
+        Err(_) => Err(AllocError),
+    }
+}
+
+/// A subject, and the words that were printed of it last.
+#[derive(Drop)]
+pub(crate) struct Watched<A: Allocator> {
+    pub(crate) subject: Subject<A>,
+    pub(crate) words: String<A>,
+}
+
+/// The words of a subject's line: the path, what is kept, and the last seen zxid.
+fn subject_words<A: Allocator + Copy>(
+    alloc: A,
+    path: &str,
+    words: &str,
+    zxid: i64,
+) -> Result<String<A>, AllocError>
+    ensures { IfOk result (λ text. string_bytes text ≡ subject_words path.now words.now zxid) }
+{
+    let mut text = text_to_word(alloc, path.as_bytes())?;
+    push_spaced(&mut text, words)?;
+    text.push_str(" last")?;
+    push_word(&mut text, alloc, &zxid)?;
+    Ok(text)
+}
+
+impl<A: Allocator + Copy> Watched<A> {
+    /// A copy of a subject, as if nothing were kept of it and that were printed.
+    pub(crate) fn new(alloc: A, subject: &Subject<A>) -> Result<Watched<A>, AllocError>
+        ensures aim { IfOk result (λ one. aim_of one.subject ≡ aim_of subject.now) }
+        ensures words { IfOk result (λ one. string_bytes one.words ≡ none_words subject.now.side) }
+    {
+        let words = String::from_str(alloc, none_words(subject.side))?;
+        let path = copy_of(alloc, &subject.path)?;
+        let side = subject.side;
+        Ok(Watched {
+            subject: Subject { side, path },
+            words,
+        })
+    }
+
+    /// Adds the line of a subject, where what a client keeps of it is not what was printed last.
+    fn show(
+        &mut self,
+        alloc: A,
+        client: &Client<A>,
+        stamp: &str,
+        text: &mut String<A>,
+    ) -> Result<(), AllocError>
+        ensures { OnOk result ((told : List ℕ) × ShowsSo stamp.now (view_of client.now) self.old self.new told × (string_bytes text.new ≡ string_bytes text.old ++ told)) }
+    {
+        let words = look(alloc, client, &self.subject)?;
+        if words.as_str() == self.words.as_str() {
+            return Ok(());
+        }
+        let line = subject_words(
+            alloc,
+            self.subject.path.as_str(),
+            words.as_str(),
+            client.last_zxid(),
+        )?;
+        push_line(text, stamp, line.as_str())?;
+        self.words = words;
+        Ok(())
+    }
+}
+
+/// Adds the line of each subject of which what a client keeps is not what was printed last.
+pub(crate) fn show_all<A: Allocator + Copy>(
+    alloc: A,
+    client: &Client<A>,
+    stamp: &str,
+    watched: &mut [Watched<A>],
+    text: &mut String<A>,
+) -> Result<(), AllocError>
+    ensures { OnOk result ((told : List ℕ) × ShowsAll stamp.now (view_of client.now) watched.old watched.new told × (string_bytes text.new ≡ string_bytes text.old ++ told)) }
+{
+    for one in watched.iter_mut() {
+        one.show(alloc, client, stamp, text)?;
+    }
+    Ok(())
+}

@@ -1,0 +1,47 @@
+//! Moments, as they are printed.
+
+ghost use Rattle.std.specs.Prelude.{◌≡◌, ◌++◌, IfOk, OnOk, string_bytes};
+ghost use Rattle.zk_watch.specs.Lines.{line_of, stamp_of, zeros_before};
+
+use std::alloc::{AllocError, Allocator};
+use zk_script::values::push_value;
+
+/// What stands before these milliseconds, so that they have three digits.
+fn zeros_before(ms: u64) -> &'static str
+    ensures { result.now ≡ zeros_before ms }
+{
+    if ms < 10 {
+        return "00";
+    }
+    if ms < 100 { "0" } else { "" }
+}
+
+/// Seconds, and milliseconds after a dot.
+pub(crate) fn stamp_of<A: Allocator + Copy>(alloc: A, ms: u64) -> Result<String<A>, AllocError>
+    ensures { IfOk result (λ text. string_bytes text ≡ stamp_of ms) }
+{
+    let (seconds, rest) = (ms / 1_000, ms % 1_000);
+    let mut text = String::new(alloc);
+    push_value(&mut text, alloc, &seconds)?;
+    text.push_str(".")?;
+    text.push_str(zeros_before(rest))?;
+    push_value(&mut text, alloc, &rest)?;
+    Ok(text)
+}
+
+/// Adds a line of these words, and none where there are none.
+pub(crate) fn push_line<A: Allocator>(
+    text: &mut String<A>,
+    stamp: &str,
+    words: &str,
+) -> Result<(), AllocError>
+    ensures { OnOk result (string_bytes text.new ≡ string_bytes text.old ++ line_of stamp.now words.now) }
+{
+    if words.is_empty() {
+        return Ok(());
+    }
+    text.push_str(stamp)?;
+    text.push_str(" ")?;
+    text.push_str(words)?;
+    text.push_str("\n")
+}
