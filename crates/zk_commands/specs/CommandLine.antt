@@ -82,10 +82,14 @@ abbrev pub watch_app : App
 watch_app =
     with_rule (with_rule (with_rule (with_rule (with_rule (new_app (codes "watch")) address_rule) (path_rule (codes "data"))) (path_rule (codes "children"))) timeout_rule) duration_rule
 
--- the program: one of its subcommands must be given
+-- the program without its subcommands: one must be given
+abbrev pub shell_top : App
+shell_top = on_top (λ s. record s { subcommand_required = true; has_version = true }) (new_app (codes "zk_shell"))
+
+-- the program
 abbrev pub shell_app : Bor (List (Bor Text)) → App
 shell_app names =
-    with_writes (with_reads (with_subcommand (with_subcommand (with_subcommand (with_subcommand (with_subcommand (with_subcommand (on_top (λ s. record s { subcommand_required = true }) (new_app (codes "zk_shell")))
+    with_writes (with_reads (with_subcommand (with_subcommand (with_subcommand (with_subcommand (with_subcommand (with_subcommand shell_top
     (show_app names).top) history_app.top) replay_app.top) rehearse_app.top) live_app.top) watch_app.top))
 
 -- the list is that of the kinds
@@ -195,14 +199,15 @@ TellsIf why Memory = Unit {0}
 
 -- what `clap` says of the words is told so
 abbrev pub Tells : ErrorKind → LineFault → Type 0
-Tells kind (Help text) = kind ≡ kinds.DisplayHelp
-Tells kind (Refused text) = (kind ≢ kinds.DisplayHelp) × (kind ≢ kinds.OutOfMemory)
+Tells kind (Help text) = (kind ≡ kinds.DisplayHelp) ⊎ (kind ≡ kinds.DisplayVersion)
+Tells kind (Refused text) = (kind ≢ kinds.DisplayHelp) × (kind ≢ kinds.DisplayVersion) × (kind ≢ kinds.OutOfMemory)
 Tells kind Memory = Unit {0}
 
 -- Help is told where `clap` answers the words with help, and a refusal where it refuses them, or where they ask for no command.
 abbrev pub IsDue : List Text → LineFault → Type 0
-IsDue words (Help text) = (names : Bor (List (Bor Text))) × AreKinds names × IsAmong kinds.DisplayHelp (fault_of (shell_app names) words)
+IsDue words (Help text) = (names : Bor (List (Bor Text))) × AreKinds names
+    × ((kind : ErrorKind) × ((kind ≡ kinds.DisplayHelp) ⊎ (kind ≡ kinds.DisplayVersion)) × IsAmong kind (fault_of (shell_app names) words))
 IsDue words (Refused text) = (names : Bor (List (Bor Text))) × AreKinds names
-    × (((kind : ErrorKind) × (kind ≢ kinds.DisplayHelp) × IsAmong kind (fault_of (shell_app names) words))
+    × (((kind : ErrorKind) × (kind ≢ kinds.DisplayHelp) × (kind ≢ kinds.DisplayVersion) × IsAmong kind (fault_of (shell_app names) words))
     ⊎ AsksForNone (subcommand_of (shell_app names) words))
 IsDue words Memory = Unit {0}

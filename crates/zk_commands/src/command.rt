@@ -3,11 +3,10 @@
 ghost use Rattle.std.specs.Prelude.{◌≡◌, ℕ, ℤ, true, List, Option, IfOk, IfErr, IfSome, IfNone, find, map, codes, not, string_bytes, String};
 ghost use Rattle.std.specs.Borrow.{Bor};
 ghost use Rattle.std.specs.Global.{Global, Vec};
-ghost use Rattle.clap.specs.Simple.{on_top};
 ghost use Rattle.clap.specs.Words.{Text, app_of, found_of, first_value, kind_of, new_app, rows_of, subcommand_rows_of, with_subcommand};
 ghost use Rattle.zk_live.specs.Addresses.{is_address};
 ghost use Rattle.zk_commands.specs.Kinds.{kind_word};
-ghost use Rattle.zk_commands.specs.CommandLine.{AreAddresses, AreKinds, AsksFor, AsksForNone, IsAsked, IsDue, IsFound, IsWatch, Tells, TellsIf, history_app, live_app, rehearse_app, replay_app, show_app, shell_app, watch_app};
+ghost use Rattle.zk_commands.specs.CommandLine.{AreAddresses, AreKinds, AsksFor, AsksForNone, IsAsked, IsDue, IsFound, IsWatch, Tells, TellsIf, history_app, live_app, rehearse_app, replay_app, show_app, shell_app, shell_top, watch_app};
 ghost use Rattle.zk_ask.specs.declared.plan.Form.{Form};
 ghost use Rattle.zk_conversation.specs.Calls.{Call as Calls};
 ghost use Rattle.zk_conversation.specs.Views.{call_view};
@@ -168,10 +167,11 @@ fn with_sessions<'a>(
 
 /// The command line's form with one command, and all that its help says except about the others.
 fn form_with<'a>(alloc: Global, command: clap::Command<'a>) -> Result<clap::Command<'a>, AllocError>
-    ensures { IfOk result (λ r. (app_of command.entry).top.is_plain ≡ true → app_of r ≡ with_subcommand (on_top (λ s. record s { subcommand_required = true }) (new_app (codes "zk_shell"))) (app_of command.entry).top) }
+    ensures { IfOk result (λ r. (app_of command.entry).top.is_plain ≡ true → app_of r ≡ with_subcommand shell_top (app_of command.entry).top) }
 {
     clap::Command::new(alloc, "zk_shell")
         .about("Reads, changes and watches nodes, shows frames, and drives a client by scripts")
+        .version(help::VERSION)
         .after_help(help::SHELL)
         .subcommand_required(true)
         .subcommand(command)
@@ -198,7 +198,7 @@ fn told_of(alloc: Global, error: &Error) -> LineFault
     };
     match error.kind() {
         ErrorKind::OutOfMemory => LineFault::Memory,
-        ErrorKind::DisplayHelp => LineFault::Help(text),
+        ErrorKind::DisplayHelp | ErrorKind::DisplayVersion => LineFault::Help(text),
         _ => LineFault::Refused(text),
     }
 }

@@ -1,5 +1,8 @@
 //! What help says at its end.
 
+/// What `zk_shell --version` prints after the name: the line of the file VERSION.
+pub const VERSION: &str = "0.3.0";
+
 /// At the end of the program's help.
 pub const SHELL: &str = "\
 history, replay, rehearse and live take a script on standard input, a line for each thing to do: the

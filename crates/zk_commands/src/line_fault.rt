@@ -11,7 +11,7 @@ use zk_nodes::PathFault;
 /// Why a command line asks for nothing.
 #[derive(Debug, Drop, Error)]
 pub enum LineFault {
-    /// It asks for help, which this is.
+    /// It asks for help or for the version, which this is.
     #[error("{0}")]
     Help(String),
     /// It is refused, and this is why.
