@@ -2,11 +2,12 @@
 //! a new row of a test is a case in each of the two files.
 //!
 //! [`case`] cuts a case into its parts, [`expanded`] writes out its script, and [`play`] runs its command. Each kind of case has a function
-//! that gives what is printed, in [`rows`], [`refused`], [`failing`], [`parts`], [`addresses`], [`held`], [`served`] and [`loopback`]; the head of
-//! `stdin` tells the kinds.
+//! that gives what is printed, in [`rows`], [`refused`], [`failing`], [`parts`], [`addresses`], [`asks`], [`held`], [`served`]
+//! and [`loopback`]; the head of `stdin` tells the kinds.
 #![tactic(auto)]
 
 mod addresses;
+mod asks;
 mod case;
 mod expanded;
 mod failing;
@@ -39,6 +40,7 @@ fn printed<R: Net>(net: &R, alloc: Global, case: &Case) -> Vec<u8> {
         "heads" => parts::heads(alloc, case),
         "ends" => parts::ends(alloc, case),
         "addresses" => addresses::addresses(alloc, case.script),
+        "asks" => asks::asks(alloc, case),
         "held" => held::held(alloc, case),
         "served" => served::served(alloc, case),
         "loopback" => loopback::loopback(net, alloc),

@@ -28,7 +28,7 @@ impl Clock for Still {
 }
 
 /// What a command printed, told and answered, in one text.
-fn joined(printed: Vec<u8>, told: Vec<u8>, status: Status) -> Vec<u8> {
+pub fn joined(printed: Vec<u8>, told: Vec<u8>, status: Status) -> Vec<u8> {
     let mut text = printed;
     add(&mut text, b"|");
     add(&mut text, told.as_slice());
@@ -47,7 +47,7 @@ pub fn outcome<I: Read>(alloc: Global, case: &Case, left: usize, input: &mut I) 
     joined(out, errors, status)
 }
 
-/// Runs a command over any memory; a watch is not run.
+/// Runs a command over any memory; a watch and a call are not run.
 fn perform<A: Allocator + Copy, D: Dial, I: Read, O: Write>(
     alloc: A,
     command: &Command,
@@ -68,7 +68,7 @@ fn perform<A: Allocator + Copy, D: Dial, I: Read, O: Write>(
             };
             script_over(alloc, plays, input, out, errors)
         }
-        Command::Watch { .. } => Status::Usage,
+        Command::Watch { .. } | Command::Ask { .. } => Status::Usage,
     }
 }
 

@@ -1,6 +1,6 @@
 -- Whether each word is an address, and what is told where the words ask for nothing.
-use Rattle.std.proofs.Common.{◌≡◌, ◌≢◌, Bool, true, false, List, [], ◌∷◌, Option, Some, None, refl, map}
-use Rattle.std.specs.Prelude.{not, find, ◌&&◌, cond}
+use Rattle.std.proofs.Common.{◌≡◌, ◌≢◌, Bool, true, false, List, [], ◌∷◌, Option, Some, None, refl, sym, subst, map}
+use Rattle.std.specs.Prelude.{not, find, ◌&&◌, cond, Result, Ok, Err, IfErr, IsErrAnd}
 use Rattle.std.specs.Borrow.{Bor}
 use Rattle.std.specs.List.{list_all}
 use Rattle.clap.specs.Words.{Text}
@@ -47,3 +47,9 @@ pub tells_more : (why other : Type 0) (fault : LineFault) → (why → other) �
 tells_more why other (Help text) so told = absurd told
 tells_more why other (Refused text) so told = so told
 tells_more why other Memory so told = tt
+
+-- a refusal that is handed on may be told where something holds that this follows from
+pub tells_on : {T : Type 0} (why other : Type 0) (r : Result T LineFault) (fault : LineFault) → IsErrAnd r (λ e. e ≡ fault) → TellsIf why fault
+    → (why → other) → IfErr r (TellsIf other)
+tells_on why other (Ok x) fault is told so = tt
+tells_on why other (Err e) fault is told so = subst (λ (f : LineFault). TellsIf other f) (sym is) (tells_more why other fault so told)

@@ -2,3 +2,4 @@ pub mod ScriptLemmas
 pub mod AddressLemmas
 pub mod FormLemmas
 pub mod FieldLemmas
+pub mod VerbLemmas

@@ -1,6 +1,6 @@
 -- What a command line asks for, by the definition that `clap` gives of a simple command's matches.
 use Rattle.std.specs.Prelude.{◌≡◌, ◌≢◌, ◌⊎◌, ◌*◌, ◌==◌, ℕ, ℤ, pos, Bool, true, not, is_some, if◌then◌else◌, List, [], ◌∷◌, ◌++◌, map, codes, Option, Some, None}
-use Rattle.std.specs.Prelude.{option_and_then, option_map, unwrap_or}
+use Rattle.std.specs.Prelude.{option_and_then, option_map, unwrap_or, string_bytes}
 use Rattle.std.specs.Borrow.{Bor}
 use Rattle.std.specs.List.{list_all}
 use Rattle.clap.specs.Words.{App, IsAmong, Row, Rule, Text, all_of, fault_of, first_of, new_app, new_rule, subcommand_of, with_rule, with_subcommand}
@@ -14,13 +14,18 @@ use Rattle.zk_nodes.specs.declared.side.Side.{Side}
 use Rattle.zk_nodes.specs.declared.side.Side.TheVariants.{Data, Child}
 use Rattle.zk_live.specs.Addresses.{is_address}
 use Rattle.zk_script.specs.Numbers.{natural_of}
+use Rattle.zk_conversation.specs.Calls.{Call}
+use Rattle.zk_conversation.specs.Views.{call_view}
+use Rattle.zk_ask.specs.declared.plan.Form.{Form}
 use Rattle.zk_watch.specs.Watching.{aims_of}
 use Rattle.zk_commands.specs.declared.command.Command.{Command}
-use Rattle.zk_commands.specs.declared.command.Command.TheVariants.{Show, History, Replay, Rehearse, Live, Watch}
+use Rattle.zk_commands.specs.declared.command.Command.TheVariants.{Show, History, Replay, Rehearse, Live, Watch, Ask}
 use Rattle.zk_commands.specs.declared.line_fault.LineFault.{LineFault}
 use Rattle.zk_commands.specs.declared.line_fault.LineFault.TheVariants.{Help, Refused, Memory}
 use Rattle.zk_commands.specs.declared.kind.Kind.TheVariants as kind
 use Rattle.zk_commands.specs.Kinds.{kind_word}
+use Rattle.zk_commands.specs.declared.verb.Verb.{Verb}
+use Rattle.zk_commands.specs.Asks.{AreServers, absolute, call_for, form_for, verb_word, with_reads, with_writes}
 
 -- the kinds that `show` knows, in the order in which help lists them
 abbrev pub kind_words : List Text
@@ -77,11 +82,15 @@ abbrev pub watch_app : App
 watch_app =
     with_rule (with_rule (with_rule (with_rule (with_rule (new_app (codes "watch")) address_rule) (path_rule (codes "data"))) (path_rule (codes "children"))) timeout_rule) duration_rule
 
--- the program: one of its subcommands must be given
+-- the program without its subcommands: one must be given
+abbrev pub shell_top : App
+shell_top = on_top (λ s. record s { subcommand_required = true; has_version = true }) (new_app (codes "zk_shell"))
+
+-- the program
 abbrev pub shell_app : Bor (List (Bor Text)) → App
 shell_app names =
-    with_subcommand (with_subcommand (with_subcommand (with_subcommand (with_subcommand (with_subcommand (on_top (λ s. record s { subcommand_required = true }) (new_app (codes "zk_shell")))
-    (show_app names).top) history_app.top) replay_app.top) rehearse_app.top) live_app.top) watch_app.top
+    with_writes (with_reads (with_subcommand (with_subcommand (with_subcommand (with_subcommand (with_subcommand (with_subcommand shell_top
+    (show_app names).top) history_app.top) replay_app.top) rehearse_app.top) live_app.top) watch_app.top))
 
 -- the list is that of the kinds
 abbrev pub AreKinds : Bor (List (Bor Text)) → Type 0
@@ -139,6 +148,23 @@ abbrev pub IsWatch : List Text → List (Side × Text) → ℤ → Option ℕ �
 IsWatch addresses aims timeout_ms for_ms rows =
     AreAddresses addresses rows × AreAims aims rows × IsTimeout timeout_ms rows × IsDuration for_ms rows
 
+-- how long to wait, in milliseconds: the words say it in seconds
+abbrev pub wait_at : Text → Option ℕ
+wait_at word = option_map (λ seconds. 1000 * seconds) (count_at 4294967 word)
+
+-- the words name a node
+pub record IsNode (chroot name : Text) (rows : List Row) : Type 0 where
+  pub given : first_of (codes "PATH") rows ≡ Some name
+  pub is : is_path name ≡ true
+  pub below : is_path (absolute chroot name) ≡ true
+
+-- What a command that asks for a node was given: servers with their chroot, the node, the call by its verb, how to print, and how long to
+-- wait.
+abbrev pub IsAsked : Verb → (addresses : List Text) → (chroot name : Text) → Call → Form → (wait_ms : ℕ) → List Row → Type 0
+IsAsked verb addresses chroot name call form wait_ms rows =
+    AreServers addresses chroot rows × IsNode chroot name rows × (call_for verb (absolute chroot name) rows ≡ Some call)
+    × (form ≡ form_for verb rows) × (option_and_then wait_at (first_of (codes "wait") rows) ≡ Some wait_ms)
+
 -- the subcommand that was found, with its values, is this command
 abbrev pub IsFound : Command → Option (Text × List Row) → Type 0
 IsFound (Show kind hex) found = (rows : List Row) × (found ≡ Some (codes "show", rows))
@@ -149,6 +175,8 @@ IsFound Rehearse found = (rows : List Row) × (found ≡ Some (codes "rehearse",
 IsFound (Live addresses) found = (rows : List Row) × (found ≡ Some (codes "live", rows)) × AreAddresses (map (λ a. a.now) addresses.items) rows
 IsFound (Watch addresses subjects timeout_ms for_ms) found = (rows : List Row) × (found ≡ Some (codes "watch", rows))
     × IsWatch (map (λ a. a.now) addresses.items) (aims_of subjects.items) timeout_ms for_ms rows
+IsFound (Ask addresses chroot name call form wait_ms) found = (verb : Verb) × (rows : List Row) × (found ≡ Some (verb_word verb, rows))
+    × IsAsked verb (map (λ a. a.now) addresses.items) (string_bytes chroot) name.now (call_view call) form wait_ms rows
 
 -- the words ask for this command
 abbrev pub AsksFor : List Text → Command → Type 0
@@ -171,14 +199,15 @@ TellsIf why Memory = Unit {0}
 
 -- what `clap` says of the words is told so
 abbrev pub Tells : ErrorKind → LineFault → Type 0
-Tells kind (Help text) = kind ≡ kinds.DisplayHelp
-Tells kind (Refused text) = (kind ≢ kinds.DisplayHelp) × (kind ≢ kinds.OutOfMemory)
+Tells kind (Help text) = (kind ≡ kinds.DisplayHelp) ⊎ (kind ≡ kinds.DisplayVersion)
+Tells kind (Refused text) = (kind ≢ kinds.DisplayHelp) × (kind ≢ kinds.DisplayVersion) × (kind ≢ kinds.OutOfMemory)
 Tells kind Memory = Unit {0}
 
 -- Help is told where `clap` answers the words with help, and a refusal where it refuses them, or where they ask for no command.
 abbrev pub IsDue : List Text → LineFault → Type 0
-IsDue words (Help text) = (names : Bor (List (Bor Text))) × AreKinds names × IsAmong kinds.DisplayHelp (fault_of (shell_app names) words)
+IsDue words (Help text) = (names : Bor (List (Bor Text))) × AreKinds names
+    × ((kind : ErrorKind) × ((kind ≡ kinds.DisplayHelp) ⊎ (kind ≡ kinds.DisplayVersion)) × IsAmong kind (fault_of (shell_app names) words))
 IsDue words (Refused text) = (names : Bor (List (Bor Text))) × AreKinds names
-    × (((kind : ErrorKind) × (kind ≢ kinds.DisplayHelp) × IsAmong kind (fault_of (shell_app names) words))
+    × (((kind : ErrorKind) × (kind ≢ kinds.DisplayHelp) × (kind ≢ kinds.DisplayVersion) × IsAmong kind (fault_of (shell_app names) words))
     ⊎ AsksForNone (subcommand_of (shell_app names) words))
 IsDue words Memory = Unit {0}

@@ -1,3 +1,4 @@
+pub mod Asks
 pub mod Print
 pub mod Names
 pub mod Fields

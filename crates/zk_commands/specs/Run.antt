@@ -1,5 +1,5 @@
 -- What a command line writes, by how it ends.
-use Rattle.std.specs.Prelude.{◌≡◌, ℕ, ℤ, List, [], ◌∷◌, ◌++◌, Option, string_bytes}
+use Rattle.std.specs.Prelude.{◌≡◌, ℕ, ℤ, List, [], ◌∷◌, ◌++◌, Option, String, string_bytes}
 use Rattle.std.specs.Borrow.{Bor}
 use Rattle.std.specs.Global.{Global, Vec}
 use Rattle.clap.specs.Words.{Text}
@@ -8,12 +8,17 @@ use Rattle.zk_script.specs.declared.script.End.{End}
 use Rattle.zk_script.specs.declared.script.End.TheVariants as ends
 use Rattle.zk_script.specs.declared.script_fault.ScriptFault.{ScriptFault}
 use Rattle.zk_commands.specs.declared.command.Command.{Command}
-use Rattle.zk_commands.specs.declared.command.Command.TheVariants.{Show, Watch}
+use Rattle.zk_commands.specs.declared.command.Command.TheVariants.{Show, Watch, Ask}
 use Rattle.zk_commands.specs.declared.line_fault.LineFault.{LineFault}
 use Rattle.zk_commands.specs.declared.line_fault.LineFault.TheVariants.{Help, Refused}
 use Rattle.zk_commands.specs.declared.fault.ShowFault.{ShowFault}
 use Rattle.zk_commands.specs.declared.kind.Kind.{Kind}
 use Rattle.zk_commands.specs.CommandLine.{AsksFor, IsDue}
+use Rattle.zk_conversation.specs.Views.{call_view}
+use Rattle.zk_conversation.specs.declared.call.Call.{Call}
+use Rattle.zk_ask.specs.declared.plan.Form.{Form}
+use Rattle.zk_commands.specs.Asks.{PrintsAnswer, TellsWhy}
+use Rattle.zk_commands.specs.declared.status.Status.{Status}
 use Rattle.zk_watch.specs.Watching.{aims_of, IsPrinted}
 use Rattle.zk_watch.specs.declared.plan.Subject.{Subject}
 use Rattle.zk_commands.specs.Scripts.{IsInput, IsTranscriptOf}
@@ -31,13 +36,15 @@ IsRefusalText (Refused text) told = told ≡ string_bytes text
 IsRefusalText fault told = ⊥
 
 -- The words ask for a frame, and the text is what is shown of it; or for a command that takes a script, and it is what all lines of
--- the input print; or for a watch, and it is what that prints; or for help.
+-- the input print; or for a watch, and it is what that prints; or for a call, and it is what its answer brings; or for help.
 pub data IsDone (words : List Text) (input : Option (List ℕ)) (text : List ℕ) : Type 0 where
   shows : (kind : Kind) (hex : Bor Text) → AsksFor words (Show kind hex) → ShowsFrame kind hex.now text → IsDone words input text
   plays : (command : Command) (script : List ℕ) → AsksFor words command → IsInput input script → IsTranscriptOf command (lines_of script) text ends.Taken
       → IsDone words input text
   watches : (addresses : Vec (Bor Text)) (subjects : Vec (Subject Global)) (timeout_ms : ℤ) (for_ms : Option ℕ)
       → AsksFor words (Watch addresses subjects timeout_ms for_ms) → IsPrinted (aims_of subjects.items) text → IsDone words input text
+  asks : (addresses : Vec (Bor Text)) (chroot : String Global) (name : Bor Text) (call : Call Global) (form : Form) (wait_ms : ℕ)
+      → AsksFor words (Ask addresses chroot name call form wait_ms) → PrintsAnswer Global (call_view call) form (string_bytes chroot) text → IsDone words input text
   helps : (fault : LineFault) → IsDue words fault → IsHelpText fault text → IsDone words input text
 
 -- The words ask for a frame that is refused, and nothing is written; or for a command that takes a script, with a line that is refused, and
@@ -47,6 +54,17 @@ pub data IsFaulty (words : List Text) (input : Option (List ℕ)) (text told : L
       → told ≡ fault_text fault ++ 10 ∷ [] → IsFaulty words input text told
   stopped : (command : Command) (script : List ℕ) (number : ℕ) (why : ScriptFault) → AsksFor words command → IsInput input script
       → IsTranscriptOf command (lines_of script) text (ends.Refused number why) → told ≡ refusal_text number why → IsFaulty words input text told
+
+-- The words ask for a call that is not done, or may not be, and ends so; this is told.
+pub record IsUndoneBy (words : List Text) (status : Status) (told : List ℕ) : Type 0 where
+  pub addresses : Vec (Bor Text)
+  pub chroot : String Global
+  pub name : Bor Text
+  pub call : Call Global
+  pub form : Form
+  pub wait_ms : ℕ
+  pub asks : AsksFor words (Ask addresses chroot name call form wait_ms)
+  pub tells : TellsWhy Global (call_view call) name.now status told
 
 -- the words are refused
 abbrev pub IsRefusal : List Text → List ℕ → Type 0

@@ -1,24 +1,33 @@
 //! What a command line asks for.
 
-ghost use Rattle.std.specs.Prelude.{◌≡◌, ℕ, ℤ, true, List, Option, IfOk, IfErr, IfSome, IfNone, find, map, codes, not};
+ghost use Rattle.std.specs.Prelude.{◌≡◌, ℕ, ℤ, true, List, Option, IfOk, IfErr, IfSome, IfNone, find, map, codes, not, string_bytes, String};
 ghost use Rattle.std.specs.Borrow.{Bor};
 ghost use Rattle.std.specs.Global.{Global, Vec};
-ghost use Rattle.clap.specs.Simple.{on_top};
 ghost use Rattle.clap.specs.Words.{Text, app_of, found_of, first_value, kind_of, new_app, rows_of, subcommand_rows_of, with_subcommand};
 ghost use Rattle.zk_live.specs.Addresses.{is_address};
 ghost use Rattle.zk_commands.specs.Kinds.{kind_word};
-ghost use Rattle.zk_commands.specs.CommandLine.{AreAddresses, AreKinds, AsksFor, AsksForNone, IsDue, IsFound, IsWatch, Tells, TellsIf, history_app, live_app, rehearse_app, replay_app, show_app, shell_app, watch_app};
+ghost use Rattle.zk_commands.specs.CommandLine.{AreAddresses, AreKinds, AsksFor, AsksForNone, IsAsked, IsDue, IsFound, IsWatch, Tells, TellsIf, history_app, live_app, rehearse_app, replay_app, show_app, shell_app, shell_top, watch_app};
+ghost use Rattle.zk_ask.specs.declared.plan.Form.{Form};
+ghost use Rattle.zk_conversation.specs.Calls.{Call as Calls};
+ghost use Rattle.zk_conversation.specs.Views.{call_view};
+ghost use Rattle.zk_conversation.specs.declared.call.Call.{Call};
 ghost use Rattle.zk_nodes.specs.declared.side.Side.{Side};
 ghost use Rattle.zk_watch.specs.declared.plan.Subject.{Subject};
 ghost use Rattle.zk_watch.specs.Watching.{aims_of};
 
+use crate::ask_forms::{with_reads, with_writes};
+use crate::ask_words::{form_for, node_of, servers_of, wait_of};
+use crate::data_words::call_of;
 use crate::help;
 use crate::kind::Kind;
 use crate::line_fault::{LineFault, no_address, no_command};
+use crate::verb::Verb;
 use crate::watch_words::{addresses_arg, duration_of, subjects_of, timeout_of, watch_form};
 use clap::error::ErrorKind;
 use clap::{Arg, ArgMatches, Error};
 use std::alloc::{AllocError, Global};
+use zk_ask::Form;
+use zk_client::Call;
 use zk_live::address::is_address;
 use zk_watch::Subject;
 
@@ -61,6 +70,15 @@ pub enum Command<'a> {
         subjects: Vec<Subject<Global>>,
         timeout_ms: i32,
         for_ms: Option<u64>,
+    },
+    /// Asks one call of servers at these addresses, and waits this many milliseconds for its answer. The node has this name below a chroot.
+    Ask {
+        addresses: Vec<&'a str>,
+        chroot: String,
+        name: &'a str,
+        call: Call,
+        form: Form,
+        wait_ms: u64,
     },
 }
 
@@ -149,10 +167,11 @@ fn with_sessions<'a>(
 
 /// The command line's form with one command, and all that its help says except about the others.
 fn form_with<'a>(alloc: Global, command: clap::Command<'a>) -> Result<clap::Command<'a>, AllocError>
-    ensures { IfOk result (λ r. (app_of command.entry).top.is_plain ≡ true → app_of r ≡ with_subcommand (on_top (λ s. record s { subcommand_required = true }) (new_app (codes "zk_shell"))) (app_of command.entry).top) }
+    ensures { IfOk result (λ r. (app_of command.entry).top.is_plain ≡ true → app_of r ≡ with_subcommand shell_top (app_of command.entry).top) }
 {
     clap::Command::new(alloc, "zk_shell")
-        .about("Shows frames of the protocol, answers histories of a tree, and drives a client")
+        .about("Reads, changes and watches nodes, shows frames, and drives a client by scripts")
+        .version(help::VERSION)
         .after_help(help::SHELL)
         .subcommand_required(true)
         .subcommand(command)
@@ -165,7 +184,9 @@ fn form<'a>(alloc: Global) -> Result<clap::Command<'a>, AllocError>
     let show = show_form(alloc)?;
     let shown = form_with(alloc, show)?;
     let driven = with_scripts(alloc, shown)?;
-    with_sessions(alloc, driven)
+    let joined = with_sessions(alloc, driven)?;
+    let reading = with_reads(alloc, joined)?;
+    with_writes(alloc, reading)
 }
 
 /// What a refusal of `clap` says.
@@ -177,7 +198,7 @@ fn told_of(alloc: Global, error: &Error) -> LineFault
     };
     match error.kind() {
         ErrorKind::OutOfMemory => LineFault::Memory,
-        ErrorKind::DisplayHelp => LineFault::Help(text),
+        ErrorKind::DisplayHelp | ErrorKind::DisplayVersion => LineFault::Help(text),
         _ => LineFault::Refused(text),
     }
 }
@@ -196,7 +217,7 @@ fn show_of<'a>(matches: &ArgMatches<'a>) -> Option<Command<'a>>
 }
 
 /// The first word that is no address.
-fn stranger<'a>(words: &[&'a str]) -> Option<&'a str>
+pub(crate) fn stranger<'a>(words: &[&'a str]) -> Option<&'a str>
     ensures { result ≡ find (λ w. not (is_address w.now)) words.now }
 {
     let word = words.iter().find(|word| !is_address(word))?;
@@ -248,6 +269,31 @@ fn watch_of<'a>(alloc: Global, matches: &ArgMatches<'a>) -> Result<Command<'a>, 
     })
 }
 
+/// The command that the matches of a command with this verb give.
+fn ask_of<'a>(alloc: Global, verb: Verb, matches: &ArgMatches<'a>) -> Result<Command<'a>, LineFault>
+    ensures ok { IfOk result (λ command. (addresses : Vec (Bor Text)) × (chroot : String Global) × (name : Bor Text) × (call : Call Global) × (form : Form) × (wait_ms : ℕ)
+        × (command ≡ Command.Ask addresses chroot name call form wait_ms)
+        × IsAsked verb (map (λ a. a.now) addresses.items) (string_bytes chroot) name.now (call_view call) form wait_ms (rows_of (found_of matches.now))) }
+    ensures err { IfErr result (TellsIf ((addresses : List Text) (chroot name : Text) (call : Calls) (form : Form) (wait_ms : ℕ)
+        → IsAsked verb addresses chroot name call form wait_ms (rows_of (found_of matches.now)) → ⊥)) }
+{
+    let Some(name) = matches.get_str("PATH") else {
+        return Err(no_command(alloc));
+    };
+    let wait_ms = wait_of(alloc, matches)?;
+    let (addresses, chroot) = servers_of(alloc, matches)?;
+    let path = node_of(alloc, chroot.as_str(), name)?;
+    let call = call_of(alloc, verb, path, matches)?;
+    Ok(Command::Ask {
+        addresses,
+        chroot,
+        name,
+        call,
+        form: form_for(verb, matches),
+        wait_ms,
+    })
+}
+
 /// The command that the matches of a command line give.
 fn asked<'a>(alloc: Global, matches: &ArgMatches<'a>) -> Result<Command<'a>, LineFault>
     ensures ok { IfOk result (λ command. IsFound command (subcommand_rows_of matches.now)) }
@@ -263,7 +309,11 @@ fn asked<'a>(alloc: Global, matches: &ArgMatches<'a>) -> Result<Command<'a>, Lin
         Some(("rehearse", _)) => Ok(Command::Rehearse),
         Some(("live", inner)) => live_of(alloc, inner),
         Some(("watch", inner)) => watch_of(alloc, inner),
-        _ => Err(no_command(alloc)),
+        Some((word, inner)) => match Verb::named(word) {
+            Some(verb) => ask_of(alloc, verb, inner),
+            None => Err(no_command(alloc)),
+        },
+        None => Err(no_command(alloc)),
     }
 }
 

@@ -1,12 +1,16 @@
 //! What help says at its end.
 
+/// What `zk_shell --version` prints after the name: the line of the file VERSION.
+pub const VERSION: &str = "0.3.0";
+
 /// At the end of the program's help.
 pub const SHELL: &str = "\
-Scripts come on standard input, a line for each thing to do. The help of each command names its lines;
-`zk_shell live --help` names those that drive a client. `zk_shell watch` and `zk_shell show` take none.
+history, replay, rehearse and live take a script on standard input, a line for each thing to do: the
+help of each names its lines, and `zk_shell live --help` those that drive a client. The others take none.
 
 Exit status: 0 done, and for help; 1 a fault in the input, told on standard error; 2 a fault of the
-command line, told there too; 3 out of memory; 4 standard input or output failed.";
+command line, told there too; 3 out of memory; 4 standard input or output failed. Commands that ask for
+one node end with 5 to 8 too: `zk_shell get --help`.";
 
 /// At the end of the help of `live`.
 pub const LIVE: &str =
@@ -110,6 +114,39 @@ prints
   /config data full 6869 3 3 1700000000000 1700000000000 0 0 2 stale last 3
   /config data full 627965 3 5 1700000000000 1700000009000 1 0 3 good last 5
   state Closed";
+
+/// At the end of the help of the commands that ask for one node.
+pub const ASK: &str =
+    r"SERVERS is one word: addresses with commas between them, of which one that answers is asked. They are
+in numbers, as 127.0.0.1:2181, since no names are looked up. After them may stand a path, as in
+127.0.0.1:2181/app: then PATH is below it, and so are the paths that are printed.
+
+Printed:
+  get           the data: a text in UTF-8 as it is, with a newline after it, and data with other control
+                characters than tab and newline, or that are no UTF-8, in hex. Null data print nothing
+  get --hex     the data in hex, \e for no bytes, \0 for null, as set and create take them with --hex
+  ls            the names below the node, a line each, in the order of their bytes
+  stat          a line for each field, by ZooKeeper's name: czxid, mzxid, ctime, mtime, version,
+                cversion, aversion, ephemeralOwner, dataLength, numChildren, pzxid
+  create        the path of the node that was made
+  set, delete   nothing
+
+No node is ephemeral: it would be gone with the session of the command, at its end.
+
+What is not done is told on standard error, with PATH:
+  no node: /a                         For create, the node above it is not there
+  refused: /a: the node has another version (-103)
+  not connected: /a: no server has answered in time
+  no answer: /a: its time is over, and it may or may not have happened
+
+Exit status: 0 done; 2 a fault of the command line; 3 out of memory; 4 standard output failed; 5 no
+node; 6 refused; 7 no server has answered in time; 8 no answer to the call, which may be done or not.
+After 5, 6 and 7 nothing was changed.
+
+Examples:
+  zk_shell create 127.0.0.1:2181 /config 'level = 1'
+  zk_shell get 127.0.0.1:2181 /config >config
+  zk_shell set 127.0.0.1:2181 /config 'level = 2' --version 0 || echo changed meanwhile";
 
 /// At the end of the help of `history`.
 pub const HISTORY: &str =

@@ -1,8 +1,12 @@
-//! The commands of the shell, over readers and writers, and what a command line asks for.
+//! The commands of the shell, over readers, writers and connections, and what a command line asks for.
 #![tactic(auto)]
 
+mod ask;
+mod ask_forms;
+mod ask_words;
 mod asked;
 pub mod command;
+mod data_words;
 mod fault;
 mod fields;
 mod frame;
@@ -16,6 +20,7 @@ pub mod script;
 pub mod show;
 mod shown;
 pub mod status;
+pub mod verb;
 mod watch;
 mod watch_words;
 mod written;

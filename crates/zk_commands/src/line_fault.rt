@@ -11,7 +11,7 @@ use zk_nodes::PathFault;
 /// Why a command line asks for nothing.
 #[derive(Debug, Drop, Error)]
 pub enum LineFault {
-    /// It asks for help, which this is.
+    /// It asks for help or for the version, which this is.
     #[error("{0}")]
     Help(String),
     /// It is refused, and this is why.
@@ -78,4 +78,46 @@ pub(crate) fn no_duration(alloc: Global, word: &str) -> LineFault
     refusal(format!(in alloc;
         "error: {word:?} is no time to watch: a number of seconds from 1 to 4294967\n"
     ))
+}
+
+/// What is told of a word that does not say how long to wait.
+pub(crate) fn no_wait(alloc: Global, word: &str) -> LineFault
+    ensures { IsNoHelp result }
+{
+    refusal(format!(in alloc;
+        "error: {word:?} is no time to wait: a number of seconds from 1 to 4294967\n"
+    ))
+}
+
+/// What is told where no data are given.
+pub(crate) fn no_data(alloc: Global) -> LineFault
+    ensures { IsNoHelp result }
+{
+    refusal(String::from_str(
+        alloc,
+        "error: DATA is missing: give it, or --null for null data\n",
+    ))
+}
+
+/// What is told of a word that is given beside the flag for null data.
+pub(crate) fn two_data(alloc: Global, word: &str) -> LineFault
+    ensures { IsNoHelp result }
+{
+    refusal(format!(in alloc; "error: {word:?}: give DATA or --null, not both\n"))
+}
+
+/// What is told of a word that is no hex.
+pub(crate) fn no_hex(alloc: Global, word: &str) -> LineFault
+    ensures { IsNoHelp result }
+{
+    refusal(format!(in alloc;
+        "error: {word:?} is no hex: two digits for each byte, \\e for no bytes, or \\0 for null\n"
+    ))
+}
+
+/// What is told of a word that is no version.
+pub(crate) fn no_version(alloc: Global, word: &str) -> LineFault
+    ensures { IsNoHelp result }
+{
+    refusal(format!(in alloc; "error: {word:?} is no version: a number from 0 to 2147483647\n"))
 }

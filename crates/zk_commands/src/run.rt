@@ -3,9 +3,11 @@
 ghost use Rattle.std.specs.Prelude.{◌≡◌, ◌≢◌, List, ℕ, map};
 ghost use Rattle.std.specs.Io.KnownBytes.{Appends};
 ghost use Rattle.clap.specs.Words.{Text};
+ghost use Rattle.zk_commands.specs.Asks.{IsUndone};
 ghost use Rattle.zk_commands.specs.CommandLine.{AsksFor};
-ghost use Rattle.zk_commands.specs.Run.{IsDone, IsFaulty, IsHelpText, IsRefusal, IsRefusalText, IsWhole};
+ghost use Rattle.zk_commands.specs.Run.{IsDone, IsFaulty, IsHelpText, IsRefusal, IsRefusalText, IsUndoneBy, IsWhole};
 
+use crate::ask::ask_over;
 use crate::command::{Command, command_of};
 use crate::line_fault::LineFault;
 use crate::plays::{LiveClient, RehearsedClient, ReplayedClient, ToldHistory};
@@ -15,6 +17,7 @@ use crate::status::Status;
 use crate::watch::watch_over;
 use std::alloc::Global;
 use std::io::{Read, Write};
+use zk_ask::Plan as Question;
 use zk_link::{Clock, Dial};
 use zk_watch::Plan;
 
@@ -43,6 +46,8 @@ fn perform<D: Dial + Drop, C: Clock + Drop, I: Read, O: Write, E: Write>(
     ensures fault { result ≡ Status.Fault → (words : List Text) → AsksFor words command.entry → (text told : List ℕ) × IsFaulty words (I.remaining input.old) text told
         × Appends (O.contents out.old) (O.contents out.new) text × Appends (E.contents errors.old) (E.contents errors.new) told }
     ensures usage { result ≢ Status.Usage }
+    ensures undone { IsUndone result → (words : List Text) → AsksFor words command.entry → (told : List ℕ) × IsUndoneBy words result told
+        × Appends (E.contents errors.old) (E.contents errors.new) told × (out.new ≡ out.old) }
     ensures memory { result ≡ Status.Memory → (words : List Text) → AsksFor words command.entry → (text : List ℕ) × IsWhole words (I.remaining input.old) text
         × Appends (O.contents out.old) (O.contents out.new) text × (errors.new ≡ errors.old) }
 {
@@ -72,6 +77,24 @@ fn perform<D: Dial + Drop, C: Clock + Drop, I: Read, O: Write, E: Write>(
             };
             watch_over(alloc, dial, clock, plan, out)
         }
+        Command::Ask {
+            addresses,
+            chroot,
+            name,
+            call,
+            form,
+            wait_ms,
+        } => {
+            let question = Question {
+                addresses: addresses.as_slice(),
+                call,
+                name,
+                chroot: chroot.as_str(),
+                form,
+                wait_ms,
+            };
+            ask_over(alloc, dial, clock, question, out, errors)
+        }
     }
 }
 
@@ -80,6 +103,7 @@ fn tell_line<O: Write, E: Write>(out: &mut O, errors: &mut E, fault: LineFault) 
     ensures done { result ≡ Status.Done → (text : List ℕ) × IsHelpText fault text × Appends (O.contents out.old) (O.contents out.new) text × (errors.new ≡ errors.old) }
     ensures fault { result ≢ Status.Fault }
     ensures usage { result ≡ Status.Usage → (told : List ℕ) × IsRefusalText fault told × Appends (E.contents errors.old) (E.contents errors.new) told × (out.new ≡ out.old) }
+    ensures asks { IsUndone result → ⊥ }
     ensures memory { result ≡ Status.Memory → (out.new ≡ out.old) × (errors.new ≡ errors.old) }
 {
     match fault {
@@ -90,7 +114,7 @@ fn tell_line<O: Write, E: Write>(out: &mut O, errors: &mut E, fault: LineFault) 
 }
 
 /// Runs the command that the words ask for. The first word is the program's name. `dial` connects to addresses, for what runs over
-/// connections, and `clock` tells moments to a watch.
+/// connections, and `clock` tells moments to a watch and to a call.
 pub fn run<D: Dial + Drop, C: Clock + Drop, I: Read, O: Write, E: Write>(
     alloc: Global,
     dial: D,
@@ -100,7 +124,7 @@ pub fn run<D: Dial + Drop, C: Clock + Drop, I: Read, O: Write, E: Write>(
     errors: &mut E,
     words: &[&str],
 ) -> Status
-    // A frame is shown, a history is answered, a replay, a rehearsal, a session or a watch is printed, or help is told.
+    // A frame is shown, a history is answered, a replay, a rehearsal, a session, a watch or the answer to a call is printed, or help is told.
     ensures done { result ≡ Status.Done → (text : List ℕ) × IsDone (map (λ w. w.now) words.entry.now) (I.remaining input.old) text
         × Appends (O.contents out.old) (O.contents out.new) text × (errors.new ≡ errors.old) }
     // The frame or a line of the script is refused, and this is told.
@@ -108,6 +132,9 @@ pub fn run<D: Dial + Drop, C: Clock + Drop, I: Read, O: Write, E: Write>(
         × Appends (O.contents out.old) (O.contents out.new) text × Appends (E.contents errors.old) (E.contents errors.new) told }
     // The words are refused, and this is told.
     ensures usage { result ≡ Status.Usage → (told : List ℕ) × IsRefusal (map (λ w. w.now) words.entry.now) told
+        × Appends (E.contents errors.old) (E.contents errors.new) told × (out.new ≡ out.old) }
+    // A call is not done, or may not be, and this is told.
+    ensures undone { IsUndone result → (told : List ℕ) × IsUndoneBy (map (λ w. w.now) words.entry.now) result told
         × Appends (E.contents errors.old) (E.contents errors.new) told × (out.new ≡ out.old) }
     // Nothing is written, or whole answers of a history, or what whole lines of a replay, a rehearsal or a session print, or what a
     // watch prints.

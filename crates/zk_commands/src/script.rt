@@ -7,6 +7,7 @@ ghost use Rattle.zk_script.specs.Scripts.{lines_of, refusal_text};
 ghost use Rattle.zk_script.specs.declared.script.End.{End};
 ghost use Rattle.zk_script.specs.declared.script.End.TheVariants as ends;
 ghost use Rattle.zk_script.specs.declared.script_fault.ScriptFault.{ScriptFault as Why};
+ghost use Rattle.zk_commands.specs.Asks.{IsUndone};
 ghost use Rattle.zk_commands.specs.Scripts.{IsInput};
 ghost use Rattle.zk_commands.specs.Written.{RunsOut};
 
@@ -53,6 +54,7 @@ pub fn script_over<P: Plays<A>, A: Allocator + Copy, I: Read, O: Write, E: Write
         × P.prints (lines_of script) text end × RunsOut end told × Appends (O.contents out.old) (O.contents out.new) (text ++ told) }
     ensures silent { (result ≡ Status.Done) ⊎ (result ≡ Status.Memory) → errors.new ≡ errors.old }
     ensures usage { result ≢ Status.Usage }
+    ensures asks { IsUndone result → ⊥ }
 {
     let script = match read_whole(alloc, input) {
         Ok(script) => script,

@@ -2,6 +2,7 @@
 
 ghost use Rattle.std.specs.Prelude.{◌≡◌, ◌≢◌, ◌≤◌, ◌⊎◌, length, ◌∷◌, ◌++◌, [], List, ℕ, IfOk, IfErr, string_bytes};
 ghost use Rattle.std.specs.Io.KnownBytes.{Appends};
+ghost use Rattle.zk_commands.specs.Asks.{IsUndone};
 ghost use Rattle.zk_commands.specs.Show.{Prints, IsOf, ShowsFrame, IsHexOf, IsNotHex, IsPayloadFault, IsFault, fault_text};
 ghost use Rattle.zk_limits.specs.declared.limits.TheConstants.{LONGEST_INCOMING};
 
@@ -86,6 +87,7 @@ pub fn show<A: Allocator + Copy, O: Write, E: Write>(
     ensures quiet { result ≡ Status.Fault → out.new ≡ out.old }
     ensures memory { result ≡ Status.Memory → (out.new ≡ out.old) × (errors.new ≡ errors.old) }
     ensures usage { result ≢ Status.Usage }
+    ensures asks { IsUndone result → ⊥ }
 {
     match print_frame(alloc, kind, hex) {
         Ok(text) => match out.write_all(text.as_bytes()) {

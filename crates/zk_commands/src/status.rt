@@ -13,4 +13,12 @@ pub enum Status {
     Memory = 3,
     /// Standard input or output failed.
     Stream = 4,
+    /// There is no such node, which was told.
+    NoNode = 5,
+    /// The call was refused, which was told.
+    Refused = 6,
+    /// No server has answered, which was told.
+    Unconnected = 7,
+    /// There is no answer to the call, which was told: it may or may not be done.
+    Unanswered = 8,
 }

@@ -3,6 +3,7 @@
 ghost use Rattle.std.specs.Prelude.{◌≡◌, ◌≢◌, ◌++◌, List, ℕ};
 ghost use Rattle.std.specs.Io.KnownBytes.{Appends};
 ghost use Rattle.zk_watch.specs.Watching.{aims_of, IsPrinted};
+ghost use Rattle.zk_commands.specs.Asks.{IsUndone};
 ghost use Rattle.zk_commands.specs.Written.{IsHalt};
 
 use crate::status::Status;
@@ -28,6 +29,7 @@ pub fn watch_over<A: Allocator + Copy, D: Dial + Drop, C: Clock + Drop, O: Write
         × Appends (O.contents out.old) (O.contents out.new) (text ++ told) }
     ensures fault { result ≢ Status.Fault }
     ensures usage { result ≢ Status.Usage }
+    ensures asks { IsUndone result → ⊥ }
 {
     match watch(alloc, dial, clock, plan, out) {
         End::Over => Status::Done,

@@ -34,7 +34,12 @@ pub(crate) fn addresses_arg<'a>(alloc: Global) -> Arg<'a>
 }
 
 /// An option that takes a value, and what help says of it.
-fn option_arg<'a>(alloc: Global, name: &'a str, value: &'a str, about: &'a str) -> Arg<'a>
+pub(crate) fn option_arg<'a>(
+    alloc: Global,
+    name: &'a str,
+    value: &'a str,
+    about: &'a str,
+) -> Arg<'a>
     ensures rule { rule_of result ≡ option_rule name.now }
     ensures local { result.global ≡ false }
 {
@@ -85,7 +90,7 @@ pub(crate) fn watch_form<'a>(alloc: Global) -> Result<clap::Command<'a>, AllocEr
 }
 
 /// The number that a word means, from 1 to the most.
-fn count_of(word: &str, most: u64) -> Option<u64>
+pub(crate) fn count_of(word: &str, most: u64) -> Option<u64>
     requires { 9 ≤ most }
     ensures value { result ≡ count_at most word.now }
     ensures below { IfSome result (λ n. n ≤ most) }
@@ -125,7 +130,7 @@ pub(crate) fn duration_of(alloc: Global, matches: &ArgMatches<'_>) -> Result<Opt
 }
 
 /// The path that a word is.
-fn path_of(alloc: Global, word: &str) -> Result<Path, LineFault>
+pub(crate) fn path_of(alloc: Global, word: &str) -> Result<Path, LineFault>
     ensures ok { IfOk result (λ path. path ≡ word.now) }
     ensures accepted { OnOk result (is_path word.now ≡ true) }
     ensures err { IfErr result (TellsIf (is_path word.now ≡ false)) }

@@ -4,6 +4,7 @@ ghost use Rattle.std.specs.Prelude.{◌≡◌, ◌≢◌, ◌⊎◌, ◌++◌, L
 ghost use Rattle.std.specs.Io.KnownBytes.{Appends};
 ghost use Rattle.zk_script.specs.Scripts.{refusal_text};
 ghost use Rattle.zk_script.specs.declared.script_fault.ScriptFault.{ScriptFault as Why};
+ghost use Rattle.zk_commands.specs.Asks.{IsUndone};
 ghost use Rattle.zk_commands.specs.Written.{unread, RunsOut};
 
 use crate::status::Status;
@@ -61,6 +62,7 @@ pub(crate) fn write_transcript<A: Allocator, O: Write, E: Write>(
         × Appends (O.contents out.old) (O.contents out.new) (string_bytes transcript.now.text ++ told) }
     ensures silent { (result ≡ Status.Done) ⊎ (result ≡ Status.Memory) → errors.new ≡ errors.old }
     ensures usage { result ≢ Status.Usage }
+    ensures asks { IsUndone result → ⊥ }
 {
     if out.write_all(transcript.text.as_bytes()).is_err() {
         return Status::Stream;

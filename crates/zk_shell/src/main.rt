@@ -1,4 +1,4 @@
-//! Shows frames of the protocol, answers histories of a data tree, drives a client by a script, and watches nodes.
+//! Reads, changes and watches nodes, shows frames of the protocol, answers histories of a data tree, and drives a client by scripts.
 #![tactic(auto)]
 
 use std::io;

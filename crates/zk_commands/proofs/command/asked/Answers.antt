@@ -1,15 +1,21 @@
 use Rattle.std.proofs.Common.{rules, ◌≡◌, ◌∙◌, ℕ, ℤ, List, [], false, map, refl, sym, subst, ap, codes, Some, None, Option}
-use Rattle.std.specs.Prelude.{bytes_eq}
+use Rattle.std.specs.Prelude.{bytes_eq, string_bytes}
 use Rattle.std.proofs.lemmas.Bool.{true≢false}
 use Rattle.std.proofs.lemmas.Slice.Eq.{bytes_eq-Decides}
 use Rattle.std.proofs.lemmas.Result.{IfErr-weaker}
 use Rattle.clap.specs.Words.{found_of, first_of, rows_of, subcommand_rows_of, Text, Row}
 use Rattle.clap.proofs.WalkLemmas.{first_value-rows}
 use Rattle.zk_commands.specs.declared.command.Command.{Command}
-use Rattle.zk_commands.specs.declared.command.Command.TheVariants.{Show, History, Replay, Rehearse, Live, Watch}
+use Rattle.zk_commands.specs.declared.command.Command.TheVariants.{Show, History, Replay, Rehearse, Live, Watch, Ask}
 use Rattle.zk_commands.specs.declared.kind.Kind.{Kind}
 use Rattle.zk_commands.specs.Kinds.{kind_word}
-use Rattle.zk_commands.specs.CommandLine.{AreAddresses, AsksForNone, IsFound, IsWatch}
+use Rattle.zk_commands.specs.CommandLine.{AreAddresses, AsksForNone, IsAsked, IsFound, IsWatch}
+use Rattle.zk_ask.specs.declared.plan.Form.{Form}
+use Rattle.zk_conversation.specs.Calls.{Call}
+use Rattle.zk_conversation.specs.Views.{call_view}
+use Rattle.zk_commands.specs.Asks.{verb_word}
+use Rattle.zk_commands.specs.declared.verb.Verb.{Verb}
+use Rattle.zk_commands.proofs.VerbLemmas.{is_new, same_verb}
 use Rattle.zk_watch.specs.Watching.{aims_of}
 use Rattle.zk_nodes.specs.declared.side.Side.{Side}
 use Rattle.zk_commands.proofs.AddressLemmas.{tells, tells_more}
@@ -41,6 +47,7 @@ without_values found rows is absent Replay f = apart is f.1 refl
 without_values found rows is absent Rehearse f = apart is f.1 refl
 without_values found rows is absent (Live addresses) f = apart is f.1 refl
 without_values found rows is absent (Watch addresses subjects timeout_ms for_ms) f = apart is f.1 refl
+without_values found rows is absent (Ask addresses chroot name call form wait_ms) f = apart f.2 is (is_new f.0).shows
 
 -- where `live` was found without words that are addresses, the words ask for no command
 without_addresses : (found : Option (Text × List Row)) (rows : List Row) → found ≡ Some (codes "live", rows)
@@ -53,6 +60,7 @@ without_addresses found rows is absent (Live addresses) f =
     let same : rows ≡ f.0 = ap rows_in (sym is ∙ f.1) in
     absent (map (λ a. a.now) addresses.items) (rw same f.2)
 without_addresses found rows is absent (Watch addresses subjects timeout_ms for_ms) f = apart is f.1 refl
+without_addresses found rows is absent (Ask addresses chroot name call form wait_ms) f = apart f.2 is (is_new f.0).lives
 
 -- where `watch` was found without what it is to be given, the words ask for no command
 without_watch : (found : Option (Text × List Row)) (rows : List Row) → found ≡ Some (codes "watch", rows)
@@ -66,20 +74,38 @@ without_watch found rows is absent (Live addresses) f = apart is f.1 refl
 without_watch found rows is absent (Watch addresses subjects timeout_ms for_ms) f =
     let same : rows ≡ f.0 = ap rows_in (sym is ∙ f.1) in
     absent (map (λ a. a.now) addresses.items) (aims_of subjects.items) timeout_ms for_ms (rw same f.2)
+without_watch found rows is absent (Ask addresses chroot name call form wait_ms) f = apart f.2 is (is_new f.0).watches
 
-pub returns-in-Some-clause-ok : goal.returns-in-Some-clause-ok
-returns-in-Some-clause-ok c =
+-- where a verb was found without what it is to be given, the words ask for no command
+without_ask : (verb : Verb) (found : Option (Text × List Row)) (rows : List Row) → found ≡ Some (verb_word verb, rows)
+    → ((addresses : List Text) (chroot name : Text) (call : Call) (form : Form) (wait_ms : ℕ) → IsAsked verb addresses chroot name call form wait_ms rows → ⊥)
+    → AsksForNone found
+without_ask verb found rows is absent (Show kind hex) f = apart is f.1 (is_new verb).shows
+without_ask verb found rows is absent History f = apart is f.1 (is_new verb).tells
+without_ask verb found rows is absent Replay f = apart is f.1 (is_new verb).replays
+without_ask verb found rows is absent Rehearse f = apart is f.1 (is_new verb).rehearses
+without_ask verb found rows is absent (Live addresses) f = apart is f.1 (is_new verb).lives
+without_ask verb found rows is absent (Watch addresses subjects timeout_ms for_ms) f = apart is f.1 (is_new verb).watches
+without_ask verb found rows is absent (Ask addresses chroot name call form wait_ms) f =
+    let its : f.0 ≡ verb = same_verb f.0 verb (ap name_in (sym f.2 ∙ is)) in
+    let same : f.1 ≡ rows = ap rows_in (sym f.2 ∙ is) in
+    absent (map (λ a. a.now) addresses.items) (string_bytes chroot) name.now (call_view call) form wait_ms
+    (subst (λ (v : Verb). IsAsked v (map (λ a. a.now) addresses.items) (string_bytes chroot) name.now (call_view call) form wait_ms rows) its
+    (subst (λ (r : List Row). IsAsked f.0 (map (λ a. a.now) addresses.items) (string_bytes chroot) name.now (call_view call) form wait_ms r) same f.3))
+
+pub returns-in-Some-show_of-clause-ok : goal.returns-in-Some-show_of-clause-ok
+returns-in-Some-show_of-clause-ok c =
     let found = found_of c.in-Some-show-default.inner.now in
     let is : subcommand_rows_of c.args.matches.now ≡ Some (codes "show", rows_of found) = search rules in
-    let h = c.in-Some.ensures.some in
+    let h = c.in-Some-show_of.ensures.some in
     subst (λ (x : Command). IsFound x (subcommand_rows_of c.args.matches.now)) (sym h.2)
     (rows_of found, is, sym (first_value-rows found (codes "KIND")) ∙ h.3, sym (first_value-rows found (codes "HEX")) ∙ h.4)
 
-pub returns-in-None-clause-err : goal.returns-in-None-clause-err
-returns-in-None-clause-err c =
+pub returns-in-None-show_of-clause-err : goal.returns-in-None-show_of-clause-err
+returns-in-None-show_of-clause-err c =
     let found = found_of c.in-Some-show-default.inner.now in
     let is : subcommand_rows_of c.args.matches.now ≡ Some (codes "show", rows_of found) = search rules in
-    let absent = c.in-None.ensures.none in
+    let absent = c.in-None-show_of.ensures.none in
     tells _ c.no_command.result c.no_command.ensures
     (without_values _ (rows_of found) is (λ k h first second.
     absent k h (first_value-rows found (codes "KIND") ∙ first) (first_value-rows found (codes "HEX") ∙ second)))
@@ -89,3 +115,10 @@ returns-in-Some-watch-default-clause-err c =
     let found = found_of c.in-Some-watch-default.inner.now in
     let is : subcommand_rows_of c.args.matches.now ≡ Some (codes "watch", rows_of found) = search rules in
     IfErr-weaker c.watch_of.result _ _ (λ fault told. tells_more _ _ fault (without_watch _ (rows_of found) is) told) c.watch_of.ensures.err
+
+pub returns-in-Some-named-clause-err : goal.returns-in-Some-named-clause-err
+returns-in-Some-named-clause-err c =
+    let found = found_of c.in-Some.inner.now in
+    let named : subcommand_rows_of c.args.matches.now ≡ Some (c.in-Some.word.now, rows_of found) = search rules in
+    let is = named ∙ ap (λ (w : Text). Some (w, rows_of found)) c.in-Some-named.ensures.some in
+    IfErr-weaker c.ask_of.result _ _ (λ fault told. tells_more _ _ fault (without_ask c.in-Some-named.verb _ (rows_of found) is) told) c.ask_of.ensures.err

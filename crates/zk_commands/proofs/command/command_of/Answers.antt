@@ -20,10 +20,11 @@ simple names = refl
 -- what is told of an error of `clap` is due
 told_is_due : (words : List Text) (names : Bor (List (Bor Text))) (kind : ErrorKind) (fault : LineFault) → AreKinds names
     → (kind ≡ kinds.OutOfMemory) ⊎ IsAmong kind (fault_of (shell_app names) words) → Tells kind fault → IsDue words fault
-told_is_due words names kind (Help text) are (inl memory) told = absurd (let bad : kinds.DisplayHelp ≡ kinds.OutOfMemory = sym told ∙ memory in cc)
-told_is_due words names kind (Help text) are (inr among) told = (names, are, subst (λ (k : ErrorKind). IsAmong k (fault_of (shell_app names) words)) told among)
-told_is_due words names kind (Refused text) are (inl memory) told = absurd (told.1 memory)
-told_is_due words names kind (Refused text) are (inr among) told = (names, are, inl (kind, told.0, among))
+told_is_due words names kind (Help text) are (inl memory) (inl told) = absurd (let bad : kinds.DisplayHelp ≡ kinds.OutOfMemory = sym told ∙ memory in cc)
+told_is_due words names kind (Help text) are (inl memory) (inr told) = absurd (let bad : kinds.DisplayVersion ≡ kinds.OutOfMemory = sym told ∙ memory in cc)
+told_is_due words names kind (Help text) are (inr among) told = (names, are, (kind, told, among))
+told_is_due words names kind (Refused text) are (inl memory) told = absurd (told.2 memory)
+told_is_due words names kind (Refused text) are (inr among) told = (names, are, inl (kind, told.0, told.1, among))
 told_is_due words names kind Memory are has told = tt
 
 -- where no command is found, a refusal is due

@@ -1,121 +1,175 @@
-use Rattle.std.proofs.Common.{[], ◌∷◌, ◌++◌, refl, inl, inr}
+use Rattle.std.proofs.Common.{ℕ, List, [], ◌∷◌, ◌++◌, refl, subst, inl, inr}
+use Rattle.std.specs.Global.{Global}
+use Rattle.zk_conversation.specs.Views.{call_view}
+use Rattle.zk_commands.specs.Asks.{PrintsAnswer}
 use Rattle.zk_script.specs.Scripts.{refusal_text}
 use Rattle.zk_commands.specs.declared.command.Command.TheVariants.{History, Replay, Rehearse, Live}
-use Rattle.zk_commands.specs.Run.{shows, plays, watches, unshown, stopped, nothing, begins, ceases}
+use Rattle.zk_commands.specs.Run.{shows, plays, watches, asks, unshown, stopped, nothing, begins, ceases}
 use Rattle.zk_commands.specs.Show.{fault_text}
 use Rattle.zk_commands.proofs.ScriptLemmas.{appends_nothing}
 use Rattle.zk_commands.proofs.run.perform.Goals as goal
 
 pub returns-in-Show-clause-done : goal.returns-in-Show-clause-done
-returns-in-Show-clause-done g c = λ is words asks.
+returns-in-Show-clause-done g c = λ is words asked.
     let told = c.show.ensures.done is in
-    (told.0, shows c.in-Show.kind c.in-Show.hex (rw c.in-Show.is at asks) told.1, told.2, c.show.ensures.silent is)
+    (told.0, shows c.in-Show.kind c.in-Show.hex (rw c.in-Show.is at asked) told.1, told.2, c.show.ensures.silent is)
 
 pub returns-in-Show-clause-fault : goal.returns-in-Show-clause-fault
-returns-in-Show-clause-fault g c = λ is words asks.
+returns-in-Show-clause-fault g c = λ is words asked.
     let told = c.show.ensures.fault is in (
       [],
       fault_text told.0 ++ 10 ∷ [],
-      unshown c.in-Show.kind c.in-Show.hex told.0 (rw c.in-Show.is at asks) told.1 refl refl,
+      unshown c.in-Show.kind c.in-Show.hex told.0 (rw c.in-Show.is at asked) told.1 refl refl,
       rw (c.show.ensures.quiet is) (appends_nothing (g.O.Write.contents c.args.out.now)),
       told.2,
     )
 
 pub returns-in-Show-clause-memory : goal.returns-in-Show-clause-memory
-returns-in-Show-clause-memory g c = λ is words asks.
+returns-in-Show-clause-memory g c = λ is words asked.
     let same = c.show.ensures.memory is in
     ([], nothing refl, rw same.0 (appends_nothing (g.O.Write.contents c.args.out.now)), same.1)
 
 pub returns-in-History-clause-done : goal.returns-in-History-clause-done
-returns-in-History-clause-done g c = λ is words asks.
+returns-in-History-clause-done g c = λ is words asked.
     let told = c.script_over.ensures.done is in
-    (told.1, plays History told.0 (rw c.in-History.is at asks) told.2 told.3, told.4, c.script_over.ensures.silent (inl is))
+    (told.1, plays History told.0 (rw c.in-History.is at asked) told.2 told.3, told.4, c.script_over.ensures.silent (inl is))
 
 pub returns-in-History-clause-fault : goal.returns-in-History-clause-fault
-returns-in-History-clause-fault g c = λ is words asks.
+returns-in-History-clause-fault g c = λ is words asked.
     let told = c.script_over.ensures.fault is in
-    (told.1, refusal_text told.2 told.3, stopped History told.0 told.2 told.3 (rw c.in-History.is at asks) told.4 told.5 refl, told.6, told.7)
+    (told.1, refusal_text told.2 told.3, stopped History told.0 told.2 told.3 (rw c.in-History.is at asked) told.4 told.5 refl, told.6, told.7)
 
 pub returns-in-History-clause-memory : goal.returns-in-History-clause-memory
-returns-in-History-clause-memory g c = λ is words asks.
+returns-in-History-clause-memory g c = λ is words asked.
     let told = c.script_over.ensures.memory is in (
       told.1 ++ told.2,
-      begins History told.0 told.1 told.2 told.3 (rw c.in-History.is at asks) told.4 told.5 told.6 refl,
+      begins History told.0 told.1 told.2 told.3 (rw c.in-History.is at asked) told.4 told.5 told.6 refl,
       told.7,
       c.script_over.ensures.silent (inr is),
     )
 
 pub returns-in-Replay-clause-done : goal.returns-in-Replay-clause-done
-returns-in-Replay-clause-done g c = λ is words asks.
+returns-in-Replay-clause-done g c = λ is words asked.
     let told = c.script_over-in-Replay.ensures.done is in
-    (told.1, plays Replay told.0 (rw c.in-Replay.is at asks) told.2 told.3, told.4, c.script_over-in-Replay.ensures.silent (inl is))
+    (told.1, plays Replay told.0 (rw c.in-Replay.is at asked) told.2 told.3, told.4, c.script_over-in-Replay.ensures.silent (inl is))
 
 pub returns-in-Replay-clause-fault : goal.returns-in-Replay-clause-fault
-returns-in-Replay-clause-fault g c = λ is words asks.
+returns-in-Replay-clause-fault g c = λ is words asked.
     let told = c.script_over-in-Replay.ensures.fault is in
-    (told.1, refusal_text told.2 told.3, stopped Replay told.0 told.2 told.3 (rw c.in-Replay.is at asks) told.4 told.5 refl, told.6, told.7)
+    (told.1, refusal_text told.2 told.3, stopped Replay told.0 told.2 told.3 (rw c.in-Replay.is at asked) told.4 told.5 refl, told.6, told.7)
 
 pub returns-in-Replay-clause-memory : goal.returns-in-Replay-clause-memory
-returns-in-Replay-clause-memory g c = λ is words asks.
+returns-in-Replay-clause-memory g c = λ is words asked.
     let told = c.script_over-in-Replay.ensures.memory is in (
       told.1 ++ told.2,
-      begins Replay told.0 told.1 told.2 told.3 (rw c.in-Replay.is at asks) told.4 told.5 told.6 refl,
+      begins Replay told.0 told.1 told.2 told.3 (rw c.in-Replay.is at asked) told.4 told.5 told.6 refl,
       told.7,
       c.script_over-in-Replay.ensures.silent (inr is),
     )
 
 pub returns-in-Rehearse-clause-done : goal.returns-in-Rehearse-clause-done
-returns-in-Rehearse-clause-done g c = λ is words asks.
+returns-in-Rehearse-clause-done g c = λ is words asked.
     let told = c.script_over-in-Rehearse.ensures.done is in
-    (told.1, plays Rehearse told.0 (rw c.in-Rehearse.is at asks) told.2 told.3, told.4, c.script_over-in-Rehearse.ensures.silent (inl is))
+    (told.1, plays Rehearse told.0 (rw c.in-Rehearse.is at asked) told.2 told.3, told.4, c.script_over-in-Rehearse.ensures.silent (inl is))
 
 pub returns-in-Rehearse-clause-fault : goal.returns-in-Rehearse-clause-fault
-returns-in-Rehearse-clause-fault g c = λ is words asks.
+returns-in-Rehearse-clause-fault g c = λ is words asked.
     let told = c.script_over-in-Rehearse.ensures.fault is in
-    (told.1, refusal_text told.2 told.3, stopped Rehearse told.0 told.2 told.3 (rw c.in-Rehearse.is at asks) told.4 told.5 refl, told.6, told.7)
+    (told.1, refusal_text told.2 told.3, stopped Rehearse told.0 told.2 told.3 (rw c.in-Rehearse.is at asked) told.4 told.5 refl, told.6, told.7)
 
 pub returns-in-Rehearse-clause-memory : goal.returns-in-Rehearse-clause-memory
-returns-in-Rehearse-clause-memory g c = λ is words asks.
+returns-in-Rehearse-clause-memory g c = λ is words asked.
     let told = c.script_over-in-Rehearse.ensures.memory is in (
       told.1 ++ told.2,
-      begins Rehearse told.0 told.1 told.2 told.3 (rw c.in-Rehearse.is at asks) told.4 told.5 told.6 refl,
+      begins Rehearse told.0 told.1 told.2 told.3 (rw c.in-Rehearse.is at asked) told.4 told.5 told.6 refl,
       told.7,
       c.script_over-in-Rehearse.ensures.silent (inr is),
     )
 
 pub returns-in-Live-clause-done : goal.returns-in-Live-clause-done
-returns-in-Live-clause-done g c = λ is words asks.
+returns-in-Live-clause-done g c = λ is words asked.
     let told = c.script_over-in-Live.ensures.done is in
-    (told.1, plays (Live c.in-Live.addresses) told.0 (rw c.in-Live.is at asks) told.2 told.3, told.4, c.script_over-in-Live.ensures.silent (inl is))
+    (told.1, plays (Live c.in-Live.addresses) told.0 (rw c.in-Live.is at asked) told.2 told.3, told.4, c.script_over-in-Live.ensures.silent (inl is))
 
 pub returns-in-Live-clause-fault : goal.returns-in-Live-clause-fault
-returns-in-Live-clause-fault g c = λ is words asks.
+returns-in-Live-clause-fault g c = λ is words asked.
     let told = c.script_over-in-Live.ensures.fault is in
-    (told.1, refusal_text told.2 told.3, stopped (Live c.in-Live.addresses) told.0 told.2 told.3 (rw c.in-Live.is at asks) told.4 told.5 refl, told.6, told.7)
+    (told.1, refusal_text told.2 told.3, stopped (Live c.in-Live.addresses) told.0 told.2 told.3 (rw c.in-Live.is at asked) told.4 told.5 refl, told.6, told.7)
 
 pub returns-in-Live-clause-memory : goal.returns-in-Live-clause-memory
-returns-in-Live-clause-memory g c = λ is words asks.
+returns-in-Live-clause-memory g c = λ is words asked.
     let told = c.script_over-in-Live.ensures.memory is in (
       told.1 ++ told.2,
-      begins (Live c.in-Live.addresses) told.0 told.1 told.2 told.3 (rw c.in-Live.is at asks) told.4 told.5 told.6 refl,
+      begins (Live c.in-Live.addresses) told.0 told.1 told.2 told.3 (rw c.in-Live.is at asked) told.4 told.5 told.6 refl,
       told.7,
       c.script_over-in-Live.ensures.silent (inr is),
     )
 
 pub returns-in-Watch-clause-done : goal.returns-in-Watch-clause-done
-returns-in-Watch-clause-done g c = λ is words asks.
+returns-in-Watch-clause-done g c = λ is words asked.
     let told = c.watch_over.ensures.done is in (
       told.0,
-      watches c.in-Watch.addresses c.in-Watch.subjects c.in-Watch.timeout_ms c.in-Watch.for_ms (rw c.in-Watch.is at asks) told.1,
+      watches c.in-Watch.addresses c.in-Watch.subjects c.in-Watch.timeout_ms c.in-Watch.for_ms (rw c.in-Watch.is at asked) told.1,
       told.2,
       refl,
     )
 
 pub returns-in-Watch-clause-memory : goal.returns-in-Watch-clause-memory
-returns-in-Watch-clause-memory g c = λ is words asks.
+returns-in-Watch-clause-memory g c = λ is words asked.
     let told = c.watch_over.ensures.memory is in (
       told.0 ++ told.1,
-      ceases c.in-Watch.addresses c.in-Watch.subjects c.in-Watch.timeout_ms c.in-Watch.for_ms told.0 told.1 (rw c.in-Watch.is at asks) told.2 told.3 refl,
+      ceases c.in-Watch.addresses c.in-Watch.subjects c.in-Watch.timeout_ms c.in-Watch.for_ms told.0 told.1 (rw c.in-Watch.is at asked) told.2 told.3 refl,
       told.4,
       refl,
     )
+
+pub returns-in-Show-clause-undone : goal.returns-in-Show-clause-undone
+returns-in-Show-clause-undone g c = λ is words asked. absurd (c.show.ensures.asks is)
+
+pub returns-in-History-clause-undone : goal.returns-in-History-clause-undone
+returns-in-History-clause-undone g c = λ is words asked. absurd (c.script_over.ensures.asks is)
+
+pub returns-in-Replay-clause-undone : goal.returns-in-Replay-clause-undone
+returns-in-Replay-clause-undone g c = λ is words asked. absurd (c.script_over-in-Replay.ensures.asks is)
+
+pub returns-in-Rehearse-clause-undone : goal.returns-in-Rehearse-clause-undone
+returns-in-Rehearse-clause-undone g c = λ is words asked. absurd (c.script_over-in-Rehearse.ensures.asks is)
+
+pub returns-in-Live-clause-undone : goal.returns-in-Live-clause-undone
+returns-in-Live-clause-undone g c = λ is words asked. absurd (c.script_over-in-Live.ensures.asks is)
+
+pub returns-in-Watch-clause-undone : goal.returns-in-Watch-clause-undone
+returns-in-Watch-clause-undone g c = λ is words asked. absurd (c.watch_over.ensures.asks is)
+
+pub returns-in-Ask-clause-done : goal.returns-in-Ask-clause-done
+returns-in-Ask-clause-done g c = λ is words asked.
+    let told = c.ask_over.ensures.done is in
+    let prints = subst (λ (chroot : List ℕ). PrintsAnswer Global (call_view c.in-Ask.call) c.in-Ask.form chroot told.0) c.as_str.ensures.value told.1 in (
+      told.0,
+      asks c.in-Ask.addresses c.in-Ask.chroot c.in-Ask.name c.in-Ask.call c.in-Ask.form c.in-Ask.wait_ms (rw c.in-Ask.is at asked) prints,
+      told.2,
+      told.3,
+    )
+
+pub returns-in-Ask-clause-undone : goal.returns-in-Ask-clause-undone
+returns-in-Ask-clause-undone g c = λ is words asked.
+    let told = c.ask_over.ensures.undone is in (
+      told.0,
+      record {
+        addresses = c.in-Ask.addresses;
+        chroot = c.in-Ask.chroot;
+        name = c.in-Ask.name;
+        call = c.in-Ask.call;
+        form = c.in-Ask.form;
+        wait_ms = c.in-Ask.wait_ms;
+        asks = rw c.in-Ask.is at asked;
+        tells = told.1;
+      },
+      told.2,
+      told.3,
+    )
+
+pub returns-in-Ask-clause-memory : goal.returns-in-Ask-clause-memory
+returns-in-Ask-clause-memory g c = λ is words asked.
+    let same = c.ask_over.ensures.memory is in
+    ([], nothing refl, rw same.0 (appends_nothing (g.O.Write.contents c.args.out.now)), same.1)

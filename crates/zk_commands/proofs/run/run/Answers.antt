@@ -19,3 +19,9 @@ pub returns-in-Err-clause-usage : goal.returns-in-Err-clause-usage
 returns-in-Err-clause-usage g c = λ is.
     let told = c.tell_line.ensures.usage is in
     (told.0, (c.in-Err.fault, c.in-Err.ensures.err, told.1), told.2, told.3)
+
+pub returns-in-Ok-clause-undone : goal.returns-in-Ok-clause-undone
+returns-in-Ok-clause-undone g c = λ is. c.perform.ensures.undone is _ c.in-Ok.ensures.ok
+
+pub returns-in-Err-clause-undone : goal.returns-in-Err-clause-undone
+returns-in-Err-clause-undone g c = λ is. absurd (c.tell_line.ensures.asks is)
