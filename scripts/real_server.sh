@@ -59,9 +59,14 @@ session() {
     [[ $status == 0 && ! -s $folder/$name.err ]] || fail "$name ends with $status: $(cat "$folder/$name.err")"
 }
 
-# Whether a word is as wanted: `@NAME` is a number and `%NAME` is hex, the same for the same name, and `@` is any number.
+# Whether a word is as wanted: `@NAME` is a number and `%NAME` is hex, the same for the same name, and `@` is any number; `~` is seconds
+# with milliseconds.
 is_word() {
     case $1 in
+    '~')
+        [[ $2 =~ ^[0-9]+\.[0-9]{3}$ ]]
+        return
+        ;;
     @*) [[ $2 =~ ^-?[0-9]+$ ]] || return 1 ;;
     %*) [[ $2 =~ ^([0-9a-f]{2})+$ ]] || return 1 ;;
     *)
@@ -123,16 +128,29 @@ sees() {
     done
 }
 
+# Checks that a watch dials an address, the only one if it is named, and that a server accepts its session.
+sees_connected() {
+    within 40 has_line "$1" || fail "$1 dials nothing: $(cat "$folder/$1.err")"
+    local at=${2-$(sed -n "$((seen[$1] + 1))s/.* dial //p" "$folder/$1.out")}
+    sees "$1" <<EOF
+~ dial $at
+~ state Connecting
+~ state Connected $at session @ timeout @
+EOF
+}
+
 # Begins a watch of the data of /NAME, which are `one`, with further words of the command, and checks what it prints at first.
 begin_data() {
     local name=$1
     shift
     begin "$name" "$program" watch "$@" --data "/$name"
-    sees "$name" <<EOF
-state Connecting
-state Connected
-/$name data full 6f6e65 @$name @$name @ @ 0 0 3 good last @
-EOF
+    sees_connected "$name"
+    sees "$name" <<<"~ /$name data full 6f6e65 @$name @$name @ @ 0 0 3 good last @"
+}
+
+# The port of the server that accepted the session of a watch last.
+port_of() {
+    sed -n 's/.* state Connected 127.0.0.1:\([0-9]*\) session .*/\1/p' "$folder/$1.out" | tail -n 1
 }
 
 # Checks that NAME has printed nothing further.
@@ -366,37 +384,39 @@ run_changes() {
     local at=127.0.0.1:$1
     known=()
     begin changes "$program" watch "$at" --data /changes --children /changes --timeout 10000
+    sees_connected changes "$at"
     sees changes <<'EOF'
-state Connecting
-state Connected
-/changes data absent good last @
+~ /changes does not exist last @
+~ /changes does not exist last @
 EOF
     outside "$1" create /changes one
     sees changes <<'EOF'
-/changes data absent stale last @
-/changes data full 6f6e65 @come @come @made @made 0 0 3 good last @
-/changes names 0 @come good last @
+~ /changes data absent stale last @
+~ /changes names none last @
+~ /changes data full 6f6e65 @come @come @made @made 0 0 3 good last @
+~ /changes names 0 @come good last @
 EOF
     outside "$1" set /changes two
     sees changes <<'EOF'
-/changes data full 6f6e65 @come @come @made @made 0 0 3 stale last @
-/changes data full 74776f @come @changed @made @reset 1 0 3 good last @
+~ /changes data full 6f6e65 @come @come @made @made 0 0 3 stale last @
+~ /changes data full 74776f @come @changed @made @reset 1 0 3 good last @
 EOF
     outside "$1" create /changes/a x
     sees changes <<'EOF'
-/changes names 0 @come stale last @
-/changes names 1 a @child good last @
+~ /changes names 0 @come stale last @
+~ /changes names 1 a @child good last @
 EOF
     outside "$1" delete /changes/a
     sees changes <<'EOF'
-/changes names 1 a @child stale last @
-/changes names 0 @gone good last @
+~ /changes names 1 a @child stale last @
+~ /changes names 0 @gone good last @
 EOF
     outside "$1" delete /changes
     sees changes <<'EOF'
-/changes data full 74776f @come @changed @made @reset 1 0 3 stale last @
-/changes names 0 @gone stale last @
-/changes data absent good last @
+~ /changes data full 74776f @come @changed @made @reset 1 0 3 stale last @
+~ /changes names 0 @gone stale last @
+~ /changes does not exist last @
+~ /changes does not exist last @
 EOF
     end_by_force changes
     rises @come @changed @child @gone
@@ -407,18 +427,18 @@ run_idle() {
     local name=idle-$1 at=127.0.0.1:$1
     outside "$1" create "/$name" one
     begin "$name" "$program" watch "$at" --data "/$name" --timeout 4000 --for 25
+    sees_connected "$name" "$at"
     sees "$name" <<EOF
-state Connecting
-state Connected
-/$name data full 6f6e65 @made-$1 @made-$1 @ @ 0 0 3 good last @
+~ /$name data full 6f6e65 @made-$1 @made-$1 @ @ 0 0 3 good last @
 EOF
     sleep 13
     is_quiet "$name"
     outside "$1" set "/$name" two
     sees "$name" <<EOF
-/$name data full 6f6e65 @made-$1 @made-$1 @ @ 0 0 3 stale last @
-/$name data full 74776f @made-$1 @set-$1 @ @ 1 0 3 good last @
-state Closed
+~ /$name data full 6f6e65 @made-$1 @made-$1 @ @ 0 0 3 stale last @
+~ /$name data full 74776f @made-$1 @set-$1 @ @ 1 0 3 good last @
+~ state Closed
+~ /$name data none last @
 EOF
     ends "$name"
 }
@@ -433,15 +453,18 @@ run_expired() {
     sleep 10
     outside "$1" set /expires two
     kill -CONT "${begun[expires]}"
+    sees expires <<EOF
+~ ended $at end of stream
+~ state Idle
+~ dial $at
+~ state Connecting
+~ state Expired
+~ session new
+~ /expires data none last @renewed
+EOF
+    sees_connected expires "$at"
     sees expires <<'EOF'
-state Idle
-state Connecting
-state Expired
-session new
-/expires data none last @renewed
-state Connecting
-state Connected
-/expires data full 74776f @expires @twice @ @ 1 0 3 good last @
+~ /expires data full 74776f @expires @twice @ @ 1 0 3 good last @
 EOF
     ((known[@renewed] >= known[@expires])) || fail "the new session has forgotten the last seen zxid"
     end_by_force expires
@@ -454,9 +477,9 @@ run_closed() {
         status=0
         timeout 60 "$program" watch "127.0.0.1:$1" --data /closes --timeout 10000 2>"$folder/closes.err" || status=$?
         echo "$status" >"$folder/closes.status"
-    ) | sed 3q >"$folder/closes.out" &
+    ) | sed 4q >"$folder/closes.out" &
     gates+=($!)
-    within 20 test -s "$folder/closes.out" || fail "a watch does not print three lines"
+    within 20 test -s "$folder/closes.out" || fail "a watch does not print four lines"
     outside "$1" set /closes two
     within 20 test -s "$folder/closes.status" || fail "a watch goes on after the end of its output"
     [[ $(cat "$folder/closes.status") == 4 ]] || fail "a watch whose output is closed ends with $(cat "$folder/closes.status")"
@@ -793,60 +816,77 @@ run_ensemble() {
     done
 }
 
+# Which of these ports is the first one, counted from 1.
+number_at() {
+    local number port=$1
+    shift
+    for number in 1 2 3; do
+        [[ ${!number} != "$port" ]] || echo "$number"
+    done
+}
+
 # An ensemble of three. The server of a watch is stopped so that nothing tells: it is left once nothing was heard for two thirds of the
 # timeout, and what was changed meanwhile is told by the next server. That one ends, and the third tells a further change.
 run_stopped() {
-    local number port since
-    local -a ports numbers=() at=()
+    local number port since first second other=''
+    local -a ports
     read -ra ports < <(free_ports 9)
     known=()
     start_three stopped "${ports[@]}"
-    for number in 1 2 3; do
-        port=${ports[number - 1]}
-        if [[ $(mode_of "$port") == leader ]]; then
-            numbers+=("$number") at+=("127.0.0.1:$port")
-        else
-            numbers=("$number" ${numbers[@]+"${numbers[@]}"}) at=("127.0.0.1:$port" ${at[@]+"${at[@]}"})
-        fi
+    outside "${ports[0]}" create /stopped one
+    begin_data stopped "127.0.0.1:${ports[0]}" "127.0.0.1:${ports[1]}" "127.0.0.1:${ports[2]}" --timeout 30000
+    first=$(port_of stopped)
+    for port in "${ports[@]:0:3}"; do
+        [[ $port == "$first" ]] || other=$port
     done
-    outside "${at[2]#*:}" create /stopped one
-    begin_data stopped "${at[@]}" --timeout 30000
-    kill -STOP "${servers[stopped-${numbers[0]}]}"
+    number=$(number_at "$first" "${ports[@]:0:3}")
+    kill -STOP "${servers[stopped-$number]}"
     since=$SECONDS
     (within 40 has_line stopped && echo $((SECONDS - since)) >"$folder/stopped.left") &
-    outside "${at[2]#*:}" set /stopped two
-    outside "${at[2]#*:}" set /stopped three
-    sees stopped <<<'drop D1'
+    within 60 serves "$other" || fail "no server serves once one is stopped"
+    outside "$other" set /stopped two
+    outside "$other" set /stopped three
+    sees stopped <<<"~ drop D1 127.0.0.1:$first nothing was heard for two thirds of the timeout"
     within 5 test -s "$folder/stopped.left"
     (($(cat "$folder/stopped.left") <= 22)) || fail "a silent server is left after $(cat "$folder/stopped.left") seconds"
+    sees stopped <<<'~ state Idle'
+    within 60 is_back stopped "$first" || fail "the watch does not leave the server that is stopped"
     sees stopped <<'EOF'
-state Idle
-state Connecting
-state Connected
-/stopped data full 6f6e65 @stopped @stopped @ @ 0 0 3 stale last @
-/stopped data full 7468726565 @stopped @three @ @ 2 0 5 good last @
+~ /stopped data full 6f6e65 @stopped @stopped @ @ 0 0 3 stale last @
+~ /stopped data full 7468726565 @stopped @three @ @ 2 0 5 good last @
 EOF
-    kill -CONT "${servers[stopped-${numbers[0]}]}"
+    kill -CONT "${servers[stopped-$number]}"
     sleep 3
-    within 60 serves "${at[0]#*:}" || fail "the server that was stopped does not serve again"
-    outside "${at[0]#*:}" sync /stopped
-    stop_server "stopped-${numbers[1]}"
-    sees stopped <<'EOF'
-state Idle
-state Connecting
-state Connected
+    within 60 serves "$first" || fail "the server that was stopped does not serve again"
+    outside "$first" sync /stopped
+    second=$(port_of stopped)
+    stop_server "stopped-$(number_at "$second" "${ports[@]:0:3}")"
+    sees stopped <<EOF
+~ ended 127.0.0.1:$second end of stream
+~ state Idle
 EOF
-    outside "${at[2]#*:}" set /stopped four
+    within 60 is_back stopped "$second" || fail "the watch does not leave the server that has ended"
+    within 60 serves "$first" || fail "no server serves once one has ended"
+    outside "$first" set /stopped four
     sees stopped <<'EOF'
-/stopped data full 7468726565 @stopped @three @ @ 2 0 5 stale last @
-/stopped data full 666f7572 @stopped @four @ @ 3 0 4 good last @
+~ /stopped data full 7468726565 @stopped @three @ @ 2 0 5 stale last @
+~ /stopped data full 666f7572 @stopped @four @ @ 3 0 4 good last @
 EOF
     end_by_force stopped
     rises @stopped @three @four
-    run_idle "${at[2]#*:}"
+    run_idle "$first"
     for number in "${!servers[@]}"; do
         stop_server "$number"
     done
+}
+
+# Whether a watch that has left the server at this port is connected elsewhere. What it prints till then, attempts that fail too, is passed
+# over.
+is_back() {
+    local at
+    at=$(port_of "$1")
+    [[ $at != "$2" ]] || return 1
+    seen[$1]=$(grep -n " state Connected " "$folder/$1.out" | tail -n 1 | cut -d: -f1)
 }
 
 all_have() {

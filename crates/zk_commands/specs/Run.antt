@@ -1,5 +1,5 @@
 -- What a command line writes, by how it ends.
-use Rattle.std.specs.Prelude.{◌≡◌, ℕ, ℤ, List, [], ◌∷◌, ◌++◌, Option, String, string_bytes}
+use Rattle.std.specs.Prelude.{◌≡◌, true, false, ℕ, ℤ, List, [], ◌∷◌, ◌++◌, Option, String, string_bytes}
 use Rattle.std.specs.Borrow.{Bor}
 use Rattle.std.specs.Global.{Global, Vec}
 use Rattle.clap.specs.Words.{Text}
@@ -19,7 +19,7 @@ use Rattle.zk_conversation.specs.declared.call.Call.{Call}
 use Rattle.zk_ask.specs.declared.plan.Form.{Form}
 use Rattle.zk_commands.specs.Asks.{PrintsAnswer, TellsWhy}
 use Rattle.zk_commands.specs.declared.status.Status.{Status}
-use Rattle.zk_watch.specs.Watching.{aims_of, IsPrinted}
+use Rattle.zk_watch.specs.Watching.{aims_of, IsPrinted, IsWatched}
 use Rattle.zk_watch.specs.declared.plan.Subject.{Subject}
 use Rattle.zk_commands.specs.Scripts.{IsInput, IsTranscriptOf}
 use Rattle.zk_commands.specs.Written.{IsHalt, RunsOut}
@@ -42,7 +42,7 @@ pub data IsDone (words : List Text) (input : Option (List ℕ)) (text : List ℕ
   plays : (command : Command) (script : List ℕ) → AsksFor words command → IsInput input script → IsTranscriptOf command (lines_of script) text ends.Taken
       → IsDone words input text
   watches : (addresses : Vec (Bor Text)) (subjects : Vec (Subject Global)) (timeout_ms : ℤ) (for_ms : Option ℕ)
-      → AsksFor words (Watch addresses subjects timeout_ms for_ms) → IsPrinted (aims_of subjects.items) text → IsDone words input text
+      → AsksFor words (Watch addresses subjects timeout_ms for_ms) → IsWatched Global (aims_of subjects.items) for_ms text true → IsDone words input text
   asks : (addresses : Vec (Bor Text)) (chroot : String Global) (name : Bor Text) (call : Call Global) (form : Form) (wait_ms : ℕ)
       → AsksFor words (Ask addresses chroot name call form wait_ms) → PrintsAnswer Global (call_view call) form (string_bytes chroot) text → IsDone words input text
   helps : (fault : LineFault) → IsDue words fault → IsHelpText fault text → IsDone words input text
@@ -66,6 +66,15 @@ pub record IsUndoneBy (words : List Text) (status : Status) (told : List ℕ) : 
   pub asks : AsksFor words (Ask addresses chroot name call form wait_ms)
   pub tells : TellsWhy Global (call_view call) name.now status told
 
+-- The words ask for a watch, no server has ever accepted its session, and the text is what it prints.
+pub record IsNeverConnected (words : List Text) (text : List ℕ) : Type 0 where
+  pub addresses : Vec (Bor Text)
+  pub subjects : Vec (Subject Global)
+  pub timeout_ms : ℤ
+  pub for_ms : Option ℕ
+  pub asks : AsksFor words (Watch addresses subjects timeout_ms for_ms)
+  pub watched : IsWatched Global (aims_of subjects.items) for_ms text false
+
 -- the words are refused
 abbrev pub IsRefusal : List Text → List ℕ → Type 0
 IsRefusal words told = (fault : LineFault) × IsDue words fault × IsRefusalText fault told
@@ -76,5 +85,5 @@ pub data IsWhole (words : List Text) (input : Option (List ℕ)) (text : List �
   begins : (command : Command) (script printed told : List ℕ) (end : End) → AsksFor words command → IsInput input script
       → IsTranscriptOf command (lines_of script) printed end → RunsOut end told → text ≡ printed ++ told → IsWhole words input text
   ceases : (addresses : Vec (Bor Text)) (subjects : Vec (Subject Global)) (timeout_ms : ℤ) (for_ms : Option ℕ) (printed told : List ℕ)
-      → AsksFor words (Watch addresses subjects timeout_ms for_ms) → IsPrinted (aims_of subjects.items) printed → IsHalt told
+      → AsksFor words (Watch addresses subjects timeout_ms for_ms) → IsPrinted Global (aims_of subjects.items) printed → IsHalt told
       → text ≡ printed ++ told → IsWhole words input text

@@ -27,6 +27,7 @@ pub fn ask_over<A: Allocator + Copy, D: Dial + Drop, C: Clock + Drop, O: Write, 
     ensures memory { result ≡ Status.Memory → (out.new ≡ out.old) × (errors.new ≡ errors.old) }
     ensures fault { result ≢ Status.Fault }
     ensures usage { result ≢ Status.Usage }
+    ensures never { result ≢ Status.NeverConnected }
 {
     match ask(alloc, dial, clock, plan, out, errors) {
         End::Done => Status::Done,

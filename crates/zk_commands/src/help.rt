@@ -10,7 +10,7 @@ help of each names its lines, and `zk_shell live --help` those that drive a clie
 
 Exit status: 0 done, and for help; 1 a fault in the input, told on standard error; 2 a fault of the
 command line, told there too; 3 out of memory; 4 standard input or output failed. Commands that ask for
-one node end with 5 to 8 too: `zk_shell get --help`.";
+one node end with 5 to 8 too: `zk_shell get --help`. A watch ends with 9 too: `zk_shell watch --help`.";
 
 /// At the end of the help of `live`.
 pub const LIVE: &str =
@@ -77,43 +77,57 @@ Example:
 
 /// At the end of the help of `watch`.
 pub const WATCH: &str =
-    r"Connects to the first address that answers, reads each node with a watch, and goes on to print a line
-whenever something else is kept of it than was printed last. Where the connection is lost, the next
+    r"Connects to one of the addresses, in random order, reads each node with a watch, and goes on to print a
+line whenever something else is kept of it than was printed last. Where the connection is lost, the next
 address is dialled, and where the session expires, a new one begins. --data and --children may be used
-several times, each with a PATH as it is, without escapes. With neither, states alone are printed.
+several times, each with a PATH as it is, without escapes. With neither, the session alone is told.
 
-Printed, each line at once:
-  state NAME                    Connecting, Connected, Idle, Expired or Closed
-  session new                   Behind state Expired: nothing is kept any more
+Printed, each line at once, with the seconds since the watch began before it:
+  dial ADDRESS                  This address is tried
+  failed ADDRESS REASON         It could not be connected to
+  ended ADDRESS REASON          The connection has ended
+  drop FAULT ADDRESS WORDS      The connection is given up: what came is wrong, or nothing came
+  state NAME                    Connecting, Idle, Expired or Closed. Idle after Connecting, with no ended and
+                                no drop between: the server did not accept the session in time
+  state Connected ADDRESS session SESSION timeout MS
+                                A server has accepted the session, and granted this timeout
+  session new                   After state Expired: nothing is kept any more
+  PATH does not exist last ZXID There is no such node
   PATH data full DATA SEVEN MARK last ZXID
   PATH data known SEVEN MARK last ZXID
   PATH data absent MARK last ZXID
   PATH data none last ZXID      What is kept of the node, and the last seen zxid
   PATH names N NAME.. PZXID MARK last ZXID
   PATH names none last ZXID     What is kept of the names below it
-  drop FAULT                    The connection is given up: what came is wrong, or nothing came
-  answer TICKET ZXID code N     A read was refused, and is tried again a second later. TICKET counts what is
-                                watched, from 1 on: first that of --data, and then that of --children
+  PATH refused code N WORDS     A read was refused, and is tried again a second later; told once for each
+                                reason. K3, K5 or K6 in place of code N: no server was asked
   halt                          Memory ran out in the client
 
-DATA, SEVEN, NAME, PZXID, MARK and FAULT are as in `zk_shell live --help`; in a PATH a space is printed
-as \x20. Where MARK is good, this is what the servers' history says at ZXID, and no change is known;
-where it is stale, a change was told, and the node is being read again.
+DATA, SEVEN, NAME, PZXID, MARK, FAULT and SESSION are as in `zk_shell live --help`; in a PATH a space is
+printed as \x20. Where MARK is good, this is what the servers' history says at ZXID, and no change is
+known; where it is stale, a change was told, and the node is being read again. REASON is connection
+refused, timed out, connection reset, unreachable, end of stream, a write failed, or another fault.
 
-The session is closed when the time of --for is over, and when standard output is closed.
+The session is closed when the time of --for is over, and when a line can't be written. That standard
+output is closed is seen at the next line alone. An interrupt is not seen at all: it ends the program, and
+the server ends the session after its timeout.
 
 Exit status: 0 the time is over; 2 a fault of the command line; 3 out of memory; 4 standard output
-failed, or was closed.
+failed, or was closed; 9 the time is over, and no server has ever accepted the session.
 
-Example, where /config is hi, and is set to bye while it is watched:
-  zk_shell watch 127.0.0.1:2181 --data /config --for 60
+Example, where nothing listens at port 2180, /config is hi, and is set to bye while it is watched:
+  zk_shell watch 127.0.0.1:2180 127.0.0.1:2181 --data /config --for 60
 prints
-  state Connecting
-  state Connected
-  /config data full 6869 3 3 1700000000000 1700000000000 0 0 2 good last 3
-  /config data full 6869 3 3 1700000000000 1700000000000 0 0 2 stale last 3
-  /config data full 627965 3 5 1700000000000 1700000009000 1 0 3 good last 5
-  state Closed";
+  0.000 dial 127.0.0.1:2180
+  0.000 failed 127.0.0.1:2180 connection refused
+  0.335 dial 127.0.0.1:2181
+  0.336 state Connecting
+  0.342 state Connected 127.0.0.1:2181 session 72057602730983425 timeout 30000
+  0.344 /config data full 6869 3 3 1700000000000 1700000000000 0 0 2 good last 3
+  9.018 /config data full 6869 3 3 1700000000000 1700000000000 0 0 2 stale last 3
+  9.020 /config data full 627965 3 5 1700000000000 1700000009000 1 0 3 good last 5
+  60.004 state Closed
+  60.004 /config data none last 5";
 
 /// At the end of the help of the commands that ask for one node.
 pub const ASK: &str =

@@ -5,7 +5,7 @@ ghost use Rattle.std.specs.Io.KnownBytes.{Appends};
 ghost use Rattle.clap.specs.Words.{Text};
 ghost use Rattle.zk_commands.specs.Asks.{IsUndone};
 ghost use Rattle.zk_commands.specs.CommandLine.{AsksFor};
-ghost use Rattle.zk_commands.specs.Run.{IsDone, IsFaulty, IsHelpText, IsRefusal, IsRefusalText, IsUndoneBy, IsWhole};
+ghost use Rattle.zk_commands.specs.Run.{IsDone, IsFaulty, IsHelpText, IsNeverConnected, IsRefusal, IsRefusalText, IsUndoneBy, IsWhole};
 
 use crate::ask::ask_over;
 use crate::command::{Command, command_of};
@@ -48,6 +48,8 @@ fn perform<D: Dial + Drop, C: Clock + Drop, I: Read, O: Write, E: Write>(
     ensures usage { result ≢ Status.Usage }
     ensures undone { IsUndone result → (words : List Text) → AsksFor words command.entry → (told : List ℕ) × IsUndoneBy words result told
         × Appends (E.contents errors.old) (E.contents errors.new) told × (out.new ≡ out.old) }
+    ensures never { result ≡ Status.NeverConnected → (words : List Text) → AsksFor words command.entry → (text : List ℕ) × IsNeverConnected words text
+        × Appends (O.contents out.old) (O.contents out.new) text × (errors.new ≡ errors.old) }
     ensures memory { result ≡ Status.Memory → (words : List Text) → AsksFor words command.entry → (text : List ℕ) × IsWhole words (I.remaining input.old) text
         × Appends (O.contents out.old) (O.contents out.new) text × (errors.new ≡ errors.old) }
 {
@@ -104,6 +106,7 @@ fn tell_line<O: Write, E: Write>(out: &mut O, errors: &mut E, fault: LineFault) 
     ensures fault { result ≢ Status.Fault }
     ensures usage { result ≡ Status.Usage → (told : List ℕ) × IsRefusalText fault told × Appends (E.contents errors.old) (E.contents errors.new) told × (out.new ≡ out.old) }
     ensures asks { IsUndone result → ⊥ }
+    ensures never { result ≢ Status.NeverConnected }
     ensures memory { result ≡ Status.Memory → (out.new ≡ out.old) × (errors.new ≡ errors.old) }
 {
     match fault {
@@ -136,6 +139,9 @@ pub fn run<D: Dial + Drop, C: Clock + Drop, I: Read, O: Write, E: Write>(
     // A call is not done, or may not be, and this is told.
     ensures undone { IsUndone result → (told : List ℕ) × IsUndoneBy (map (λ w. w.now) words.entry.now) result told
         × Appends (E.contents errors.old) (E.contents errors.new) told × (out.new ≡ out.old) }
+    // The time of a watch is over, and no server has ever accepted its session.
+    ensures never { result ≡ Status.NeverConnected → (text : List ℕ) × IsNeverConnected (map (λ w. w.now) words.entry.now) text
+        × Appends (O.contents out.old) (O.contents out.new) text × (errors.new ≡ errors.old) }
     // Nothing is written, or whole answers of a history, or what whole lines of a replay, a rehearsal or a session print, or what a
     // watch prints.
     ensures memory { result ≡ Status.Memory → (text : List ℕ) × IsWhole (map (λ w. w.now) words.entry.now) (I.remaining input.old) text

@@ -55,6 +55,7 @@ pub fn script_over<P: Plays<A>, A: Allocator + Copy, I: Read, O: Write, E: Write
     ensures silent { (result ≡ Status.Done) ⊎ (result ≡ Status.Memory) → errors.new ≡ errors.old }
     ensures usage { result ≢ Status.Usage }
     ensures asks { IsUndone result → ⊥ }
+    ensures never { result ≢ Status.NeverConnected }
 {
     let script = match read_whole(alloc, input) {
         Ok(script) => script,

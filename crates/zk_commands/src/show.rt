@@ -88,6 +88,7 @@ pub fn show<A: Allocator + Copy, O: Write, E: Write>(
     ensures memory { result ≡ Status.Memory → (out.new ≡ out.old) × (errors.new ≡ errors.old) }
     ensures usage { result ≢ Status.Usage }
     ensures asks { IsUndone result → ⊥ }
+    ensures never { result ≢ Status.NeverConnected }
 {
     match print_frame(alloc, kind, hex) {
         Ok(text) => match out.write_all(text.as_bytes()) {

@@ -21,4 +21,6 @@ pub enum Status {
     Unconnected = 7,
     /// There is no answer to the call, which was told: it may or may not be done.
     Unanswered = 8,
+    /// The time of a watch is over, and no server has ever accepted its session.
+    NeverConnected = 9,
 }

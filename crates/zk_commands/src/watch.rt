@@ -1,8 +1,8 @@
 //! The command that watches nodes over connections.
 
-ghost use Rattle.std.specs.Prelude.{◌≡◌, ◌≢◌, ◌++◌, List, ℕ};
+ghost use Rattle.std.specs.Prelude.{◌≡◌, ◌≢◌, ◌++◌, List, ℕ, true, false};
 ghost use Rattle.std.specs.Io.KnownBytes.{Appends};
-ghost use Rattle.zk_watch.specs.Watching.{aims_of, IsPrinted};
+ghost use Rattle.zk_watch.specs.Watching.{aims_of, IsPrinted, IsWatched};
 ghost use Rattle.zk_commands.specs.Asks.{IsUndone};
 ghost use Rattle.zk_commands.specs.Written.{IsHalt};
 
@@ -13,9 +13,9 @@ use std::io::Write;
 use zk_link::{Clock, Dial};
 use zk_watch::{End, Plan, watch};
 
-/// Watches what a plan names over connections, and prints a line at each change that the client learns, until the plan's time is over.
-/// `Memory` where memory ran out, with the line `halt` after the others where that was in a step of the client; `Stream` where a
-/// write of what is printed failed. A connection that fails is no fault.
+/// Watches what a plan names over connections, and prints a line at each change that the client learns, until the plan's time is over:
+/// `NeverConnected` where no server had ever accepted its session by then. `Memory` where memory ran out, with the line `halt` after the
+/// others where that was in a step of the client; `Stream` where a write of what is printed failed. A connection that fails is no fault.
 pub fn watch_over<A: Allocator + Copy, D: Dial + Drop, C: Clock + Drop, O: Write>(
     alloc: A,
     dial: D,
@@ -23,9 +23,10 @@ pub fn watch_over<A: Allocator + Copy, D: Dial + Drop, C: Clock + Drop, O: Write
     plan: Plan<'_, A>,
     out: &mut O,
 ) -> Status
-    ensures done { result ≡ Status.Done → (text : List ℕ) × IsPrinted (aims_of plan.entry.subjects.items) text × Appends (O.contents out.old) (O.contents out.new) text }
+    ensures done { result ≡ Status.Done → (text : List ℕ) × IsWatched A (aims_of plan.entry.subjects.items) plan.entry.for_ms text true × Appends (O.contents out.old) (O.contents out.new) text }
+    ensures never { result ≡ Status.NeverConnected → (text : List ℕ) × IsWatched A (aims_of plan.entry.subjects.items) plan.entry.for_ms text false × Appends (O.contents out.old) (O.contents out.new) text }
     // The line of a halt stands after what is printed where a step halted.
-    ensures memory { result ≡ Status.Memory → (text told : List ℕ) × IsPrinted (aims_of plan.entry.subjects.items) text × IsHalt told
+    ensures memory { result ≡ Status.Memory → (text told : List ℕ) × IsPrinted A (aims_of plan.entry.subjects.items) text × IsHalt told
         × Appends (O.contents out.old) (O.contents out.new) (text ++ told) }
     ensures fault { result ≢ Status.Fault }
     ensures usage { result ≢ Status.Usage }
@@ -33,6 +34,7 @@ pub fn watch_over<A: Allocator + Copy, D: Dial + Drop, C: Clock + Drop, O: Write
 {
     match watch(alloc, dial, clock, plan, out) {
         End::Over => Status::Done,
+        End::NeverConnected => Status::NeverConnected,
         End::Halted => halt(out),
         End::Memory => Status::Memory,
         End::Stream => Status::Stream,

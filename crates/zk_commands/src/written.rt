@@ -63,6 +63,7 @@ pub(crate) fn write_transcript<A: Allocator, O: Write, E: Write>(
     ensures silent { (result ≡ Status.Done) ⊎ (result ≡ Status.Memory) → errors.new ≡ errors.old }
     ensures usage { result ≢ Status.Usage }
     ensures asks { IsUndone result → ⊥ }
+    ensures never { result ≢ Status.NeverConnected }
 {
     if out.write_all(transcript.text.as_bytes()).is_err() {
         return Status::Stream;
