@@ -173,3 +173,37 @@ pub returns-in-Ask-clause-memory : goal.returns-in-Ask-clause-memory
 returns-in-Ask-clause-memory g c = λ is words asked.
     let same = c.ask_over.ensures.memory is in
     ([], nothing refl, rw same.0 (appends_nothing (g.O.Write.contents c.args.out.now)), same.1)
+
+pub returns-in-Show-clause-never : goal.returns-in-Show-clause-never
+returns-in-Show-clause-never g c = λ is words asked. absurd (c.show.ensures.never is)
+
+pub returns-in-History-clause-never : goal.returns-in-History-clause-never
+returns-in-History-clause-never g c = λ is words asked. absurd (c.script_over.ensures.never is)
+
+pub returns-in-Replay-clause-never : goal.returns-in-Replay-clause-never
+returns-in-Replay-clause-never g c = λ is words asked. absurd (c.script_over-in-Replay.ensures.never is)
+
+pub returns-in-Rehearse-clause-never : goal.returns-in-Rehearse-clause-never
+returns-in-Rehearse-clause-never g c = λ is words asked. absurd (c.script_over-in-Rehearse.ensures.never is)
+
+pub returns-in-Live-clause-never : goal.returns-in-Live-clause-never
+returns-in-Live-clause-never g c = λ is words asked. absurd (c.script_over-in-Live.ensures.never is)
+
+pub returns-in-Ask-clause-never : goal.returns-in-Ask-clause-never
+returns-in-Ask-clause-never g c = λ is words asked. absurd (c.ask_over.ensures.never is)
+
+pub returns-in-Watch-clause-never : goal.returns-in-Watch-clause-never
+returns-in-Watch-clause-never g c = λ is words asked.
+    let told = c.watch_over.ensures.never is in (
+      told.0,
+      record {
+        addresses = c.in-Watch.addresses;
+        subjects = c.in-Watch.subjects;
+        timeout_ms = c.in-Watch.timeout_ms;
+        for_ms = c.in-Watch.for_ms;
+        asks = rw c.in-Watch.is at asked;
+        watched = told.1;
+      },
+      told.2,
+      refl,
+    )

@@ -25,3 +25,9 @@ returns-in-Ok-clause-undone g c = λ is. c.perform.ensures.undone is _ c.in-Ok.e
 
 pub returns-in-Err-clause-undone : goal.returns-in-Err-clause-undone
 returns-in-Err-clause-undone g c = λ is. absurd (c.tell_line.ensures.asks is)
+
+pub returns-in-Ok-clause-never : goal.returns-in-Ok-clause-never
+returns-in-Ok-clause-never g c = λ is. c.perform.ensures.never is _ c.in-Ok.ensures.ok
+
+pub returns-in-Err-clause-never : goal.returns-in-Err-clause-never
+returns-in-Err-clause-never g c = λ is. absurd (c.tell_line.ensures.never is)
