@@ -4,14 +4,14 @@ use Rattle.zk_client.specs.Clients.{view_of}
 use Rattle.zk_follow.specs.Following.{IsFollowed}
 use Rattle.zk_agent_device.proofs.device.AgentDevice.forget_stale.Goals as goal
 
-pub returns-clause : goal.returns-clause
-returns-clause g c =
-    let gone = c.forget_stale.ensures in
+pub returns : goal.returns
+returns g =
+    let gone = g.forget_stale.ensures in
     record {
       view = gone.view;
       led = gone.led;
-      followed = λ all. subst (λ now. All (IsFollowed now (view_of c.forget_stale.new.asker.follower.client)) c.forget_stale.new.asker.follower.subjects.items)
-          (sym gone.latest) (gone.followed c.args.self.now.agent.latest all);
+      followed = λ all. subst (λ now. All (IsFollowed now (view_of g.forget_stale.new.self.asker.follower.client)) g.forget_stale.new.self.asker.follower.subjects.items)
+          (sym gone.latest) (gone.followed g.args.self.now.agent.latest all);
       subjects = gone.subjects;
       calls = gone.calls;
       dialler = gone.dialler;
