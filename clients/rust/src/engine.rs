@@ -386,9 +386,14 @@ impl Engine {
         until.min(self.clock.now().saturating_add(LOOK_ROUND))
     }
 
-    /// Tells the moment that it is. The connection ends where the server leaves something without an answer for too long.
+    /// Tells the moment that it is.
     pub(crate) fn tick(&mut self) -> Result<(), Fault> {
-        let now = self.clock.now();
+        self.tick_at(self.clock.now())
+    }
+
+    /// Tells a moment, up to which all that came was handed in. The connection ends where the server leaves something without an answer for
+    /// too long.
+    pub(crate) fn tick_at(&mut self, now: Moment) -> Result<(), Fault> {
         self.step(now, Machine::tick)?;
         self.end_late(now);
         if self.end_of_waiting() <= now {
