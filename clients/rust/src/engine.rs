@@ -22,6 +22,8 @@ use crate::saved::SavedSession;
 use crate::stream::Outgoing;
 use crate::ticket::{Ending, Slot};
 use crate::told::{Event, Outcome, Told};
+use crate::waiting::Waiting;
+use std::net::SocketAddr;
 use std::sync::Arc;
 use std::time::Duration;
 
@@ -101,6 +103,9 @@ pub(crate) struct Engine {
     wanted: Option<Attempt>,
     dialling: Option<u64>,
     line: Option<Box<dyn Outgoing>>,
+    /// The server that the connection was made to last.
+    address: Option<SocketAddr>,
+    waiting: Waiting,
     inbox: Vec<u8>,
     lane: Lane,
     answers: Vec<(u64, Outcome)>,
@@ -136,6 +141,8 @@ impl Engine {
             wanted: None,
             dialling: None,
             line: None,
+            address: None,
+            waiting: Waiting::default(),
             inbox: Vec::new(),
             lane: Lane::default(),
             answers: Vec::new(),
@@ -315,7 +322,20 @@ impl Engine {
     /// The first moment at which something is due, also of what the machine does not know.
     fn due(&self) -> Moment {
         let due = self.deadline().min(self.lane.deadline());
-        due.min(self.calls.patience())
+        due.min(self.calls.patience()).min(self.end_of_waiting())
+    }
+
+    /// When the connection is to be given up, unless an answer comes: after two thirds of the timeout, whatever else the server sends. The
+    /// machine gives one up where nothing at all is heard for so long.
+    fn end_of_waiting(&self) -> Moment {
+        let Some(since) = self.waiting.since() else {
+            return NEVER;
+        };
+        let timeout = match self.machine.state() {
+            State::Connected => self.machine.timeout(),
+            _ => self.asked_timeout,
+        };
+        since.saturating_add(timeout * 2 / 3)
     }
 
     /// Whether something is due on the connection already.
@@ -368,9 +388,17 @@ impl Engine {
 
     /// Tells the moment that it is.
     pub(crate) fn tick(&mut self) -> Result<(), Fault> {
-        let now = self.clock.now();
+        self.tick_at(self.clock.now())
+    }
+
+    /// Tells a moment, up to which all that came was handed in. The connection ends where the server leaves something without an answer for
+    /// too long.
+    pub(crate) fn tick_at(&mut self, now: Moment) -> Result<(), Fault> {
         self.step(now, Machine::tick)?;
         self.end_late(now);
+        if self.end_of_waiting() <= now {
+            return self.leave();
+        }
         Ok(())
     }
 
@@ -391,13 +419,16 @@ impl Engine {
 
 #[cfg(test)]
 mod tests {
-    use super::{Beginning, Engine, Fault, Hosts, Order, Outgoing, Plan, Slot, NEVER};
+    use super::{
+        Beginning, Engine, ErrorKind, Fault, Hosts, NoReply, Order, Outgoing, Plan, Slot, NEVER,
+    };
     use crate::client::State;
     use crate::jute::Writer;
     use crate::request::Request;
     use std::io;
     use std::net::SocketAddr;
     use std::sync::Arc;
+    use std::thread::sleep;
     use std::time::Duration;
 
     /// What a session writes to, where nobody reads it.
@@ -428,10 +459,10 @@ mod tests {
         .unwrap()
     }
 
-    /// A response that admits the session of number 7.
+    /// A response that admits the session of number 7, with a timeout of 3 seconds.
     fn accepted() -> Vec<u8> {
         let (mut accepted, mut frame) = (Writer::default(), Writer::default());
-        accepted.int(0).int(10_000).int(0).int(7);
+        accepted.int(0).int(3_000).int(0).int(7);
         accepted.buffer(&[0; 16]).boolean(false);
         frame.buffer(&accepted.into_bytes());
         frame.into_bytes()
@@ -496,6 +527,41 @@ mod tests {
         engine.hand_in(&[]).unwrap();
         assert_eq!(engine.state(Duration::ZERO), Some(State::Connected));
         assert!(matches!(engine.plan(NEVER), Plan::Listen(_)));
+    }
+
+    #[test]
+    fn a_connection_ends_two_thirds_of_the_timeout_after_what_waits() {
+        let mut engine = engine();
+        connect(&mut engine);
+        let after = |engine: &Engine| {
+            let since = engine.waiting.since()?;
+            Some(engine.end_of_waiting().saturating_duration_since(since))
+        };
+        assert_eq!(after(&engine), Some(Duration::from_millis(6_666)));
+        engine.hand_in(&accepted()).unwrap();
+        assert_eq!(engine.end_of_waiting(), NEVER);
+        engine.ask(Request::get("/a").asked, Slot::new(Some("/a")));
+        assert_eq!(after(&engine), Some(Duration::from_secs(2)));
+    }
+
+    #[test]
+    fn why_a_connection_is_left_is_told() {
+        let mut engine = connected();
+        engine.ask(Request::sync("/").asked, Slot::new(Some("/")));
+        engine.leave().unwrap();
+        assert_eq!((engine.is_open(), engine.end_of_waiting()), (false, NEVER));
+        let (_, ending) = engine.take_answers().remove(0);
+        let lost = ErrorKind::NoReply(NoReply::ConnectionLoss);
+        assert_eq!(ending.unwrap_err().kind(), &lost);
+        let late = Request::get("/a").within(Duration::ZERO);
+        engine.ask(late.asked, Slot::new(Some("/a")));
+        sleep(Duration::from_millis(2));
+        engine.tick().unwrap();
+        let (_, ending) = engine.take_answers().remove(0);
+        assert_eq!(
+            ending.unwrap_err().to_string(),
+            "no server of 127.0.0.1:1 accepted the session in 0 s; last: 127.0.0.1:1: an answer did not come"
+        );
     }
 
     #[test]

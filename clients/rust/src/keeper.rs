@@ -289,10 +289,13 @@ impl Keeper {
         }
     }
 
-    /// Hands in what the connection has, and then tells the moment: so a session that comes late does not take a server for silent that
-    /// has answered.
+    /// Hands in what the connection has, and then tells the moment before the last read: so a session that comes late does not take a
+    /// server for silent that has answered.
     fn catch_up(&mut self) -> Result<(), Fault> {
+        let clock = self.shared.look(Engine::clock);
+        let mut now = clock.now();
         for _ in 0..MOST_PIECES {
+            now = clock.now();
             match self.hear(Duration::ZERO)? {
                 Heard::Bytes { .. } => {}
                 Heard::Nothing => break,
@@ -301,7 +304,7 @@ impl Keeper {
         }
         self.shared.with(|engine| {
             if engine.is_open() {
-                engine.tick()?;
+                engine.tick_at(now)?;
             }
             Ok(())
         })

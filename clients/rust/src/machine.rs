@@ -24,6 +24,9 @@ use std::time::Duration;
 /// addresses, and decides nothing: it hands in what happened, does what the [`Actions`] say, and wakes at the latest at the
 /// [`deadline`](Machine::deadline). [`Session`](crate::Session) is such a program.
 ///
+/// It gives a connection up on which nothing at all is heard for two thirds of the timeout. A server that sends other things, and no
+/// answer, is for the program to leave: it closes the connection and hands in a [`cut`](Machine::cut), as [`Session`](crate::Session) does.
+///
 /// Each step forgets the actions of the step before. It fails with [`Fault::Halted`] where memory ran out within it: then
 /// [`resume`](Machine::resume) what it has [`saved`](Machine::saved). It fails with [`Fault::UnknownNumber`] where the library is of
 /// another version than this crate, and with the faults that it names besides; these leave the machine as it was.

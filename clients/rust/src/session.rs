@@ -34,21 +34,23 @@ const LATENESS: u32 = 6;
 
 /// A session, which lives while its program works: a thread of its own pings, reads and reconnects. Which host is dialled and when, which
 /// calls wait and how long, and what becomes of them where the connection ends, the proved core decides: it is a [`Machine`](crate::Machine)
-/// with sockets, a lock and a clock.
+/// with sockets, a lock and a clock. One thing the session decides by itself: that a connection is left on which an answer does not come.
 ///
 /// It dials at once: one of its [`Hosts`] after the other, in an order that is random in each session, and goes on to the next one where
-/// nothing was heard for two thirds of the timeout, or the connection ends. Watches and what is kept go on over reconnects. An attempt may
-/// take a third of the timeout, and a second at least. The pause after one that has failed is random, between a half of this and the
-/// whole: 100 milliseconds, and twice as long after each further one, up to a second and to a tenth of the timeout; and up to 10 seconds
-/// once there was no connection for longer than the timeout. There is none after an answered call, after an expiry that a server told, and
-/// after a connection that has lasted for a third of the timeout. A third of a second lies between two attempts at least, so a session of
-/// less than some three seconds does not outlive a lost connection for sure.
+/// a server is silent or the connection ends. Watches and what is kept go on over reconnects. An attempt may take a third of the timeout,
+/// and a second at least. The pause after one that has failed is random, between a half of this and the whole: 100 milliseconds, and twice
+/// as long after each further one, up to a second and to a tenth of the timeout; and up to 10 seconds once there was no connection for
+/// longer than the timeout. There is none after an answered call, after an expiry that a server told, and after a connection that has
+/// lasted for a third of the timeout. A third of a second lies between two attempts at least, so a session of less than some three seconds
+/// does not outlive a lost connection for sure.
 ///
 /// A call waits until a server has accepted the session and fewer than 1,024 calls are on their way, and then for its answer. A read that
 /// is lost with its connection is asked again; a write is not, and is answered [`ConnectionLoss`](crate::NoReply::ConnectionLoss). All of
 /// that takes as long as the limit of the call at most: the one that its [`Request`] has, else that of
-/// [`SessionOptions::limit`], else the timeout of the session, and a second at least. That a call is not answered does not end a
-/// connection on which the server sends something.
+/// [`SessionOptions::limit`], else the timeout of the session, and a second at least.
+///
+/// Where a call or a ping has no answer after two thirds of the timeout, whatever else the server sends, the connection is over. So it is
+/// where the session is not accepted after two thirds of the timeout that was asked for.
 ///
 /// All functions take `&self`, and threads may call them at once: [`shared`](Session::shared) gives handles to hand to them. To let a
 /// session go ends its thread and leaves the session to its timeout at the servers: [`close`](Session::close) ends it.

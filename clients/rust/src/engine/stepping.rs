@@ -9,6 +9,7 @@ use crate::machine::Machine;
 use crate::moment::Moment;
 use crate::stream::Outgoing;
 use crate::told::News;
+use crate::waiting::Waiting;
 use std::io;
 use std::mem;
 use std::net::SocketAddr;
@@ -137,7 +138,10 @@ impl Engine {
     /// Writes whole frames. Whether all was written, or there is nobody to write to.
     pub(super) fn write(&mut self, frames: &[u8]) -> bool {
         match &mut self.line {
-            Some(line) if !frames.is_empty() => line.write_all(frames).is_ok(),
+            Some(line) if !frames.is_empty() => {
+                self.waiting.sends(self.clock.now(), frames);
+                line.write_all(frames).is_ok()
+            }
             _ => true,
         }
     }
@@ -183,6 +187,7 @@ impl Engine {
             "{address}: connected, and it has not accepted the session"
         ));
         self.line = Some(outgoing);
+        self.address = Some(address);
         self.step(self.clock.now(), Machine::opened)?;
         if self.is_open() {
             self.introduce()?;
@@ -194,6 +199,7 @@ impl Engine {
     /// before them in the stream has been heard.
     pub(crate) fn hand_in(&mut self, bytes: &[u8]) -> Result<(), Fault> {
         let now = self.now();
+        self.waiting.hears(bytes);
         let read = self
             .lane
             .take(bytes, &self.chroot, &mut self.inbox, &mut self.answers);
@@ -208,6 +214,14 @@ impl Engine {
             return self.end();
         }
         Ok(())
+    }
+
+    /// The connection is given up, since an answer does not come. That a session is not accepted is noted already.
+    pub(super) fn leave(&mut self) -> Result<(), Fault> {
+        if let Some(address) = self.address.filter(|_| self.is_connected()) {
+            self.note_attempt(format!("{address}: an answer did not come"));
+        }
+        self.end()
     }
 
     /// The connection is over, if there is one.
@@ -226,6 +240,7 @@ impl Engine {
     pub(super) fn hang_up(&mut self) {
         self.wanted = None;
         self.dialling = None;
+        self.waiting = Waiting::default();
         self.inbox.clear();
         self.told.frames.clear();
         self.told.answers.append(&mut self.answers);

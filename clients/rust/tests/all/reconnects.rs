@@ -3,7 +3,11 @@
 use crate::example;
 use crate::jute::{self, EXISTS, GET_DATA, PING, PONG};
 use crate::partner::{Line, Partner};
-use dirwolleu::{Code, Error, ErrorKind, Event, LocalSession, Mark, Request};
+use crate::runtime::block_on;
+use dirwolleu::{
+    Code, Error, ErrorKind, Event, LocalSession, Mark, NoReply, Request, Session, State,
+    ANY_VERSION,
+};
 use std::fmt::Debug;
 use std::io::{BufRead, BufReader};
 use std::process::{Command, Stdio};
@@ -215,17 +219,107 @@ fn data_that_are_denied_of_a_node_are_read_again_after_a_second() {
 }
 
 #[test]
-fn a_call_that_is_not_answered_waits_to_its_limit_whatever_else_comes() {
-    let partner = Partner::start(|_, mut line| {
-        line.admit(1_500);
-        line.request();
-        dribble(line, jute::Record::notice(3, "/a"));
+fn a_server_that_dribbles_is_left_while_it_connects() {
+    let partner = Partner::start(|number, mut line| {
+        if number == 0 {
+            line.send(&[0, 32, 0, 0]); // a frame of two million bytes
+            dribble(line, vec![0]);
+        }
     });
     let mut session = session_at(&partner, millis(1_500));
+    go_on(&mut session, millis(1_500) + SLACK);
+    let first = partner.dial();
+    let took = partner.dial() - first;
+    let least = millis(1_000) - millis(250); // two thirds of the timeout; the partner may come late to the first
+    assert!(took >= least && took < millis(1_500) + SLACK, "{took:?}");
+}
+
+/// A server that sends these bytes again and again in place of the first answer, and is well on the next connection.
+fn distracted(bytes: Vec<u8>) -> Partner {
+    Partner::start(move |number, mut line| {
+        line.admit(1_500);
+        if number == 0 {
+            line.request();
+            dribble(line, bytes.clone());
+        } else {
+            serve_well(line);
+        }
+    })
+}
+
+/// A write that may wait for long.
+fn patient() -> Request<()> {
+    Request::delete("/a", ANY_VERSION).within(millis(30_000))
+}
+
+/// Whether a call is lost after two thirds of the timeout of 1.5 seconds.
+fn is_lost_in_time<T: Debug>(call: impl FnOnce() -> Result<T, Error>) {
     let begun = Instant::now();
-    let late = session.exists("/");
+    let lost = call();
     let took = begun.elapsed();
-    assert_eq!(kind_of(late), ErrorKind::TimedOut);
-    let timeout = millis(1_500);
-    assert!(took >= timeout && took < timeout + SLACK, "{took:?}");
+    assert_eq!(kind_of(lost), ErrorKind::NoReply(NoReply::ConnectionLoss));
+    assert!(
+        took >= millis(990) && took < millis(1_000) + SLACK,
+        "{took:?}"
+    );
+}
+
+#[test]
+fn a_call_that_is_not_answered_is_lost_whatever_else_comes() {
+    let partner = distracted(jute::Record::notice(3, "/a"));
+    let mut session = session_at(&partner, millis(1_500));
+    is_lost_in_time(|| session.call(patient()));
+    let partner = distracted(jute::Record::notice(3, "/a"));
+    let session = Session::open(partner.address, millis(1_500)).unwrap();
+    is_lost_in_time(|| session.call(patient()));
+    let partner = distracted(jute::Record::notice(3, "/a"));
+    let session = Session::open(partner.address, millis(1_500)).unwrap();
+    is_lost_in_time(|| block_on(session.ask(patient())));
+}
+
+#[test]
+fn a_call_of_the_lane_that_is_not_answered_is_lost_too() {
+    let partner = distracted(jute::Record::notice(3, "/a"));
+    let session = Session::open(partner.address, millis(1_500)).unwrap();
+    is_lost_in_time(|| session.call(Request::sync("/").within(millis(30_000))));
+}
+
+#[test]
+fn a_read_that_is_not_answered_is_asked_of_another_server() {
+    let partner = distracted(jute::Record::notice(3, "/a"));
+    let mut session = session_at(&partner, millis(1_500));
+    let read = Request::exists("/a").within(millis(30_000));
+    assert!(session.call(read).unwrap().is_some());
+    assert_eq!(partner.dials(), 2);
+}
+
+#[test]
+fn a_ping_that_is_not_answered_ends_the_connection() {
+    let partner = distracted(jute::Record::notice(3, "/a"));
+    let mut session = session_at(&partner, millis(1_500));
+    let begun = Instant::now();
+    while session.next_event(None).unwrap() != Some(Event::State(State::Connected)) {}
+    while session.next_event(None).unwrap() != Some(Event::State(State::Idle)) {}
+    let took = begun.elapsed();
+    assert!(
+        took >= millis(1_490) && took < millis(1_500) + SLACK,
+        "{took:?}"
+    );
+}
+
+#[test]
+fn a_program_that_was_stopped_keeps_a_server_that_has_answered() {
+    let partner = Partner::start(|_, mut line| {
+        line.admit(1_500);
+        let ping = line.request().unwrap();
+        sleep(millis(300));
+        line.refuse(ping.xid, 0);
+        serve_well(line);
+    });
+    let mut session = session_at(&partner, millis(1_500));
+    go_on(&mut session, millis(600)); // the ping is sent after a third of the timeout
+    sleep(millis(1_300));
+    assert_eq!(session.state(), None);
+    assert!(session.exists("/").unwrap().is_some());
+    assert_eq!(partner.dials(), 1, "the connection goes on");
 }
