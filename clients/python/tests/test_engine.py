@@ -5,27 +5,30 @@ from __future__ import annotations
 import concurrent.futures
 import struct
 import unittest
-from typing import Any, Callable
+from typing import Any, Callable, Optional
 from unittest import mock
 
 import support
 from test_library import CONNECT_RESPONSE, STAT, STAT_BYTES, buffer, reply
 
 from dirwolleu import (
+    CallTimeoutError,
     ConnectionClosedError,
     ConnectionLoss,
     EventType,
     Mark,
     NoAuthError,
+    NotConnectedError,
     SessionMovedError,
     State,
     TooManyWatchesError,
     ZookeeperError,
 )
 from dirwolleu import _requests as requests
-from dirwolleu._engine import Engine
-from dirwolleu._frames import Frames, Kind, Piece
-from dirwolleu._library import Answer, Halted, Machine
+from dirwolleu._engine import MOST_HANDED, Engine
+from dirwolleu._frames import Frames, Kind, Piece, is_ping
+from dirwolleu._library import DATA_SIDE, Answer, Halted, NoMemory
+from dirwolleu._session import Session
 from dirwolleu.exceptions import error_of
 
 
@@ -43,13 +46,21 @@ class EngineTest(support.PartnerCase):
         self.engine = Engine(6.0, None, lambda function, argument: self.told.append((function, argument)))
         self.addCleanup(self.engine.close)
         self.engine.begin()
-        self.engine.opened(100)
-        self.engine.received(100, CONNECT_RESPONSE)
-        self.engine.take_frames()
+        self.engine.addresses(100, 1)
+        self.admit(100)
 
-    def ask(self, request: requests.Request[Any]) -> Future:
+    def admit(self, now: int) -> None:
+        """A connection that was asked for is made, and a server accepts the session."""
+        dial = self.engine.take_orders().dial
+        assert dial is not None
+        self.assertEqual(dial.place, 0)
+        self.engine.opened(now)
+        self.engine.received(now, CONNECT_RESPONSE)
+        self.engine.take_orders()
+
+    def ask(self, request: requests.Request[Any], timeout: Optional[float] = None) -> Future:
         waiter: Future = Future()
-        self.engine.ask(200, request, waiter)
+        self.engine.ask(200, request, waiter, timeout)
         self.engine.take_handed(200)
         return waiter
 
@@ -60,19 +71,124 @@ class EngineTest(support.PartnerCase):
         self.engine.received(300, reply(1, 9, 0, buffer(b"one") + STAT_BYTES))
         self.assertEqual(read.result(0), (b"one", STAT))
         lost, session = self.ask(requests.get("/b", None)), self.engine.session_id()
-        with mock.patch.object(Machine, "received", side_effect=Halted):
+        with mock.patch.object(Session, "received", side_effect=Halted):
             self.engine.received(400, b"bytes")
         with self.raises(ConnectionLoss, -4):
             lost.result(0)
         self.assertEqual((self.engine.session_id(), self.engine.last_zxid()), (session, 9))
-        self.assertEqual((self.engine.state, self.engine.take_frames()[1]), (State.SUSPENDED, True))
+        self.assertEqual((self.engine.state, self.engine.take_orders().hangs_up), (State.SUSPENDED, True))
         self.assertIsNone(self.engine.kept("/a"))
         self.assertEqual(self.told, [(watch, (EventType.NONE, State.SUSPENDED, "/a"))])
+        self.assertEqual(self.engine.deadline(), 0)
+        self.engine.tick(500)
+        self.admit(600)
+        self.assertEqual((self.engine.session_id(), self.engine.state), (session, State.CONNECTED))
+
+    def test_what_is_followed_is_followed_after_a_want_of_memory(self) -> None:
+        woken = list[None]()
+        with self.engine.following("/f", DATA_SIDE, lambda: self.engine.settled("/f"), lambda: woken.append(None)) as followed:
+            self.engine.take_handed(200)
+            with mock.patch.object(Session, "received", side_effect=Halted):
+                self.engine.received(400, b"bytes")
+            self.engine.take_handed(400)
+            self.engine.tick(400)
+            self.admit(600)
+            self.engine.received(700, reply(1, 9, 0, buffer(b"one") + STAT_BYTES))
+            self.assertEqual((followed.found.pop().data, len(woken)), (b"one", 1))
+        self.engine.take_handed(800)
+        self.assertEqual(self.engine._subjects, {})
+
+    def test_bytes_for_which_there_was_no_memory_are_handed_in_again(self) -> None:
+        read, received = self.ask(requests.get("/a", None)), Session.received
+        with mock.patch.object(Session, "received", autospec=True, side_effect=[NoMemory, mock.DEFAULT]) as tried:
+            tried.return_value = received(self.engine._session, 300, reply(1, 9, 0, buffer(b"one") + STAT_BYTES))
+            self.engine.received(300, reply(1, 9, 0, buffer(b"one") + STAT_BYTES))
+        self.assertEqual((read.result(0), tried.call_count), ((b"one", STAT), 2))
+        with mock.patch.object(Session, "received", side_effect=NoMemory):
+            self.engine.received(400, reply(-1, 9))
+        self.assertEqual((self.engine.state, self.engine.take_orders().hangs_up), (State.SUSPENDED, True))
+
+    def test_a_cut_leaves_reads_and_not_writes(self) -> None:
+        calls = [self.ask(requests.get("/a", None)), self.ask(requests.set("/a", b"x", -1))]
+        self.engine.cut(300)
+        self.assertEqual([call.done() for call in calls], [False, True])
+        with self.assertRaises(ConnectionLoss) as caught:
+            calls[1].result(0)
+        self.assertTrue(caught.exception.may_have_happened)
+        self.engine.tick(1000)
+        self.admit(1000)
+        self.engine.received(1100, reply(3, 9, 0, buffer(b"one") + STAT_BYTES))  # the next xid
+        self.assertEqual(calls[0].result(0), (b"one", STAT))
+
+    def test_what_is_closed_is_dialled_no_more(self) -> None:
+        closed = self.ask(requests.close_session())
+        self.engine.received(300, reply(1, 9))
+        self.assertIsNone(closed.result(0))
+        self.assertEqual(self.engine.take_orders(), (True, None, b""))
+        self.assertEqual((self.engine.is_running, self.engine.session_id(), self.engine.last_zxid()), (False, 0, 9))
+        self.engine.tick(10_000)
+        self.assertEqual(self.engine.take_orders(), (False, None, b""))
+        self.engine.begin()
+        self.engine.addresses(20_000, 1)
+        self.engine.take_orders()
+        self.engine.opened(20_000)
+        self.assertEqual(struct.unpack(">iiqiq", self.engine.take_orders().frames[:28])[2:], (9, 6000, 0))
+
+    def test_an_attempt_that_is_given_up_is_hung_up(self) -> None:
+        self.engine.cut(300)
+        self.engine.tick(1000)
+        self.assertEqual(self.engine.take_orders().dial, (0, 1333))  # a third of the timeout, which is four seconds
+        self.engine.tick(2332)
+        self.assertFalse(self.engine.take_orders().hangs_up)
+        self.engine.tick(2333)
+        self.assertEqual(self.engine.take_orders()[:2], (True, None))
+
+    def test_the_core_has_few_calls_at_once(self) -> None:
+        calls = [self.ask(requests.get("/a", None)) for _ in range(MOST_HANDED + 1)]
+        self.assertEqual((len(self.engine._sent), self.engine.stats().waiting), (MOST_HANDED, 1))
+        self.assertTrue(calls[-1].cancel())
+        self.engine.received(300, reply(1, 9, 0, buffer(b"one") + STAT_BYTES))
+        self.assertEqual((len(self.engine._sent), self.engine.stats().waiting), (MOST_HANDED - 1, 0))
+
+    def test_all_wait_for_a_server_so_long(self) -> None:
+        self.engine.cut(300)
+        calls = [self.ask(requests.set("/a", b"x", -1)) for _ in range(MOST_HANDED + 1)]
+        for now, count in ((6199, 0), (6200, MOST_HANDED + 1)):
+            self.engine.tick(now)
+            self.engine.take_handed(now)
+            self.assertEqual(sum(call.done() for call in calls), count)
+        for call in (calls[0], calls[-1]):
+            self.assertIsInstance(call.exception(0), NotConnectedError)
+
+    def test_what_was_asked_before_a_server_came_waits_for_it_no_longer(self) -> None:
+        self.engine.cut(300)
+        calls = [self.ask(requests.set("/a", b"x", -1)) for _ in range(MOST_HANDED + 1)]
+        self.engine.ask(300, requests.get("/b", None), (later := Future()))
+        self.engine.tick(6200)
+        self.engine.take_handed(6200)
+        self.engine.tick(6299)
+        self.assertEqual((all(call.done() for call in calls), later.done()), (True, False))
+        self.engine.tick(6300)
+        self.assertTrue(later.done())
+
+    def test_a_limit_ends_a_call(self) -> None:
+        limits = {2.0: CallTimeoutError, None: CallTimeoutError}
+        calls = [self.ask(requests.set("/a", b"x", -1), limit) for limit in limits]
+        self.assertEqual(self.engine.deadline(), 1534)  # a ping, once a third of the timeout has passed
+        for now in sorted({*range(400, 6400, 100), 2199, 6199}):
+            self.engine.tick(now)
+            if is_ping(self.engine.take_orders().frames):
+                self.engine.received(now, reply(-2, 9))
+            self.assertEqual(sum(call.done() for call in calls), (now >= 2200) + (now >= 6200))
+        for call in calls:
+            with self.assertRaises(CallTimeoutError) as caught:
+                call.result(0)
+            self.assertTrue(caught.exception.may_have_happened)
 
     def test_no_memory_for_a_call_is_told_to_its_caller(self) -> None:
-        with mock.patch.object(Machine, "get_data", side_effect=MemoryError):
+        with mock.patch.object(Session, "get_data", side_effect=NoMemory):
             refused = self.ask(requests.get("/a", None))
-        with self.raises(MemoryError, None):
+        with self.raises(NoMemory, None):
             refused.result(0)
         self.assertIs(self.engine.state, State.CONNECTED)
 
@@ -81,13 +197,14 @@ class EngineTest(support.PartnerCase):
         self.engine.received(300, reply(1, 9, -118))
         with self.raises(SessionMovedError, -118):
             moved.result(0)
-        self.assertTrue(self.engine.take_frames()[1])
+        self.assertTrue(self.engine.take_orders().hangs_up)
 
     def test_what_was_to_be_written_goes_with_its_connection(self) -> None:
         self.ask(requests.get("/a", None))
         self.engine.cut(300)
-        self.engine.opened(400)
-        frames, _ = self.engine.take_frames()
+        self.engine.tick(1000)
+        self.engine.opened(1000)
+        frames = self.engine.take_orders().frames
         self.assertEqual(struct.unpack(">iiqi", frames[:20]), (45, 0, 0, 6000))
         self.assertEqual(len(frames), 49)
 
@@ -104,7 +221,7 @@ class EngineTest(support.PartnerCase):
         self.engine.ask(200, requests.get("/a", None), waiter)
         waiter.cancel()
         self.engine.take_handed(200)
-        self.assertEqual(self.engine.take_frames()[0], b"")
+        self.assertEqual(self.engine.take_orders().frames, b"")
 
     def test_frames_are_cut_however_they_come(self) -> None:
         answers = [
@@ -129,12 +246,12 @@ class EngineTest(support.PartnerCase):
 
     def test_an_interrupt_within_a_step_leaves_the_session(self) -> None:
         lost, session = self.ask(requests.get("/b", None)), self.engine.session_id()
-        with mock.patch.object(Machine, "received", side_effect=KeyboardInterrupt):
+        with mock.patch.object(Session, "received", side_effect=KeyboardInterrupt):
             with self.assertRaises(KeyboardInterrupt):
                 self.engine.received(400, b"bytes")
         with self.raises(ConnectionLoss, -4):
             lost.result(0)
-        self.assertEqual((self.engine.session_id(), self.engine.take_frames()[1]), (session, True))
+        self.assertEqual((self.engine.session_id(), self.engine.take_orders().hangs_up), (session, True))
 
     def test_each_code_has_its_error(self) -> None:
         for kind in ZookeeperError.__subclasses__():
@@ -161,7 +278,6 @@ class EngineTest(support.PartnerCase):
         self.assertIsNone(self.engine.deadline())
         self.assertIsNone(self.engine.kept("/a") or self.engine.kept_children("/a"))
         self.engine.cut(300)
-        self.engine.forget_stale()
         self.engine.close()
 
 
