@@ -21,6 +21,8 @@ logger = logging.getLogger("dirwolleu.connection")
 SHORTEST_WAIT = 0.1
 ROOM = 65536
 """How many bytes of a connection are read at once, at most."""
+MOST_TURNS = 16
+"""How often what a connection has is read before the moment is told, at most."""
 _NO_DESCRIPTOR = (errno.EMFILE, errno.ENFILE)
 
 
@@ -100,7 +102,8 @@ class Driver:
         self._dialing: Optional[asyncio.Future[Any]] = None
         self._ended: Optional[asyncio.Future[None]] = None
         self._timer: Optional[asyncio.TimerHandle] = None
-        self._wakes_at = self._awake_at = 0
+        self._wakes_at = self._awake_at = self._looked_at = 0
+        self._has_brought = False
         self._is_to_act = self._is_started = self._is_stopped = False
 
     def start(self) -> None:
@@ -130,6 +133,7 @@ class Driver:
 
     def bring(self, data: bytes) -> None:
         """Bytes came."""
+        self._has_brought = True
         self._engine.received(self._noticed(), data)
         self.act()
 
@@ -154,7 +158,7 @@ class Driver:
         engine.take_handed(self._noticed())
         if self._is_stopped:
             return
-        hangs_up, dial, frames = engine.take_orders()
+        hangs_up, dial, frames = engine.take_orders(self._looked_at)
         if hangs_up:
             self._hang_up()
         if frames and self._link is not None and self._link.transport is not None:
@@ -234,7 +238,7 @@ class Driver:
 
         What came may have come at any time since then.
         """
-        now = moment()
+        now = self._looked_at = moment()
         if self._timer is None or now <= self._wakes_at or now <= self._wakes_at + self._longest_wait():
             self._awake_at = now
         return self._awake_at
@@ -260,9 +264,15 @@ class Driver:
     def _awake(self) -> None:
         """Tells the moment, after the event loop has read what the socket has: a timer comes after it in each turn."""
         self._noticed()
-        self._timer = self._loop.call_later(0, self._tick)
+        self._tick_next(MOST_TURNS)
 
-    def _tick(self) -> None:
+    def _tick_next(self, turns: int) -> None:
+        self._has_brought = False
+        self._timer = self._loop.call_later(0, self._tick, turns - 1)
+
+    def _tick(self, turns: int) -> None:
+        if self._has_brought and turns:
+            return self._tick_next(turns)  # the socket may have more
         self._timer = None
         self._engine.tick(moment())
         self.act()

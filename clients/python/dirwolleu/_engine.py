@@ -1,8 +1,8 @@
 """What both clients share: a session, and who waits for what it tells. It has no socket, no thread and no clock.
 
 The session decides which server is dialled and when, when a connection is left, which calls wait and what becomes of them at a
-cut, what is read again, and when another session begins. What is decided here is of the host alone: the lane, trees, and whose
-function is called.
+cut, what is read again, and when another session begins. What is decided here is of the host alone: the lane, trees, whose
+function is called, and that an answer has taken too long, where the server says other things meanwhile.
 """
 
 from __future__ import annotations
@@ -19,6 +19,7 @@ from typing import Any, Callable, NamedTuple, Optional, Protocol, Union
 from dirwolleu import _lane as lane
 from dirwolleu import _library as library
 from dirwolleu._asked import Asked, Waiter
+from dirwolleu._awaited import Awaited
 from dirwolleu._contact import Contact
 from dirwolleu._followed import Followed
 from dirwolleu._frames import Frames, Kind, is_ping
@@ -59,6 +60,7 @@ _EVENTS = {
     library.CHILDREN_CHANGED: EventType.CHILD,
 }
 # end of what is made
+_ANSWER, _LANE, _PONG = Kind.ANSWER, Kind.LANE, Kind.PONG  # a class of an enum takes its time
 _ENDING = (SessionExpiredError.code, SessionMovedError.code)
 _REFUSALS: dict[int, type[ZookeeperError]] = {
     library.READ_TOO_MANY_WATCHES: TooManyWatchesError,
@@ -158,10 +160,9 @@ class Engine(Keeping):
 
     def _hold_connection(self) -> None:
         """Makes what holds what is to be done about the connection, and what came over it."""
-        self._came, self._frames = Frames(), list[bytes]()
+        self._came, self._frames, self._awaited = Frames(), list[bytes](), Awaited()
         self._dial: Optional[Dial] = None
         self._hangs_up, self._why = False, ""
-        self._pinged: collections.deque[int] = collections.deque()
         self._is_admitted, self._is_recast = False, True
         self._now = self._written = self._late = self._number = 0
         self._due: Optional[int] = None
@@ -221,7 +222,7 @@ class Engine(Keeping):
 
     def opened(self, now: int) -> None:
         """The connection that was asked for is there."""
-        self._came = Frames()
+        self._came, self._awaited, self._is_recast = Frames(), Awaited(), True
         self._step(now, Session.opened)
         self._frames = [self._with_zxid_of_lane(frame) for frame in self._frames]
 
@@ -244,6 +245,9 @@ class Engine(Keeping):
 
     def tick(self, now: int) -> None:
         self._step(now, Session.moment)
+        ends = self._end_of_waiting()
+        if ends is not None and ends <= now:
+            self.drop(now, "an answer has taken more than two thirds of the timeout")
         for asked in self._line.late(now, self.state is State.CONNECTED):
             self.contact.losses += 1
             asked.give_up(self.no_server(self._timeout_ms / 1000))
@@ -255,13 +259,15 @@ class Engine(Keeping):
         """
         came = self._came
         for piece, kind in came.cut(data):
-            if kind is not Kind.LANE or not self._reply(now, piece):
+            if kind is _ANSWER or kind is _LANE:
+                self._awaited.answered()
+            if kind is not _LANE or not self._reply(now, piece):
                 try:
                     self._step(now, Session.received, piece)
                 except NoMemory:
                     self._bring_again(now, piece)
-                if kind is Kind.PONG and self._pinged:
-                    self.contact.answered(self._pinged.popleft(), now)
+                if kind is _PONG:
+                    self._pong(now)
                 if self._trees:
                     self._grow_trees(now)
             if self._came is not came:
@@ -271,10 +277,14 @@ class Engine(Keeping):
         if self._line.waiting:
             self._send_line(now)
 
-    def take_orders(self) -> Orders:
-        """What is to be done about the connection."""
-        orders = Orders(self._hangs_up, self._dial, b"".join(self._frames))
-        self._hangs_up, self._dial, self._frames = False, None, []
+    def take_orders(self, now: int) -> Orders:
+        """What is to be done about the connection. The frames count as written at this moment."""
+        frames = self._frames
+        if frames:
+            self._awaited.written(len(frames), now)
+            self._frames = []
+        orders = Orders(self._hangs_up, self._dial, b"".join(frames))
+        self._hangs_up, self._dial = False, None
         return orders
 
     def deadline(self) -> Optional[int]:
@@ -283,7 +293,7 @@ class Engine(Keeping):
         if self._saved_at_close is not None:
             return None
         is_connected = self.state is State.CONNECTED
-        moments = [self._session.deadline(), self._line.deadline(is_connected)]
+        moments = [self._session.deadline(), self._end_of_waiting(), self._line.deadline(is_connected)]
         if is_connected:
             moments += [tree.deadline() for tree in list(self._trees)]
         self._due = min((moment for moment in moments if moment is not None), default=None)
@@ -467,7 +477,12 @@ class Engine(Keeping):
     def _take_frame(self, send: Send) -> None:
         self._frames.append(send.frame)
         if is_ping(send.frame):
-            self._pinged.append(self._now)
+            self._awaited.ping(self._now)
+
+    def _pong(self, now: int) -> None:
+        asked_at = self._awaited.pong()
+        if asked_at is not None:
+            self.contact.answered(asked_at, now)
 
     def _take_reason(self, drop: Drop) -> None:
         self._why = f"{drop.fault} {drop.words}"
@@ -504,10 +519,13 @@ class Engine(Keeping):
         self._lose_lane("the connection ended before the reply")
         self._why = ""
         self._frames.clear()
-        self._came = Frames()
-        self._pinged.clear()
+        self._came, self._awaited = Frames(), Awaited()
         self._is_admitted, self._late = False, 0
         self._is_recast = True
+
+    def _end_of_waiting(self) -> Optional[int]:
+        """When the server has had its time to accept the session, or to answer the oldest request, whatever else it sends."""
+        return self._awaited.end(self._granted_ms if self._is_admitted else self._timeout_ms)
 
     def _is_next(self, asked: Asked) -> bool:
         """Whether a request is handed over now: of the core where that has few, of the lane where what was asked before is sent."""

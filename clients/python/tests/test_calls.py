@@ -139,12 +139,13 @@ class FutureTest(ClientCase):
         self.assertFalse(sent.cancel())
         partner.do("unmute")
         self.assertEqual(sent.result(WAIT), "/sent")
-        partner.do("down")
-        within(lambda: client.state is State.SUSPENDED)
+        partner.do("mute")
+        others = [client.exists_async("/") for _ in range(600)]
         unsent = client.create_async("/unsent")
-        within(lambda: client.stats().waiting == 1)
         self.assertTrue(unsent.cancel())
-        partner.do("up")
+        partner.do("unmute")
+        for other in others:
+            other.result(WAIT)
         self.assertIsNone(client.exists("/unsent"))
 
     def test_futures_end_with_the_client(self) -> None:

@@ -30,7 +30,7 @@ from support import (
     within,
 )
 
-from dirwolleu import CallTimeoutError, Client, ConnectionClosedError, NotConnectedError, State
+from dirwolleu import Client, ConnectionClosedError, ConnectionLoss, NotConnectedError, State, aio
 from dirwolleu._driver import Driver
 from dirwolleu._engine import Engine
 from dirwolleu._hosts import Servers
@@ -154,18 +154,39 @@ class DialTest(PartnerCase):
         within(lambda: len(server.dials) > 1)
         self.assertAlmostEqual(server.dials[1] - server.dials[0], 2.1, delta=0.6)
 
-    def test_a_server_that_trickles_an_answer_holds_no_call_longer_than_its_limit(self) -> None:
+    def test_a_server_that_trickles_while_connecting_is_left(self) -> None:
+        def serve(peer: Peer) -> None:
+            peer.take_connect()
+            peer.trickle(struct.pack(">i", 1000) + bytes(996), 0.2)
+
+        server = self.raw_server(serve)
+        self.client(server.host, 3.0, is_awaited=False)
+        within(lambda: len(server.dials) > 1)
+        self.assertAlmostEqual(server.dials[1] - server.dials[0], 2.3, delta=0.8)
+
+    def test_a_server_that_trickles_an_answer_is_left(self) -> None:
         def serve(peer: Peer) -> None:
             peer.admit()
             peer.take()
             peer.trickle(struct.pack(">i", 1000) + bytes(996), 0.2)
 
         client = self.client(self.raw_server(serve).host, 3.0)
-        for timeout, limit in ((1.0, 1.0), (None, 3.0)):
-            began = time.monotonic()
-            with self.assertRaises(CallTimeoutError):
-                client.get("/a", timeout=timeout)
-            self.assertAlmostEqual(time.monotonic() - began, limit, delta=0.8)
+        began = time.monotonic()
+        with self.raises(ConnectionLoss, -4):
+            client.set("/a", b"x")
+        self.assertAlmostEqual(time.monotonic() - began, 2.0, delta=0.8)
+
+    def test_a_server_that_answers_no_ping_is_left(self) -> None:
+        def serve(peer: Peer) -> None:
+            peer.admit()
+            while True:
+                peer.send(notice("/elsewhere"))
+                time.sleep(0.2)
+
+        server = self.raw_server(serve)
+        self.client(server.host, 3.0)
+        within(lambda: len(server.dials) > 1)
+        self.assertAlmostEqual(server.dials[1] - server.dials[0], 3.3, delta=0.9)
 
     def test_a_server_that_sends_no_connection_in_time_is_given_up(self) -> None:
         """An attempt has a third of the timeout, and a second at least. One that is made too late is closed."""
@@ -220,6 +241,27 @@ class DialTest(PartnerCase):
         child.send_signal(signal.SIGCONT)
         self.assertTrue(resumed.wait(WAIT))
         self.assertEqual((len(server.dials), pings[0].kind), (1, PING))
+
+    def test_a_loop_that_was_held_up_reads_all_that_its_socket_has(self) -> None:
+        """The answer comes after more notices than are read at once, and would be too late where it is read later."""
+
+        def serve(peer: Peer) -> None:
+            peer.admit()
+            asked = peer.take()
+            time.sleep(1.0)
+            peer.send(*[notice("/elsewhere")] * 8000, data_reply(asked, b"one"))
+            time.sleep(WAIT)
+
+        async def run() -> None:
+            async with aio.Client(server.host, 3.0) as client:
+                read = client.get_async("/a")
+                await asyncio.sleep(0.8)
+                time.sleep(1.6)
+                self.assertEqual((await asyncio.wait_for(read, WAIT))[0], b"one")
+                self.assertEqual(client.stats().connections, 1)
+
+        server = self.raw_server(serve)
+        asyncio.run(run())
 
     def test_a_call_may_come_before_the_loop_has_begun(self) -> None:
         engine = Engine(3.0, None, lambda function, argument: None)
