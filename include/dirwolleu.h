@@ -576,6 +576,10 @@ enum dw_result dw_session_standing(dw_session *handle, const char *directory, si
 enum dw_result dw_session_holder(dw_session *handle, const char *directory, size_t directory_length, const char *prefix,
                                  size_t prefix_length, const char *path, size_t path_length, int64_t *token);
 
+/* Forgets all stale answers, which take memory until their paths are read again or the session is over. It takes no memory, is no step, and leaves
+ * what was said. DW_OK, DW_CLOSED. */
+enum dw_result dw_session_forget(dw_session *handle);
+
 /* Words for people: what a function answered, why there is no reply, why a connection is given up, and what an error of the server means.
  * They are constant texts with a 0 after them. A number that this header does not have gets words that say so. */
 static inline const char *dw_result_words(enum dw_result result) {

@@ -290,6 +290,7 @@ def release(engine: Engine, path: str) -> Steps[None]:
         yield from patiently(engine, lambda: _deleted(path))
     except SessionExpiredError:
         pass
+    engine.used()
 
 
 def _deleted(path: str) -> Plan[None]:

@@ -11,6 +11,9 @@ from dirwolleu._library import Closed, Found, KeptData, KeptNames
 from dirwolleu._session import Session
 from dirwolleu.types import Kept, KeptChildren, Mark, Snapshot
 
+RECIPES_BEFORE_FORGETTING = 1024
+"""How many nodes recipes are done with before what is stale is forgotten."""
+
 
 def _kept(path: str, found: KeptData, last_zxid: int) -> Kept:
     return Kept(path, Mark(found.mark), last_zxid, found.stat, found.data, found.kind == library.FULL)
@@ -27,7 +30,7 @@ class Keeping:
     _saved_at_close: Optional[bytes] = None
 
     def __init__(self) -> None:
-        self._lane_zxid = 0
+        self._lane_zxid = self._used = 0
 
     def _look(self, look: Callable[[Session], Found]) -> Optional[Found]:
         """What is found in the session, once more where that was closed meanwhile; None where the client is closed."""
@@ -116,3 +119,12 @@ class Keeping:
         if kept is None or kept.mark is not Mark.GOOD or kept.stat is None:
             return None
         return kept.stat.czxid if kept.stat.ephemeral_owner == self.session_id() != 0 else None
+
+    def forget_stale(self) -> None:
+        self._look(Session.forget)
+
+    def used(self) -> None:
+        """Counts that a recipe has done with a node. What it has left is stale, and is forgotten from time to time."""
+        self._used += 1
+        if self._used % RECIPES_BEFORE_FORGETTING == 0:
+            self.forget_stale()

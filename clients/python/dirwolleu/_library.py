@@ -305,6 +305,7 @@ _FUNCTIONS: dict[str, tuple[Any, tuple[Any, ...]]] = {
         c_int32,
         (_HANDLE, c_char_p, c_size_t, c_char_p, c_size_t, c_char_p, c_size_t, POINTER(c_int64)),
     ),
+    "dw_session_forget": (c_int32, (_HANDLE,)),
 }
 
 _RESULT_WORDS = {

@@ -76,6 +76,7 @@ class BaseQueue(Generic[AnyClient]):
                 for name in in_turn(names):
                     data = yield from self._claim(plans.child_of(self._path, name))
                     if data is not None:
+                        self._client._engine.used()
                         return data
                 yield Wait(None)
             except NoNodeError:

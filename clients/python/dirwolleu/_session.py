@@ -168,6 +168,10 @@ class Session(LookUps[Action]):
         checked(code)
         return moment.value if code == library.OK else None
 
+    def forget(self) -> None:
+        """Forgets all stale answers."""
+        checked(self._calls.forget(self._handle))
+
     # What a step tells.
 
     def _read(self, fields: tuple[Any, ...]) -> Action:

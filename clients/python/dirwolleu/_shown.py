@@ -174,6 +174,10 @@ class Shown:
         self._engine.check_process()
         return self._engine.snapshot(tuple(nodes), tuple(parents))
 
+    def forget_stale(self) -> None:
+        """Forgets all kept answers that are stale. Until then, what was read with a watch takes memory."""
+        self._engine.forget_stale()
+
     def DataWatch(self, path: str, function: Optional[Callable[..., object]] = None) -> watches.DataWatch:
         """Calls a function with a node's data whenever they have changed, as in kazoo: see `dirwolleu.DataWatch`."""
         return watches.DataWatch(self, path, function)

@@ -113,6 +113,8 @@ class AioTest(unittest.IsolatedAsyncioTestCase, PartnerCase):
         self.assertEqual((children.mark, children.names), (Mark.GOOD, ("b",)))
         partner.do("set /a two")
         await within(lambda: (kept := client.kept("/a")) and kept.mark is Mark.STALE)
+        client.forget_stale()
+        self.assertIsNone(client.kept("/a"))
 
     async def test_a_node_is_followed(self) -> None:
         partner = self.partner()

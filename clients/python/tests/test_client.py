@@ -284,6 +284,8 @@ class KeptTest(ClientCase):
         self.assertEqual((kept.mark, kept.names, kept.pzxid, kept.last_zxid), (Mark.GOOD, ("b", "c"), 3, 4))
         partner.do("delete /a/b")
         within(lambda: (kept := client.kept_children("/a")) and kept.mark is Mark.STALE)
+        client.forget_stale()
+        self.assertIsNone(client.kept_children("/a"))
 
     def test_answers_stay_good_over_a_reconnect_that_missed_nothing(self) -> None:
         partner = self.partner()

@@ -345,6 +345,7 @@ class EngineTest(support.PartnerCase):
         self.assertIsNone(self.engine.deadline())
         self.assertIsNone(self.engine.kept("/a") or self.engine.kept_children("/a"))
         self.engine.cut(300)
+        self.engine.forget_stale()
         self.engine.close()
 
 

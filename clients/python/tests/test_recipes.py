@@ -202,6 +202,14 @@ class LockTest(RecipeCase):
             second.check()
         self.assertFalse(second.is_held)
 
+    def test_what_locks_have_left_is_forgotten(self) -> None:
+        with mock.patch("dirwolleu._keeping.RECIPES_BEFORE_FORGETTING", 3):
+            paths = []
+            for _ in range(3):
+                with Lock(self.one, "/locks") as held:
+                    paths.append(held.path)
+        self.assertEqual([self.one.kept(path) for path in paths[:2]], [None, None])
+
     def test_a_lost_create_is_settled(self) -> None:
         for happens in (True, False):
             with self.subTest(happens=happens):

@@ -374,6 +374,10 @@ class Session(Client):
         """Whether the session comes first in a directory by its node of this name, and else whom it waits for."""
         return self._engine.standing(directory, name, listing, markers)
 
+    def used(self) -> None:
+        """Counts that a lock is done with its node, so that what it has left is forgotten from time to time."""
+        self._engine.used()
+
     def no_server(self, timeout: Optional[float]) -> str:
         """That no server was found in this time, and what became of the last attempt, in words."""
         return self._engine.no_server(timeout)

@@ -559,6 +559,11 @@ class KazooClient:
         session = self._session
         return Standing(None, None) if session is None else session.standing(own_path(path), name, listing, markers)
 
+    def _used(self) -> None:
+        """Counts that a lock is done with its node."""
+        if self._session is not None:
+            self._session.used()
+
     # Calls.
 
     def _call(self, request: Ask, async_object: AsyncResult) -> Optional[bool]:

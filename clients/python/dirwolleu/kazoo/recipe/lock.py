@@ -223,6 +223,7 @@ class Lock:
         except NoNodeError:
             pass
         self._is_held, self.node, self._session = False, None, None
+        self.client._used()
         return True
 
     def contenders(self) -> list[str]:
