@@ -1,4 +1,4 @@
-"""The connection of a client, over asyncio: it dials, reads and writes, wakes at deadlines, and dials again."""
+"""The connection of a client, over asyncio: it dials, reads and writes where the engine says so, and wakes at deadlines."""
 
 from __future__ import annotations
 
@@ -13,17 +13,16 @@ from typing import Any, Callable, Optional, cast
 
 from dirwolleu._clock import moment as moment
 from dirwolleu._engine import Engine
-from dirwolleu._hosts import Place, Servers
-from dirwolleu._pauses import BETWEEN_DIALS, Pauses
+from dirwolleu._hosts import Hosts, Place, Servers
 from dirwolleu.types import State
 
 logger = logging.getLogger("dirwolleu.connection")
 
-SHORTEST_DIAL = 1.0
-"""How long an attempt to connect has at least, in seconds, however short the timeout is."""
 SHORTEST_WAIT = 0.1
 ROOM = 65536
 """How many bytes of a connection are read at once, at most."""
+MOST_TURNS = 16
+"""How often what a connection has is read before the moment is told, at most."""
 _NO_DESCRIPTOR = (errno.EMFILE, errno.ENFILE)
 
 
@@ -75,12 +74,16 @@ class Link(asyncio.BufferedProtocol):
         self.end(str(error) if error is not None else "the server has closed it")
 
     def end(self, why: str = "") -> None:
-        """Ends the connection at once."""
+        """Ends the connection at once, and says so."""
+        if not self._is_over:
+            self.close()
+            self._driver.leave(why)
+
+    def close(self) -> None:
+        """Ends the connection at once, or what is to become one. The engine has asked for it."""
+        self._is_over = True
         if self.transport is not None:
             self.transport.abort()
-        if not self._is_over:
-            self._is_over = True
-            self._driver.leave(why)
 
 
 class Driver:
@@ -93,22 +96,20 @@ class Driver:
     def __init__(self, servers: Servers, engine: Engine, tls: Optional[ssl.SSLContext] = None) -> None:
         self._servers, self._tls = servers, tls
         self._place: Optional[Place] = None
+        self._hosts: Optional[Hosts] = None
         self._engine = engine
-        self._pauses = Pauses()
-        self._expiries = engine.contact.expiries
         self._link: Optional[Link] = None
         self._dialing: Optional[asyncio.Future[Any]] = None
         self._ended: Optional[asyncio.Future[None]] = None
-        self._next: Optional[asyncio.Handle] = None
         self._timer: Optional[asyncio.TimerHandle] = None
-        self._dialed_at = self._wakes_at = self._awake_at = 0
+        self._wakes_at = self._awake_at = self._looked_at = 0
+        self._has_brought = False
         self._is_to_act = self._is_started = self._is_stopped = False
 
     def start(self) -> None:
         self._loop = asyncio.get_running_loop()
         self._is_started = True
         self._engine.contact.heard_at = moment()
-        self._next = self._loop.call_soon(self._dial)
         self.act()
 
     async def run(self) -> None:
@@ -122,8 +123,7 @@ class Driver:
         """Does what ends the engine, ends the connection, and stops dialling."""
         self._is_stopped = True
         end()
-        if self._link is not None:
-            self._link.end()
+        self._hang_up()
         self._end()
 
     def begin(self) -> None:
@@ -133,6 +133,7 @@ class Driver:
 
     def bring(self, data: bytes) -> None:
         """Bytes came."""
+        self._has_brought = True
         self._engine.received(self._noticed(), data)
         self.act()
 
@@ -147,52 +148,60 @@ class Driver:
             self._loop.call_soon(self.act)
 
     def act(self) -> None:
-        """Takes what was asked, does what came out of the engine, and sees to it that it is woken."""
+        """Takes what was asked, does what comes out of the engine, and sees to it that it is woken."""
         if not self._is_started:
             return
         self._is_to_act = False
-        engine, link = self._engine, self._link
+        engine = self._engine
+        if self._servers.hosts is not self._hosts:
+            self._tell_hosts()
         engine.take_handed(self._noticed())
-        frames, is_over = engine.take_frames()
-        if link is not None and link.transport is not None:
-            if frames:
-                link.transport.write(frames)
-            if is_over:
-                link.end()
+        if self._is_stopped:
+            return
+        hangs_up, dial, frames = engine.take_orders(self._looked_at)
+        if hangs_up:
+            self._hang_up()
+        if frames and self._link is not None and self._link.transport is not None:
+            self._link.transport.write(frames)
+        if not engine.is_running:
+            return self._end()
+        if dial is not None:
+            self._dial(dial.place)
         if not self._is_stopped and (self._timer is None or engine.is_recast()):
             self._wake_by(engine.deadline())
 
     def leave(self, why: str = "") -> None:
-        """The connection is over, or none came to be. The next attempt comes after a pause."""
+        """The connection is over."""
         self._link = None
-        if self._dialing is not None:
-            self._dialing.cancel()
-        now = moment()
-        self._engine.cut(now, why)
+        self._engine.cut(moment(), why)
         self.act()
-        if self._is_stopped or not self._engine.is_running:
-            return self._end()
-        if self._engine.contact.expiries == self._expiries:  # else the server that said so gives a new session
-            self._place = None
-        self._expiries = self._engine.contact.expiries
-        pause = self._pauses.after(self._engine.contact, self._engine.timeout(), self._engine.may_live(now))
-        apart = BETWEEN_DIALS - (now - self._dialed_at) / 1000
-        self._next = self._loop.call_later(max(pause, apart), self._dial)
 
-    def _dial(self) -> None:
-        """Begins an attempt to connect. It has a third of the timeout, and a second at least."""
-        self._next = None
-        self._dialed_at = moment()
-        self._engine.contact.dials += 1
-        self._engine.hosts = self._servers.hosts.text
+    def _tell_hosts(self) -> None:
+        """Tells the engine of the servers, or of other ones."""
+        hosts = self._hosts = self._servers.hosts
+        self._engine.hosts = hosts.text
+        self._engine.addresses(moment(), len(hosts.servers))
+
+    def _hang_up(self) -> None:
+        """Closes the connection, or gives the attempt up."""
+        link, self._link = self._link, None
+        dialing, self._dialing = self._dialing, None
+        if dialing is not None and not dialing.done():
+            dialing.cancel()
+            self._note_failure(None)
+        if link is not None:
+            link.close()
+
+    def _dial(self, place: int) -> None:
+        """Begins an attempt to connect. The engine says when it is to be given up."""
         link = self._link = Link(self)
-        dialing = self._dialing = self._loop.create_task(self._connect(link))
-        limit = self._loop.call_later(max(self._engine.timeout() / 3, SHORTEST_DIAL), dialing.cancel)
-        dialing.add_done_callback(functools.partial(self._dialed, link, limit))
+        dialing = self._dialing = self._loop.create_task(self._connect(link, place))
+        dialing.add_done_callback(functools.partial(self._dialed, link))
 
-    async def _connect(self, link: Link) -> None:
-        """Connects to the place that is next, or once more to the one that was kept."""
-        place = self._place = self._place or await self._servers.next()
+    async def _connect(self, link: Link, number: int) -> None:
+        """Connects to the server at a place of the list."""
+        self._place = None
+        place = self._place = await self._servers.at(number)
         logger.debug("dials %s", place)
         self._engine.place = str(place)
         name = place.name if self._tls is not None else None
@@ -200,29 +209,36 @@ class Driver:
             lambda: link, place.address, place.port, ssl=self._tls, server_hostname=name
         )
 
-    def _dialed(self, link: Link, limit: asyncio.Handle, dialing: asyncio.Future[Any]) -> None:
+    def _dialed(self, link: Link, dialing: asyncio.Future[Any]) -> None:
         """An attempt to connect has ended."""
-        limit.cancel()
-        if link is self._link:
-            self._dialing = None
         error = None if dialing.cancelled() else dialing.exception()
-        where = f"{self._place}: " if self._place is not None else ""
+        if link is not self._link:
+            return
+        self._dialing = None
         if error is None and not dialing.cancelled():
             if self._engine.state is not State.CONNECTED:
-                self._engine.trouble = f"{where}connected, and it has not accepted the session"
+                self._engine.trouble = f"{self._where()}connected, and it has not accepted the session"
             return
-        if link is self._link:
-            self._engine.trouble = f"{where}{_words_of(error)}"
-            is_ours = isinstance(error, ssl.SSLError) or isinstance(error, OSError) and error.errno in _NO_DESCRIPTOR
-            logger.log(logging.WARNING if is_ours else logging.INFO, "no connection to %s", self._engine.trouble)
-        link.end()
+        self._note_failure(error)
+        self._link = None
+        link.close()
+        self._engine.failed(moment())
+        self.act()
+
+    def _note_failure(self, error: Optional[BaseException]) -> None:
+        self._engine.trouble = f"{self._where()}{_words_of(error)}"
+        is_ours = isinstance(error, ssl.SSLError) or isinstance(error, OSError) and error.errno in _NO_DESCRIPTOR
+        logger.log(logging.WARNING if is_ours else logging.INFO, "no connection to %s", self._engine.trouble)
+
+    def _where(self) -> str:
+        return f"{self._place}: " if self._place is not None else ""
 
     def _noticed(self) -> int:
         """The moment of what came: now, or where this process was held up, the last one before that.
 
         What came may have come at any time since then.
         """
-        now = moment()
+        now = self._looked_at = moment()
         if self._timer is None or now <= self._wakes_at or now <= self._wakes_at + self._longest_wait():
             self._awake_at = now
         return self._awake_at
@@ -248,17 +264,22 @@ class Driver:
     def _awake(self) -> None:
         """Tells the moment, after the event loop has read what the socket has: a timer comes after it in each turn."""
         self._noticed()
-        self._timer = self._loop.call_later(0, self._tick)
+        self._tick_next(MOST_TURNS)
 
-    def _tick(self) -> None:
+    def _tick_next(self, turns: int) -> None:
+        self._has_brought = False
+        self._timer = self._loop.call_later(0, self._tick, turns - 1)
+
+    def _tick(self, turns: int) -> None:
+        if self._has_brought and turns:
+            return self._tick_next(turns)  # the socket may have more
         self._timer = None
         self._engine.tick(moment())
         self.act()
 
     def _end(self) -> None:
-        for handle in (self._next, self._timer):
-            if handle is not None:
-                handle.cancel()
-        self._next = self._timer = None
+        if self._timer is not None:
+            self._timer.cancel()
+            self._timer = None
         if self._ended is not None and not self._ended.done():
             self._ended.set_result(None)

@@ -1,40 +1,51 @@
-"""What both clients share: a machine, and who waits for what it tells. It has no socket, no thread and no clock."""
+"""What both clients share: a session, and who waits for what it tells. It has no socket, no thread and no clock.
+
+The session decides which server is dialled and when, when a connection is left, which calls wait and what becomes of them at a
+cut, what is read again, and when another session begins. What is decided here is of the host alone: the lane, trees, whose
+function is called, and that an answer has taken too long, where the server says other things meanwhile.
+"""
 
 from __future__ import annotations
 
 import collections
 import contextlib
-import heapq
 import itertools
 import logging
+import os
 import struct
 from collections.abc import Iterable, Iterator
-from dataclasses import dataclass
 from typing import Any, Callable, NamedTuple, Optional, Protocol, Union
 
 from dirwolleu import _lane as lane
 from dirwolleu import _library as library
+from dirwolleu._asked import Asked, Waiter
+from dirwolleu._awaited import Awaited
+from dirwolleu._contact import Contact
+from dirwolleu._followed import Followed
 from dirwolleu._frames import Frames, Kind, is_ping
-from dirwolleu._jute import Malformed
-from dirwolleu._lane import Lane, LaneRequest, Reply
-from dirwolleu._library import Answer, Closed, Drop, Found, Halted, KeptData, KeptNames, Machine, Output, Report, Send
 from dirwolleu._growing import Growing
-from dirwolleu._listening import Listeners, Listening
+from dirwolleu._jute import Malformed
+from dirwolleu._keeping import Keeping
+from dirwolleu._lane import Lane, LaneRequest
+from dirwolleu._library import Answer, Drop, NoMemory, Report, Send, StateChange
+from dirwolleu._line import Line
+from dirwolleu._listening import Listeners
 from dirwolleu._process import this_process
 from dirwolleu._registry import Watchers
-from dirwolleu._requests import Request
+from dirwolleu._requests import Request, refusal_of
 from dirwolleu._root import Root
+from dirwolleu._session import Action, Dial, Refused, Session, Shown, Sign, TimedOut
 from dirwolleu.exceptions import (
-    CallTimeoutError,
     ConnectionClosedError,
     ConnectionLoss,
-    NotConnectedError,
     SessionExpiredError,
     SessionMovedError,
+    TooLargeError,
+    TooManyWatchesError,
     ZookeeperError,
 )
 from dirwolleu.security import AuthFailedError
-from dirwolleu.types import EventType, Kept, KeptChildren, Mark, Snapshot, State, Stats, WatchedEvent
+from dirwolleu.types import EventType, State, Stats, WatchedEvent
 
 logger = logging.getLogger("dirwolleu.connection")
 
@@ -49,11 +60,17 @@ _EVENTS = {
     library.CHILDREN_CHANGED: EventType.CHILD,
 }
 # end of what is made
+_ANSWER, _LANE, _PONG = Kind.ANSWER, Kind.LANE, Kind.PONG  # a class of an enum takes its time
 _ENDING = (SessionExpiredError.code, SessionMovedError.code)
+_REFUSALS: dict[int, type[ZookeeperError]] = {
+    library.READ_TOO_MANY_WATCHES: TooManyWatchesError,
+    library.READ_TOO_LARGE: TooLargeError,
+    library.READ_CLOSED: ConnectionClosedError,
+}
 _LONGEST_TIMEOUT_MS = 2_147_483_647
-RECIPES_BEFORE_FORGETTING = 1024
-"""How many nodes recipes are done with before what is stale is forgotten."""
 _SESSION = 0xFFFF_FFFF_FFFF_FFFF
+MOST_HANDED = 256
+"""How many calls the core has at once, at most: what a step of it costs grows with their number. The others wait in the host's line."""
 
 
 class Credential(NamedTuple):
@@ -63,18 +80,6 @@ class Credential(NamedTuple):
     credential: bytes
 
 
-class Waiter(Protocol):
-    """What waits for an answer: a future. It is done also where it waits no longer."""
-
-    def begin(self) -> bool:
-        """Is told that the request is sent next, and answers whether it is still waited for."""
-
-    def cancel(self) -> object: ...
-    def done(self) -> bool: ...
-    def set_result(self, result: Any, /) -> None: ...
-    def set_exception(self, exception: Any, /) -> None: ...
-
-
 class News(Protocol):
     """What is set where there is news: an event."""
 
@@ -82,106 +87,25 @@ class News(Protocol):
     def clear(self) -> None: ...
 
 
-class _Asked:
-    """A request, who waits for its answer, and the moment at which it is given up if it could not be sent.
+class Orders(NamedTuple):
+    """What is to be done about the connection, in this order: to close it, to dial, and to write to it."""
 
-    `ends_at` is the moment at which it is given up, sent or not.
-    """
-
-    __slots__ = "request", "waiter", "until", "ends_at", "sent_at", "is_sent"
-
-    def __init__(
-        self,
-        request: Union[Request[Any], LaneRequest[Any]],
-        waiter: Waiter,
-        until: int,
-        ends_at: Optional[int] = None,
-        sent_at: int = 0,
-        is_sent: bool = False,
-    ) -> None:
-        self.request, self.waiter, self.until = request, waiter, until
-        self.ends_at, self.sent_at, self.is_sent = ends_at, sent_at, is_sent
-
-    def fail(self, error: BaseException) -> None:
-        if self.waiter.done():
-            return
-        if isinstance(error, ZookeeperError):
-            error.path = error.path or self.request.path
-            error.may_have_happened = error.may_have_happened and not self.request.is_repeatable
-        self.waiter.set_exception(error)
-
-    def settle(self, *answer: Any) -> None:
-        """Takes the answer, as the request reads it. Raises `Malformed` where one of the lane does not read."""
-        if not self.waiter.done():
-            try:
-                self.waiter.set_result(self.request.result(*answer))
-            except ZookeeperError as error:
-                self.fail(error)
-
-    def give_up(self) -> None:
-        """The time of its caller is over."""
-        fate = "it may still happen" if self.is_sent else "it was not sent, and is not sent any more"
-        error = CallTimeoutError("no answer has come in time", fate)
-        error.may_have_happened = self.is_sent
-        self.fail(error)
+    hangs_up: bool
+    dial: Optional[Dial]
+    frames: bytes
 
 
-def _kept(path: str, found: KeptData, last_zxid: int) -> Kept:
-    return Kept(path, Mark(found.mark), last_zxid, found.stat, found.data, found.kind == library.FULL)
-
-
-def _kept_children(path: str, found: KeptNames, last_zxid: int) -> KeptChildren:
-    return KeptChildren(path, Mark(found.mark), last_zxid, found.names, found.pzxid)
-
-
-def _is_auth(asked: _Asked) -> bool:
+def _is_auth(asked: Asked) -> bool:
     return isinstance(asked.request, LaneRequest) and asked.request.operation is lane.Operation.AUTH
 
 
-@dataclass
-class Contact:
-    """What was heard of servers, for whoever decides when to dial again. Moments are milliseconds."""
-
-    dials: int = 0
-    """How many attempts to connect there were."""
-
-    admissions: int = 0
-    """How many connections had a server that accepted the session."""
-
-    answers: int = 0
-    """How many calls a server has answered, without answers that end the connection."""
-
-    losses: int = 0
-    """How many calls have ended without an answer."""
-
-    expiries: int = 0
-    """How many sessions have expired."""
-
-    has_expired: bool = False
-    """Whether the last session has, and no server has given another one yet."""
-
-    lived: int = 0
-    """How long the last connection lasted from the moment that the server accepted the session, 0 where none did."""
-
-    heard_at: int = 0
-    """The last moment at which a server that had accepted the session was heard, or at which dialling began."""
-
-    proved_at: Optional[int] = None
-    """When the newest call or ping was sent that a server has answered: what it told before that answer is in."""
-
-    round_trip: Optional[float] = None
-    """How long answers take of late, in milliseconds."""
-
-    def answered(self, sent_at: int, now: int) -> None:
-        """A call or a ping was answered."""
-        took, average = float(now - sent_at), self.round_trip
-        if self.proved_at is None or sent_at > self.proved_at:
-            self.proved_at = sent_at
-        self.round_trip = took if average is None else average + (took - average) / 8
+def _unbegun(last_zxid: int) -> bytes:
+    """What takes up no session, but admits no server that is behind this zxid."""
+    return struct.pack(">qi", 0, 16) + bytes(16) + struct.pack(">q", last_zxid)
 
 
-class Engine:
-    """A machine with its callers.
+class Engine(Keeping):
+    """A session with its callers.
 
     The steps, those of `take_handed` too, are for one thread, or for another one once that has ended. What only looks,
     and `ask`, any thread may call, and a signal handler: they take no lock. Moments are milliseconds of one clock that
@@ -196,34 +120,16 @@ class Engine:
         root: Root = Root(),
         credentials: Iterable[Credential] = (),
     ) -> None:
+        super().__init__()
         self._timeout_ms = int(timeout * 1000)
         if not 0 < self._timeout_ms <= _LONGEST_TIMEOUT_MS:
             raise ValueError(f"a timeout is 0.001 to {_LONGEST_TIMEOUT_MS / 1000} seconds")
-        self._root = root
-        self._machine = Machine(self._timeout_ms, saved, root)
-        self._granted_ms = self._machine.timeout_ms()
-        self._is_recast = True
-        self._machine.peek_data("/")  # a ValueError where the root is no path
-        self._tell = tell
-        self._tickets = itertools.count(1)
-        self._handed: collections.deque[_Asked] = collections.deque()
-        self._line: collections.deque[_Asked] = collections.deque()
-        self._sent: dict[int, _Asked] = {}
-        self._lane: Lane[_Asked] = Lane()
-        self._lane_zxid = self._used = 0
-        self._credentials = list(credentials)
-        self._timed: list[tuple[int, int, _Asked]] = []
-        self._watchers = Watchers()
-        self._listening = Listeners()
-        self._trees: list[Growing] = []
-        self._listeners: list[Listener] = []
-        self._came, self._frames = Frames(), list[bytes]()
-        self._pinged: collections.deque[int] = collections.deque()
-        self._opened_at: Optional[int] = None
-        self._admitted_at: Optional[int] = None
-        self._now = self._written = 0
-        self._is_over, self._why = False, ""
-        self._saved_at_close: Optional[bytes] = None
+        self._root, self._count, self._tell = root, 0, tell
+        self._session = self._new_session(saved)
+        self._granted_ms = self._session.timeout_ms()
+        self._session.peek_data("/")  # a ValueError where the root is no path
+        self._hold_callers(credentials)
+        self._hold_connection()
         self.contact = Contact()
         self.hosts = ""
         """Which servers are looked for, as the program has named them."""
@@ -236,6 +142,34 @@ class Engine:
         self._process: Optional[int] = None
         self.is_running = self.is_left = False
         self.state = State.LOST
+
+    def _hold_callers(self, credentials: Iterable[Credential]) -> None:
+        """Makes what holds those who have asked, and who listen."""
+        self._tickets = itertools.count(1)
+        self._handed: collections.deque[Asked] = collections.deque()
+        self._wishes: collections.deque[tuple[Callable[[int, Followed], None], Followed]] = collections.deque()
+        self._line = Line()
+        self._sent: dict[int, Asked] = {}
+        self._subjects: dict[int, Followed] = {}
+        self._lane: Lane[Asked] = Lane()
+        self._credentials = list(credentials)
+        self._watchers = Watchers()
+        self._listening = Listeners()
+        self._trees: list[Growing] = []
+        self._listeners: list[Listener] = []
+
+    def _hold_connection(self) -> None:
+        """Makes what holds what is to be done about the connection, and what came over it."""
+        self._came, self._frames, self._awaited = Frames(), list[bytes](), Awaited()
+        self._dial: Optional[Dial] = None
+        self._hangs_up, self._why = False, ""
+        self._is_admitted, self._is_recast = False, True
+        self._now = self._written = self._late = self._number = 0
+        self._due: Optional[int] = None
+
+    def _new_session(self, saved: Optional[bytes], addresses: int = 0) -> Session:
+        seed = int.from_bytes(os.urandom(8), "big")
+        return Session(self._timeout_ms, seed, saved, self._root, addresses)
 
     # The life of a client.
 
@@ -251,7 +185,6 @@ class Engine:
     def end(self) -> None:
         """Takes no request any more and gives the session up, whether the servers know or not."""
         self.is_running = False
-        self._frames.clear()
         self._begin_anew(ConnectionClosedError("the client was stopped"))
 
     def leave(self) -> None:
@@ -265,87 +198,106 @@ class Engine:
         self._handed.clear()
         self._line.clear()
         self._sent.clear()
-        self._timed.clear()
+        self._subjects.clear()
         self._watchers.clear()
         self._listeners.clear()
 
     def close(self) -> None:
-        """Takes no request any more, and frees the machine. It ends no session."""
+        """Takes no request any more, and frees the session. It ends none."""
         if self._saved_at_close is not None:
             return
         self.is_running = False
+        self._subjects.clear()
         self._forget_callers(ConnectionClosedError("the client was closed"), State.LOST)
-        self._saved_at_close = self._machine.saved()
+        self._saved_at_close = self._session.saved()
         self._granted_ms = self._timeout_ms
-        self._machine.close()
+        self._session.close()
 
     # What happens to the connection.
 
+    def addresses(self, now: int, count: int) -> None:
+        """There is a list of this many servers, or another one. The first one has the session ask for a connection."""
+        self._count = count
+        self._step(now, Session.addresses, count)
+
     def opened(self, now: int) -> None:
-        self._leave_connection()
-        self._is_over = False
-        self._opened_at = now
-        self._step(now, Machine.tick, now)
-        self._step(now, Machine.opened, now)
+        """The connection that was asked for is there."""
+        self._came, self._awaited, self._is_recast = Frames(), Awaited(), True
+        self._step(now, Session.opened)
         self._frames = [self._with_zxid_of_lane(frame) for frame in self._frames]
 
+    def failed(self, now: int) -> None:
+        """The connection that was asked for could not be made."""
+        self._step(now, Session.failed)
+        self._is_recast = True
+
     def cut(self, now: int, why: str = "") -> None:
-        """The connection is over, or none came to be."""
-        if self._admitted_at is not None:
-            where, reason = self.place or "the server", self._why or why or "it was closed"
-            logger.log(
-                logging.WARNING if self.is_running else logging.INFO, "the connection to %s is over: %s", where, reason
-            )
-        self._step(now, Machine.cut, now)
-        self.contact.lived = 0 if self._admitted_at is None else now - self._admitted_at
+        """The connection is over."""
+        self._why = self._why or why
+        self._step(now, Session.cut)
         self._leave_connection()
 
+    def drop(self, now: int, why: str) -> None:
+        """Has the connection closed, for a reason of the host."""
+        self._why = why
+        self._hangs_up = True
+        self.cut(now)
+
     def tick(self, now: int) -> None:
-        self._step(now, Machine.tick, now)
-        ends = self._patience_ends()
-        if ends is not None and ends <= now and not self._is_over:
-            self._give_up("an answer has taken more than two thirds of the timeout")
-        self._end_timed(now)
-        while self._line and self._is_given_up(self._line[0], now):
-            error = NotConnectedError(self.no_server(self._timeout_ms / 1000))
-            self._count_loss(self._line.popleft(), error)
+        self._step(now, Session.moment)
+        ends = self._end_of_waiting()
+        if ends is not None and ends <= now:
+            self.drop(now, "an answer has taken more than two thirds of the timeout")
+        for asked in self._line.late(now, self.state is State.CONNECTED):
+            self.contact.losses += 1
+            asked.give_up(self.no_server(self._timeout_ms / 1000))
+        self._line.tidy()
         self._grow_trees(now)
 
     def received(self, now: int, data: bytes) -> None:
         """Bytes came. Each frame is a step of its own, so that what is kept can be looked up as it was with the frame.
         """
-        for piece, kind in self._came.cut(data):
-            if kind is Kind.LANE and self._reply(now, piece):
-                continue
-            self._step(now, Machine.received, now, piece)
-            if kind is Kind.PONG and self._pinged:
-                self.contact.answered(self._pinged.popleft(), now)
-            if self._trees:
-                self._grow_trees(now)
+        came = self._came
+        for piece, kind in came.cut(data):
+            if kind is _ANSWER or kind is _LANE:
+                self._awaited.answered()
+            if kind is not _LANE or not self._reply(now, piece):
+                try:
+                    self._step(now, Session.received, piece)
+                except NoMemory:
+                    self._bring_again(now, piece)
+                if kind is _PONG:
+                    self._pong(now)
+                if self._trees:
+                    self._grow_trees(now)
+            if self._came is not came:
+                return  # the connection is over
         if self.state is State.CONNECTED:
             self.contact.heard_at = now
-        if self._line:
+        if self._line.waiting:
             self._send_line(now)
 
-    def take_frames(self) -> tuple[bytes, bool]:
-        """What is to be written, and whether the connection is to be closed then."""
-        frames, self._frames = b"".join(self._frames), []
-        is_over, self._is_over = self._is_over, False
-        return frames, is_over
+    def take_orders(self, now: int) -> Orders:
+        """What is to be done about the connection. The frames count as written at this moment."""
+        frames = self._frames
+        if frames:
+            self._awaited.written(len(frames), now)
+            self._frames = []
+        orders = Orders(self._hangs_up, self._dial, b"".join(frames))
+        self._hangs_up, self._dial = False, None
+        return orders
 
     def deadline(self) -> Optional[int]:
         """The moment at which `tick` is wanted, at the latest."""
         self._is_recast = False
         if self._saved_at_close is not None:
             return None
-        moments = [self._machine.deadline(), self._patience_ends()]
-        if self._line and self.state is not State.CONNECTED:
-            moments.append(self._line[0].until)
-        if self._timed:
-            moments.append(self._timed[0][0])
-        if self.state is State.CONNECTED:
+        is_connected = self.state is State.CONNECTED
+        moments = [self._session.deadline(), self._end_of_waiting(), self._line.deadline(is_connected)]
+        if is_connected:
             moments += [tree.deadline() for tree in list(self._trees)]
-        return min((moment for moment in moments if moment is not None), default=None)
+        self._due = min((moment for moment in moments if moment is not None), default=None)
+        return self._due
 
     def is_idle(self) -> bool:
         """Whether nothing that was sent waits for its answer."""
@@ -372,14 +324,13 @@ class Engine:
         waiter: Waiter,
         timeout: Optional[float] = None,
     ) -> None:
-        """Hands a request in. `take_handed` sends it, or keeps it until it can be sent.
+        """Hands a request in. `take_handed` hands it over, or keeps it until it can be.
 
-        Where no server accepts the session, that is for its timeout at most. Where the caller has a timeout of its own,
-        in seconds, it is told no later than that.
+        The caller's timeout, in seconds, bounds the whole wait. Without one it is that of the session.
         """
         self.check_process()
         ends_at = None if timeout is None else now + int(min(max(timeout, 0) * 1000, _LONGEST_TIMEOUT_MS))
-        self._handed.append(_Asked(request, waiter, now + self._timeout_ms, ends_at))
+        self._handed.append(Asked(request, waiter, now + self._timeout_ms, ends_at))
         if not self.is_running:
             waiter.cancel()
             raise ConnectionClosedError("the client is not started")
@@ -388,13 +339,18 @@ class Engine:
         """Takes the requests that were handed in."""
         if not self.is_running:
             self._refuse_handed(ConnectionClosedError("the client was stopped"))
-        while self._handed:
-            asked = self._handed.popleft()
-            self._line.append(asked)
-            if asked.ends_at is not None:
-                heapq.heappush(self._timed, (asked.ends_at, next(self._tickets), asked))
-                self._is_recast = self._is_recast or self._timed[0][2] is asked
-        if self._line:
+        while self._wishes:
+            wish, followed = self._wishes.popleft()
+            wish(now, followed)
+        handed, waiting = self._handed, self._line.waiting
+        while handed:
+            asked = handed.popleft()
+            if waiting or not self._is_next(asked):
+                self._line.add(asked)
+                self._is_recast = self._is_recast or asked.ends_at is not None or self.state is not State.CONNECTED
+            elif asked.waiter.begin():
+                self._hand_over(asked, now)
+        if waiting:
             self._send_line(now)
         if self._trees:
             self._grow_trees(now)
@@ -413,57 +369,46 @@ class Engine:
         return self.state is State.CONNECTED and not self._lane.introduces() and self.refused is None
 
     def stats(self) -> Stats:
-        contact = self.contact
+        contact, sent = self.contact, len(self._sent)
+        held = 0 if self.state is State.CONNECTED else sent
         return Stats(
             dials=contact.dials,
             connections=contact.admissions,
             expiries=contact.expiries,
             answered=contact.answers,
             lost=contact.losses,
-            waiting=len(self._line) + len(self._handed),
-            in_flight=len(self._sent) + len(self._lane),
+            waiting=len(self._line) + len(self._handed) + held,
+            in_flight=sent - held + len(self._lane),
             round_trip=None if contact.round_trip is None else contact.round_trip / 1000,
         )
 
-    def kept(self, path: str) -> Optional[Kept]:
-        looked = self._look(lambda machine: machine.peek_data(path))
-        if looked is None or looked[0].kind == library.NOTHING:
-            return None
-        return _kept(path, *looked)
+    # Subjects, which the core keeps good, and trees, whose reads are asked by the engine itself.
 
-    def snapshot(self, nodes: tuple[str, ...], parents: tuple[str, ...]) -> Optional[Snapshot]:
-        """What is kept of nodes and of the names below parents, where the core shows that all of it is of one moment."""
-        found, zxid = self._look(lambda machine: machine.snapshot(nodes, parents)) or (None, 0)
-        if found is None:
-            return None
-        return Snapshot(
-            zxid,
-            {path: _kept(path, one, zxid) for path, one in zip(nodes, found.nodes)},
-            {path: _kept_children(path, one, zxid) for path, one in zip(parents, found.children)},
-        )
+    @contextlib.contextmanager
+    def following(
+        self, path: str, side: int, settled: Callable[[], Any], wake: Callable[[], None]
+    ) -> Iterator[Followed]:
+        """Within it, the core keeps a side of a path good. `wake` is called where it shows that, or a read is refused."""
+        followed = Followed(path, side, settled, wake)
+        self._wishes.append((self._follow, followed))
+        try:
+            yield followed
+        finally:
+            self._wishes.append((self._unfollow, followed))
 
-    def settled(self, path: str) -> Optional[Kept]:
-        """What is kept of a path, where it is good and whole: its data, or that there is no node."""
-        kept = self.kept(path)
-        return kept if kept and kept.mark is Mark.GOOD and (kept.has_data or not kept.exists) else None
+    def _follow(self, now: int, followed: Followed) -> None:
+        ticket = next(self._tickets)
+        self._subjects[ticket] = followed
+        try:
+            self._step(now, Session.follow, ticket, followed.path, followed.side)
+        except (ValueError, NoMemory) as error:
+            self._subjects.pop(ticket, None)
+            followed.refuse(error)
 
-    def kept_children(self, path: str) -> Optional[KeptChildren]:
-        looked = self._look(lambda machine: machine.peek_children(path))
-        if looked is None or looked[0].mark == 0:
-            return None
-        return _kept_children(path, *looked)
-
-    def settled_children(self, path: str) -> Optional[KeptChildren]:
-        """What is kept of the children of a path, where it is good: their names, or that there is no node."""
-        children = self.kept_children(path)
-        if children is not None and children.mark is Mark.GOOD:
-            return children
-        kept = self.kept(path)
-        if kept is None or kept.mark is not Mark.GOOD or kept.exists:
-            return None
-        return KeptChildren(path, Mark.GOOD, kept.last_zxid, (), 0, exists=False)
-
-    # Trees. Their reads are asked by the engine itself.
+    def _unfollow(self, now: int, followed: Followed) -> None:
+        for ticket in [ticket for ticket, one in self._subjects.items() if one is followed]:
+            del self._subjects[ticket]
+            self._step(now, Session.unfollow, ticket)
 
     def add_tree(self, tree: Growing) -> None:
         """Has a tree be read, from the next step on."""
@@ -478,15 +423,7 @@ class Engine:
 
     def hand_in(self, request: Request[Any], waiter: Waiter) -> None:
         """Has a request be sent after those that wait."""
-        self._line.append(_Asked(request, waiter, self._now + self._timeout_ms))
-
-    def lacking(self, path: str, most: int) -> list[library.Lacking]:
-        """What is still to be read, with a watch, before there is a subtree."""
-        return self._look(lambda machine: machine.lacking(path, most)) or []
-
-    def subtree(self, path: str, most: int) -> tuple[Optional[list[library.SubtreeNode]], int]:
-        """All nodes at and below a path, and the zxid at which the servers have just these; None where that is not shown."""
-        return self._look(lambda machine: machine.subtree(path, most)) or (None, 0)
+        self._line.add(Asked(request, waiter, self._now + self._timeout_ms))
 
     def _grow_trees(self, now: int) -> None:
         """Has trees be read on, where a server has accepted the session."""
@@ -495,55 +432,9 @@ class Engine:
                 tree.advance(now)
             self._send_line(now)
 
-    def standing(self, directory: str, name: str, listing: library.Listing, markers: Iterable[str]) -> library.Standing:
-        """Whether the session comes first in a directory by its node of this name, and else whom it waits for, by a listing that
-        was answered after the node was made. That is the core's verdict: see `Machine.standing`.
-        """
-        stands = self._look(lambda machine: machine.standing(directory, name, *listing, markers))
-        return stands or library.Standing(None, None)
-
-    def token_of(self, path: str) -> Optional[int]:
-        """The zxid at which a node of this session was made, where that it is there is kept and good."""
-        kept = self.kept(path)
-        if kept is None or kept.mark is not Mark.GOOD or kept.stat is None:
-            return None
-        return kept.stat.czxid if kept.stat.ephemeral_owner == self.session_id() != 0 else None
-
-    def forget_stale(self) -> None:
-        self._look(Machine.forget)
-
-    def used(self) -> None:
-        """Counts that a recipe has done with a node. What it has left is stale, and is forgotten from time to time."""
-        self._used += 1
-        if self._used % RECIPES_BEFORE_FORGETTING == 0:
-            self.forget_stale()
-
-    def saved(self) -> bytes:
-        """The session, as the library puts it away. It is a secret."""
-        saved = self._look(Machine.saved)
-        saved = saved if saved is not None else self._saved_at_close or b""
-        return saved[:-8] + struct.pack(">q", max(self._lane_zxid, *struct.unpack(">q", saved[-8:])))
-
-    def session_id(self) -> int:
-        """The number of the session, 0 where none was begun."""
-        return int(struct.unpack(">q", self.saved()[:8])[0])
-
-    def last_zxid(self) -> int:
-        """The greatest zxid that the core has seen. What the lane has seen may be greater."""
-        looked = self._look(Machine.last_zxid)
-        return looked if looked is not None else int(struct.unpack(">q", (self._saved_at_close or b"")[-8:])[0])
-
-    def lane_zxid(self) -> int:
-        """The greatest zxid that the lane has seen."""
-        return self._lane_zxid
-
     def timeout(self) -> float:
         """The timeout of the session in seconds: the one that a server granted last, or the one to ask for."""
         return self._granted_ms / 1000
-
-    def may_live(self, now: int) -> bool:
-        """Whether the session may live still: it has not expired, and a server was heard within its timeout."""
-        return not self.contact.has_expired and now - self.contact.heard_at <= self.timeout() * 1000
 
     def add_listener(self, listener: Listener) -> None:
         self._listeners.append(listener)
@@ -552,128 +443,133 @@ class Engine:
         self._listeners.remove(listener)
 
     @contextlib.contextmanager
-    def news(
-        self,
-        wake: Callable[[], None],
-        path: Optional[str] = None,
-        settled: Callable[[], Optional[Any]] = lambda: None,
-    ) -> Iterator[collections.deque[Any]]:
-        """Within it, `wake` is called at each change of the state, at each report of a path, and at each answer after
-        which something of it is `settled`.
-
-        What it gives holds the last such answer, which was good and whole when it came, until somebody takes it.
-        """
-        key, found = object(), collections.deque[Any](maxlen=1)
-        self._listening.add(path, key, Listening(wake, settled, found))
+    def news(self, wake: Callable[[], None], path: Optional[str] = None) -> Iterator[None]:
+        """Within it, `wake` is called at each change of the state, and at each report of a path."""
+        key = object()
+        self._listening.add(path, key, wake)
         try:
-            yield found
+            yield
         finally:
             self._listening.remove(path, key)
 
-    def _look(self, look: Callable[[Machine], Found]) -> Optional[Found]:
-        """What is found in the machine, once more where that was closed meanwhile; None where the client is closed."""
-        while self._saved_at_close is None:
-            with contextlib.suppress(Closed):
-                return look(self._machine)
-        return None
-
     # Steps.
 
-    def _step(self, now: int, step: Callable[..., list[Output]], *words: Any) -> None:
-        """A step of the machine, with these words."""
+    def _step(self, now: int, step: Callable[..., list[Action]], *words: Any) -> None:
+        """A step of the session, with these words. Raises `NoMemory` and `ValueError` where none was made."""
         if self._saved_at_close is not None:
             return
         self._now = now
         self._written = len(self._frames)
+        session = self._session
         try:
-            self._take(step(self._machine, *words))
-        except Halted:
+            for action in step(session, now, *words):
+                _TAKERS[type(action)](self, action)
+                if self._session is not session:
+                    return  # it is closed, and what else it asks for is not done
+        except NoMemory:
+            raise
+        except MemoryError:  # within the step
             self._resume("the client ran out of memory")
         except KeyboardInterrupt:  # within an event loop of the main thread
             self._resume("the client was interrupted")
             raise
 
-    def _take(self, outputs: list[Output]) -> None:
-        for output in outputs:
-            if isinstance(output, Answer):
-                self._answer(output)
-            elif isinstance(output, Send):
-                self._frames.append(output.frame)
-                if is_ping(output.frame):
-                    self._pinged.append(self._now)
-            elif isinstance(output, Report):
-                self._report(output)
-            elif isinstance(output, Drop):
-                self._give_up(f"{output.fault} {output.words}")
-            else:
-                self._change(output.state)
+    def _take_frame(self, send: Send) -> None:
+        self._frames.append(send.frame)
+        if is_ping(send.frame):
+            self._awaited.ping(self._now)
+
+    def _pong(self, now: int) -> None:
+        asked_at = self._awaited.pong()
+        if asked_at is not None:
+            self.contact.answered(asked_at, now)
+
+    def _take_reason(self, drop: Drop) -> None:
+        self._why = f"{drop.fault} {drop.words}"
+
+    def _take_dial(self, dial: Dial) -> None:
+        self._dial = dial
+        self._is_recast = True
+        self.contact.dials += 1
+
+    def _take_sign(self, sign: Sign) -> None:
+        if sign is Sign.HANG_UP:
+            self._hangs_up, self._dial = True, None
+            self._leave_connection()
+
+    def _bring_again(self, now: int, piece: bytes) -> None:
+        """Hands bytes to the session once more, which had no memory for them."""
+        try:
+            self._step(now, Session.received, piece)
+        except NoMemory:
+            self.drop(now, "there is no memory for what the server has sent")
 
     def _recast(self) -> None:
         """What is due, and when, is another thing than before."""
         self._is_recast = True
         if self._saved_at_close is None:
-            self._granted_ms = self._machine.timeout_ms()
-
-    def _give_up(self, why: str) -> None:
-        self._is_over, self._why = True, why
+            self._granted_ms = self._session.timeout_ms()
 
     def _leave_connection(self) -> None:
         """Forgets what was of one connection."""
+        if self._is_admitted:
+            level = logging.WARNING if self.is_running else logging.INFO
+            where, reason = self.place or "the server", self._why or "it was closed"
+            logger.log(level, "the connection to %s is over: %s", where, reason)
         self._lose_lane("the connection ended before the reply")
         self._why = ""
         self._frames.clear()
-        self._came = Frames()
-        self._pinged.clear()
-        self._opened_at = self._admitted_at = None
+        self._came, self._awaited = Frames(), Awaited()
+        self._is_admitted, self._late = False, 0
         self._is_recast = True
 
-    def _patience_ends(self) -> Optional[int]:
-        """When the server has had its time to accept the session, or to answer the oldest call or ping."""
-        if self._opened_at is not None:
-            return self._opened_at + 2 * self._timeout_ms // 3
-        waiting = [next(iter(self._sent.values())).sent_at] if self._sent else []
-        if self._pinged:
-            waiting.append(self._pinged[0])
-        of_lane = self._lane.oldest() if self._lane else None
-        if of_lane is not None:
-            waiting.append(of_lane)
-        return min(waiting) + 2 * self._granted_ms // 3 if waiting else None
+    def _end_of_waiting(self) -> Optional[int]:
+        """When the server has had its time to accept the session, or to answer the oldest request, whatever else it sends."""
+        return self._awaited.end(self._granted_ms if self._is_admitted else self._timeout_ms)
 
-    def _is_given_up(self, asked: _Asked, now: int) -> bool:
-        return self.state is not State.CONNECTED and asked.until <= now
+    def _is_next(self, asked: Asked) -> bool:
+        """Whether a request is handed over now: of the core where that has few, of the lane where what was asked before is sent."""
+        if isinstance(asked.request, Request):
+            return len(self._sent) < MOST_HANDED
+        return self.state is State.CONNECTED and not self._lane.is_full() and self._are_sent()
+
+    def _are_sent(self) -> bool:
+        """Whether no call of the core can wait for its turn, which it does where 1,024 of it and of its own reads are on their way."""
+        calls = len(self._sent)
+        return not calls or calls + self._late + len(self._subjects) < lane.MOST_PENDING
 
     def _send_line(self, now: int) -> None:
-        """Sends what waits to be sent, as far as the machine takes it, except what nobody waits for any more."""
-        while self._line and self.state is State.CONNECTED:
-            asked = self._line.popleft()
+        """Hands over what waits for that, as far as it can be, except what nobody waits for any more."""
+        waiting = self._line.waiting
+        while waiting and self._is_next(waiting[0]):
+            asked = waiting.popleft()
             if asked.waiter.begin():
-                self._send(asked, now)
-            if self._line and self._line[0] is asked:
-                return
+                self._hand_over(asked, now)
 
-    def _send(self, asked: _Asked, now: int) -> None:
-        """Sends a request. Where that can't be yet, it is the first of the line again."""
+    def _hand_over(self, asked: Asked, now: int) -> None:
         asked.sent_at = now
-        request = asked.request
-        if isinstance(request, LaneRequest):
-            return self._send_in_lane(asked, request)
+        until = asked.ends_at
+        if until is None:
+            until = now + self._timeout_ms if self.state is State.CONNECTED else asked.until
+        if self._due is None or until < self._due:
+            self._is_recast = True
+        if isinstance(asked.request, LaneRequest):
+            self._line.limit(asked, until)
+            return self._send_in_lane(asked, asked.request)
         ticket = next(self._tickets)
-        asked.is_sent = True
+        asked.is_handed = True
         self._sent[ticket] = asked
         try:
-            self._step(now, request.call, now, ticket)
-        except (ValueError, MemoryError) as error:
+            self._step(now, asked.request.call, ticket, until)
+        except (ValueError, NoMemory) as error:
             self._sent.pop(ticket, None)
             asked.fail(error)
 
-    def _send_in_lane(self, asked: _Asked, request: LaneRequest[Any]) -> None:
+    def _send_in_lane(self, asked: Asked, request: LaneRequest[Any]) -> None:
         """Writes a frame of the lane, whole, after those of the core that there are."""
-        if self._lane.is_full():
-            self._line.appendleft(asked)
-            return
         try:
             for path in request.paths:
-                self._machine.peek_data(path)  # a ValueError where it is none
+                self._session.peek_data(path)  # a ValueError where it is none
             self._frames.append(self._lane.frame(request, self._root, asked))
             asked.is_sent = True
         except (ValueError, MemoryError, ZookeeperError) as error:
@@ -686,18 +582,18 @@ class Engine:
             return False
         asked, reply = found
         self._lane_zxid = max(self._lane_zxid, reply.zxid)
-        if reply.code in _ENDING:
-            self._give_up(f"the server answered {reply.code}")
-        else:
-            self.contact.answers += 1
         self.contact.answered(asked.sent_at, now)
+        ends = f"the server answered {reply.code}" if reply.code in _ENDING else ""
+        self.contact.answers += not ends
         try:
             asked.settle(reply.code, reply.body, self._root)
         except Malformed:
-            self._give_up("an answer does not read")
+            ends = "an answer does not read"
             self._count_loss(asked, ConnectionLoss("the answer does not read"))
         if _is_auth(asked):
             self._wake(None)
+        if ends:
+            self.drop(now, ends)
         return True
 
     def _with_zxid_of_lane(self, frame: bytes) -> bytes:
@@ -711,7 +607,8 @@ class Engine:
         frames = []
         for credential in self._credentials:
             request = lane.auth(*credential)
-            asked = _Asked(request, _Introduction(self, credential), self._now, sent_at=self._now, is_sent=True)
+            asked = Asked(request, _Introduction(self, credential), self._now)
+            asked.sent_at, asked.is_sent = self._now, True
             frames.append(self._lane.frame(request, self._root, asked))
         self._frames[self._written : self._written] = frames
 
@@ -725,33 +622,16 @@ class Engine:
         for asked in lost:
             self._count_loss(asked, ConnectionLoss(why))
 
-    def _count_loss(self, asked: _Asked, error: ZookeeperError) -> None:
+    def _count_loss(self, asked: Asked, error: ZookeeperError) -> None:
         self.contact.losses += 1
         asked.fail(error)
-
-    def _end_timed(self, now: int) -> None:
-        """Gives up the calls whose own time is over."""
-        while self._timed and (self._timed[0][0] <= now or self._timed[0][2].waiter.done()):
-            asked = heapq.heappop(self._timed)[2]
-            if not asked.waiter.done():
-                self.contact.losses += 1
-                asked.give_up()
-        if len(self._timed) > 1024 + 2 * (len(self._sent) + len(self._line)):
-            self._timed = [timed for timed in self._timed if not timed[2].waiter.done()]
-            heapq.heapify(self._timed)
 
     def _answer(self, answer: Answer) -> None:
         asked = self._sent.pop(answer.ticket, None)
         if asked is None:
             return
-        if answer.lack in (library.NOT_CONNECTED, library.TOO_MANY_PENDING):
-            self._line.appendleft(asked)
-            return
-        if answer.code in _ENDING:
-            self._give_up(f"the server answered {answer.code}")
-        elif answer.lack == 0:
-            self.contact.answers += 1
         if answer.lack == 0:
+            self.contact.answers += answer.code not in _ENDING
             self.contact.answered(asked.sent_at, self._now)
         else:
             self.contact.losses += 1
@@ -760,16 +640,28 @@ class Engine:
         if request.watcher is not None and request.leaves_watch(answer):
             self._watchers.add(request.watcher)
         asked.settle(answer)
-        if request.node is not None and self._listening.is_there(request.node):
-            self._bring(request.node)
 
-    def _bring(self, path: str) -> None:
-        """Hands an answer to those who follow the node, as long as it is good: the next frame may be a notice."""
-        for listening in self._listening.of(path):
-            settled = listening.settled()
-            if settled is not None:
-                listening.found.append(settled)
-                listening.wake()
+    def _time_out(self, timed_out: TimedOut) -> None:
+        asked = self._sent.pop(timed_out.ticket, None)
+        self._late += timed_out.was_sent
+        if asked is not None:
+            self.contact.losses += 1
+            asked.is_sent = timed_out.was_sent
+            asked.give_up(self.no_server(self._timeout_ms / 1000))
+
+    def _show(self, shown: Shown) -> None:
+        followed = self._subjects.get(shown.ticket)
+        if followed is not None:
+            followed.show()
+
+    def _refuse(self, refused: Refused) -> None:
+        self._is_recast = True
+        followed = self._subjects.get(refused.ticket)
+        if followed is not None:
+            kind = _REFUSALS.get(refused.refusal)
+            error = refusal_of(refused.code) if kind is None else kind()
+            error.path = followed.path
+            followed.refuse(error)
 
     def _report(self, report: Report) -> None:
         event = WatchedEvent(_EVENTS[report.event], self.state, report.path)
@@ -779,59 +671,68 @@ class Engine:
             tree.reported(report.path, report.side)
         self._wake(report.path)
 
-    def _change(self, state: int) -> None:
+    def _change(self, change: StateChange) -> None:
         self._recast()
-        if state == library.CONNECTED:
-            self._opened_at = None
-            self.trouble = ""
-            self._admitted_at = self.contact.heard_at = self._now
-            self.contact.admissions += 1
-            self.contact.has_expired = False
-            logger.info(
-                "connected to %s: session %#x with a timeout of %s seconds",
-                self.place or "a server", self.session_id() & _SESSION, self.timeout(),
-            )  # fmt: skip
-            self._introduce()
-            self._enter(State.CONNECTED)
-        elif state == library.EXPIRED:
-            self._is_over = True
+        if change.state == library.CONNECTED:
+            self._admit()
+        elif change.state == library.EXPIRED:
             self.contact.expiries += 1
-            self.contact.has_expired = True
-            logger.warning("the session %#x has expired: a new one begins", self.session_id() & _SESSION)
-            self._begin_anew(SessionExpiredError())
-        elif state == library.SESSION_CLOSED:
-            logger.info("the session %#x is closed", self.session_id() & _SESSION)
+            logger.warning("the session %#x has expired: a new one begins", self._number)
+            self._forget_callers(SessionExpiredError(), State.LOST)
+        elif change.state == library.SESSION_CLOSED:
+            logger.info("the session %#x is closed", self._number)
             self.is_running = False
-            self._is_over = True
             self._begin_anew(ConnectionClosedError())
         elif self.state is State.CONNECTED:
             self._enter(State.SUSPENDED)
 
+    def _admit(self) -> None:
+        """A server has accepted the session."""
+        self.trouble = ""
+        self._is_admitted = True
+        self.contact.heard_at = self._now
+        self.contact.admissions += 1
+        self._number = self.session_id() & _SESSION
+        logger.info(
+            "connected to %s: session %#x with a timeout of %s seconds",
+            self.place or "a server", self._number, self.timeout(),
+        )  # fmt: skip
+        self._introduce()
+        self._enter(State.CONNECTED)
+
     def _begin_anew(self, error: ZookeeperError) -> None:
-        """Has the machine begin a new session, and leaves all callers of the old one."""
+        """Has a session that is not begun, and takes no server that has seen less than the old one, and leaves all callers of that."""
         if self._saved_at_close is None:
-            self._machine.renew(self._timeout_ms)
-        self._recast()
+            self._replace(_unbegun(self._session.last_zxid()), 0)
+        self._subjects.clear()
         self._forget_callers(error, State.LOST)
+        self._leave_connection()
 
     def _resume(self, why: str) -> None:
-        """Has a machine of the same session, which keeps nothing, where the old one is of no use any more."""
-        old, self._machine = self._machine, Machine(self._timeout_ms, self._machine.saved(), self._root)
+        """Has the same session taken up, which keeps nothing, where the old one is of no use any more."""
+        self._why = why
+        self._replace(self._session.saved(), self._count)
+        self._wishes.extend((self._follow, followed) for followed in self._subjects.values())
+        self._subjects.clear()
+        self._forget_callers(ConnectionLoss(why), State.SUSPENDED)
+        self._leave_connection()
+
+    def _replace(self, saved: bytes, addresses: int) -> None:
+        """Has another session instead of this one. The connection is to be closed."""
+        old, self._session = self._session, self._new_session(saved, addresses)
         old.close()
         self._recast()
-        self._give_up(why)
-        self._forget_callers(ConnectionLoss(why), State.SUSPENDED)
+        self._hangs_up, self._dial = True, None
 
     def _forget_callers(self, error: ZookeeperError, state: State) -> None:
         """Fails all that waits for an answer, ends all watches, and enters a state."""
         self._refuse_handed(error)
         for tree in list(self._trees):
             tree.forget()
-        for asked in [*self._sent.values(), *self._lane.pending(), *self._line]:
+        for asked in [*self._sent.values(), *self._lane.pending(), *self._line.clear()]:
             self._count_loss(asked, type(error)(*error.args))
         self._lane = Lane()
         self._sent.clear()
-        self._line.clear()
         watchers = self._watchers.all()
         self._watchers.clear()
         for watcher in watchers:
@@ -851,8 +752,22 @@ class Engine:
 
     def _wake(self, path: Optional[str]) -> None:
         """Wakes those who wait for news of this path, or all."""
-        for listening in self._listening.all() if path is None else self._listening.of(path):
-            listening.wake()
+        for wake in self._listening.all() if path is None else self._listening.of(path):
+            wake()
+
+
+_TAKERS: dict[type, Callable[[Engine, Any], None]] = {
+    Send: Engine._take_frame,
+    Answer: Engine._answer,
+    Report: Engine._report,
+    StateChange: Engine._change,
+    Drop: Engine._take_reason,
+    Dial: Engine._take_dial,
+    Sign: Engine._take_sign,
+    TimedOut: Engine._time_out,
+    Shown: Engine._show,
+    Refused: Engine._refuse,
+}
 
 
 class _Introduction:

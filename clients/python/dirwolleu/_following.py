@@ -1,4 +1,8 @@
-"""How both clients follow a node or its children: what is told, and what is to be done before the next answer."""
+"""How both clients follow a node or its children: what is told, and what is to be done before the next answer.
+
+`follow` has the core keep its subject good. A watch that is called reads for itself: the core looks at each of its subjects after
+each step, and a program may have watches by the thousand.
+"""
 
 from __future__ import annotations
 
@@ -9,8 +13,10 @@ from contextlib import contextmanager
 from dataclasses import dataclass
 from typing import Any, Callable, Generic, Optional, TypeVar, Union
 
+from dirwolleu import _library as library
 from dirwolleu import _requests as requests
 from dirwolleu._engine import Engine, News
+from dirwolleu._followed import Followed
 from dirwolleu._plans import Plan
 from dirwolleu._retry import is_passing
 from dirwolleu._steps import Call, Steps, Wait
@@ -30,6 +36,7 @@ class Subject(Generic[Told]):
     """What is followed of a path."""
 
     path: str
+    side: int
     settled: Callable[[], Optional[Told]]
     """What is good and whole of it now, or None."""
     fields: Callable[[Told], Any]
@@ -39,13 +46,18 @@ class Subject(Generic[Told]):
 
 def data_of(engine: Engine, path: str) -> Subject[Kept]:
     return Subject(
-        path, lambda: engine.settled(path), lambda kept: (kept.stat, kept.data), lambda: _read(path, requests.get)
+        path,
+        library.DATA_SIDE,
+        lambda: engine.settled(path),
+        lambda kept: (kept.stat, kept.data),
+        lambda: _read(path, requests.get),
     )
 
 
 def children_of(engine: Engine, path: str) -> Subject[KeptChildren]:
     return Subject(
         path,
+        library.CHILDREN_SIDE,
         lambda: engine.settled_children(path),
         lambda kept: (kept.exists, kept.names, kept.pzxid),
         lambda: _read(path, requests.get_children),
@@ -61,45 +73,72 @@ def _read(path: str, read: Callable[[str, bool], Any]) -> Plan[None]:
 
 
 class Follower(Generic[Told]):
-    """One who follows: within it, `next` gives each answer that is to be told.
+    """One who follows: within `listening`, it gives each answer that is to be told. `news` is set at each news of the subject."""
 
-    `news` is set at each news of the path. An answer that was good when it came is told, even where a notice has come
-    since; with `is_strict` one that is good now alone.
-    """
+    def __init__(self, engine: Engine, subject: Subject[Told], news: News) -> None:
+        self._engine, self._subject, self._news = engine, subject, news
+        self._told: Optional[Told] = None
+
+    @contextmanager
+    def listening(self) -> Iterator[Callable[[], Steps[Optional[Told]]]]:
+        """What it gives makes the steps to the next answer: None where the client was stopped.
+
+        An answer that was good when it came is told, even where a notice has come since.
+        """
+        subject, wake = self._subject, self._news.set
+        with self._engine.news(wake), self._engine.following(subject.path, subject.side, subject.settled, wake) as followed:
+            yield lambda: self._next(followed)
+
+    def _next(self, followed: Followed) -> Steps[Optional[Told]]:
+        while self._engine.is_running:
+            self._news.clear()
+            came = followed.found.pop() if followed.found else None
+            kept = self._subject.settled() or came
+            if kept is not None and self._is_another(kept):
+                return kept
+            refused, followed.refused = followed.refused, None
+            if refused is not None and not _is_passing(refused):
+                raise refused
+            yield Wait(None)
+        return None
+
+    def _is_another(self, kept: Told) -> bool:
+        """Takes a good answer, and tells whether it is another one than that which was told last."""
+        told, self._told = self._told, kept
+        return told is None or self._subject.fields(kept) != self._subject.fields(told)
+
+
+def _is_passing(error: BaseException) -> bool:
+    """Whether a later read may bring what one did not. A client that was stopped may have been started again."""
+    return isinstance(error, ZookeeperError) and (is_passing(error) or isinstance(error, ConnectionClosedError))
+
+
+class Watching(Follower[Told]):
+    """One who reads for itself, while it is wanted, and gives what is good now alone."""
 
     def __init__(
-        self,
-        engine: Engine,
-        subject: Subject[Told],
-        news: News,
-        is_strict: bool = False,
-        is_wanted: Callable[[], bool] = lambda: True,
+        self, engine: Engine, subject: Subject[Told], news: News, is_wanted: Callable[[], bool]
     ) -> None:
-        self._engine, self._subject, self._news = engine, subject, news
-        self._is_strict, self._is_wanted = is_strict, is_wanted
-        self._told: Optional[Told] = None
+        super().__init__(engine, subject, news)
+        self._is_wanted = is_wanted
         self._read_at: Optional[float] = None
 
     @contextmanager
     def listening(self) -> Iterator[Callable[[], Steps[Optional[Told]]]]:
         """What it gives makes the steps to the next answer: None where the client was stopped, or none is wanted."""
-        with self._engine.news(self._news.set, self._subject.path, self._subject.settled) as found:
-            yield lambda: self._next(lambda: found.pop() if found and not self._is_strict else None)
+        with self._engine.news(self._news.set, self._subject.path):
+            yield self._next_good
 
-    def _next(self, found: Callable[[], Optional[Told]]) -> Steps[Optional[Told]]:
+    def _next_good(self) -> Steps[Optional[Told]]:
         while self._engine.is_running and self._is_wanted():
             self._news.clear()
-            for kept in (found(), self._subject.settled()):
-                if kept is not None and self._is_another(kept):
+            kept = self._subject.settled()
+            if kept is not None:
+                self._read_at = None
+                if self._is_another(kept):
                     return kept
             yield from self._read_or_wait()
         return None
-
-    def _is_another(self, kept: Told) -> bool:
-        """Takes a good answer, and tells whether it is another one than that which was told last."""
-        self._read_at = None
-        told, self._told = self._told, kept
-        return told is None or self._subject.fields(kept) != self._subject.fields(told)
 
     def _read_or_wait(self) -> Steps[None]:
         """A read where nothing good is kept, though a second after one that brought nothing; else news is waited for."""
@@ -113,10 +152,8 @@ class Follower(Generic[Told]):
         self._read_at = now
         try:
             yield from self._subject.read()
-        except ConnectionClosedError:
-            pass  # it was stopped meanwhile, and may have been started again
         except ZookeeperError as error:
-            if not is_passing(error):
+            if not _is_passing(error):
                 raise
 
 
@@ -129,7 +166,7 @@ def watching(
     engine: Engine, subject: Subject[Told], news: News, call: Callable[[Told], Any], is_wanted: Callable[[], bool]
 ) -> Steps[None]:
     """Calls a function with each good answer, until it answers False. It goes on where the client is started again."""
-    with Follower(engine, subject, news, is_strict=True, is_wanted=is_wanted).listening() as next_one:
+    with Watching(engine, subject, news, is_wanted).listening() as next_one:
         while is_wanted():
             kept = yield from next_one()
             if kept is not None:

@@ -13,6 +13,7 @@ LANE_XID = -1001
 """The first xid of the lane, which counts down from here. The core has -8, -4, -2, -1, and those from 1 on."""
 AUTH_XID = -4
 PING_XID = -2
+NOTICE_XID = -1
 _HEADER = 16
 _PING = PING_XID.to_bytes(4, "big", signed=True)
 _head_in = struct.Struct(">ii").unpack_from
@@ -27,13 +28,20 @@ class Kind(enum.Enum):
     """What a piece of a connection is."""
 
     CORE = enum.auto()
-    """Bytes for the core."""
+    """Bytes for the core, with which no answer is whole: a part of a frame, or a notice."""
+
+    ANSWER = enum.auto()
+    """Bytes for the core, with which an answer is whole."""
 
     PONG = enum.auto()
     """Bytes for the core, with which the answer to a ping is whole."""
 
     LANE = enum.auto()
     """A whole frame whose xid is one of the lane, or that of credentials."""
+
+
+_CORE, _ANSWER, _LANE = Kind.CORE, Kind.ANSWER, Kind.LANE  # a class of an enum takes its time
+_KINDS = {PING_XID: Kind.PONG, NOTICE_XID: _CORE}
 
 
 class Piece(NamedTuple):
@@ -52,7 +60,7 @@ class Frames:
 
     def __init__(self) -> None:
         self._held = b""
-        self._left, self._kind = 0, Kind.CORE
+        self._left, self._kind = 0, _CORE
         self._is_first = True
 
     def cut(self, data: bytes) -> Iterator[Piece]:
@@ -62,9 +70,9 @@ class Frames:
         while begin < end and (self._left or self._knows(data, begin)):
             left = self._left
             if left > end - begin:
-                if self._kind is Kind.LANE:
+                if self._kind is _LANE:
                     break
-                piece = Piece(data[begin:], Kind.CORE)
+                piece = Piece(data[begin:], _CORE)
             else:
                 piece = Piece(data if left == end else data[begin : begin + left], self._kind)
             begin += len(piece.data)
@@ -90,7 +98,7 @@ class Frames:
 
     def _whose(self, length: int, xid: int) -> Kind:
         if self._is_first or not _HEADER <= length <= LONGEST_FRAME:
-            return Kind.PONG if 4 <= length < _HEADER and xid == PING_XID else Kind.CORE
+            return Kind.PONG if 4 <= length < _HEADER and xid == PING_XID else _ANSWER
         if xid <= LANE_XID or xid == AUTH_XID:
-            return Kind.LANE
-        return Kind.PONG if xid == PING_XID else Kind.CORE
+            return _LANE
+        return _KINDS.get(xid, _ANSWER)

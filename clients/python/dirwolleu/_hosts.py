@@ -5,7 +5,7 @@ from __future__ import annotations
 import contextlib
 import ipaddress
 import random
-from typing import TYPE_CHECKING, NamedTuple, Optional
+from typing import TYPE_CHECKING, NamedTuple
 
 from dirwolleu._root import Root
 
@@ -61,18 +61,21 @@ def _server(text: str) -> Server:
 
 
 class _Round:
-    """The servers that are still to be dialled, and the places that were, until each was."""
+    """A list of servers in the order of its places, and the addresses that were dialled, until all of a name were.
+
+    The library tells a place of the list, and goes through all of them in an order of its own. That is left to chance; or the
+    list is in just that order in which the servers are named.
+    """
 
     def __init__(self, servers: tuple[Server, ...], is_by_chance: bool) -> None:
         self._servers, self._is_by_chance = servers, is_by_chance
-        self._left: list[Server] = []
+        self._places: dict[int, Server] = {}
         self._dialled: set[Place] = set()
 
-    def next_server(self) -> Server:
-        if not self._left:
-            count = len(self._servers)
-            self._left = random.sample(self._servers, count) if self._is_by_chance else list(self._servers)
-        return self._left.pop(0)
+    def server_at(self, place: int) -> Server:
+        if self._is_by_chance:
+            return self._servers[place % len(self._servers)]
+        return self._places.setdefault(place, self._servers[len(self._places) % len(self._servers)])
 
     def choose(self, places: list[Place]) -> Place:
         """One of the places of a name: one that was not dialled yet, as long as there is one."""
@@ -86,7 +89,7 @@ class _Round:
 
 
 class Servers:
-    """The servers of a client, one after the other, again and again. Any thread may replace them."""
+    """The servers of a client. Any thread may replace them."""
 
     def __init__(self, hosts: str, is_by_chance: bool = True) -> None:
         self.hosts = hosts_of(hosts)
@@ -99,13 +102,13 @@ class Servers:
         new = hosts_of(hosts)
         if new.root != self.hosts.root:
             raise ValueError(f"the root of a client stays {self.hosts.root.path or '/'}")
-        self.hosts = new
         self._round = _Round(new.servers, self._is_by_chance)
+        self.hosts = new
 
-    async def next(self) -> Place:
-        """The next place to dial. A name is looked up each time. Raises `OSError` where it is not found."""
+    async def at(self, place: int) -> Place:
+        """An address of the server at a place of the list. A name is looked up each time. Raises `OSError` where it is not found."""
         current = self._round
-        host, port = current.next_server()
+        host, port = current.server_at(place)
         return current.choose([Place(host, address, port) for address in await self._look_up(host, port)])
 
     async def _look_up(self, host: str, port: int) -> list[str]:

@@ -12,7 +12,7 @@ import itertools
 import struct
 from collections.abc import Sequence
 from dataclasses import dataclass
-from typing import Any, Callable, Generic, NamedTuple, Optional, Protocol, TypeVar
+from typing import Any, Callable, Generic, NamedTuple, Optional, TypeVar
 
 from dirwolleu import _jute as jute
 from dirwolleu._frames import AUTH_XID, LANE_XID
@@ -82,13 +82,8 @@ class LaneRequest(Generic[Result]):
         return self.read(Reader(body), root)
 
 
-class Waiting(Protocol):
-    """One who has asked."""
-
-    sent_at: int
-
-
-Asker = TypeVar("Asker", bound=Waiting)
+Asker = TypeVar("Asker")
+"""One who has asked."""
 
 
 class Reply(NamedTuple):
@@ -133,11 +128,6 @@ class Lane(Generic[Asker]):
     def pending(self) -> list[Asker]:
         """Those that wait for an answer: those with credentials first, and else in the order in which they asked."""
         return [asker for _, asker in [*self._introduced, *self._waiting]]
-
-    def oldest(self) -> Optional[int]:
-        """When the request was sent that waits longest."""
-        heads = [waiting[0][1].sent_at for waiting in (self._introduced, self._waiting) if waiting]
-        return min(heads, default=None)
 
     def introduces(self) -> bool:
         """Whether credentials wait for their answer."""

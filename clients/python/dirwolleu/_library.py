@@ -1,7 +1,7 @@
-"""The shared library by ctypes, and `Machine`, which hides its pointers.
+"""The shared library by ctypes, and what `Machine` and `Session`, which hide its pointers, have in common.
 
-A machine opens no socket and reads no clock. Each step is told the moment, in milliseconds of a clock that does not go
-back, and answers what comes out of it. One thread makes all steps of a machine; any thread may look up what it keeps.
+Neither opens a socket or reads a clock. Each step is told the moment, in milliseconds of a clock that does not go
+back, and answers what comes out of it. One thread makes all steps; any thread may look up what is kept.
 No call lets another thread run before it has returned, since the interpreter's lock is held: so calls do not overlap,
 and no thread that is interrupted keeps a lock.
 """
@@ -16,11 +16,12 @@ import pathlib
 import platform
 import struct
 import sys
+import types
 from collections.abc import Collection, Sequence
 from ctypes import POINTER, Structure, byref, string_at
 from ctypes import c_bool, c_char, c_char_p, c_int32, c_int64, c_size_t, c_uint32, c_uint64, c_void_p
 from operator import itemgetter
-from typing import Any, Callable, Iterable, Iterator, NamedTuple, Optional, TypeVar, Union
+from typing import Any, Callable, Generic, Iterable, Iterator, NamedTuple, Optional, TypeVar, Union
 
 from dirwolleu._paths import no_path
 from dirwolleu._process import this_process
@@ -242,6 +243,71 @@ _FUNCTIONS: dict[str, tuple[Any, tuple[Any, ...]]] = {
     ),
     "dw_holder": (c_int32, (_HANDLE, c_char_p, c_size_t, c_char_p, c_size_t, c_char_p, c_size_t, POINTER(c_int64))),
     "dw_forget": (c_int32, (_HANDLE,)),
+    "dw_session_open": (c_int32, (_HANDLE, c_int32, c_size_t, c_uint64)),
+    "dw_session_resume": (c_int32, (_HANDLE, c_int32, c_size_t, c_uint64, c_char_p, c_size_t)),
+    "dw_session_free": (None, (_HANDLE,)),
+    "dw_session_opened": (c_int32, (_HANDLE, c_uint64)),
+    "dw_session_failed": (c_int32, (_HANDLE, c_uint64)),
+    "dw_session_bytes": (c_int32, (_HANDLE, c_uint64, c_char_p, c_size_t)),
+    "dw_session_cut": (c_int32, (_HANDLE, c_uint64)),
+    "dw_session_moment": (c_int32, (_HANDLE, c_uint64)),
+    "dw_session_addresses": (c_int32, (_HANDLE, c_uint64, c_size_t)),
+    "dw_session_exists": (c_int32, (_HANDLE, c_uint64, c_uint64, c_uint64, c_char_p, c_size_t, c_bool)),
+    "dw_session_get_data": (c_int32, (_HANDLE, c_uint64, c_uint64, c_uint64, c_char_p, c_size_t, c_bool)),
+    "dw_session_get_children": (c_int32, (_HANDLE, c_uint64, c_uint64, c_uint64, c_char_p, c_size_t, c_bool)),
+    "dw_session_set_data": (
+        c_int32,
+        (_HANDLE, c_uint64, c_uint64, c_uint64, c_char_p, c_size_t, c_char_p, c_size_t, c_bool, c_int32),
+    ),
+    "dw_session_create": (
+        c_int32,
+        (_HANDLE, c_uint64, c_uint64, c_uint64, c_char_p, c_size_t, c_char_p, c_size_t, c_bool, c_uint32),
+    ),
+    "dw_session_delete": (c_int32, (_HANDLE, c_uint64, c_uint64, c_uint64, c_char_p, c_size_t, c_int32)),
+    "dw_session_close": (c_int32, (_HANDLE, c_uint64, c_uint64, c_uint64)),
+    "dw_session_follow_data": (c_int32, (_HANDLE, c_uint64, c_uint64, c_char_p, c_size_t)),
+    "dw_session_follow_names": (c_int32, (_HANDLE, c_uint64, c_uint64, c_char_p, c_size_t)),
+    "dw_session_unfollow": (c_int32, (_HANDLE, c_uint64, c_uint64)),
+    "dw_session_next": (c_int32, (_HANDLE, POINTER(_Output))),
+    "dw_session_copy": (c_size_t, (_HANDLE, c_size_t, POINTER(c_char), c_size_t)),
+    "dw_session_name": (c_size_t, (_HANDLE, c_size_t, POINTER(c_char), c_size_t)),
+    "dw_session_names": (c_int32, (_HANDLE, POINTER(c_char), c_size_t, POINTER(c_size_t))),
+    "dw_session_words": (c_int32, (_HANDLE, POINTER(c_char), c_size_t, POINTER(c_size_t))),
+    "dw_session_state": (c_int32, (_HANDLE,)),
+    "dw_session_revision": (c_uint64, (_HANDLE,)),
+    "dw_session_last_zxid": (c_int64, (_HANDLE,)),
+    "dw_session_timeout_ms": (c_int64, (_HANDLE,)),
+    "dw_session_deadline": (c_int32, (_HANDLE, POINTER(c_uint64))),
+    "dw_session_heard_at": (c_int32, (_HANDLE, POINTER(c_uint64))),
+    "dw_session_saved": (c_int32, (_HANDLE, POINTER(c_char), c_size_t, POINTER(c_size_t))),
+    "dw_session_peek_data": (c_int32, (_HANDLE, c_char_p, c_size_t, POINTER(_KeptData), POINTER(c_char), c_size_t)),
+    "dw_session_peek_children": (c_int32, (_HANDLE, c_char_p, c_size_t, POINTER(_KeptNames))),
+    "dw_session_peek_name": (
+        c_int32,
+        (_HANDLE, c_char_p, c_size_t, c_size_t, POINTER(c_char), c_size_t, POINTER(c_size_t)),
+    ),
+    "dw_session_peek_names": (c_int32, (_HANDLE, c_char_p, c_size_t, POINTER(c_char), c_size_t, POINTER(c_size_t))),
+    "dw_session_subtree": (
+        c_int32,
+        (_HANDLE, c_char_p, c_size_t, c_size_t, POINTER(c_char), c_size_t, POINTER(c_size_t)),
+    ),
+    "dw_session_lacking": (
+        c_int32,
+        (_HANDLE, c_char_p, c_size_t, c_size_t, POINTER(c_char), c_size_t, POINTER(c_size_t)),
+    ),
+    "dw_session_snapshot": (
+        c_int32,
+        (_HANDLE, c_char_p, c_size_t, c_char_p, c_size_t, POINTER(c_char), c_size_t, POINTER(c_size_t)),
+    ),
+    "dw_session_standing": (
+        c_int32,
+        (_HANDLE, c_char_p, c_size_t, c_char_p, c_size_t, c_char_p, c_size_t, c_int64, c_char_p, c_size_t, POINTER(c_int64), POINTER(c_char), c_size_t, POINTER(c_size_t)),
+    ),
+    "dw_session_holder": (
+        c_int32,
+        (_HANDLE, c_char_p, c_size_t, c_char_p, c_size_t, c_char_p, c_size_t, POINTER(c_int64)),
+    ),
+    "dw_session_forget": (c_int32, (_HANDLE,)),
 }
 
 _RESULT_WORDS = {
@@ -430,6 +496,10 @@ class Halted(MemoryError):
     """The machine ran out of memory within a step. It has no use from then on, but its session can still be taken."""
 
 
+class NoMemory(MemoryError):
+    """There was no memory for what was handed in. Nothing has happened: it can be handed in again."""
+
+
 class Closed(RuntimeError):
     """The machine is closed."""
 
@@ -438,21 +508,21 @@ class UnknownNumber(RuntimeError):
     """The library gives a number that this package does not know: it is of another version."""
 
 
-def _known(what: str, number: int, known: Collection[int]) -> int:
+def known(what: str, number: int, among: Collection[int]) -> int:
     """The number, where it is one of those that there are."""
-    if number not in known:
+    if number not in among:
         raise UnknownNumber(f"the library gives the {what} {number}, which this package does not know: take both of one version")
     return number
 
 
-def _checked(code: int) -> None:
+def checked(code: int) -> None:
     """Raises what a code below 0 says."""
     if code >= OK:
         return
-    words = _RESULT_WORDS[_known("result", code, _RESULT_WORDS)]
+    words = _RESULT_WORDS[known("result", code, _RESULT_WORDS)]
     raise {
         HALTED: Halted,
-        NO_MEMORY: MemoryError,
+        NO_MEMORY: NoMemory,
         CLOSED: Closed,
         NOT_WHOLE: NotWhole,
         TOO_MANY: TooManyNodes,
@@ -497,7 +567,7 @@ def _nodes_shown(spelled: bytes, count: int) -> tuple[list[KeptData], int]:
     nodes, at = [], 0
     for _ in range(count):
         _path, at = _buffer_at(spelled, at)
-        kind = _known("kind of what is kept", int.from_bytes(spelled[at : at + 4], "big"), (ABSENT, KNOWN, FULL))
+        kind = known("kind of what is kept", int.from_bytes(spelled[at : at + 4], "big"), (ABSENT, KNOWN, FULL))
         data, at = _buffer_at(spelled, at + 4)
         stat = DataStat._make(_FIELDS_OF_A_SHOWN_NODE.unpack_from(spelled, at))
         at += _FIELDS_OF_A_SHOWN_NODE.size
@@ -522,7 +592,7 @@ def _lacking_in(spelled: bytes, root: Root) -> Iterator[Lacking]:
         path, at = _buffer_at(spelled, at)
         side = int.from_bytes(spelled[at : at + 4], "big")
         at += 4
-        yield Lacking(root.read(path or b""), _known("side", side, (DATA_SIDE, CHILDREN_SIDE)))
+        yield Lacking(root.read(path or b""), known("side", side, (DATA_SIDE, CHILDREN_SIDE)))
 
 
 def _joined(texts: Iterable[bytes]) -> bytes:
@@ -539,26 +609,28 @@ class _Room:
     """Where the library writes bytes. It grows."""
 
     def __init__(self) -> None:
-        self.bytes = ctypes.create_string_buffer(4096)
-        self._view = memoryview(self.bytes)
+        self.size = 4096
+        self.bytes = ctypes.create_string_buffer(self.size)
+        self.view = memoryview(self.bytes)
 
     def widen(self, length: int) -> bool:
         """Makes room for this many bytes. Answers whether there was too little."""
-        is_short = length > len(self.bytes)
+        is_short = length > self.size
         if is_short:
+            self.size = length
             self.bytes = ctypes.create_string_buffer(length)
-            self._view = memoryview(self.bytes)
+            self.view = memoryview(self.bytes)
         return is_short
 
     def first(self, length: int) -> bytes:
         """The first bytes of it, which are there."""
-        return self._view[:length].tobytes()
+        return self.view[:length].tobytes()
 
     def filled(self, call: Callable[..., int]) -> bytes:
         """What a call writes into the room, of which it is told how much there is, and counts."""
         count, is_whole = c_size_t(), False
         while not is_whole:
-            _checked(call(self.bytes, len(self.bytes), byref(count)))
+            checked(call(self.bytes, len(self.bytes), byref(count)))
             is_whole = not self.widen(count.value)
         return self.first(count.value)
 
@@ -601,6 +673,7 @@ Record = TypeVar("Record", Stat, DataStat)
 
 _fields_of_output, _fields_of_kept_data = _fields_of(_Output), _fields_of(_KeptData)
 _HEAD_OF_OUTPUT, _HEAD_OF_KEPT_DATA = len(_Output._fields_) - 1, len(_KeptData._fields_) - 1  # the last field is the Stat
+_LENGTH_OF_OUTPUT = [name for name, _ in _Output._fields_].index("length")
 _stat_in, _data_stat_in = _record_of(_Stat, Stat, _HEAD_OF_OUTPUT), _record_of(_DataStat, DataStat, _HEAD_OF_KEPT_DATA)
 _KINDS_OF_KEPT, _MARKS, _EVENTS, _SIDES = (
     frozenset((NOTHING, ABSENT, KNOWN, FULL)),
@@ -615,88 +688,43 @@ _STATES, _OUTCOMES, _RESULTS = (
 )
 
 
-class Machine:
-    """One session, as a machine. It holds memory of the library's until `close`.
+def functions(prefix: str) -> types.SimpleNamespace:
+    """The functions of the library whose names begin so, without that."""
+    names = [name for name in _FUNCTIONS if name.startswith(prefix)]
+    return types.SimpleNamespace(**{name[len(prefix) :]: getattr(_library, name) for name in names})
+
+
+Said = TypeVar("Said")
+
+
+class LookUps(Generic[Said]):
+    """What a machine and a session have in common: what is kept is looked up, and what a step has said is read.
 
     All paths that go in and come out are below the root, which is put before them and taken off.
     """
 
-    def __init__(self, timeout_ms: int, saved: Optional[bytes] = None, root: Root = Root()) -> None:
+    _calls: types.SimpleNamespace
+
+    def __init__(self, root: Root) -> None:
         self._handle, self._output, self._room = _Handle(), _Output(), _Room()
         self._process = this_process()
         self._root = root
-        if saved is None:
-            _checked(_library.dw_open(self._handle, timeout_ms))
-        else:
-            _checked(_library.dw_resume(self._handle, timeout_ms, saved, len(saved)))
 
     def close(self) -> None:
         """Frees what it holds. It ends no session. In a forked child it does nothing."""
         if this_process() == self._process:
-            _library.dw_close(self._handle)
+            self._free()
+
+    def _free(self) -> None:
+        raise NotImplementedError
 
     def __del__(self) -> None:
         self.close()
 
-    def renew(self, timeout_ms: int) -> None:
-        """Begins a new session, which takes no server that is behind what the old one has seen. Nothing else is kept."""
-        _checked(_library.dw_renew(self._handle, timeout_ms))
-
-    # Steps.
-
-    def opened(self, now: int) -> list[Output]:
-        return self._outputs(_library.dw_opened(self._handle, now))
-
-    def cut(self, now: int) -> list[Output]:
-        return self._outputs(_library.dw_cut(self._handle, now))
-
-    def tick(self, now: int) -> list[Output]:
-        return self._outputs(_library.dw_tick(self._handle, now))
-
-    def received(self, now: int, data: bytes) -> list[Output]:
-        return self._outputs(_library.dw_bytes(self._handle, now, data, len(data)))
-
-    def exists(self, now: int, ticket: int, path: str, watch: bool) -> list[Output]:
-        spelled = self._root.spell(path)
-        return self._outputs(_library.dw_exists(self._handle, now, ticket, spelled, len(spelled), watch), path)
-
-    def get_data(self, now: int, ticket: int, path: str, watch: bool) -> list[Output]:
-        spelled = self._root.spell(path)
-        return self._outputs(_library.dw_get_data(self._handle, now, ticket, spelled, len(spelled), watch), path)
-
-    def get_children(self, now: int, ticket: int, path: str, watch: bool) -> list[Output]:
-        spelled = self._root.spell(path)
-        return self._outputs(_library.dw_get_children(self._handle, now, ticket, spelled, len(spelled), watch), path)
-
-    def set_data(self, now: int, ticket: int, path: str, data: Optional[bytes], version: int) -> list[Output]:
-        spelled, given = self._root.spell(path), data or b""
-        return self._outputs(
-            _library.dw_set_data(
-                self._handle, now, ticket, spelled, len(spelled), given, len(given), data is None, version
-            ),
-            path,
-        )
-
-    def create(self, now: int, ticket: int, path: str, data: Optional[bytes], mode: int) -> list[Output]:
-        if mode & SEQUENTIAL and path == "/" and self._root.path:
-            raise ValueError("the digits would be part of the root's own name")
-        spelled, given = self._root.spell(path), data or b""
-        return self._outputs(
-            _library.dw_create(self._handle, now, ticket, spelled, len(spelled), given, len(given), data is None, mode),
-            path,
-        )
-
-    def delete(self, now: int, ticket: int, path: str, version: int) -> list[Output]:
-        spelled = self._root.spell(path)
-        return self._outputs(_library.dw_delete(self._handle, now, ticket, spelled, len(spelled), version), path)
-
-    def close_session(self, now: int, ticket: int) -> list[Output]:
-        return self._outputs(_library.dw_close_session(self._handle, now, ticket))
-
     # Look-ups.
 
     def state(self) -> int:
-        return int(_library.dw_state(self._handle))
+        return int(self._calls.state(self._handle))
 
     def revision(self) -> int:
         """A number from 1 on that rises where what is kept and good may have changed, or the state, or the session; 0 once closed.
@@ -707,23 +735,23 @@ class Machine:
         return int(_library.dw_revision(self._handle))
 
     def last_zxid(self) -> int:
-        return self._number(_library.dw_last_zxid(self._handle))
+        return self._number(self._calls.last_zxid(self._handle))
 
     def timeout_ms(self) -> int:
-        return self._number(_library.dw_timeout_ms(self._handle))
+        return self._number(self._calls.timeout_ms(self._handle))
 
     def deadline(self) -> Optional[int]:
         """The first moment at which something is due, if anything ever is."""
         first = c_uint64()
-        code = _library.dw_deadline(self._handle, first)
+        code = self._calls.deadline(self._handle, first)
         if code == OK:
             return first.value
-        _checked(code)
+        checked(code)
         return None
 
     def saved(self) -> bytes:
         """What takes the session up again."""
-        return _Room().filled(lambda *room: _library.dw_saved(self._handle, *room))
+        return _Room().filled(lambda *room: self._calls.saved(self._handle, *room))
 
     def peek_data(self, path: str) -> tuple[KeptData, int]:
         """What is kept of the data of a path, and the last zxid at that moment."""
@@ -740,13 +768,13 @@ class Machine:
         """All nodes at and below a path, each after its parent, and the last zxid at that moment: these are all that the
         servers had there at that zxid. None where some of it is not kept good: read what is lacking. `TooManyNodes` where
         more than this many are reached."""
-        spelled, last_zxid = _steady(lambda: self._collected(_library.dw_subtree, path, most), self.last_zxid)
+        spelled, last_zxid = _steady(lambda: self._collected(self._calls.subtree, path, most), self.last_zxid)
         return None if spelled is None else list(_nodes_in(spelled, self._root)), last_zxid
 
     def lacking(self, path: str, most: int) -> list[Lacking]:
         """The reads, with a watch, that are lacking before there is a subtree: none exactly where there is one. `NotWhole`
         where a name makes no path, so that no read helps."""
-        spelled = self._collected(_library.dw_lacking, path, most)
+        spelled = self._collected(self._calls.lacking, path, most)
         if spelled is None:
             raise NotWhole(f"a name below {path} makes no path")
         return list(_lacking_in(spelled, self._root))
@@ -764,7 +792,7 @@ class Machine:
         first, second = (_joined(map(self._root.spell, paths)) for paths in (nodes, parents))
 
         def copy(*room: Any) -> int:
-            code = _library.dw_snapshot(self._handle, first, len(first), second, len(second), *room)
+            code = self._calls.snapshot(self._handle, first, len(first), second, len(second), *room)
             return self._checked_among(code, nodes, parents)
 
         try:
@@ -785,7 +813,7 @@ class Machine:
         is_whole = False
         while not is_whole:
             given = room.bytes, len(room.bytes)
-            code = _library.dw_standing(self._handle, *contender, byref(token), *given, byref(count))
+            code = self._calls.standing(self._handle, *contender, byref(token), *given, byref(count))
             self._check(code, directory)
             is_whole = not room.widen(count.value)
         rival = string_at(room.bytes, count.value).decode() if code == WAITS else None
@@ -797,38 +825,34 @@ class Machine:
         this session's. None where that is not shown."""
         spelled, begin, own, token = self._root.spell(directory), prefix.encode(), self._root.spell(path), c_int64()
         place = spelled, len(spelled), begin, len(begin), own, len(own)
-        code = _library.dw_holder(self._handle, *place, byref(token))
+        code = self._calls.holder(self._handle, *place, byref(token))
         self._checked_among(code, (directory, path))
         return token.value if code == OK else None
 
-    def forget(self) -> None:
-        """Forgets all stale answers."""
-        _checked(_library.dw_forget(self._handle))
-
     def _number(self, answered: int) -> int:
-        _checked(answered)
+        checked(answered)
         return int(answered)
 
     def _data_kept(self, path: str) -> KeptData:
         told, room, is_whole, spelled = _KeptData(), _Room(), False, self._root.spell(path)
         while not is_whole:
-            self._check(_library.dw_peek_data(self._handle, spelled, len(spelled), told, room.bytes, len(room.bytes)), path)
+            self._check(self._calls.peek_data(self._handle, spelled, len(spelled), told, room.bytes, len(room.bytes)), path)
             fields = _fields_of_kept_data(told)
             kind, mark, length, is_null = fields[:_HEAD_OF_KEPT_DATA]
             is_whole = not room.widen(length)
-        _known("kind of what is kept", kind, _KINDS_OF_KEPT)
-        _known("mark", mark, _MARKS)
+        known("kind of what is kept", kind, _KINDS_OF_KEPT)
+        known("mark", mark, _MARKS)
         stat = _data_stat_in(fields) if kind in (KNOWN, FULL) else None
         return KeptData(kind, mark, stat, room.first(length) if kind == FULL and not is_null else None)
 
     def _side_kept(self, path: str) -> tuple[int, int]:
         kept, spelled = _KeptNames(), self._root.spell(path)
-        self._check(_library.dw_peek_children(self._handle, spelled, len(spelled), byref(kept)), path)
-        return _known("mark", kept.mark, _MARKS), kept.pzxid
+        self._check(self._calls.peek_children(self._handle, spelled, len(spelled), byref(kept)), path)
+        return known("mark", kept.mark, _MARKS), kept.pzxid
 
     def _names_kept(self, path: str) -> tuple[str, ...]:
         spelled = self._root.spell(path)
-        names = _Room().filled(lambda *room: _library.dw_peek_names(self._handle, spelled, len(spelled), *room))
+        names = _Room().filled(lambda *room: self._calls.peek_names(self._handle, spelled, len(spelled), *room))
         return tuple(_texts_in(names))
 
     def _collected(self, collect: Callable[..., int], path: str, most: int) -> Optional[bytes]:
@@ -848,7 +872,7 @@ class Machine:
         if code == NOT_PATH:
             for path in itertools.chain(*paths):
                 self._side_kept(path)
-        _checked(code)
+        checked(code)
         return code
 
     # What a step tells.
@@ -858,37 +882,44 @@ class Machine:
         if code < OK:
             if code == NOT_PATH:
                 raise no_path(path, self._root.full(path))
-            _checked(code)
+            checked(code)
 
-    def _outputs(self, code: int, path: str = "") -> list[Output]:
+    def _outputs(self, code: int, path: str = "") -> list[Said]:
         if code < OK:
             self._check(code, path)
-        outputs: list[Output] = []
-        handle, output, take, read = self._handle, self._output, _library.dw_next, self._read
+        outputs: list[Any] = []
+        handle, output, take = self._handle, self._output, self._calls.next
         while take(handle, output) == OK:
-            outputs.append(read(output))
+            fields = _fields_of_output(output)
+            kind = fields[0]
+            if kind == SEND:
+                outputs.append(Send(self._text(fields[_LENGTH_OF_OUTPUT])))
+            elif kind == ANSWER:
+                outputs.append(self._answer(fields))
+            else:
+                outputs.append(self._read(fields))
         return outputs
 
-    def _read(self, output: _Output) -> Output:
-        fields = _fields_of_output(output)
+    def _read(self, fields: tuple[Any, ...]) -> Said:
+        """What the library says, by the fields of an output that is neither a frame nor an answer."""
+        raise NotImplementedError
+
+    def _output_of(self, fields: tuple[Any, ...]) -> Output:
+        """The same of what clients say too."""
         kind, detail, result, _, _, _, length, _, _, _ = fields[:_HEAD_OF_OUTPUT]
-        if kind == SEND:
-            return Send(self._text(length))
-        if kind == ANSWER:
-            return self._answer(fields)
         if kind == REPORT:
-            event, side = _known("event", detail, _EVENTS), _known("side", result, _SIDES)
+            event, side = known("event", detail, _EVENTS), known("side", result, _SIDES)
             return Report(event, side, self._root.read(self._text(length)))
         if kind == STATE:
-            return StateChange(_known("state", detail, _STATES))
-        _known("output", kind, (DROP,))
+            return StateChange(known("state", detail, _STATES))
+        known("output", kind, (DROP,))
         return Drop(self._text(length).decode(), self._words())
 
     def _answer(self, fields: tuple[Any, ...]) -> Answer:
         _, lack, result, code, ticket, zxid, length, names, is_null, has_stat = fields[:_HEAD_OF_OUTPUT]
-        _known("outcome", lack, _OUTCOMES)
+        known("outcome", lack, _OUTCOMES)
         if lack == REPLIED:
-            _known("result of a reply", result, _RESULTS)
+            known("result of a reply", result, _RESULTS)
         else:
             zxid = 0
         text = self._text(length) if result == DATA and not is_null or result == CREATED else None
@@ -899,12 +930,13 @@ class Machine:
 
     def _text(self, length: int) -> bytes:
         room = self._room
-        room.widen(length)
-        _library.dw_copy(self._handle, 0, room.bytes, length)
-        return room.first(length)
+        if length > room.size:
+            room.widen(length)
+        self._calls.copy(self._handle, 0, room.bytes, length)
+        return room.view[:length].tobytes()
 
     def _names(self) -> bytes:
-        return self._room.filled(lambda *room: _library.dw_names(self._handle, *room))
+        return self._room.filled(lambda *room: self._calls.names(self._handle, *room))
 
     def _words(self) -> str:
-        return self._room.filled(lambda *room: _library.dw_words(self._handle, *room)).decode(errors="replace")
+        return self._room.filled(lambda *room: self._calls.words(self._handle, *room)).decode(errors="replace")

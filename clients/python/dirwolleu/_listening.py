@@ -2,18 +2,10 @@
 
 from __future__ import annotations
 
-import collections
 from collections.abc import Iterator
-from typing import Any, Callable, NamedTuple, Optional
+from typing import Callable, Optional
 
-
-class Listening(NamedTuple):
-    """What is woken, and the last answer that was good when it came, until somebody takes it."""
-
-    wake: Callable[[], None]
-    settled: Callable[[], Any]
-    """What is good and whole of the path now, or None."""
-    found: collections.deque[Any]
+Wake = Callable[[], None]
 
 
 class Listeners:
@@ -22,30 +14,26 @@ class Listeners:
     """
 
     def __init__(self) -> None:
-        self._by_path: dict[Optional[str], dict[object, Listening]] = {}
+        self._by_path: dict[Optional[str], dict[object, Wake]] = {}
 
-    def add(self, path: Optional[str], key: object, listening: Listening) -> None:
+    def add(self, path: Optional[str], key: object, wake: Wake) -> None:
         is_there = False
         while not is_there:  # another thread may just have taken the last one away, with all of the path
             of_path = self._by_path.setdefault(path, {})
-            of_path[key] = listening
+            of_path[key] = wake
             is_there = self._by_path.get(path) is of_path
 
     def remove(self, path: Optional[str], key: object) -> None:
         self._by_path.get(path, {}).pop(key, None)
         if self._by_path.get(path, {"": ""}):
             return
-        for one, listening in list(self._by_path.pop(path, {}).items()):  # who came meanwhile
-            self.add(path, one, listening)
-            listening.wake()
+        for one, wake in list(self._by_path.pop(path, {}).items()):  # who came meanwhile
+            self.add(path, one, wake)
+            wake()
 
-    def is_there(self, path: str) -> bool:
-        """Whether anybody listens to this path."""
-        return path in self._by_path
-
-    def of(self, path: str) -> list[Listening]:
+    def of(self, path: str) -> list[Wake]:
         return list(self._by_path.get(path, {}).values())
 
-    def all(self) -> Iterator[Listening]:
+    def all(self) -> Iterator[Wake]:
         for of_path in list(self._by_path.values()):
             yield from list(of_path.values())

@@ -6,8 +6,9 @@ from dataclasses import dataclass
 from typing import Any, Callable, Generic, NamedTuple, Optional, TypeVar
 
 from dirwolleu import _library as library
-from dirwolleu._library import Answer, Listing, Machine, Output
+from dirwolleu._library import Answer, Listing
 from dirwolleu._paths import parent
+from dirwolleu._session import Action, Session
 from dirwolleu.exceptions import (
     ConnectionClosedError,
     ConnectionLoss,
@@ -54,9 +55,9 @@ class Watcher(NamedTuple):
 
 @dataclass(eq=False)
 class Request(Generic[Result]):
-    """A call of a machine, at a moment and with a ticket, whose answer brings a result of this type. It never changes."""
+    """A call of a session, at a moment, with a ticket and a limit, whose answer brings a result of this type. It never changes."""
 
-    call: Callable[[Machine, int, int], list[Output]]
+    call: Callable[[Session, int, int, int], list[Action]]
     path: Optional[str] = None
     """The path of the node that it is about."""
     is_repeatable: bool = False
@@ -64,8 +65,6 @@ class Request(Generic[Result]):
     is_exists: bool = False
     is_create: bool = False
     watcher: Optional[Watcher] = None
-    node: Optional[str] = None
-    """The path of the node that the answer tells of."""
 
     def leaves_watch(self, answer: Answer) -> bool:
         """Whether a watch that was asked for is left: where there is no node, `exists` alone leaves one."""
@@ -99,32 +98,29 @@ def _data(value: Optional[bytes]) -> Optional[bytes]:
 
 def exists(path: str, watch: Watch) -> Request[Optional[Stat]]:
     return Request(
-        lambda machine, now, ticket: machine.exists(now, ticket, path, bool(watch)),
+        lambda session, now, ticket, until: session.exists(now, ticket, until, path, bool(watch)),
         path,
         is_repeatable=True,
         is_exists=True,
         watcher=_watcher(path, library.DATA_SIDE, watch),
-        node=path,
     )
 
 
 def get(path: str, watch: Watch) -> Request[tuple[Optional[bytes], Stat]]:
     return Request(
-        lambda machine, now, ticket: machine.get_data(now, ticket, path, bool(watch)),
+        lambda session, now, ticket, until: session.get_data(now, ticket, until, path, bool(watch)),
         path,
         is_repeatable=True,
         watcher=_watcher(path, library.DATA_SIDE, watch),
-        node=path,
     )
 
 
 def get_children(path: str, watch: Watch) -> Request[list[str]]:
     return Request(
-        lambda machine, now, ticket: machine.get_children(now, ticket, path, bool(watch)),
+        lambda session, now, ticket, until: session.get_children(now, ticket, until, path, bool(watch)),
         path,
         is_repeatable=True,
         watcher=_watcher(path, library.CHILDREN_SIDE, watch),
-        node=path,
     )
 
 
@@ -138,27 +134,26 @@ class _Listing(Request[Listing]):
 def listing(path: str) -> Request[Listing]:
     """The names of a node's children as the core takes them, which decides by them who stands first. It leaves no watch."""
     return _Listing(
-        lambda machine, now, ticket: machine.get_children(now, ticket, path, False),
+        lambda session, now, ticket, until: session.get_children(now, ticket, until, path, False),
         path,
         is_repeatable=True,
-        node=path,
     )
 
 
 def set(path: str, value: Optional[bytes], version: int) -> Request[Stat]:
     data = _data(value)
-    return Request(lambda machine, now, ticket: machine.set_data(now, ticket, path, data, version), path)
+    return Request(lambda session, now, ticket, until: session.set_data(now, ticket, until, path, data, version), path)
 
 
 def create(path: str, value: Optional[bytes], ephemeral: bool, sequence: bool) -> Request[str]:
     data = _data(value)
     mode = (library.EPHEMERAL if ephemeral else 0) | (library.SEQUENTIAL if sequence else 0)
-    return Request(lambda machine, now, ticket: machine.create(now, ticket, path, data, mode), path, is_create=True)
+    return Request(lambda session, now, ticket, until: session.create(now, ticket, until, path, data, mode), path, is_create=True)
 
 
 def delete(path: str, version: int) -> Request[None]:
-    return Request(lambda machine, now, ticket: machine.delete(now, ticket, path, version), path)
+    return Request(lambda session, now, ticket, until: session.delete(now, ticket, until, path, version), path)
 
 
 def close_session() -> Request[None]:
-    return Request(lambda machine, now, ticket: machine.close_session(now, ticket))
+    return Request(lambda session, now, ticket, until: session.close_session(now, ticket, until))

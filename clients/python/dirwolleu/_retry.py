@@ -33,7 +33,7 @@ class Retry:
 
     A call is asked again where its connection or its session went, or the server was busy, and only where that can't
     do a change twice: what reads, what was surely not sent, and what is the same when it is done twice, such as
-    `ensure_path`. A write whose connection ended before its answer is not asked again: `ConnectionLoss` is raised, with
+    `ensure_path`. A read whose connection was lost is asked again without a policy too. A write whose connection ended before its answer is not asked again: `ConnectionLoss` is raised, with
     `may_have_happened` true. After an expiry a call goes on in the new session.
 
         retry = Retry(tries=5, deadline=30.0)

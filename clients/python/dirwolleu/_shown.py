@@ -50,6 +50,10 @@ class Shown:
         """Calls a function of the program, where callbacks are called."""
         raise NotImplementedError
 
+    def _act(self) -> None:
+        """Has what was asked be done."""
+        raise NotImplementedError
+
     def _begin(
         self, begin: Callable[[News], Steps[Any]], end: Callable[[Any, Optional[BaseException]], object]
     ) -> None:
@@ -69,6 +73,7 @@ class Shown:
             client.set_hosts("new-1:2181,new-2:2181")
         """
         self._servers.replace(hosts)
+        self._act()
 
     @property
     def state(self) -> State:
@@ -123,7 +128,7 @@ class Shown:
     def age(self) -> float:
         """How old what is kept can be, in seconds: infinity where no server has answered yet.
 
-        So long ago the newest ping or call was sent that the server has answered. Whatever that server knew by then of
+        So long ago the newest ping or call was handed in that the server has answered. Whatever that server knew by then of
         the nodes that the client watches, it has told. The server may itself be behind the others.
         """
         proved_at = self._engine.contact.proved_at

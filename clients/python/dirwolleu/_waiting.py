@@ -55,7 +55,7 @@ class Waiter(News):
         return not self.done()
 
     def cancel(self) -> None:
-        """Waits no longer. What was not sent yet is not sent."""
+        """Waits no longer. What was not handed over yet is not sent."""
         self._is_given_up = True
 
     def done(self) -> bool:
@@ -80,7 +80,7 @@ class Waiter(News):
 
 
 class Future(concurrent.futures.Future[Any]):
-    """What a call that ends in `_async` answers. `cancel` answers true only where the call is not sent.
+    """What a call that ends in `_async` answers. `cancel` answers true only where the call is not handed over, and is not sent.
 
     Its callbacks run where those of watches do, so that they may call the client.
     """

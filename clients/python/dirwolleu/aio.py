@@ -79,8 +79,8 @@ class Client(Shown):
     """A client of ZooKeeper whose functions are coroutines. It belongs to the event loop in which it is started.
 
     The parameters and what calls raise are those of `dirwolleu.Client`. Watches and listeners are functions or
-    coroutine functions, which the event loop calls. A call that is cancelled may still happen at the server, unless it
-    was not sent yet. Whoever cancels all tasks of the loop, as `asyncio.run` does at its end, leaves the connection as
+    coroutine functions, which the event loop calls. A call that is cancelled may still happen at the server, within its
+    bound, also where it waits for a connection. Whoever cancels all tasks of the loop, as `asyncio.run` does at its end, leaves the connection as
     it is, so that `stop` can still end the session.
     """
 
@@ -394,6 +394,7 @@ class Client(Shown):
         following.begun(self._engine)
         news = asyncio.Event()
         with following.Follower(self._engine, subject, news).listening() as next_one:
+            self._act()
             while (kept := await self._drive(next_one(), news)) is not None:
                 yield kept
 

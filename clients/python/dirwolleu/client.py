@@ -18,9 +18,9 @@ from dirwolleu import _lane as lane
 from dirwolleu import _plans as plans
 from dirwolleu import _requests as requests
 from dirwolleu import _steps as steps_of
+from dirwolleu._asked import Waiter as AnyWaiter
 from dirwolleu._clock import moment
 from dirwolleu._engine import News as AnyNews
-from dirwolleu._engine import Waiter as AnyWaiter
 from dirwolleu._lane import Created
 from dirwolleu._plans import Acls, AnyRequest, Plan
 from dirwolleu._requests import Result
@@ -54,7 +54,7 @@ class Client(Shown):
     """A client of ZooKeeper whose functions wait for their answers. Any thread may call them.
 
     `hosts` is a text like `host:port,host:port/root`. Each dial looks the name up again and goes to one of its
-    addresses; the order is left to chance, unless `randomize_hosts` is false. A port that is left out is 2181, and an
+    addresses; the order of the hosts is left to chance, unless `randomize_hosts` is false. A port that is left out is 2181, and an
     IPv6 address is in brackets. The root, which is known as a chroot, is the node that the program knows as `/`: all
     paths of calls, answers, events and kept answers are below it. `timeout` is that of the session in seconds, as it is
     asked for; a server grants what lies between its own bounds. `saved` takes up the session of another client, as its
@@ -64,12 +64,14 @@ class Client(Shown):
     With `ssl` the connections are TLS: see `dirwolleu.tls_context`. By `retry`, a policy, each call is asked again
     where that is safe; without it none is.
 
-    What all calls may raise: `ConnectionLoss` where the connection ended before the reply; `NotConnectedError`, which
-    is one, where there was no connection for the timeout of the session; `CallTimeoutError` where the call has a
-    `timeout` in seconds, which counts all tries, and no answer came in it; `SessionExpiredError`;
-    `ConnectionClosedError` where the client is not started; `ValueError` where the path is none; and another
-    `ZookeeperError` where the server answers with an error. `may_have_happened` of an error says whether a change may
-    have happened, or may still happen.
+    A call waits for a server and for its answer within a bound: its own `timeout` in seconds, which counts all tries,
+    or that of the session. Where its connection is lost, a read is asked again, and a write is not.
+
+    What all calls may raise: `ConnectionLoss` where the connection ended before the reply to a write;
+    `NotConnectedError`, which is one, where a call without a `timeout` could not be sent in time; `CallTimeoutError`
+    where no answer came in time; `SessionExpiredError`; `ConnectionClosedError` where the client is not started;
+    `ValueError` where the path is none; and another `ZookeeperError` where the server answers with an error.
+    `may_have_happened` of an error says whether a change may have happened, or may still happen.
 
     Each call has a second one whose name ends in `_async`, which sends and does not wait: it answers a
     `concurrent.futures.Future`. It is not asked again.
@@ -81,7 +83,7 @@ class Client(Shown):
 
     Functions that it calls (watches and listeners) run one after the other in a thread of their own, and may call the
     client. So may a signal handler, and a call that an exception of a handler ends, such as KeyboardInterrupt, leaves
-    the client as it is: the call may or may not have happened. In a child that was forked after `start`, calls raise
+    the client as it is: the call may have happened, or may happen yet, within its bound. In a child that was forked after `start`, calls raise
     `ConnectionClosedError`, and `stop` and `close` do nothing.
     """
 
@@ -381,8 +383,8 @@ class Client(Shown):
         """Yields what a node holds, and again whenever that has changed, through reconnects and new sessions.
 
         Each answer was good when it came. Where the node changes more than once between two of them, the last one is
-        told. Where there is no node, that is told too. A read that brought nothing good is tried again after a second.
-        It ends when the client is stopped or closed, and raises what `get` raises for other reasons than the
+        told. Where there is no node, that is told too. The core keeps it good: it reads it again after each change, and
+        a second after a refusal. It ends when the client is stopped or closed, and raises what `get` raises for other reasons than the
         connection, the session and the load of a server.
         """
         return self._follow(following.data_of(self._engine, path))
@@ -415,6 +417,7 @@ class Client(Shown):
         following.begun(self._engine)
         news = News()
         with following.Follower(self._engine, subject, news).listening() as next_one:
+            self._act()
             while (kept := self._drive(next_one(), news)) is not None:
                 yield kept
 

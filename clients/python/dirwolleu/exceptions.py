@@ -62,7 +62,7 @@ class ZookeeperError(Exception):
 
 
 class ConnectionLoss(ZookeeperError):
-    """The connection ended before the reply. A read has changed nothing; a write may or may not have happened."""
+    """The connection ended before the reply. A write may or may not have happened. A read is asked again instead."""
 
     code = -4
     may_have_happened = True
@@ -71,7 +71,7 @@ class ConnectionLoss(ZookeeperError):
 
 
 class NotConnectedError(ConnectionLoss):
-    """No server accepted the session within its timeout. Nothing was sent, so nothing has happened."""
+    """No server accepted the session in time. Nothing was sent, so nothing has happened."""
 
     may_have_happened = False
     _reason = "no server has accepted the session"
@@ -82,7 +82,9 @@ class NotConnectedError(ConnectionLoss):
 
 
 class CallTimeoutError(ZookeeperError, TimeoutError):
-    """No answer came within the `timeout` of the call. Where `may_have_happened` is true, it may still happen."""
+    """No answer came in time: within the `timeout` of the call, or that of the session. Where `may_have_happened` is true, it may
+    still happen.
+    """
 
     _reason = "no answer has come in time"
 

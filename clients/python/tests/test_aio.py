@@ -137,7 +137,7 @@ class AioTest(unittest.IsolatedAsyncioTestCase, PartnerCase):
         partner = self.partner()
         client = await self.client(partner, timeout=1.5)
         partner.do("mute")
-        lost = asyncio.ensure_future(client.get("/"))
+        lost = asyncio.ensure_future(client.set("/", b"x"))
         with self.raises(ConnectionLoss, -4):
             await asyncio.wait_for(lost, WAIT)
         with self.raises(NotConnectedError, -4):
@@ -168,7 +168,19 @@ class AioTest(unittest.IsolatedAsyncioTestCase, PartnerCase):
         partner.do("unmute")
         self.assertEqual((await asyncio.wait_for(second, WAIT))[0], b"")
 
-    async def test_a_call_that_is_cancelled_before_it_is_sent_is_not_sent(self) -> None:
+    async def test_a_call_that_is_cancelled_before_it_is_handed_over_is_not_sent(self) -> None:
+        partner = self.partner()
+        client = await self.client(partner)
+        partner.do("mute")
+        others = [client.exists_async("/") for _ in range(600)]
+        call = asyncio.ensure_future(client.create("/a"))
+        await asyncio.sleep(0.01)
+        call.cancel()
+        partner.do("unmute")
+        await asyncio.wait_for(asyncio.gather(*others), WAIT)
+        self.assertIsNone(await asyncio.wait_for(client.exists("/a"), WAIT))
+
+    async def test_a_call_that_is_cancelled_and_waits_for_a_connection_is_asked_before_later_ones(self) -> None:
         partner = self.partner()
         client = await self.client(partner)
         partner.do("down")
@@ -177,7 +189,7 @@ class AioTest(unittest.IsolatedAsyncioTestCase, PartnerCase):
         await asyncio.sleep(0.01)
         call.cancel()
         partner.do("up")
-        self.assertIsNone(await asyncio.wait_for(client.exists("/a"), WAIT))
+        self.assertIsNotNone(await asyncio.wait_for(client.exists("/a"), WAIT))
 
     async def test_a_server_that_never_says_farewell_holds_no_stop(self) -> None:
         def serve(peer: Peer) -> None:

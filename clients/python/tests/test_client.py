@@ -9,7 +9,6 @@ import threading
 import time
 import unittest
 from typing import Any, Callable, Optional
-from unittest import mock
 
 from support import WAIT, Partner, PartnerCase, within
 
@@ -344,7 +343,7 @@ class FollowTest(ClientCase):
         follower = client.follow("/a")
         self.assertEqual(next(follower).data, b"0")
         partner.do(*(f"set /a {number}" for number in range(1, 6)))
-        within(lambda: (kept := client.kept("/a")) and kept.mark is Mark.STALE)
+        within(lambda: (kept := client.kept("/a")) and (kept.mark, kept.data) == (Mark.GOOD, b"5"))
         self.assertEqual(InThread(lambda: next(follower)).result().data, b"5")
         follower.close()
 
@@ -401,7 +400,7 @@ class SessionTest(ClientCase):
         partner.do("down")
         within(lambda: client.state is State.SUSPENDED)
         call = InThread(lambda: client.get("/a"))
-        within(lambda: client._engine._line)
+        within(lambda: client.stats().waiting)
         partner.do("up")
         self.assertEqual(call.result()[0], b"one")
 
@@ -421,7 +420,7 @@ class SessionTest(ClientCase):
         partner.do("down")
         within(lambda: client.state is State.SUSPENDED)
         call = InThread(lambda: client.get("/"))
-        within(lambda: client._engine._line)
+        within(lambda: client.stats().waiting)
         partner.do("expire", "up")
         with self.raises(SessionExpiredError, -112):
             call.result()
@@ -467,7 +466,6 @@ class SessionTest(ClientCase):
         self.assertEqual(found.ephemeral_owner, other.session_id)
         self.assertGreaterEqual(other.last_zxid, client.last_zxid)
 
-    @mock.patch("dirwolleu._pauses.LONGEST_PAUSE", 0.2)
     def test_a_server_that_is_behind_is_not_read(self) -> None:
         partner = self.partner()
         partner.do("create /a one")

@@ -1,7 +1,8 @@
-"""Tests of how a client dials: pauses, hostile and slow servers, a process that is held up."""
+"""Tests of how a client dials: hostile and slow servers, a process that is held up."""
 
 from __future__ import annotations
 
+import asyncio
 import contextlib
 import errno
 import pathlib
@@ -12,7 +13,7 @@ import sys
 import threading
 import time
 import unittest
-from typing import Callable
+from typing import Any, Callable
 from unittest import mock
 
 from support import (
@@ -29,49 +30,12 @@ from support import (
     within,
 )
 
-from dirwolleu import Client, ConnectionClosedError, ConnectionLoss, NotConnectedError, State
+from dirwolleu import Client, ConnectionClosedError, ConnectionLoss, NotConnectedError, State, aio
 from dirwolleu._driver import Driver
-from dirwolleu._engine import Contact, Engine
+from dirwolleu._engine import Engine
 from dirwolleu._hosts import Servers
-from dirwolleu._pauses import Pauses
 
 HELD_UP = pathlib.Path(__file__).resolve().parent / "held_up.py"
-
-
-class PausesTest(PartnerCase):
-    def row(self, pauses: Pauses, contact: Contact, timeout: float, may_live: bool, count: int) -> list[float]:
-        return [pauses.after(contact, timeout, may_live) for _ in range(count)]
-
-    def check(self, found: list[float], most: list[float]) -> None:
-        """Each is at random between a half and the whole of these."""
-        for pause, bound in zip(found, most):
-            self.assertLessEqual(pause, bound)
-            self.assertGreaterEqual(pause, bound / 2)
-
-    def test_while_the_session_may_live_none_is_long(self) -> None:
-        for timeout, longest in ((1.0, 0.1), (4.0, 0.4), (10.0, 1.0), (600.0, 1.0)):
-            with self.subTest(timeout=timeout):
-                found = self.row(Pauses(), Contact(), timeout, True, 12)
-                self.check(found, [min(0.1 * 2**number, longest) for number in range(12)])
-                self.assertGreater(len(set(found)), 6)
-
-    def test_they_grow_where_the_session_is_gone(self) -> None:
-        pauses = Pauses()
-        self.row(pauses, Contact(), 10.0, True, 12)
-        self.check(self.row(pauses, Contact(), 10.0, False, 6), [2.0, 4.0, 8.0, 10.0, 10.0])
-
-    def test_what_ends_a_row_of_failures(self) -> None:
-        for contact, first in (
-            (Contact(), 10.0),
-            (Contact(lived=3300), 10.0),
-            (Contact(lived=3400), 0.1),
-            (Contact(answers=1), 0.1),
-            (Contact(expiries=1, has_expired=True), 0.1),
-        ):
-            with self.subTest(contact=contact):
-                pauses = Pauses()
-                self.row(pauses, Contact(), 10.0, False, 12)
-                self.check(self.row(pauses, contact, 10.0, False, 1), [first])
 
 
 class DialTest(PartnerCase):
@@ -180,6 +144,16 @@ class DialTest(PartnerCase):
         within(lambda: len(seen) >= 3)
         self.assertEqual([(one.last_zxid, one.session) for one in seen[:3]], [(0, 0), (9, 7), (9, 0)])
 
+    def test_a_server_that_says_nothing_is_left(self) -> None:
+        def serve(peer: Peer) -> None:
+            peer.take_connect()
+            time.sleep(WAIT)
+
+        server = self.raw_server(serve)
+        self.client(server.host, 3.0, is_awaited=False)
+        within(lambda: len(server.dials) > 1)
+        self.assertAlmostEqual(server.dials[1] - server.dials[0], 2.1, delta=0.6)
+
     def test_a_server_that_trickles_while_connecting_is_left(self) -> None:
         def serve(peer: Peer) -> None:
             peer.take_connect()
@@ -199,7 +173,7 @@ class DialTest(PartnerCase):
         client = self.client(self.raw_server(serve).host, 3.0)
         began = time.monotonic()
         with self.raises(ConnectionLoss, -4):
-            client.get("/a")
+            client.set("/a", b"x")
         self.assertAlmostEqual(time.monotonic() - began, 2.0, delta=0.8)
 
     def test_a_server_that_answers_no_ping_is_left(self) -> None:
@@ -213,6 +187,22 @@ class DialTest(PartnerCase):
         self.client(server.host, 3.0)
         within(lambda: len(server.dials) > 1)
         self.assertAlmostEqual(server.dials[1] - server.dials[0], 3.3, delta=0.9)
+
+    def test_a_server_that_sends_no_connection_in_time_is_given_up(self) -> None:
+        """An attempt has a third of the timeout, and a second at least. One that is made too late is closed."""
+        made: list[asyncio.Future[None]] = []
+
+        async def late(loop: Any, *_: object, **__: object) -> None:
+            made.append(loop.create_future())
+            await made[-1]
+
+        with mock.patch("asyncio.BaseEventLoop.create_connection", late):
+            client = Client("127.0.0.1:1", 1.0)
+            self.addCleanup(client.close)
+            with self.assertRaisesRegex(TimeoutError, "127.0.0.1:1: no connection in time"):
+                client.start(1.6)
+        self.assertTrue(made[0].cancelled())
+        self.assertGreaterEqual(len(made), 2)
 
     def test_answered_pings_keep_a_connection(self) -> None:
         def serve(peer: Peer) -> None:
@@ -251,6 +241,27 @@ class DialTest(PartnerCase):
         child.send_signal(signal.SIGCONT)
         self.assertTrue(resumed.wait(WAIT))
         self.assertEqual((len(server.dials), pings[0].kind), (1, PING))
+
+    def test_a_loop_that_was_held_up_reads_all_that_its_socket_has(self) -> None:
+        """The answer comes after more notices than are read at once, and would be too late where it is read later."""
+
+        def serve(peer: Peer) -> None:
+            peer.admit()
+            asked = peer.take()
+            time.sleep(1.0)
+            peer.send(*[notice("/elsewhere")] * 8000, data_reply(asked, b"one"))
+            time.sleep(WAIT)
+
+        async def run() -> None:
+            async with aio.Client(server.host, 3.0) as client:
+                read = client.get_async("/a")
+                await asyncio.sleep(0.8)
+                time.sleep(1.6)
+                self.assertEqual((await asyncio.wait_for(read, WAIT))[0], b"one")
+                self.assertEqual(client.stats().connections, 1)
+
+        server = self.raw_server(serve)
+        asyncio.run(run())
 
     def test_a_call_may_come_before_the_loop_has_begun(self) -> None:
         engine = Engine(3.0, None, lambda function, argument: None)

@@ -5,29 +5,35 @@ from __future__ import annotations
 import concurrent.futures
 import struct
 import unittest
-from typing import Any, Callable
+from typing import Any, Callable, Optional
 from unittest import mock
 
 import support
-from test_library import CONNECT_RESPONSE, STAT, STAT_BYTES, buffer, reply
+from test_library import CONNECT_RESPONSE, STAT, STAT_BYTES, buffer, frame, reply
 
 from dirwolleu import (
+    CallTimeoutError,
     ConnectionClosedError,
     ConnectionLoss,
     EventType,
     Mark,
     NoAuthError,
+    NotConnectedError,
     SessionMovedError,
     State,
     TooManyWatchesError,
     ZookeeperError,
 )
+from dirwolleu import _lane as lane
 from dirwolleu import _requests as requests
-from dirwolleu._engine import Engine
-from dirwolleu._frames import Frames, Kind, Piece
-from dirwolleu._library import Answer, Halted, Machine
+from dirwolleu._engine import MOST_HANDED, Engine
+from dirwolleu._frames import Frames, Kind, Piece, is_ping
+from dirwolleu._library import DATA_SIDE, Answer, Halted, NoMemory
+from dirwolleu._session import Session
 from dirwolleu.exceptions import error_of
 
+
+NOTICE = frame(support.notice("/elsewhere"))
 
 
 class Future(concurrent.futures.Future[Any]):
@@ -43,14 +49,23 @@ class EngineTest(support.PartnerCase):
         self.engine = Engine(6.0, None, lambda function, argument: self.told.append((function, argument)))
         self.addCleanup(self.engine.close)
         self.engine.begin()
-        self.engine.opened(100)
-        self.engine.received(100, CONNECT_RESPONSE)
-        self.engine.take_frames()
+        self.engine.addresses(100, 1)
+        self.admit(100)
 
-    def ask(self, request: requests.Request[Any]) -> Future:
+    def admit(self, now: int, granted_ms: int = 4000) -> None:
+        """A connection that was asked for is made, and a server accepts the session."""
+        dial = self.engine.take_orders(now).dial
+        assert dial is not None
+        self.assertEqual(dial.place, 0)
+        self.engine.opened(now)
+        self.engine.take_orders(now)
+        self.engine.received(now, CONNECT_RESPONSE[:8] + struct.pack(">i", granted_ms) + CONNECT_RESPONSE[12:])
+        self.engine.take_orders(now)
+
+    def ask(self, request: requests.Request[Any], timeout: Optional[float] = None, now: int = 200) -> Future:
         waiter: Future = Future()
-        self.engine.ask(200, request, waiter)
-        self.engine.take_handed(200)
+        self.engine.ask(now, request, waiter, timeout)
+        self.engine.take_handed(now)
         return waiter
 
     def test_want_of_memory_within_a_step_leaves_the_session(self) -> None:
@@ -60,19 +75,187 @@ class EngineTest(support.PartnerCase):
         self.engine.received(300, reply(1, 9, 0, buffer(b"one") + STAT_BYTES))
         self.assertEqual(read.result(0), (b"one", STAT))
         lost, session = self.ask(requests.get("/b", None)), self.engine.session_id()
-        with mock.patch.object(Machine, "received", side_effect=Halted):
+        with mock.patch.object(Session, "received", side_effect=Halted):
             self.engine.received(400, b"bytes")
         with self.raises(ConnectionLoss, -4):
             lost.result(0)
         self.assertEqual((self.engine.session_id(), self.engine.last_zxid()), (session, 9))
-        self.assertEqual((self.engine.state, self.engine.take_frames()[1]), (State.SUSPENDED, True))
+        self.assertEqual((self.engine.state, self.engine.take_orders(400).hangs_up), (State.SUSPENDED, True))
         self.assertIsNone(self.engine.kept("/a"))
         self.assertEqual(self.told, [(watch, (EventType.NONE, State.SUSPENDED, "/a"))])
+        self.assertEqual(self.engine.deadline(), 0)
+        self.engine.tick(500)
+        self.admit(600)
+        self.assertEqual((self.engine.session_id(), self.engine.state), (session, State.CONNECTED))
+
+    def test_what_is_followed_is_followed_after_a_want_of_memory(self) -> None:
+        woken = list[None]()
+        with self.engine.following("/f", DATA_SIDE, lambda: self.engine.settled("/f"), lambda: woken.append(None)) as followed:
+            self.engine.take_handed(200)
+            with mock.patch.object(Session, "received", side_effect=Halted):
+                self.engine.received(400, b"bytes")
+            self.engine.take_handed(400)
+            self.engine.tick(400)
+            self.admit(600)
+            self.engine.received(700, reply(1, 9, 0, buffer(b"one") + STAT_BYTES))
+            self.assertEqual((followed.found.pop().data, len(woken)), (b"one", 1))
+        self.engine.take_handed(800)
+        self.assertEqual(self.engine._subjects, {})
+
+    def test_bytes_for_which_there_was_no_memory_are_handed_in_again(self) -> None:
+        read, received = self.ask(requests.get("/a", None)), Session.received
+        with mock.patch.object(Session, "received", autospec=True, side_effect=[NoMemory, mock.DEFAULT]) as tried:
+            tried.return_value = received(self.engine._session, 300, reply(1, 9, 0, buffer(b"one") + STAT_BYTES))
+            self.engine.received(300, reply(1, 9, 0, buffer(b"one") + STAT_BYTES))
+        self.assertEqual((read.result(0), tried.call_count), ((b"one", STAT), 2))
+        with mock.patch.object(Session, "received", side_effect=NoMemory):
+            self.engine.received(400, reply(-1, 9))
+        self.assertEqual((self.engine.state, self.engine.take_orders(400).hangs_up), (State.SUSPENDED, True))
+
+    def test_a_cut_leaves_reads_and_not_writes(self) -> None:
+        calls = [self.ask(requests.get("/a", None)), self.ask(requests.set("/a", b"x", -1))]
+        self.engine.cut(300)
+        self.assertEqual([call.done() for call in calls], [False, True])
+        with self.assertRaises(ConnectionLoss) as caught:
+            calls[1].result(0)
+        self.assertTrue(caught.exception.may_have_happened)
+        self.engine.tick(1000)
+        self.admit(1000)
+        self.engine.received(1100, reply(3, 9, 0, buffer(b"one") + STAT_BYTES))  # the next xid
+        self.assertEqual(calls[0].result(0), (b"one", STAT))
+
+    def test_what_is_closed_is_dialled_no_more(self) -> None:
+        closed = self.ask(requests.close_session())
+        self.engine.received(300, reply(1, 9))
+        self.assertIsNone(closed.result(0))
+        self.assertEqual(self.engine.take_orders(300), (True, None, b""))
+        self.assertEqual((self.engine.is_running, self.engine.session_id(), self.engine.last_zxid()), (False, 0, 9))
+        self.engine.tick(10_000)
+        self.assertEqual(self.engine.take_orders(10_000), (False, None, b""))
+        self.engine.begin()
+        self.engine.addresses(20_000, 1)
+        self.engine.take_orders(20_000)
+        self.engine.opened(20_000)
+        self.assertEqual(struct.unpack(">iiqiq", self.engine.take_orders(20_000).frames[:28])[2:], (9, 6000, 0))
+
+    def test_an_attempt_that_is_given_up_is_hung_up(self) -> None:
+        self.engine.cut(300)
+        self.engine.tick(1000)
+        self.assertEqual(self.engine.take_orders(1000).dial, (0, 1333))  # a third of the timeout, which is four seconds
+        self.engine.tick(2332)
+        self.assertFalse(self.engine.take_orders(2332).hangs_up)
+        self.engine.tick(2333)
+        self.assertEqual(self.engine.take_orders(2333)[:2], (True, None))
+
+    def test_the_core_has_few_calls_at_once(self) -> None:
+        calls = [self.ask(requests.get("/a", None)) for _ in range(MOST_HANDED + 1)]
+        self.assertEqual((len(self.engine._sent), self.engine.stats().waiting), (MOST_HANDED, 1))
+        self.assertTrue(calls[-1].cancel())
+        self.engine.received(300, reply(1, 9, 0, buffer(b"one") + STAT_BYTES))
+        self.assertEqual((len(self.engine._sent), self.engine.stats().waiting), (MOST_HANDED - 1, 0))
+
+    def test_all_wait_for_a_server_so_long(self) -> None:
+        self.engine.cut(300)
+        calls = [self.ask(requests.set("/a", b"x", -1)) for _ in range(MOST_HANDED + 1)]
+        for now, count in ((6199, 0), (6200, MOST_HANDED + 1)):
+            self.engine.tick(now)
+            self.engine.take_handed(now)
+            self.assertEqual(sum(call.done() for call in calls), count)
+        for call in (calls[0], calls[-1]):
+            self.assertIsInstance(call.exception(0), NotConnectedError)
+
+    def test_what_was_asked_before_a_server_came_waits_for_it_no_longer(self) -> None:
+        self.engine.cut(300)
+        calls = [self.ask(requests.set("/a", b"x", -1)) for _ in range(MOST_HANDED + 1)]
+        self.engine.ask(300, requests.get("/b", None), (later := Future()))
+        self.engine.tick(6200)
+        self.engine.take_handed(6200)
+        self.engine.tick(6299)
+        self.assertEqual((all(call.done() for call in calls), later.done()), (True, False))
+        self.engine.tick(6300)
+        self.assertTrue(later.done())
+
+    def test_a_limit_ends_a_call(self) -> None:
+        """Its own, or the timeout that was asked for. A server has granted a longer one, so no answer is late yet."""
+        self.engine.cut(300)
+        self.engine.tick(1000)
+        self.admit(1000, 40_000)
+        limits = {2.0: CallTimeoutError, None: CallTimeoutError}
+        calls = [self.ask(requests.set("/a", b"x", -1), limit, 1000) for limit in limits]
+        self.engine.take_orders(1000)
+        for now in sorted({*range(1100, 7200, 100), 2999, 6999}):
+            self.engine.tick(now)
+            self.assertEqual(sum(call.done() for call in calls), (now >= 3000) + (now >= 7000))
+        for call in calls:
+            with self.assertRaises(CallTimeoutError) as caught:
+                call.result(0)
+            self.assertTrue(caught.exception.may_have_happened)
+
+    def wait(self, begins: int, ends: int) -> None:
+        """Notices come each tenth of a second, pings are answered, and the connection is left at the second moment and at none before."""
+        for now in sorted({*range(begins, ends, 100), ends - 1, ends}):
+            self.assertLessEqual(self.engine.deadline() or 0, ends)
+            self.engine.received(now, NOTICE)
+            self.engine.tick(now)
+            orders = self.engine.take_orders(now)
+            self.assertEqual(orders.hangs_up, now == ends)
+            if is_ping(orders.frames):
+                self.engine.received(now, reply(-2, 9))
+
+    def test_a_call_waits_for_two_thirds_of_the_timeout(self) -> None:
+        call = self.ask(requests.set("/a", b"x", -1))
+        self.engine.take_orders(200)
+        self.wait(300, 2866)  # two thirds of four seconds
+        with self.raises(ConnectionLoss, -4):
+            call.result(0)
+
+    def test_a_ping_waits_for_two_thirds_of_the_timeout(self) -> None:
+        """Notices are no answers to it, and neither are those to a call."""
+        self.engine.tick(1533)
+        self.assertTrue(is_ping(self.engine.take_orders(1533).frames))
+        call = self.ask(requests.get("/a", None), now=1600)
+        self.engine.take_orders(1600)
+        self.engine.received(1700, reply(1, 9, 0, buffer(b"one") + STAT_BYTES))
+        self.assertTrue(call.done())
+        for now in (*range(1800, 4199, 100), 4198, 4199):
+            self.engine.received(now, NOTICE)
+            self.engine.tick(now)
+            self.assertEqual(self.engine.take_orders(now).hangs_up, now == 4199)
+
+    def test_a_call_of_the_lane_waits_for_two_thirds_of_the_timeout(self) -> None:
+        call: Future = Future()
+        self.engine.ask(200, lane.sync("/"), call)
+        self.engine.take_handed(200)
+        self.engine.take_orders(200)
+        self.wait(300, 2866)
+        with self.raises(ConnectionLoss, -4):
+            call.result(0)
+
+    def test_the_oldest_call_that_waits_counts(self) -> None:
+        calls = [self.ask(requests.get("/a", None))]
+        self.engine.take_orders(200)
+        calls.append(self.ask(requests.get("/b", None), now=1000))
+        self.engine.take_orders(1000)
+        self.engine.received(1500, reply(1, 9, 0, buffer(b"one") + STAT_BYTES))
+        self.wait(1600, 3666)
+        self.assertEqual([call.done() for call in calls], [True, False])  # a read is asked again
+
+    def test_an_admission_waits_for_two_thirds_of_the_timeout_that_was_asked_for(self) -> None:
+        self.engine.cut(300)
+        self.engine.tick(1000)
+        self.assertIsNotNone(self.engine.take_orders(1000).dial)
+        self.engine.opened(1000)
+        self.engine.take_orders(1000)
+        came = iter(struct.pack(">i", 1000) + bytes(996))
+        for now in (*range(1100, 5000, 100), 4999, 5000):
+            self.engine.received(now, bytes([next(came)]))
+            self.engine.tick(now)
+            self.assertEqual(self.engine.take_orders(now).hangs_up, now == 5000)
 
     def test_no_memory_for_a_call_is_told_to_its_caller(self) -> None:
-        with mock.patch.object(Machine, "get_data", side_effect=MemoryError):
+        with mock.patch.object(Session, "get_data", side_effect=NoMemory):
             refused = self.ask(requests.get("/a", None))
-        with self.raises(MemoryError, None):
+        with self.raises(NoMemory, None):
             refused.result(0)
         self.assertIs(self.engine.state, State.CONNECTED)
 
@@ -81,13 +264,14 @@ class EngineTest(support.PartnerCase):
         self.engine.received(300, reply(1, 9, -118))
         with self.raises(SessionMovedError, -118):
             moved.result(0)
-        self.assertTrue(self.engine.take_frames()[1])
+        self.assertTrue(self.engine.take_orders(300).hangs_up)
 
     def test_what_was_to_be_written_goes_with_its_connection(self) -> None:
         self.ask(requests.get("/a", None))
         self.engine.cut(300)
-        self.engine.opened(400)
-        frames, _ = self.engine.take_frames()
+        self.engine.tick(1000)
+        self.engine.opened(1000)
+        frames = self.engine.take_orders(1000).frames
         self.assertEqual(struct.unpack(">iiqi", frames[:20]), (45, 0, 0, 6000))
         self.assertEqual(len(frames), 49)
 
@@ -104,7 +288,7 @@ class EngineTest(support.PartnerCase):
         self.engine.ask(200, requests.get("/a", None), waiter)
         waiter.cancel()
         self.engine.take_handed(200)
-        self.assertEqual(self.engine.take_frames()[0], b"")
+        self.assertEqual(self.engine.take_orders(200).frames, b"")
 
     def test_frames_are_cut_however_they_come(self) -> None:
         answers = [
@@ -129,12 +313,12 @@ class EngineTest(support.PartnerCase):
 
     def test_an_interrupt_within_a_step_leaves_the_session(self) -> None:
         lost, session = self.ask(requests.get("/b", None)), self.engine.session_id()
-        with mock.patch.object(Machine, "received", side_effect=KeyboardInterrupt):
+        with mock.patch.object(Session, "received", side_effect=KeyboardInterrupt):
             with self.assertRaises(KeyboardInterrupt):
                 self.engine.received(400, b"bytes")
         with self.raises(ConnectionLoss, -4):
             lost.result(0)
-        self.assertEqual((self.engine.session_id(), self.engine.take_frames()[1]), (session, True))
+        self.assertEqual((self.engine.session_id(), self.engine.take_orders(400).hangs_up), (session, True))
 
     def test_each_code_has_its_error(self) -> None:
         for kind in ZookeeperError.__subclasses__():

@@ -9,6 +9,7 @@ import socket
 import threading
 import time
 import unittest
+from collections.abc import Sequence
 from typing import Any, Callable
 from unittest import mock
 
@@ -40,22 +41,28 @@ class HostsTest(unittest.TestCase):
             with self.subTest(wrong), self.assertRaises(ValueError):
                 Client(wrong)
 
-    def dialled(self, servers: Servers, count: int) -> list[Place]:
+    def dialled(self, servers: Servers, count: int, order: Sequence[int] = (0,)) -> list[Place]:
+        """The addresses of this many dials, where the library goes through the list in this order."""
+
         async def dial() -> list[Place]:
-            return [await servers.next() for _ in range(count)]
+            return [await servers.at(order[number % len(order)]) for number in range(count)]
 
         return asyncio.run(dial())
 
     def test_each_server_has_its_turn(self) -> None:
+        dialled = self.dialled(Servers("10.0.0.1:1,10.0.0.2:2,10.0.0.3:3"), 6, (2, 0, 1))
+        self.assertEqual([place.port for place in dialled], [3, 1, 2, 3, 1, 2])
+
+    def test_a_place_of_a_longer_list_is_one_of_this(self) -> None:
         servers = Servers("10.0.0.1:1,10.0.0.2:2,10.0.0.3:3")
-        dialled = self.dialled(servers, 300)
-        for begin in range(0, 300, 3):
-            self.assertEqual(len(set(dialled[begin : begin + 3])), 3)
-        self.assertGreater(len({tuple(dialled[begin : begin + 3]) for begin in range(0, 300, 3)}), 3)
+        servers.replace("10.0.0.4:4")
+        self.assertEqual([place.port for place in self.dialled(servers, 1, (2,))], [4])
 
     def test_the_order_is_that_of_the_text_where_it_is_not_left_to_chance(self) -> None:
-        dialled = self.dialled(Servers("10.0.0.1:1,10.0.0.2:2", is_by_chance=False), 4)
-        self.assertEqual([place.port for place in dialled], [1, 2, 1, 2])
+        servers = Servers("10.0.0.1:1,10.0.0.2:2", is_by_chance=False)
+        for order in ((0, 1), (1, 0)):
+            self.assertEqual([place.port for place in self.dialled(servers, 4, order)], [1, 2, 1, 2])
+            servers.replace(servers.hosts.text)
 
     def test_a_name_is_looked_up_at_each_dial_and_each_address_has_its_turn(self) -> None:
         with mock.patch("socket.getaddrinfo", return_value=found("10.0.0.1", "10.0.0.2")) as look_up:
@@ -76,9 +83,9 @@ class HostsTest(unittest.TestCase):
         async def dial(servers: Servers) -> Place:
             for _ in range(3):
                 with self.assertRaises(asyncio.TimeoutError):
-                    await asyncio.wait_for(servers.next(), 0.02)
+                    await asyncio.wait_for(servers.at(0), 0.02)
             may_end.set()
-            return await servers.next()
+            return await servers.at(0)
 
         with mock.patch("socket.getaddrinfo", side_effect=look_up) as looked_up:
             self.assertEqual(asyncio.run(dial(Servers("name:7"))).address, "10.0.0.1")

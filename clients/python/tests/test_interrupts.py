@@ -31,7 +31,6 @@ from dirwolleu import (
     Held,
     Lock,
     LockLostError,
-    NoNodeError,
     Queue,
     Registration,
     State,
@@ -258,7 +257,7 @@ class EndTest(ClientCase):
         done = subprocess.run(words, capture_output=True, text=True, timeout=3 * WAIT, check=True)
         self.assertEqual(done.stdout, "set() Client\n")
 
-    def test_a_call_that_was_given_up_before_it_was_sent_is_not_sent(self) -> None:
+    def test_a_call_that_was_given_up_leaves_the_client_as_it_was(self) -> None:
         partner = self.partner()
         client = self.client(partner.host)
         partner.do("down")
@@ -269,8 +268,8 @@ class EndTest(ClientCase):
             with self.assertRaises(KeyboardInterrupt):
                 client.create("/a")
         partner.do("up")
-        with self.raises(NoNodeError, -101):
-            client.get("/a")
+        client.create("/b")
+        self.assertIn(client.get_children("/"), (["a", "b"], ["b", "a"]))
 
 
 if __name__ == "__main__":

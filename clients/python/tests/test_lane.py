@@ -6,19 +6,23 @@ import concurrent.futures
 import queue
 import struct
 import threading
+import time
 import unittest
 from typing import Any, Callable
 
-from support import GET_DATA, SET_WATCHES, STAT, WAIT, Asked, PartnerCase, Peer, data_reply, notice, reply, within
+from support import EXISTS, GET_DATA, SET_WATCHES, STAT, WAIT, Asked, PartnerCase, Peer, data_reply, notice, reply, within
 
 from dirwolleu import (
     AuthFailedError,
     BadVersionError,
+    CallTimeoutError,
     Client,
     ConnectionLoss,
     Mark,
     NoAuthError,
     NodeExistsError,
+    NotConnectedError,
+    State,
     TooLargeError,
     TransactionFailedError,
     UnimplementedError,
@@ -215,7 +219,7 @@ class OrderTest(LaneCase):
             may_end.wait(WAIT)
 
         client = self.client(self.raw_server(serve).host)
-        futures: list[Any] = [client.sync_async("/"), client.get_async("/"), client.sync_async("/b")]
+        futures: list[Any] = [client.sync_async("/"), client.get_acls_async("/"), client.sync_async("/b")]
         for _ in range(3):
             asked.get(timeout=WAIT)
         may_end.set()
@@ -257,6 +261,36 @@ class OrderTest(LaneCase):
         client = self.client(self.serve(answer), 1.5)
         with self.raises(ConnectionLoss, -4):
             client.sync("/")
+
+    def test_what_is_asked_before_and_after_a_call_of_the_lane_keeps_its_place(self) -> None:
+        """Also while no server has accepted the session."""
+        came = list[int]()
+
+        def serve(peer: Peer) -> None:
+            peer.admit()
+            while True:
+                asked = peer.take()
+                came.append(asked.kind)
+                peer.send(reply(asked, text("/") if asked.kind == SYNC else STAT))
+
+        client = Client(self.raw_server(serve).host)
+        self.addCleanup(client.close)
+        client._engine.begin()
+        calls: list[Any] = [client.exists_async("/a"), client.sync_async("/"), client.exists_async("/b"), client.sync_async("/")]
+        client._begin_threads()
+        for call in calls:
+            call.result(WAIT)
+        self.assertEqual(came, [EXISTS, SYNC, EXISTS, SYNC])
+
+    def test_calls_of_the_lane_without_a_connection_are_not_sent(self) -> None:
+        partner = self.partner()
+        client = self.client(partner.host, 1.0)
+        partner.do("down")
+        within(lambda: client.state is State.SUSPENDED)
+        for timeout, kind in ((None, NotConnectedError), (0.3, CallTimeoutError)):
+            with self.assertRaises(kind) as caught:
+                client.create2("/a", timeout=timeout)
+            self.assertFalse(caught.exception.may_have_happened)
 
     def test_what_the_lane_has_seen_binds_the_next_server(self) -> None:
         seen: list[int] = []

@@ -18,13 +18,15 @@ from unittest import mock
 import support
 
 from dirwolleu import _library as library
-from dirwolleu._library import Answer, Drop, Machine, Report, Send, StateChange
+from dirwolleu._library import Answer, Drop, Report, Send, StateChange
+from dirwolleu._machine import Machine
 from dirwolleu._root import Root
 from dirwolleu.types import DataStat, Stat
 
 HEADER = support.CLIENTS.parent / "include" / "dirwolleu.h"
 STRUCTS = {
     "dw_client": library._Handle,
+    "dw_session": library._Handle,
     "dw_stat": library._Stat,
     "dw_output": library._Output,
     "dw_data_stat": library._DataStat,
@@ -98,10 +100,10 @@ class NumberTest(unittest.TestCase):
             output = library._Output(kind=library.STATE)
             setattr(output, field, 99)
             with self.assertRaises(library.UnknownNumber) as raised:
-                machine._read(output)
+                machine._read(library._fields_of_output(output))
             self.assertEqual(str(raised.exception), wanted.format(what))
         with self.assertRaises(library.UnknownNumber):
-            library._checked(-99)
+            library.checked(-99)
 
     def test_the_version_is_compared(self) -> None:
         with mock.patch.object(library, "VERSION", 1002003):

@@ -11,7 +11,7 @@ from unittest import mock
 from support import EXISTS, GET_DATA, PING, STAT, WAIT, Asked, data_reply, reply, within
 from untimed import Server, UntimedCase
 
-from dirwolleu import Client, ConnectionLoss, Mark, NotConnectedError, State
+from dirwolleu import CallTimeoutError, Client, ConnectionLoss, Mark, NotConnectedError, State
 
 HOUR = 3600.0
 WITHIN = 0.01
@@ -108,8 +108,10 @@ class PingTest(UntimedCase):
 class AwayTest(UntimedCase):
     """Servers that accept and never answer, and servers that stay away."""
 
-    def check(self, found: float, wanted: float) -> None:
-        self.assertAlmostEqual(found, wanted, delta=WITHIN)
+    def check(self, found: float, wanted: float, pause: float = 0.0) -> None:
+        """It is this, or up to a half of the pause less, which is random."""
+        self.assertGreaterEqual(found, wanted - pause / 2 - WITHIN)
+        self.assertLessEqual(found, wanted + WITHIN)
 
     def test_one_that_accepts_no_session_is_left_at_two_thirds(self) -> None:
         """It takes the connection, and never answers the request for a session. The next one is dialled, again and again."""
@@ -119,7 +121,7 @@ class AwayTest(UntimedCase):
             silent.admits = False
             async with self.client(1, 2, timeout=6.0, is_awaited=False) as client:
                 connected = await self.until(lambda: client.connected, 10.0)
-                self.check(self.loop.dials[1][0] - self.loop.dials[0][0], 4.1)  # two thirds of 6 seconds, and the first pause
+                self.check(self.loop.dials[1][0] - self.loop.dials[0][0], 4.0)  # two thirds of 6 seconds: a pause counts from when it was dialled
                 self.check(connected, self.loop.dials[1][0])
                 self.assertEqual((len(silent.connects), len(good.connects), len(self.loop.dials)), (1, 1, 2))
 
@@ -153,7 +155,7 @@ class AwayTest(UntimedCase):
                 self.assertTrue(caught.exception.may_have_happened)
                 self.assertEqual(client.state, State.SUSPENDED)
                 self.assertEqual((await client.get("/a"))[0], b"one")
-                self.check(self.loop.time() - began, 4.1)
+                self.check(self.loop.time() - began, 4.0)
                 self.assertEqual([connect.session for connect in good.connects], [7])
 
         self.run_in_loop(run())
@@ -166,7 +168,7 @@ class AwayTest(UntimedCase):
             async with self.client(1, timeout=6.0) as client:
                 await asyncio.sleep(1.0)
                 began = self.loop.time()
-                calls = [client.get_async("/a"), client.exists_async("/b")]
+                calls = [client.set_async("/a", b"x"), client.set_async("/b", b"x")]
                 for call in calls:
                     with self.assertRaises(ConnectionLoss):
                         await call
@@ -176,6 +178,32 @@ class AwayTest(UntimedCase):
                 self.check(pings[0] - began, 2.0)
 
         self.run_in_loop(run())
+
+    def test_a_read_that_is_lost_is_asked_again_within_its_limit(self) -> None:
+        """It is asked of the next server, in its place; and where that does not answer either, its limit ends it."""
+        for says, limit in ((answers, None), (says_nothing, 5.0)):
+            with self.subTest(limit=limit):
+                self.setUp()
+
+                async def run(says: Any = says, limit: Any = limit) -> None:
+                    Server(self.loop, 1, says_nothing)
+                    second = Server(self.loop, 2, says)
+                    async with self.client(1, 2, timeout=6.0) as client:
+                        began = self.loop.time()
+                        reads = [asyncio.ensure_future(client.get(path, timeout=limit)) for path in ("/a", "/b")]
+                        if limit is None:
+                            self.assertEqual([(await read)[0] for read in reads], [b"one", b"one"])
+                            self.check(self.loop.time() - began, 4.0)
+                        else:
+                            with self.assertRaises(CallTimeoutError) as caught:
+                                await reads[0]
+                            self.check(self.loop.time() - began, 5.0)
+                            self.assertFalse(caught.exception.may_have_happened)
+                        asked = [came.asked.body for came in second.came if came.asked.kind == GET_DATA]
+                        self.assertEqual([body[4:6] for body in asked], [b"/a", b"/b"])
+                        await asyncio.gather(*reads, return_exceptions=True)
+
+                self.run_in_loop(run())
 
     def test_one_that_stays_away_is_dialled_with_pauses(self) -> None:
         """While the session may live, each second at the latest; later with pauses that grow. It comes back, and nothing was lost."""
@@ -204,9 +232,9 @@ class AwayTest(UntimedCase):
                         apart = [later - moment for moment, later in zip(dials, dials[1:])]
                         attempt = 4.0 if shape == "is away" else 0.0  # a third of the timeout
                         for moment, pause in zip(dials, apart):
-                            self.assertGreaterEqual(pause, 0.34 - WITHIN)
-                            self.assertLessEqual(pause, attempt + (1.0 if moment + attempt < 12.0 else 10.0) + WITHIN)
-                        self.check(apart[-1], attempt + 10.0)
+                            self.assertGreaterEqual(pause, 0.334 - WITHIN)
+                            self.assertLessEqual(pause, attempt + (1.0 if moment + attempt < 11.0 else 10.0) + WITHIN)
+                        self.check(apart[-1], attempt + 10.0, 10.0)
                         self.loop.away.clear()
                         await made.obey("up")
                         back = await self.until(lambda: client.connected, 15.0)
@@ -260,10 +288,7 @@ class BehindTest(UntimedCase):
                 client._driver._link.end("the test ends it")
                 await self.until(lambda: client.stats().connections == 2, 5.0)
                 self.assertEqual([connect.last_zxid for connect in behind.connects], [9])
-                with self.assertRaises(ConnectionLoss):
-                    await client.get("/b", watch=True)
-                self.assertIsNone(client.kept("/b"))
-                await self.until(lambda: client.connected, 5.0)
+                self.assertEqual((await client.get("/b", watch=True))[0], b"new")
                 self.assertEqual([connect.last_zxid for connect in good.connects], [9])
                 self.assertEqual((client.kept("/a").mark, client.kept("/a").data, client.last_zxid), (Mark.GOOD, b"new", 9))
 

@@ -14,7 +14,7 @@ from support import WAIT, within
 from dirwolleu import ConnectionLoss, LockLostError, LockTimeout
 from dirwolleu import _requests as requests
 from dirwolleu._contending import EXCLUSIVE, READING, WRITING
-from dirwolleu._library import Machine
+from dirwolleu._machine import Machine
 
 
 class SharingRules(BothCase):

@@ -186,7 +186,7 @@ class _Served(asyncio.Protocol):
 
 
 class UntimedCase(PartnerCase):
-    """A test whose client and servers share one such loop, `loop`. Pauses are the longest that chance gives."""
+    """A test whose client and servers share one such loop, `loop`."""
 
     def setUp(self) -> None:
         self.loop = Untimed()
@@ -195,9 +195,6 @@ class UntimedCase(PartnerCase):
             patch = mock.patch(f"dirwolleu.{module}.moment", self.loop.moment)
             patch.start()
             self.addCleanup(patch.stop)
-        longest = mock.patch("dirwolleu._pauses.random.uniform", lambda _, most: most)
-        longest.start()
-        self.addCleanup(longest.stop)
 
     def run_in_loop(self, main: Coroutine[Any, Any, None]) -> None:
         asyncio.set_event_loop(self.loop)

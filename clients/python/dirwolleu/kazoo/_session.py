@@ -19,12 +19,13 @@ from dataclasses import dataclass
 from typing import TYPE_CHECKING, Any, Callable, NamedTuple, Optional
 
 from dirwolleu import _requests as requests
+from dirwolleu._asked import Asked
 from dirwolleu._clock import moment
+from dirwolleu._contact import Contact
 from dirwolleu._driver import Driver, Link
-from dirwolleu._engine import Contact, Credential, Engine, Tell, _Asked
+from dirwolleu._engine import Credential, Engine, Tell
 from dirwolleu._hosts import Place, Servers
 from dirwolleu._library import Listing, Standing
-from dirwolleu._pauses import LONGEST_PAUSE, Pauses
 from dirwolleu._plans import AnyRequest
 from dirwolleu._requests import Watcher
 from dirwolleu._root import Root
@@ -113,11 +114,10 @@ class _Probe:
 
 
 class KazooEngine(Engine):
-    """An engine that also gives up a connection whose server was not heard for a read timeout, as kazoo does.
+    """An engine that also closes a connection whose server was not heard for a read timeout, as kazoo does.
 
     Where half of that has passed without a byte, it asks for the root, and where nothing comes for the other half, the
-    connection is over. Without a read timeout the rules of `Engine` hold alone. And a server has no longer to accept the
-    session than its part of the timeout, where each host has one.
+    connection is over. Without a read timeout the rules of `Engine` hold alone.
     """
 
     read_timeout_ms: Optional[int] = None
@@ -129,11 +129,9 @@ class KazooEngine(Engine):
         tell: Tell,
         root: Root,
         credentials: Iterable[Credential],
-        count_of_hosts: Callable[[], int],
         on_refused: Callable[[], object],
     ) -> None:
         self._probed_at: Optional[int] = None
-        self._count_of_hosts = count_of_hosts
         self._on_refused, self._is_refusal_told = on_refused, False
         super().__init__(timeout, saved, tell, root, credentials)
 
@@ -148,7 +146,7 @@ class KazooEngine(Engine):
             if now - self.contact.heard_at >= half:
                 self._probe(now)
         elif now - self._probed_at >= half:
-            self._give_up(f"the server was not heard for {2 * half / 1000:g} seconds")
+            self.drop(now, f"the server was not heard for {2 * half / 1000:g} seconds")
 
     def deadline(self) -> Optional[int]:
         deadline, half = super().deadline(), self._half_ms()
@@ -169,13 +167,7 @@ class KazooEngine(Engine):
     def drop_connection(self, why: str) -> None:
         """Has the connection closed. The session goes on."""
         if self.state is State.CONNECTED:
-            self._give_up(why)
-
-    def _patience_ends(self) -> Optional[int]:
-        ends = super()._patience_ends()
-        if ends is None or self._opened_at is None:
-            return ends
-        return min(ends, self._opened_at + self._timeout_ms // max(self._count_of_hosts(), 1))
+            self.drop(moment(), why)
 
     def _half_ms(self) -> Optional[int]:
         is_watched = self.read_timeout_ms is not None and self.state is State.CONNECTED
@@ -183,7 +175,7 @@ class KazooEngine(Engine):
 
     def _probe(self, now: int) -> None:
         self._probed_at = now
-        self._line.append(_Asked(requests.exists("/", None), _Probe(), now + self._timeout_ms))
+        self._line.add(Asked(requests.exists("/", None), _Probe(), now + self._timeout_ms))
         self._send_line(now)
 
     def _leave_connection(self) -> None:
@@ -197,17 +189,16 @@ class KazooEngine(Engine):
             self._on_refused()
 
 
-class KazooPauses(Pauses):
-    """The pauses of dirwolleu, each no longer than that of a policy, whose tries and time are kept too."""
+class KazooPolicy:
+    """The tries and the time that a policy has for finding a server. The pauses between tries are those of the library."""
 
-    def __init__(self, retry: KazooRetry, count_of_hosts: Callable[[], int], give_up: Callable[[], object]) -> None:
-        super().__init__()
-        self._retry, self._count_of_hosts, self._give_up = retry.copy(), count_of_hosts, give_up
+    def __init__(self, retry: KazooRetry, count_of_hosts: Callable[[], int]) -> None:
+        self._retry, self._count_of_hosts = retry.copy(), count_of_hosts
         self._admissions = self._dials = 0
         self._until: Optional[float] = None
 
-    def after(self, contact: Contact, timeout: float, may_live: bool) -> float:
-        pause = super().after(contact, timeout, may_live)
+    def is_over(self, contact: Contact) -> bool:
+        """Whether no server is looked for any more, after a connection or an attempt that has ended now."""
         if contact.admissions != self._admissions:
             self._admissions, self._dials, self._until = contact.admissions, 0, None
             self._retry.reset()
@@ -215,17 +206,12 @@ class KazooPauses(Pauses):
         if self._until is None and self._retry.deadline is not None:
             self._until = time.monotonic() + self._retry.deadline
         if self._dials % max(self._count_of_hosts(), 1):
-            return 0  # the next host of the list is dialled at once
+            return False  # a try is a round of all hosts
         try:
-            pause = min(pause, self._retry.next_pause())
+            pause = self._retry.next_pause()
         except RetryFailedError:
-            return self._end(pause)
-        is_late = self._until is not None and time.monotonic() + pause >= self._until
-        return self._end(pause) if is_late else pause
-
-    def _end(self, pause: float) -> float:
-        self._give_up()
-        return max(pause, LONGEST_PAUSE)
+            return True
+        return self._until is not None and time.monotonic() + pause >= self._until
 
 
 class KazooDriver(Driver):
@@ -241,23 +227,28 @@ class KazooDriver(Driver):
     ) -> None:
         super().__init__(servers, engine, tls)
         self._handler, self._timeout = handler, timeout
+        self._is_first = True
 
     def use_policy(self, retry: KazooRetry, on_end: Callable[[], object]) -> None:
-        """Has the pauses and the tries be those of a policy. Where it gives up, the engine ends."""
+        """Has the tries and the time be those of a policy. Where it gives up, the engine ends."""
+        self._policy = KazooPolicy(retry, functools.partial(_count_of_hosts, self._servers))
+        self._on_end = on_end
 
-        def give_up() -> None:
-            logger.warning("no server was found within the policy for connections: the client ends")
-            self.stop(self._engine.end)
-            on_end()
-
-        self._pauses = KazooPauses(retry, functools.partial(_count_of_hosts, self._servers), give_up)
+    def _dial(self, place: int) -> None:
+        if self._is_first or not self._policy.is_over(self._engine.contact):
+            self._is_first = False
+            return super()._dial(place)
+        logger.warning("no server was found within the policy for connections: the client ends")
+        self.stop(self._engine.end)
+        self._on_end()
 
     def place(self) -> Optional[Place]:
         """The server of the connection."""
         return self._place
 
-    async def _connect(self, link: Link) -> None:
-        place = self._place = self._place or await self._servers.next()
+    async def _connect(self, link: Link, number: int) -> None:
+        self._place = None
+        place = self._place = await self._servers.at(number)
         logger.debug("dials %s", place)
         self._engine.place = str(place)
         connection = await _dialled(self._handler, place, self._timeout)
@@ -313,10 +304,7 @@ class Session(Client):
         tls: Optional[ssl.SSLContext],
     ) -> None:
         saved = None if identity is None else identity.spelled()
-        count_of_hosts = functools.partial(_count_of_hosts, servers)
-        engine = KazooEngine(
-            timeout, saved, self._tell, servers.hosts.root, credentials, count_of_hosts, owner._told_refusal
-        )
+        engine = KazooEngine(timeout, saved, self._tell, servers.hosts.root, credentials, owner._told_refusal)
         self._servers, self._engine, self._retry = servers, engine, None
         self._owner, self._tls, self._timeout = owner, tls, timeout
         self._running, self._tasks = {}, {}

@@ -1,0 +1,66 @@
+"""What a program has asked, and who waits for the answer."""
+
+from __future__ import annotations
+
+from typing import Any, Optional, Protocol, Union
+
+from dirwolleu._lane import LaneRequest
+from dirwolleu._requests import Request
+from dirwolleu.exceptions import CallTimeoutError, NotConnectedError, ZookeeperError
+
+
+class Waiter(Protocol):
+    """What waits for an answer: a future. It is done also where it waits no longer."""
+
+    def begin(self) -> bool:
+        """Is told that the request is handed over next, and answers whether it is still waited for."""
+
+    def cancel(self) -> object: ...
+    def done(self) -> bool: ...
+    def set_result(self, result: Any, /) -> None: ...
+    def set_exception(self, exception: Any, /) -> None: ...
+
+
+class Asked:
+    """A request, who waits for its answer, and its limit: the moment at which it waits no more, sent or not.
+
+    Without a limit of its own it waits until `until` where no server accepts the session, and has one from the moment on at
+    which it is handed over where one does.
+    """
+
+    __slots__ = "request", "waiter", "until", "ends_at", "sent_at", "is_sent", "is_handed"
+
+    def __init__(
+        self,
+        request: Union[Request[Any], LaneRequest[Any]],
+        waiter: Waiter,
+        until: int,
+        ends_at: Optional[int] = None,
+    ) -> None:
+        self.request, self.waiter, self.until, self.ends_at = request, waiter, until, ends_at
+        self.sent_at, self.is_sent, self.is_handed = 0, False, False
+
+    def fail(self, error: BaseException) -> None:
+        if self.waiter.done():
+            return
+        if isinstance(error, ZookeeperError):
+            error.path = error.path or self.request.path
+            error.may_have_happened = error.may_have_happened and not self.request.is_repeatable
+        self.waiter.set_exception(error)
+
+    def settle(self, *answer: Any) -> None:
+        """Takes the answer, as the request reads it. Raises `Malformed` where one of the lane does not read."""
+        if not self.waiter.done():
+            try:
+                self.waiter.set_result(self.request.result(*answer))
+            except ZookeeperError as error:
+                self.fail(error)
+
+    def give_up(self, no_server: str) -> None:
+        """The limit has come. Where that is not the caller's own, and nothing was sent, no server was found in time."""
+        if self.ends_at is None and not self.is_sent:
+            return self.fail(NotConnectedError(no_server))
+        fate = "it may still happen" if self.is_sent else "it was not sent, and is not sent any more"
+        error = CallTimeoutError("no answer has come in time", fate)
+        error.may_have_happened = self.is_sent
+        self.fail(error)

@@ -1,0 +1,130 @@
+"""What is kept of a session, as a program sees it. It asks no server."""
+
+from __future__ import annotations
+
+import struct
+from collections.abc import Iterable
+from typing import Callable, Optional
+
+from dirwolleu import _library as library
+from dirwolleu._library import Closed, Found, KeptData, KeptNames
+from dirwolleu._session import Session
+from dirwolleu.types import Kept, KeptChildren, Mark, Snapshot
+
+RECIPES_BEFORE_FORGETTING = 1024
+"""How many nodes recipes are done with before what is stale is forgotten."""
+
+
+def _kept(path: str, found: KeptData, last_zxid: int) -> Kept:
+    return Kept(path, Mark(found.mark), last_zxid, found.stat, found.data, found.kind == library.FULL)
+
+
+def _kept_children(path: str, found: KeptNames, last_zxid: int) -> KeptChildren:
+    return KeptChildren(path, Mark(found.mark), last_zxid, found.names, found.pzxid)
+
+
+class Keeping:
+    """The look-ups of a session, which another one may take the place of. Any thread may call them, and a signal handler."""
+
+    _session: Session
+    _saved_at_close: Optional[bytes] = None
+
+    def __init__(self) -> None:
+        self._lane_zxid = self._used = 0
+
+    def _look(self, look: Callable[[Session], Found]) -> Optional[Found]:
+        """What is found in the session, once more where that was closed meanwhile; None where the client is closed."""
+        while self._saved_at_close is None:
+            try:
+                return look(self._session)
+            except Closed:
+                pass
+        return None
+
+    def saved(self) -> bytes:
+        """The session, as the library puts it away. It is a secret."""
+        saved = self._look(lambda session: session.saved())
+        saved = saved if saved is not None else self._saved_at_close or b""
+        return saved[:-8] + struct.pack(">q", max(self._lane_zxid, *struct.unpack(">q", saved[-8:])))
+
+    def session_id(self) -> int:
+        """The number of the session, 0 where none was begun."""
+        return int(struct.unpack(">q", self.saved()[:8])[0])
+
+    def last_zxid(self) -> int:
+        """The greatest zxid that the core has seen. What the lane has seen may be greater."""
+        looked = self._look(lambda session: session.last_zxid())
+        return looked if looked is not None else int(struct.unpack(">q", (self._saved_at_close or b"")[-8:])[0])
+
+    def lane_zxid(self) -> int:
+        """The greatest zxid that the lane has seen."""
+        return self._lane_zxid
+
+    def kept(self, path: str) -> Optional[Kept]:
+        looked = self._look(lambda session: session.peek_data(path))
+        if looked is None or looked[0].kind == library.NOTHING:
+            return None
+        return _kept(path, *looked)
+
+    def kept_children(self, path: str) -> Optional[KeptChildren]:
+        looked = self._look(lambda session: session.peek_children(path))
+        if looked is None or looked[0].mark == 0:
+            return None
+        return _kept_children(path, *looked)
+
+    def snapshot(self, nodes: tuple[str, ...], parents: tuple[str, ...]) -> Optional[Snapshot]:
+        """What is kept of nodes and of the names below parents, where the core shows that all of it is of one moment."""
+        found, zxid = self._look(lambda session: session.snapshot(nodes, parents)) or (None, 0)
+        if found is None:
+            return None
+        return Snapshot(
+            zxid,
+            {path: _kept(path, one, zxid) for path, one in zip(nodes, found.nodes)},
+            {path: _kept_children(path, one, zxid) for path, one in zip(parents, found.children)},
+        )
+
+    def settled(self, path: str) -> Optional[Kept]:
+        """What is kept of a path, where it is good and whole: its data, or that there is no node."""
+        kept = self.kept(path)
+        return kept if kept and kept.mark is Mark.GOOD and (kept.has_data or not kept.exists) else None
+
+    def settled_children(self, path: str) -> Optional[KeptChildren]:
+        """What is kept of the children of a path, where it is good: their names, or that there is no node."""
+        children = self.kept_children(path)
+        if children is not None and children.mark is Mark.GOOD:
+            return children
+        kept = self.kept(path)
+        if kept is None or kept.mark is not Mark.GOOD or kept.exists:
+            return None
+        return KeptChildren(path, Mark.GOOD, kept.last_zxid, (), 0, exists=False)
+
+    def lacking(self, path: str, most: int) -> list[library.Lacking]:
+        """What is still to be read, with a watch, before there is a subtree."""
+        return self._look(lambda session: session.lacking(path, most)) or []
+
+    def subtree(self, path: str, most: int) -> tuple[Optional[list[library.SubtreeNode]], int]:
+        """All nodes at and below a path, and the zxid at which the servers have just these; None where that is not shown."""
+        return self._look(lambda session: session.subtree(path, most)) or (None, 0)
+
+    def standing(self, directory: str, name: str, listing: library.Listing, markers: Iterable[str]) -> library.Standing:
+        """Whether the session comes first in a directory by its node of this name, and else whom it waits for, by a listing that
+        was answered after the node was made. That is the core's verdict: see `Session.standing`.
+        """
+        stands = self._look(lambda session: session.standing(directory, name, *listing, markers))
+        return stands or library.Standing(None, None)
+
+    def token_of(self, path: str) -> Optional[int]:
+        """The zxid at which a node of this session was made, where that it is there is kept and good."""
+        kept = self.kept(path)
+        if kept is None or kept.mark is not Mark.GOOD or kept.stat is None:
+            return None
+        return kept.stat.czxid if kept.stat.ephemeral_owner == self.session_id() != 0 else None
+
+    def forget_stale(self) -> None:
+        self._look(Session.forget)
+
+    def used(self) -> None:
+        """Counts that a recipe has done with a node. What it has left is stale, and is forgotten from time to time."""
+        self._used += 1
+        if self._used % RECIPES_BEFORE_FORGETTING == 0:
+            self.forget_stale()

@@ -1,0 +1,189 @@
+"""`Session`, the session of the library: it says which server is dialled and when, has calls wait for a connection, keeps what is followed
+good, and begins another session after an expiry.
+
+It opens no socket and reads no clock. What holds for `Machine` holds for it: each step is told the moment, one thread makes all steps, and
+any thread may look up what is kept. A ticket is the caller's number of a call or a subject, and no two have or had one.
+"""
+
+from __future__ import annotations
+
+import enum
+from ctypes import c_uint64
+from typing import Any, NamedTuple, Optional, Union
+
+from dirwolleu import _library as library
+from dirwolleu._library import LookUps, checked, functions, known
+from dirwolleu._root import Root
+
+NO_LIMIT = 2**64 - 1
+"""The limit of a call that has none."""
+_REFUSALS = frozenset(
+    (library.READ_CODE, library.READ_TOO_MANY_WATCHES, library.READ_TOO_LARGE, library.READ_CLOSED)
+)
+
+
+class Dial(NamedTuple):
+    """Connect to the address at this place of the list, from 0 on. After this many milliseconds the attempt will be given up."""
+
+    place: int
+    within_ms: int
+
+
+class Sign(enum.Enum):
+    """What has no parts."""
+
+    HANG_UP = enum.auto()
+    """Close the connection, or give the attempt up. What of it was not written is forgotten."""
+
+    RENEWED = enum.auto()
+    """The session has expired, and another one begins."""
+
+
+class TimedOut(NamedTuple):
+    """The limit of a call has come, and it waits no more. Where it was sent, it may have happened, or may yet."""
+
+    ticket: int
+    was_sent: bool
+
+
+class Shown(NamedTuple):
+    """What is kept of a subject is good. It was not, or its path was reported since."""
+
+    ticket: int
+
+
+class Refused(NamedTuple):
+    """A read of a subject was refused, and is made again after a second. The code is the server's, where it was the server that has."""
+
+    ticket: int
+    refusal: int
+    code: int
+
+
+_SIGNS = {library.HANG_UP: Sign.HANG_UP, library.RENEWED: Sign.RENEWED}
+
+Action = Union[library.Output, Dial, Sign, TimedOut, Shown, Refused]
+
+
+class Session(LookUps[Action]):
+    """One session after the other, with the greatest zxid seen in all of them. It holds memory of the library's until `close`.
+
+    `saved` is taken up first. The order of the addresses and the pauses between attempts are random by the seed.
+    """
+
+    _calls = functions("dw_session_")
+
+    def __init__(
+        self, timeout_ms: int, seed: int, saved: Optional[bytes] = None, root: Root = Root(), addresses: int = 0
+    ) -> None:
+        super().__init__(root)
+        if saved is None:
+            checked(self._calls.open(self._handle, timeout_ms, addresses, seed))
+        else:
+            checked(self._calls.resume(self._handle, timeout_ms, addresses, seed, saved, len(saved)))
+
+    def _free(self) -> None:
+        self._calls.free(self._handle)
+
+    # Steps.
+
+    def opened(self, now: int) -> list[Action]:
+        """The connection that was asked for is there."""
+        return self._outputs(self._calls.opened(self._handle, now))
+
+    def failed(self, now: int) -> list[Action]:
+        """The connection that was asked for could not be made."""
+        return self._outputs(self._calls.failed(self._handle, now))
+
+    def cut(self, now: int) -> list[Action]:
+        """The connection is over."""
+        return self._outputs(self._calls.cut(self._handle, now))
+
+    def moment(self, now: int) -> list[Action]:
+        """Nothing but the moment."""
+        return self._outputs(self._calls.moment(self._handle, now))
+
+    def received(self, now: int, data: bytes) -> list[Action]:
+        """Bytes came. Raises `NoMemory` where they can be handed in again."""
+        return self._outputs(self._calls.bytes(self._handle, now, data, len(data)))
+
+    def addresses(self, now: int, count: int) -> list[Action]:
+        """The list of addresses is another one, of this many."""
+        return self._outputs(self._calls.addresses(self._handle, now, count))
+
+    def exists(self, now: int, ticket: int, until: int, path: str, watch: bool) -> list[Action]:
+        spelled = self._root.spell(path)
+        return self._outputs(self._calls.exists(self._handle, now, ticket, until, spelled, len(spelled), watch), path)
+
+    def get_data(self, now: int, ticket: int, until: int, path: str, watch: bool) -> list[Action]:
+        spelled = self._root.spell(path)
+        return self._outputs(self._calls.get_data(self._handle, now, ticket, until, spelled, len(spelled), watch), path)
+
+    def get_children(self, now: int, ticket: int, until: int, path: str, watch: bool) -> list[Action]:
+        spelled = self._root.spell(path)
+        code = self._calls.get_children(self._handle, now, ticket, until, spelled, len(spelled), watch)
+        return self._outputs(code, path)
+
+    def set_data(
+        self, now: int, ticket: int, until: int, path: str, data: Optional[bytes], version: int
+    ) -> list[Action]:
+        spelled, given = self._root.spell(path), data or b""
+        place, content = (spelled, len(spelled)), (given, len(given), data is None)
+        return self._outputs(self._calls.set_data(self._handle, now, ticket, until, *place, *content, version), path)
+
+    def create(
+        self, now: int, ticket: int, until: int, path: str, data: Optional[bytes], mode: int
+    ) -> list[Action]:
+        if mode & library.SEQUENTIAL and path == "/" and self._root.path:
+            raise ValueError("the digits would be part of the root's own name")
+        spelled, given = self._root.spell(path), data or b""
+        place, content = (spelled, len(spelled)), (given, len(given), data is None)
+        return self._outputs(self._calls.create(self._handle, now, ticket, until, *place, *content, mode), path)
+
+    def delete(self, now: int, ticket: int, until: int, path: str, version: int) -> list[Action]:
+        spelled = self._root.spell(path)
+        code = self._calls.delete(self._handle, now, ticket, until, spelled, len(spelled), version)
+        return self._outputs(code, path)
+
+    def close_session(self, now: int, ticket: int, until: int) -> list[Action]:
+        """Ends the session of the servers. After `SESSION_CLOSED` nothing more of it is to be done."""
+        return self._outputs(self._calls.close(self._handle, now, ticket, until))
+
+    def follow(self, now: int, ticket: int, path: str, side: int) -> list[Action]:
+        """Keeps what is known of the data of a node, or of the names of its children, good, also where there is no node yet."""
+        spelled = self._root.spell(path)
+        calls = self._calls
+        follow = calls.follow_data if side == library.DATA_SIDE else calls.follow_names
+        return self._outputs(follow(self._handle, now, ticket, spelled, len(spelled)), path)
+
+    def unfollow(self, now: int, ticket: int) -> list[Action]:
+        return self._outputs(self._calls.unfollow(self._handle, now, ticket))
+
+    # Look-ups.
+
+    def heard_at(self) -> Optional[int]:
+        """The moment at which the server was heard last, on any connection."""
+        moment = c_uint64()
+        code = self._calls.heard_at(self._handle, moment)
+        checked(code)
+        return moment.value if code == library.OK else None
+
+    def forget(self) -> None:
+        """Forgets all stale answers."""
+        checked(self._calls.forget(self._handle))
+
+    # What a step tells.
+
+    def _read(self, fields: tuple[Any, ...]) -> Action:
+        kind, detail, _, code, ticket, _, _, place, was_sent = fields[:9]
+        if kind <= library.DROP:
+            return self._output_of(fields)
+        if kind == library.DIAL:
+            return Dial(place, ticket)
+        if kind == library.TIMED_OUT:
+            return TimedOut(ticket, was_sent)
+        if kind == library.SHOWN:
+            return Shown(ticket)
+        if kind == library.REFUSED:
+            return Refused(ticket, known("refusal", detail, _REFUSALS), code)
+        return _SIGNS[known("output", kind, _SIGNS)]

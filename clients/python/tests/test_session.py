@@ -1,0 +1,168 @@
+"""Tests of a session of the library, by frames that are spelled here as zookeeper.jute has them."""
+
+from __future__ import annotations
+
+import struct
+import unittest
+
+from test_library import CONNECT_REQUEST, CONNECT_RESPONSE, STAT, STAT_BYTES, buffer, frame, reply
+
+from dirwolleu import _library as library
+from dirwolleu._library import Answer, Drop, NoMemory, Report, Send, StateChange
+from dirwolleu._root import Root
+from dirwolleu._session import NO_LIMIT, Action, Dial, Refused, Session, Shown, Sign, TimedOut
+
+EXPIRED = frame(struct.pack(">iiq", 0, 0, 0) + buffer(bytes(16)) + b"\0")
+CONNECTED = [StateChange(library.CONNECTED)]
+
+
+def asked(xid: int, kind: int, path: str, rest: bytes = b"") -> Send:
+    return Send(frame(struct.pack(">ii", xid, kind) + buffer(path.encode()) + rest))
+
+
+def read(xid: int, path: str, watch: bool = False) -> Send:
+    return asked(xid, 4, path, bytes([watch]))
+
+
+class SessionTest(unittest.TestCase):
+    def session(self, root: Root = Root()) -> Session:
+        session = Session(6000, 1, root=root)
+        self.addCleanup(session.close)
+        return session
+
+    def connected(self, root: Root = Root()) -> Session:
+        session = self.session(root)
+        session.addresses(100, 1)
+        session.opened(100)
+        self.assertEqual(session.received(100, CONNECT_RESPONSE), CONNECTED)
+        return session
+
+    def test_it_asks_for_a_connection_and_gives_an_attempt_up(self) -> None:
+        session = self.session()
+        self.assertEqual(session.moment(100), [])  # there is no address
+        self.assertEqual(session.addresses(100, 1), [Dial(0, 2000)])
+        self.assertEqual((session.deadline(), session.moment(2099), session.moment(2100)), (2100, [], [Sign.HANG_UP]))
+        self.assertEqual(session.opened(2101), [Sign.HANG_UP])  # it comes too late
+        self.assertEqual(session.moment(2434), [Dial(0, 2000)])
+        self.assertEqual(session.failed(2500), [])
+        self.assertEqual(session.moment(2768), [Dial(0, 2000)])
+        self.assertEqual(session.opened(2800), [Send(CONNECT_REQUEST), StateChange(library.CONNECTING)])
+        self.assertEqual(session.received(2900, CONNECT_RESPONSE), CONNECTED)
+        self.assertEqual((session.state(), session.timeout_ms(), session.heard_at()), (library.CONNECTED, 4000, 2900))
+
+    def test_each_address_has_its_turn(self) -> None:
+        session, places = self.session(), list[int]()
+        session.addresses(0, 3)
+        for now in range(400, 100_000, 400):
+            places += [action.place for action in session.failed(now) + session.moment(now) if isinstance(action, Dial)]
+        self.assertEqual({len(set(places[begin : begin + 3])) for begin in range(0, len(places) - 2)}, {3})
+
+    def test_calls_wait_and_are_answered(self) -> None:
+        session = self.session()
+        session.addresses(100, 1)
+        self.assertEqual(session.get_data(100, 7, NO_LIMIT, "/a", True), [])
+        self.assertEqual(session.set_data(100, 8, 1000, "/a", None, -1), [])
+        session.opened(100)
+        change = asked(2, 5, "/a", struct.pack(">ii", -1, -1))
+        self.assertEqual(session.received(100, CONNECT_RESPONSE), [*CONNECTED, read(1, "/a", True), change])
+        answer = Answer(7, 0, library.DATA, 0, STAT, b"one", [], 9)
+        self.assertEqual(session.received(200, reply(1, 9, 0, buffer(b"one") + STAT_BYTES)), [answer])
+        self.assertEqual(session.moment(1000), [TimedOut(8, True)])
+        notice = reply(-1, -1, 0, struct.pack(">ii", 3, 3) + buffer(b"/a"))
+        self.assertEqual(session.received(1100, notice), [Report(library.DATA_CHANGED, library.DATA_SIDE, "/a")])
+
+    def test_a_read_goes_on_over_a_cut_and_a_write_is_lost(self) -> None:
+        session = self.connected()
+        calls = [
+            session.exists(200, 1, NO_LIMIT, "/a", False),
+            session.create(200, 2, NO_LIMIT, "/a", b"", library.PERSISTENT),
+            session.get_children(200, 3, 5000, "/a", False),
+            session.delete(200, 4, NO_LIMIT, "/a", -1),
+        ]
+        self.assertEqual([len(actions) for actions in calls], [1, 1, 1, 1])
+        lost = [Answer(ticket, library.LOST, 0, 0, None, None, []) for ticket in (2, 4)]
+        self.assertEqual(session.cut(300), [*lost, StateChange(library.IDLE)])
+        session.moment(1000)
+        session.opened(1000)
+        again = [asked(5, 3, "/a", b"\0"), asked(6, 12, "/a", b"\0")]
+        self.assertEqual(session.received(1000, CONNECT_RESPONSE), [*CONNECTED, *again])
+        session.cut(1100)
+        self.assertEqual(session.moment(5000)[:1], [TimedOut(3, False)])
+
+    def test_another_session_begins_after_an_expiry(self) -> None:
+        session = self.connected()
+        session.get_data(200, 1, NO_LIMIT, "/a", False)
+        session.received(300, reply(1, 9, -101))
+        session.get_data(400, 2, NO_LIMIT, "/a", False)
+        session.cut(500)
+        session.moment(1000)
+        session.opened(1000)
+        told = session.received(1000, EXPIRED)
+        answer = Answer(2, library.AFTER_EXPIRY, 0, 0, None, None, [])
+        self.assertEqual(told, [StateChange(library.EXPIRED), Sign.HANG_UP, answer, Sign.RENEWED, Dial(0, 2000)])
+        self.assertEqual((session.saved()[:8], session.last_zxid()), (bytes(8), 9))
+
+    def test_what_is_followed_is_kept_good(self) -> None:
+        session = self.connected()
+        self.assertEqual(session.follow(200, 5, "/a", library.DATA_SIDE), [read(1, "/a", True)])
+        self.assertEqual(session.received(300, reply(1, 9, 0, buffer(b"one") + STAT_BYTES)), [Shown(5)])
+        self.assertEqual(session.peek_data("/a")[0].data, b"one")
+        notice = reply(-1, -1, 0, struct.pack(">ii", 3, 3) + buffer(b"/a"))
+        report = Report(library.DATA_CHANGED, library.DATA_SIDE, "/a")
+        self.assertEqual(session.received(400, notice), [report, read(2, "/a", True)])
+        self.assertEqual(session.received(500, reply(2, 9, -102)), [Refused(5, library.READ_CODE, -102)])
+        self.assertEqual(session.deadline(), 1500)
+        self.assertEqual(session.unfollow(600, 5), [])
+        self.assertEqual(session.moment(1500), [])
+        self.assertEqual(session.follow(1500, 6, "/b", library.CHILDREN_SIDE), [asked(3, 12, "/b", b"\1")])
+
+    def test_a_connection_is_given_up(self) -> None:
+        session = self.connected()
+        told: list[Action] = session.received(200, struct.pack(">i", 5_000_000))
+        self.assertIsInstance(told[0], Drop)
+        self.assertEqual(told[1:], [StateChange(library.IDLE), Sign.HANG_UP])
+
+    def test_a_session_is_closed(self) -> None:
+        session = self.connected()
+        self.assertEqual(session.close_session(200, 1, NO_LIMIT), [Send(frame(struct.pack(">ii", 1, -11)))])
+        told = session.received(300, reply(1, 9))
+        self.assertEqual(told[:2], [Answer(1, 0, library.DONE, 0, None, None, [], 9), StateChange(library.SESSION_CLOSED)])
+
+    def test_a_session_is_put_away_and_taken_up(self) -> None:
+        saved = self.connected().saved()
+        other = Session(6000, 2, saved, addresses=1)
+        self.addCleanup(other.close)
+        self.assertEqual(other.moment(0), [Dial(0, 2000)])
+        other.opened(0)
+        self.assertEqual(other.saved(), saved)
+        with self.assertRaises(ValueError):
+            Session(6000, 2, b"short")
+        with self.assertRaises(ValueError):
+            Session(0, 2)
+
+    def test_paths_are_below_the_root(self) -> None:
+        session = self.connected(Root("/app"))
+        self.assertEqual(session.get_data(200, 1, NO_LIMIT, "/a", False), [read(1, "/app/a")])
+        self.assertEqual(session.follow(200, 2, "/", library.CHILDREN_SIDE), [asked(2, 12, "/app", b"\1")])
+        with self.assertRaises(ValueError):
+            session.create(200, 3, NO_LIMIT, "/", b"", library.SEQUENTIAL)
+        for wrong in ("", "a", "/a/", "/a//b"):
+            with self.assertRaises(ValueError):
+                session.follow(200, 4, wrong, library.DATA_SIDE)
+
+    def test_what_the_library_answers(self) -> None:
+        session = self.session()
+        session.close()
+        with self.assertRaises(library.Closed):
+            session.moment(0)
+        self.assertIsNone(self.session().heard_at())
+        with self.assertRaises(NoMemory):
+            library.checked(library.NO_MEMORY)
+        with self.assertRaises(library.UnknownNumber):
+            session._read(library._fields_of_output(library._Output(kind=99)))
+        with self.assertRaises(library.UnknownNumber):
+            session._read(library._fields_of_output(library._Output(kind=library.REFUSED, detail=99)))
+
+
+if __name__ == "__main__":
+    unittest.main()
