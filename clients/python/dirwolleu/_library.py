@@ -729,10 +729,11 @@ class LookUps(Generic[Said]):
     def revision(self) -> int:
         """A number from 1 on that rises where what is kept and good may have changed, or the state, or the session; 0 once closed.
 
-        By one at each step that told a reply, a report or another state, at one that halted, and as a session is renewed. While it is
-        the same, a subtree, what is lacking and a snapshot are the same: ask for them again only where it differs.
+        Of a machine it rises by one at each step that told a reply, a report or another state; of a session at each step with bytes
+        too; and of both at a step that halted, and as another session begins. While it is the same, a subtree, what is lacking and a
+        snapshot are the same: ask for them again only where it differs.
         """
-        return int(_library.dw_revision(self._handle))
+        return int(self._calls.revision(self._handle))
 
     def last_zxid(self) -> int:
         return self._number(self._calls.last_zxid(self._handle))
