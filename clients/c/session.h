@@ -303,6 +303,10 @@ static inline void *dws_context(const dws_session *s);
 /* The greatest zxid seen: what is marked good holds at it. */
 static inline int64_t dws_last_zxid(dws_session *s);
 
+/* Forgets all stale answers. What is kept is bounded by nothing but memory: who goes from path to path, without following them, calls this now and
+ * then. What is followed is followed still. */
+static inline void dws_forget(dws_session *s);
+
 /* How many milliseconds ago the server was heard last, or -1 where it was not yet. What is marked good was so at some moment since then, or later. */
 static inline int64_t dws_heard_ms(dws_session *s);
 
@@ -826,6 +830,11 @@ static inline void *dws_context(const dws_session *s)
 static inline int64_t dws_last_zxid(dws_session *s)
 {
     return dw_session_last_zxid(&s->machine);
+}
+
+static inline void dws_forget(dws_session *s)
+{
+    dw_session_forget(&s->machine);
 }
 
 static inline int64_t dws_heard_ms(dws_session *s)

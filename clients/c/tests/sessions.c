@@ -103,6 +103,18 @@ static void expect_shown(dw_session *session, enum dw_kept kind)
     EXPECT_NUMBER(DW_MARK_GOOD, kept.mark);
 }
 
+/* What a report has made stale is forgotten, and what was said is there still. */
+static void forget_what_is_stale(dw_session *session)
+{
+    dw_kept_data kept;
+    uint8_t data[8];
+    EXPECT_NUMBER(DW_OK, dw_session_peek_data(session, CONFIG, &kept, data, sizeof data));
+    EXPECT_NUMBER(DW_MARK_STALE, kept.mark);
+    EXPECT_NUMBER(DW_OK, dw_session_forget(session));
+    EXPECT_NUMBER(DW_OK, dw_session_peek_data(session, CONFIG, &kept, data, sizeof data));
+    EXPECT_NUMBER(DW_KEPT_NOTHING, kept.kind);
+}
+
 /* A read of a path of seven bytes: its length, the xid, the number of the operation, the path after its length, and the watch. */
 enum { READ_LENGTH = 4 + 4 + 4 + 4 + 7 + 1 };
 
@@ -121,6 +133,7 @@ static void follow_an_absent_node(dw_session *session)
     came.length = 0;
     add_notice(&came, DW_EVENT_CREATED, "/config");
     hand_in(session, 50, &came);
+    forget_what_is_stale(session);
     dw_output report = expect_next(session, DW_KIND_REPORT);
     EXPECT_NUMBER(DW_EVENT_CREATED, report.event);
     EXPECT_NUMBER(DW_SIDE_DATA, report.side);
@@ -249,6 +262,7 @@ static void expect_closed_looks(dw_session *none)
     EXPECT_NUMBER(DW_CLOSED, dw_session_words(none, text, sizeof text, &count));
     EXPECT_NUMBER(DW_CLOSED, dw_session_state(none));
     EXPECT_NUMBER(0, dw_session_revision(none));
+    EXPECT_NUMBER(DW_CLOSED, dw_session_forget(none));
     EXPECT_NUMBER(DW_CLOSED, dw_session_last_zxid(none));
     EXPECT_NUMBER(DW_CLOSED, dw_session_timeout_ms(none));
     EXPECT_NUMBER(DW_CLOSED, dw_session_deadline(none, &moment_ms));

@@ -185,6 +185,11 @@ impl Engine {
         client.saved()
     }
 
+    /// Forgets all stale answers.
+    pub(crate) fn forget_stale(&mut self) {
+        self.machine.forget_stale();
+    }
+
     /// Other hosts, from the next attempt to connect on. Hosts with another chroot are handed back.
     pub(crate) fn change_hosts(&mut self, hosts: Hosts) -> Result<(), Hosts> {
         if *hosts.root() != self.chroot {

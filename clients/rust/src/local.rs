@@ -225,6 +225,11 @@ impl LocalSession {
     pub fn change_hosts(&mut self, hosts: Hosts) -> Result<(), Hosts> {
         self.inner().with(|engine| engine.change_hosts(hosts))
     }
+
+    /// Forgets all stale answers, as [`Session::forget_stale`](crate::Session::forget_stale).
+    pub fn forget_stale(&mut self) {
+        self.inner().with(Engine::forget_stale);
+    }
 }
 
 impl fmt::Debug for LocalSession {

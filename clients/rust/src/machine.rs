@@ -201,6 +201,12 @@ impl Machine {
     pub fn unfollow(&mut self, now: Moment, ticket: u64) -> Result<Actions<'_>, Fault> {
         self.step(|handle| handle.unfollow(now, ticket))
     }
+
+    /// Forgets all stale answers. What is kept is bounded by nothing but memory: who goes from path to path calls this now and then. It is
+    /// no step, and what is followed is followed still.
+    pub fn forget_stale(&mut self) {
+        self.handle.forget();
+    }
 }
 
 /// The moment to which a call waits: the last one of all where it has no limit.

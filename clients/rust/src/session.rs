@@ -370,6 +370,12 @@ impl Session {
         changed
     }
 
+    /// Forgets all stale answers. What is kept is bounded by nothing but memory: who goes from path to path calls this now and then. What is
+    /// followed is followed still.
+    pub fn forget_stale(&self) {
+        self.shared.with(Engine::forget_stale);
+    }
+
     fn inner(&self) -> &Shared {
         &self.shared
     }

@@ -113,6 +113,20 @@ fn a_subject_is_read_again_after_each_report() {
 }
 
 #[test]
+fn stale_answers_are_forgotten_and_good_ones_stay() {
+    let mut machine = connected();
+    let _ = machine.follow(START, 7, "/a", Side::Data).unwrap();
+    let _ = machine.bytes(START, &data(1, 5, "one")).unwrap();
+    machine.forget_stale();
+    assert_eq!(machine.data_mark("/a"), Ok(Some(Mark::Good)));
+    let _ = machine.bytes(START, &Record::notice(3, "/a")).unwrap();
+    machine.forget_stale();
+    assert_eq!(machine.data_mark("/a"), Ok(None));
+    let actions = machine.bytes(START, &data(2, 6, "two")).unwrap();
+    assert_eq!(said(actions), ["7: shown"]); // it is followed still
+}
+
+#[test]
 fn a_read_that_is_refused_is_made_again_after_a_second() {
     let mut machine = connected();
     let _ = machine.follow(START, 7, "/a", Side::Children).unwrap();

@@ -3,7 +3,7 @@
 use super::{
     bytes_of, check_version, dw_session_addresses, dw_session_bytes, dw_session_close,
     dw_session_copy, dw_session_create, dw_session_cut, dw_session_deadline, dw_session_delete,
-    dw_session_exists, dw_session_failed, dw_session_follow_data, dw_session_follow_names,
+    dw_session_exists, dw_session_failed, dw_session_follow_data, dw_session_follow_names, dw_session_forget,
     dw_session_free, dw_session_get_children, dw_session_get_data, dw_session_heard_at,
     dw_session_holder, dw_session_lacking, dw_session_last_zxid, dw_session_moment,
     dw_session_name, dw_session_names, dw_session_next, dw_session_open, dw_session_opened,
@@ -277,5 +277,10 @@ impl MachineHandle {
     ) -> Result<(), Fault> {
         // SAFETY: as `Handle` says.
         done(unsafe { dw_session_close(self.raw(), now.as_millis(), ticket, until.as_millis()) })
+    }
+    /// Forgets stale answers, which an open session always does.
+    pub(crate) fn forget(&mut self) {
+        // SAFETY: as `Handle` says.
+        unsafe { dw_session_forget(self.raw()) };
     }
 }
