@@ -4,9 +4,9 @@ use super::{
     bytes_of, check_version, dw_bytes, dw_close, dw_close_session, dw_copy, dw_create, dw_cut,
     dw_deadline, dw_delete, dw_exists, dw_forget, dw_get_children, dw_get_data, dw_holder,
     dw_lacking, dw_last_zxid, dw_name, dw_names, dw_next, dw_open, dw_opened, dw_peek_children,
-    dw_peek_data, dw_peek_names, dw_renew, dw_resume, dw_revision, dw_saved, dw_set_data, dw_snapshot,
-    dw_standing, dw_state, dw_subtree, dw_tick, dw_timeout_ms, dw_words, Call, Functions, Handle,
-    Raw,
+    dw_peek_data, dw_peek_names, dw_renew, dw_resume, dw_revision, dw_saved, dw_set_data,
+    dw_snapshot, dw_standing, dw_state, dw_subtree, dw_tick, dw_timeout_ms, dw_words, Call,
+    Functions, Handle, Raw,
 };
 use crate::fault::{done, done_at, Fault};
 use crate::moment::Moment;
