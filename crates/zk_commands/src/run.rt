@@ -41,17 +41,12 @@ fn perform<D: Dial + Drop, C: Clock + Drop, I: Read, O: Write, E: Write>(
     errors: &mut E,
     command: Command<'_>,
 ) -> Status
-    ensures done { result ≡ Status.Done → (words : List Text) → AsksFor words command.entry → (text : List ℕ) × IsDone words (I.remaining input.old) text
-        × Appends (O.contents out.old) (O.contents out.new) text × (errors.new ≡ errors.old) }
-    ensures fault { result ≡ Status.Fault → (words : List Text) → AsksFor words command.entry → (text told : List ℕ) × IsFaulty words (I.remaining input.old) text told
-        × Appends (O.contents out.old) (O.contents out.new) text × Appends (E.contents errors.old) (E.contents errors.new) told }
+    ensures done { result ≡ Status.Done → (words : List Text) → AsksFor words command.entry → (text : List ℕ) × IsDone words (I.remaining input.old) text × Appends (O.contents out.old) (O.contents out.new) text × (errors.new ≡ errors.old) }
+    ensures fault { result ≡ Status.Fault → (words : List Text) → AsksFor words command.entry → (text told : List ℕ) × IsFaulty words (I.remaining input.old) text told × Appends (O.contents out.old) (O.contents out.new) text × Appends (E.contents errors.old) (E.contents errors.new) told }
     ensures usage { result ≢ Status.Usage }
-    ensures undone { IsUndone result → (words : List Text) → AsksFor words command.entry → (told : List ℕ) × IsUndoneBy words result told
-        × Appends (E.contents errors.old) (E.contents errors.new) told × (out.new ≡ out.old) }
-    ensures never { result ≡ Status.NeverConnected → (words : List Text) → AsksFor words command.entry → (text : List ℕ) × IsNeverConnected words text
-        × Appends (O.contents out.old) (O.contents out.new) text × (errors.new ≡ errors.old) }
-    ensures memory { result ≡ Status.Memory → (words : List Text) → AsksFor words command.entry → (text : List ℕ) × IsWhole words (I.remaining input.old) text
-        × Appends (O.contents out.old) (O.contents out.new) text × (errors.new ≡ errors.old) }
+    ensures undone { IsUndone result → (words : List Text) → AsksFor words command.entry → (told : List ℕ) × IsUndoneBy words result told × Appends (E.contents errors.old) (E.contents errors.new) told × (out.new ≡ out.old) }
+    ensures never { result ≡ Status.NeverConnected → (words : List Text) → AsksFor words command.entry → (text : List ℕ) × IsNeverConnected words text × Appends (O.contents out.old) (O.contents out.new) text × (errors.new ≡ errors.old) }
+    ensures memory { result ≡ Status.Memory → (words : List Text) → AsksFor words command.entry → (text : List ℕ) × IsWhole words (I.remaining input.old) text × Appends (O.contents out.old) (O.contents out.new) text × (errors.new ≡ errors.old) }
 {
     match command {
         Command::Show { kind, hex } => show(alloc, out, errors, kind, hex),
@@ -59,10 +54,8 @@ fn perform<D: Dial + Drop, C: Clock + Drop, I: Read, O: Write, E: Write>(
         Command::Replay => script_over(alloc, ReplayedClient, input, out, errors),
         Command::Rehearse => script_over(alloc, RehearsedClient, input, out, errors),
         Command::Live { addresses } => {
-            let plays = LiveClient {
-                dial: &mut dial,
-                addresses: addresses.as_slice(),
-            };
+            let (dial, addresses) = (&mut dial, addresses.as_slice());
+            let plays = LiveClient { dial, addresses };
             script_over(alloc, plays, input, out, errors)
         }
         Command::Watch {
