@@ -563,7 +563,7 @@ static inline bool dws_write_beside(dws_session *s, int32_t xid, int32_t type, c
     s->unsent.room = frame.room;
     if (is_put) {
         s->unsent.length = frame.length;
-        dws_expect_answer(s);
+        dws_expect_answer(s, &s->waiting);
     }
     return is_put;
 }

@@ -335,6 +335,11 @@ struct dws_waiting {
     size_t first, count, room;
 };
 
+/* Frames that came and are no notices. */
+struct dws_answers {
+    size_t to_requests, to_pings;
+};
+
 struct dws_host {
     char name[DWS_LONGEST_HOST], port[6];
     size_t turn; /* which of the addresses of its name is dialled next */
@@ -372,7 +377,7 @@ struct dws_session {
     bool must_look, must_follow;       /* marks may be others; subjects are new or gone */
     bool is_due_known;                 /* no step was made since the library was asked when something is due */
     uint64_t due_ms;
-    struct dws_waiting waiting;
+    struct dws_waiting waiting, pings; /* requests, and pings */
     struct dws_frames came;
     uint64_t now_ms, last_ticket;
     struct dws_buffer unsent;
@@ -766,6 +771,7 @@ static inline void dws_free(dws_session *s)
     dws_release(&s->close);
     free(s->unsent.bytes);
     free(s->waiting.since_ms);
+    free(s->pings.since_ms);
     free(s->gone);
     free(s->hosts);
     free(s->hosts_text);

@@ -192,13 +192,14 @@ static inline void dws_hang_up(dws_session *s)
     s->read_wants = s->write_wants = 0;
     s->unsent.length = 0;
     s->waiting.first = s->waiting.count = 0;
+    s->pings.first = s->pings.count = 0;
     memset(&s->came, 0, sizeof s->came);
 }
 
-/* A request goes out that the server answers by one frame. Without memory it is not counted. */
-static inline void dws_expect_answer(dws_session *s)
+/* A request goes out that the server answers by one frame. Without memory it is not counted. Pings wait apart: they are answered at once, also
+ * where a request before them is not. */
+static inline void dws_expect_answer(dws_session *s, struct dws_waiting *waiting)
 {
-    struct dws_waiting *waiting = &s->waiting;
     size_t entry = sizeof *waiting->since_ms;
     if (waiting->first > 0 && (waiting->first + waiting->count + 1) * entry > waiting->room) {
         memmove(waiting->since_ms, waiting->since_ms + waiting->first, waiting->count * entry);
@@ -212,28 +213,39 @@ static inline void dws_expect_answer(dws_session *s)
     }
 }
 
-/* This many frames came that answer requests. */
-static inline void dws_note_answers(dws_session *s, size_t count)
+/* This many frames came that answer what waits. */
+static inline void dws_note_answers(struct dws_waiting *waiting, size_t count)
 {
-    struct dws_waiting *waiting = &s->waiting;
     size_t answered = (size_t)dws_least(count, waiting->count);
     waiting->count -= answered;
     waiting->first = waiting->count > 0 ? waiting->first + answered : 0;
 }
 
+static inline uint64_t dws_oldest_ms(const struct dws_waiting *waiting)
+{
+    return waiting->count > 0 ? waiting->since_ms[waiting->first] : UINT64_MAX;
+}
+
 /* When the connection is to be given up, unless answers come: so that a server that sends other things is not waited for. */
 static inline uint64_t dws_end_of_waiting(dws_session *s)
 {
-    const struct dws_waiting *waiting = &s->waiting;
-    return waiting->count > 0 ? waiting->since_ms[waiting->first] + dws_timeout_ms(s) * 2 / 3 : UINT64_MAX;
+    uint64_t oldest_ms = dws_least(dws_oldest_ms(&s->waiting), dws_oldest_ms(&s->pings));
+    return oldest_ms < UINT64_MAX ? oldest_ms + dws_timeout_ms(s) * 2 / 3 : UINT64_MAX;
 }
 
-/* How many frames that are no notices end in these bytes, which come next in the stream. */
-static inline size_t dws_count_answers(struct dws_frames *frames, const uint8_t *bytes, size_t length)
+/* Whether the xid of a frame, which stands after its length, is that of pings. */
+static inline bool dws_is_ping(const uint8_t *frame)
+{
+    static const uint8_t ping[] = {0xff, 0xff, 0xff, 0xfe};
+    return memcmp(frame + 4, ping, sizeof ping) == 0;
+}
+
+/* How many frames that are no notices end in these bytes, which come next in the stream: answers to pings, and others. */
+static inline struct dws_answers dws_count_answers(struct dws_frames *frames, const uint8_t *bytes, size_t length)
 {
     static const uint8_t notice[] = {0xff, 0xff, 0xff, 0xff};
     const uint8_t *head = frames->head;
-    size_t count = 0;
+    struct dws_answers came = {0, 0};
     for (size_t taken, i = 0; i < length; i += taken) {
         if (frames->held < sizeof frames->head) {
             taken = 1;
@@ -245,11 +257,13 @@ static inline size_t dws_count_answers(struct dws_frames *frames, const uint8_t 
             frames->left -= taken;
         }
         if (frames->held == sizeof frames->head && frames->left == 0) {
-            count += memcmp(head + 4, notice, sizeof notice) != 0;
+            bool is_ping = dws_is_ping(head);
+            came.to_pings += is_ping;
+            came.to_requests += !is_ping && memcmp(head + 4, notice, sizeof notice) != 0;
             frames->held = 0;
         }
     }
-    return count;
+    return came;
 }
 
 /* Keeps the frame of the action that was told last until it is written. One of a connection that is over is forgotten. */
@@ -265,8 +279,9 @@ static inline void dws_send_later(dws_session *s, size_t length)
         dws_fail(s, DW_NO_MEMORY);
         return;
     }
+    const uint8_t *frame = s->unsent.bytes + s->unsent.length;
     s->unsent.length += dw_session_copy(&s->machine, 0, s->unsent.bytes + s->unsent.length, length);
-    dws_expect_answer(s);
+    dws_expect_answer(s, length >= 8 && dws_is_ping(frame) ? &s->pings : &s->waiting);
 }
 
 /* The path that the program knows, of one that the servers know. */

@@ -219,7 +219,9 @@ static inline void dws_hear(dws_session *s, uint64_t came_ms, const uint8_t *byt
 /* Takes bytes from the server. */
 static inline void dws_hear_all(dws_session *s, uint64_t came_ms, const uint8_t *bytes, size_t length)
 {
-    dws_note_answers(s, dws_count_answers(&s->came, bytes, length));
+    struct dws_answers came = dws_count_answers(&s->came, bytes, length);
+    dws_note_answers(&s->waiting, came.to_requests);
+    dws_note_answers(&s->pings, came.to_pings);
     if (s->beside != NULL) {
         s->beside->hear(s, came_ms, bytes, length);
     } else {
@@ -237,7 +239,7 @@ static inline void dws_receive(dws_session *s)
         ssize_t count = dws_read(s, piece, sizeof piece);
         if (count > 0) {
             dws_hear_all(s, came_ms, piece, (size_t)count);
-            s->has_more = s->options.read != NULL || count == (ssize_t)sizeof piece || s->waiting.count > 0; /* else poll tells of more */
+            s->has_more = s->options.read != NULL || count == (ssize_t)sizeof piece || s->waiting.count + s->pings.count > 0; /* else poll tells of more */
         } else if (count == 0) {
             dws_cut(s, "the server has ended the connection");
         } else if (dws_is_passing(errno)) {

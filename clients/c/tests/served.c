@@ -56,6 +56,27 @@ static void ping_in_time(void)
     close_all();
 }
 
+/* Pings are answered and a call is not: the connection is left two thirds of the timeout after the call was asked. */
+static void answer_pings_alone(void)
+{
+    open_session();
+    admit();
+    uint64_t asked_ms = dws_now_ms();
+    dws_set(session, &set, "/a", "one", 3, -1);
+    hear_request(1, TYPE_SET, NULL);
+    hear_request(XID_PING, TYPE_PING, NULL);
+    answer_nothing(XID_PING, 5);
+    while (!has_told(DWS_CUT) && dws_now_ms() < asked_ms + GRANTED_MS) {
+        turn(SHORT_TURNS);
+    }
+    uint64_t waited_ms = dws_now_ms() - asked_ms;
+    EXPECT(waited_ms + SOON_MS > GRANTED_MS * 2 / 3 && waited_ms < GRANTED_MS * 2 / 3 + SOON_MS);
+    EXPECT(set.is_answered && set.why == DW_OUTCOME_LOST);
+    close(line);
+    accept_line(); /* it dials again */
+    close_all();
+}
+
 /* The next connection begins with the request to connect, whatever was not written on the one before. */
 static void expect_new_connection(void)
 {
@@ -442,6 +463,7 @@ int main(void)
 {
     begin_listening();
     ping_in_time();
+    answer_pings_alone();
     forget_unsent();
     end_at_expiry();
     renew_at_expiry();
