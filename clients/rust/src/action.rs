@@ -15,7 +15,18 @@ use std::time::Duration;
 ///
 /// It lends, and it borrows the machine, as [`Outputs`](crate::Outputs) do of a client.
 ///
-/// [`Machine`] has an example.
+/// ```
+/// use dirwolleu::{Machine, Moment, State};
+/// use std::time::Duration;
+///
+/// let mut machine = Machine::open(Duration::from_secs(9), 3, 42)?;
+/// let mut actions = machine.tick(Moment::from_millis(1))?;
+/// while let Some(action) = actions.next()? {
+///     println!("{action:?}"); // a program does what it says
+/// }
+/// assert_eq!(actions.machine().state(), State::Idle);
+/// # Ok::<(), dirwolleu::Fault>(())
+/// ```
 #[derive(Debug)]
 #[must_use = "frames that are not written never reach the server"]
 pub struct Actions<'a> {
@@ -48,7 +59,24 @@ impl<'a> Actions<'a> {
 
 /// What a machine asks for, or tells.
 ///
-/// [`Machine`] has an example.
+/// ```
+/// use dirwolleu::{Action, Machine, Moment};
+/// use std::time::Duration;
+///
+/// let addresses = ["10.0.0.1:2181", "10.0.0.2:2181"];
+/// let mut machine = Machine::open(Duration::from_secs(9), addresses.len(), 42)?;
+/// let mut to_server = Vec::new();
+/// let mut actions = machine.tick(Moment::from_millis(1))?;
+/// while let Some(action) = actions.next()? {
+///     match action {
+///         Action::Dial { place, within } => println!("connect to {} within {within:?}", addresses[place]),
+///         Action::HangUp => to_server.clear(), // and close the connection
+///         Action::Send(frame) => frame.append_to(&mut to_server),
+///         other => println!("{other:?}"),
+///     }
+/// }
+/// # Ok::<(), dirwolleu::Fault>(())
+/// ```
 #[derive(Debug)]
 #[non_exhaustive]
 pub enum Action<'a> {

@@ -38,7 +38,20 @@ type Told = Result<Option<KeptNode>, Error>;
 /// What a node holds, at first and at each change, and none where there is no node: of [`Session::follow`]. It is an iterator, which
 /// waits, and by [`poll_next`](Follow::poll_next) a stream of no runtime. The node is followed until this is dropped.
 ///
-/// Its functions, and [`Session::follow`], have examples.
+/// ```no_run
+/// use dirwolleu::Session;
+/// # use std::time::Duration;
+///
+/// # fn main() -> Result<(), Box<dyn std::error::Error>> {
+/// # let session = Session::open("127.0.0.1:2181", Duration::from_secs(10))?;
+/// let mut nodes = session.follow("/config"); // nothing is read yet
+/// if let Some(first) = nodes.next() {
+///     println!("{:?}", first?.map(|node| node.data));
+/// }
+/// drop(nodes); // it is followed no more
+/// # Ok(())
+/// # }
+/// ```
 #[must_use = "it reads nothing before it is asked for the next"]
 pub struct Follow<'a> {
     session: &'a Session,

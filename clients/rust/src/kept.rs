@@ -39,7 +39,24 @@ pub struct Kept<T> {
 
 /// What is kept about the data of a path.
 ///
-/// [`Kept`] has an example.
+/// ```
+/// use dirwolleu::{Client, DataAnswer, Moment, Watch};
+/// # use std::time::Duration;
+/// # let now = Moment::from_millis(1);
+/// # let mut client = Client::open(Duration::from_secs(9))?;
+/// # let _ = client.opened(now)?;
+/// # let admitted = [&[0, 0, 0, 37, 0, 0, 0, 0, 0, 0, 35, 40, 0, 0, 0, 0, 0, 0, 0, 1, 0, 0, 0, 16][..], &[0; 17]].concat();
+/// # let _ = client.bytes(now, &admitted)?;
+///
+/// let _ = client.exists(now, 7, "/a", Watch::Yes)?;
+/// # let from_server = [0, 0, 0, 16, 0, 0, 0, 1, 0, 0, 0, 0, 0, 0, 0, 5, 255, 255, 255, 155];
+/// let _ = client.bytes(now, &from_server)?;
+/// match client.peek_data("/a")?.map(|kept| kept.answer) {
+///     Some(DataAnswer::Absent) => println!("there is no node"),
+///     other => panic!("that is kept, and not {other:?}"),
+/// }
+/// # Ok::<(), dirwolleu::Fault>(())
+/// ```
 #[derive(Clone, Debug, PartialEq, Eq)]
 pub enum DataAnswer {
     /// There is no node.
@@ -57,7 +74,26 @@ pub enum DataAnswer {
 
 /// What is kept about the children of a path.
 ///
-/// [`Kept`] has an example.
+/// ```
+/// use dirwolleu::{Children, Client, Moment, Watch};
+/// # use std::time::Duration;
+/// # let now = Moment::from_millis(1);
+/// # let mut client = Client::open(Duration::from_secs(9))?;
+/// # let _ = client.opened(now)?;
+/// # let admitted = [&[0, 0, 0, 37, 0, 0, 0, 0, 0, 0, 35, 40, 0, 0, 0, 0, 0, 0, 0, 1, 0, 0, 0, 16][..], &[0; 17]].concat();
+/// # let _ = client.bytes(now, &admitted)?;
+///
+/// let _ = client.get_children(now, 7, "/a", Watch::Yes)?;
+/// # let head = [0, 0, 0, 101, 0, 0, 0, 1, 0, 0, 0, 0, 0, 0, 0, 5, 0, 0, 0, 0, 0, 0, 0, 2];
+/// # let names = b"\0\0\0\x04port\0\0\0\x01b";
+/// # let from_server = [&head[..], names, &[0; 68]].concat();
+/// let _ = client.bytes(now, &from_server)?;
+/// let Some(kept) = client.peek_children("/a")? else { panic!("they are kept") };
+/// let Children { names, pzxid } = kept.answer;
+/// assert_eq!(names, ["b", "port"]);
+/// println!("as of zxid {pzxid}");
+/// # Ok::<(), dirwolleu::Fault>(())
+/// ```
 #[derive(Clone, Debug, PartialEq, Eq)]
 pub struct Children {
     /// Their names, in byte order.

@@ -52,7 +52,18 @@ impl Moment {
 
 /// A clock of moments over [`Instant`], which begins at 0.
 ///
-/// [`Moment`] has an example.
+/// ```
+/// use dirwolleu::{Client, Clock};
+/// use std::time::{Duration, Instant};
+///
+/// let clock = Clock::start();
+/// let mut client = Client::open(Duration::from_secs(10))?;
+/// let now = clock.now();
+/// let _ = client.tick(now)?;
+/// let until = clock.moment_of(Instant::now() + Duration::from_secs(5));
+/// assert!(until >= now.saturating_add(Duration::from_secs(5)));
+/// # Ok::<(), dirwolleu::Fault>(())
+/// ```
 #[derive(Clone, Copy, Debug)]
 pub struct Clock {
     beginning: Instant,

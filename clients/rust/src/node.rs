@@ -42,7 +42,16 @@ pub struct Stat {
 
 /// The fields of a [`Stat`] that change only where a watch on the data fires: those that are kept.
 ///
-/// [`Stat`] has an example.
+/// ```
+/// use dirwolleu::{DataAnswer, DataStat};
+///
+/// let stat = DataStat { version: 3, ephemeral_owner: 0x1234, ..DataStat::default() };
+/// let answer = DataAnswer::Full { data: Some(b"one".to_vec()), stat }; // as it is kept
+/// if let DataAnswer::Full { stat, .. } | DataAnswer::Known(stat) = answer {
+///     assert_eq!(stat.version, 3); // for the next set
+///     assert_ne!(stat.ephemeral_owner, 0); // it goes with a session
+/// }
+/// ```
 #[repr(C)]
 #[derive(Clone, Copy, Debug, Default, PartialEq, Eq)]
 pub struct DataStat {
@@ -64,7 +73,15 @@ pub struct DataStat {
 
 /// A node that was read.
 ///
-/// [`Stat`] has an example.
+/// ```
+/// use dirwolleu::{Node, Stat};
+///
+/// let node = Node { data: Some(b"alpha".to_vec()), stat: Stat::default() }; // as `Session::get` brings it
+/// match &node.data {
+///     Some(bytes) => assert_eq!(bytes, b"alpha"),
+///     None => println!("its data are null"),
+/// }
+/// ```
 #[derive(Clone, Debug, PartialEq, Eq)]
 pub struct Node {
     /// The data: none where they are null, which is another thing than no bytes.
@@ -78,7 +95,20 @@ pub const ANY_VERSION: i32 = -1;
 
 /// Whether a read leaves a watch on its path. What such a read brings is kept.
 ///
-/// [`Subtree`](crate::Subtree) has an example.
+/// ```
+/// use dirwolleu::{Client, Moment, Output, Watch};
+/// # use std::time::Duration;
+/// # let now = Moment::from_millis(1);
+/// # let mut client = Client::open(Duration::from_secs(9))?;
+/// # let _ = client.opened(now)?;
+/// # let admitted = [&[0, 0, 0, 37, 0, 0, 0, 0, 0, 0, 35, 40, 0, 0, 0, 0, 0, 0, 0, 1, 0, 0, 0, 16][..], &[0; 17]].concat();
+/// # let _ = client.bytes(now, &admitted)?;
+///
+/// let mut outputs = client.get_data(now, 7, "/config", Watch::Yes)?;
+/// let Some(Output::Send(frame)) = outputs.next()? else { panic!("it is asked") };
+/// assert_eq!(frame.to_vec().last(), Some(&1)); // the server is to tell the next change
+/// # Ok::<(), dirwolleu::Fault>(())
+/// ```
 #[derive(Clone, Copy, Debug, PartialEq, Eq, Hash)]
 pub enum Watch {
     /// It leaves one.

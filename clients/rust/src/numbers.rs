@@ -177,6 +177,17 @@ impl From<State> for i32 {
 }
 
 /// What has happened to a node whose watch has fired.
+///
+/// ```
+/// use dirwolleu::{Event, NodeEvent, Side};
+///
+/// let event = Event::Report { path: "/config".into(), side: Side::Data, event: NodeEvent::Deleted }; // of `Session::next_event`
+/// match event {
+///     Event::Report { path, event: NodeEvent::Deleted, .. } => assert_eq!(path, "/config"),
+///     other => println!("{other:?}"),
+/// }
+/// assert_eq!(NodeEvent::try_from(2), Ok(NodeEvent::Deleted));
+/// ```
 #[derive(Clone, Copy, Debug, PartialEq, Eq, Hash)]
 #[non_exhaustive]
 pub enum NodeEvent {
@@ -218,6 +229,17 @@ impl From<NodeEvent> for i32 {
 }
 
 /// What may be watched of a path.
+///
+/// ```
+/// use dirwolleu::{Machine, Moment, Side};
+/// use std::time::Duration;
+///
+/// let now = Moment::from_millis(1);
+/// let mut machine = Machine::open(Duration::from_secs(9), 1, 42)?;
+/// let _ = machine.follow(now, 1, "/config", Side::Data)?;
+/// let _ = machine.follow(now, 2, "/workers", Side::Children)?;
+/// # Ok::<(), dirwolleu::Fault>(())
+/// ```
 #[derive(Clone, Copy, Debug, PartialEq, Eq, Hash)]
 #[non_exhaustive]
 pub enum Side {
@@ -311,6 +333,26 @@ impl From<NoReply> for i32 {
 }
 
 /// Whether anything that the client was told has ended what is kept. It tells of a zxid, and not of a time.
+///
+/// ```
+/// use dirwolleu::{Client, Mark, Moment, Watch};
+/// # use std::time::Duration;
+/// # let now = Moment::from_millis(1);
+/// # let mut client = Client::open(Duration::from_secs(9))?;
+/// # let _ = client.opened(now)?;
+/// # let admitted = [&[0, 0, 0, 37, 0, 0, 0, 0, 0, 0, 35, 40, 0, 0, 0, 0, 0, 0, 0, 1, 0, 0, 0, 16][..], &[0; 17]].concat();
+/// # let _ = client.bytes(now, &admitted)?;
+///
+/// let _ = client.exists(now, 7, "/a", Watch::Yes)?;
+/// # let from_server = [0, 0, 0, 16, 0, 0, 0, 1, 0, 0, 0, 0, 0, 0, 0, 5, 255, 255, 255, 155];
+/// let _ = client.bytes(now, &from_server)?; // there is no node
+/// assert_eq!(client.data_mark("/a")?, Some(Mark::Good));
+/// # let head = [&[0, 0, 0, 30][..], &[255; 12], &[0; 4]].concat();
+/// # let report = [&head[..], &[0, 0, 0, 1, 0, 0, 0, 3, 0, 0, 0, 2], b"/a"].concat();
+/// let _ = client.bytes(now, &report)?; // it was made
+/// assert_eq!(client.data_mark("/a")?, Some(Mark::Stale));
+/// # Ok::<(), dirwolleu::Fault>(())
+/// ```
 #[derive(Clone, Copy, Debug, PartialEq, Eq, Hash)]
 pub enum Mark {
     /// ZooKeeper held this at the greatest zxid seen, and nothing that the client was told has ended it.

@@ -131,7 +131,23 @@ impl<'a> Output<'a> {
 
 /// The reply of a server.
 ///
-/// [`Output`] has an example.
+/// ```
+/// use dirwolleu::{Brought, Client, Moment, Output, Reply, ANY_VERSION};
+/// # use std::time::Duration;
+/// # let now = Moment::from_millis(1);
+/// # let mut client = Client::open(Duration::from_secs(9))?;
+/// # let _ = client.opened(now)?;
+/// # let admitted = [&[0, 0, 0, 37, 0, 0, 0, 0, 0, 0, 35, 40, 0, 0, 0, 0, 0, 0, 0, 1, 0, 0, 0, 16][..], &[0; 17]].concat();
+/// # let _ = client.bytes(now, &admitted)?;
+///
+/// let _ = client.delete(now, 7, "/a", ANY_VERSION)?;
+/// # let from_server = [0, 0, 0, 16, 0, 0, 0, 1, 0, 0, 0, 0, 0, 0, 0, 5, 0, 0, 0, 0];
+/// let mut outputs = client.bytes(now, &from_server)?;
+/// let Some(Output::Answer { ticket: 7, outcome: Ok(Reply { zxid, result }) }) = outputs.next()? else { panic!("it is answered") };
+/// assert_eq!(zxid, 5);
+/// assert!(matches!(result, Ok(Brought::Done)));
+/// # Ok::<(), dirwolleu::Fault>(())
+/// ```
 #[derive(Debug)]
 pub struct Reply<'a> {
     /// The zxid at which it holds. With an error of the server it says nothing.
@@ -159,7 +175,29 @@ impl<'a> Reply<'a> {
 
 /// What a reply brings.
 ///
-/// [`Output`] has an example.
+/// ```
+/// use dirwolleu::{Brought, Client, Moment, Output, Watch};
+/// # use std::time::Duration;
+/// # let now = Moment::from_millis(1);
+/// # let mut client = Client::open(Duration::from_secs(9))?;
+/// # let _ = client.opened(now)?;
+/// # let admitted = [&[0, 0, 0, 37, 0, 0, 0, 0, 0, 0, 35, 40, 0, 0, 0, 0, 0, 0, 0, 1, 0, 0, 0, 16][..], &[0; 17]].concat();
+/// # let _ = client.bytes(now, &admitted)?;
+///
+/// let _ = client.get_data(now, 7, "/a", Watch::No)?;
+/// # let head = [0, 0, 0, 91, 0, 0, 0, 1, 0, 0, 0, 0, 0, 0, 0, 5, 0, 0, 0, 0, 0, 0, 0, 3];
+/// # let from_server = [&head[..], b"one", &[0; 68]].concat();
+/// let mut outputs = client.bytes(now, &from_server)?;
+/// let Some(Output::Answer { outcome: Ok(reply), .. }) = outputs.next()? else { panic!("it is answered") };
+/// match reply.result {
+///     Ok(Brought::Data { data, stat }) => {
+///         assert_eq!(data.map(|bytes| bytes.to_vec()), Some(b"one".to_vec()));
+///         assert_eq!(stat.version, 0); // for the next set
+///     }
+///     other => panic!("it brings data, and not {other:?}"),
+/// }
+/// # Ok::<(), dirwolleu::Fault>(())
+/// ```
 #[derive(Debug)]
 #[non_exhaustive]
 pub enum Brought<'a> {
@@ -216,7 +254,21 @@ impl<'a> Brought<'a> {
 
 /// The bytes of a frame or of data, which stay in the library until they are copied.
 ///
-/// [`Output`] has an example.
+/// ```
+/// use dirwolleu::{Client, Moment, Output};
+/// use std::time::Duration;
+///
+/// let mut client = Client::open(Duration::from_secs(9))?;
+/// let mut outputs = client.opened(Moment::from_millis(1))?;
+/// let Some(Output::Send(frame)) = outputs.next()? else { panic!("a connection begins with a frame") };
+/// let mut to_server = Vec::new();
+/// frame.append_to(&mut to_server);
+/// assert_eq!(to_server.len(), frame.len());
+/// let mut start = [0; 4];
+/// assert_eq!(frame.copy_to(0, &mut start), 4);
+/// assert_eq!(start, [0, 0, 0, 45]); // the length of what comes after it
+/// # Ok::<(), dirwolleu::Fault>(())
+/// ```
 #[derive(Clone, Copy)]
 pub struct Bytes<'a> {
     handle: &'a Handle,
@@ -263,7 +315,25 @@ impl fmt::Debug for Bytes<'_> {
 
 /// A path or a code, which stays in the library until it is copied.
 ///
-/// [`Output`] has an example.
+/// ```
+/// use dirwolleu::{Brought, Client, Mode, Moment, Output};
+/// # use std::time::Duration;
+/// # let now = Moment::from_millis(1);
+/// # let mut client = Client::open(Duration::from_secs(9))?;
+/// # let _ = client.opened(now)?;
+/// # let admitted = [&[0, 0, 0, 37, 0, 0, 0, 0, 0, 0, 35, 40, 0, 0, 0, 0, 0, 0, 0, 1, 0, 0, 0, 16][..], &[0; 17]].concat();
+/// # let _ = client.bytes(now, &admitted)?;
+///
+/// let _ = client.create(now, 7, "/queue/job-", None, Mode::PersistentSequential)?;
+/// # let head = [0, 0, 0, 41, 0, 0, 0, 1, 0, 0, 0, 0, 0, 0, 0, 5, 0, 0, 0, 0, 0, 0, 0, 21];
+/// # let from_server = [&head[..], b"/queue/job-0000000003"].concat();
+/// let mut outputs = client.bytes(now, &from_server)?;
+/// let Some(Output::Answer { outcome: Ok(reply), .. }) = outputs.next()? else { panic!("it is answered") };
+/// let Ok(Brought::Created(path)) = reply.result else { panic!("a node was made") };
+/// assert_eq!(path.len(), 21);
+/// assert_eq!(String::from(path), "/queue/job-0000000003");
+/// # Ok::<(), dirwolleu::Fault>(())
+/// ```
 #[derive(Clone, Copy)]
 pub struct Text<'a> {
     bytes: Bytes<'a>,
@@ -301,7 +371,27 @@ impl fmt::Debug for Text<'_> {
 
 /// Names of children, which stay in the library until they are copied.
 ///
-/// [`Output`] has an example.
+/// ```
+/// use dirwolleu::{Brought, Client, Moment, Output, Watch};
+/// # use std::time::Duration;
+/// # let now = Moment::from_millis(1);
+/// # let mut client = Client::open(Duration::from_secs(9))?;
+/// # let _ = client.opened(now)?;
+/// # let admitted = [&[0, 0, 0, 37, 0, 0, 0, 0, 0, 0, 35, 40, 0, 0, 0, 0, 0, 0, 0, 1, 0, 0, 0, 16][..], &[0; 17]].concat();
+/// # let _ = client.bytes(now, &admitted)?;
+///
+/// let _ = client.get_children(now, 7, "/a", Watch::No)?;
+/// # let head = [0, 0, 0, 101, 0, 0, 0, 1, 0, 0, 0, 0, 0, 0, 0, 5, 0, 0, 0, 0, 0, 0, 0, 2];
+/// # let names = b"\0\0\0\x04port\0\0\0\x01b";
+/// # let from_server = [&head[..], names, &[0; 68]].concat();
+/// let mut outputs = client.bytes(now, &from_server)?;
+/// let Some(Output::Answer { outcome: Ok(reply), .. }) = outputs.next()? else { panic!("it is answered") };
+/// let Ok(Brought::Names { names, .. }) = reply.result else { panic!("it brings names") };
+/// assert_eq!(names.len(), 2);
+/// assert_eq!(names.to_vec()?, ["port", "b"]);
+/// assert!(names.iter().any(|name| name == "b"));
+/// # Ok::<(), dirwolleu::Fault>(())
+/// ```
 #[derive(Clone, Copy)]
 pub struct Names<'a> {
     handle: &'a Handle,
@@ -347,7 +437,17 @@ impl fmt::Debug for Names<'_> {
 
 /// Why a client gives its connection up.
 ///
-/// [`Output`] has an example.
+/// ```
+/// use dirwolleu::{Cause, Client, Moment, Output};
+/// use std::time::Duration;
+///
+/// let mut client = Client::open(Duration::from_secs(9))?;
+/// let _ = client.opened(Moment::from_millis(1_000))?;
+/// let mut outputs = client.tick(Moment::from_millis(7_000))?; // the server has said nothing
+/// let Some(Output::Drop(given_up)) = outputs.next()? else { panic!("the connection is given up") };
+/// assert_eq!(given_up.cause, Cause::Silence);
+/// # Ok::<(), dirwolleu::Fault>(())
+/// ```
 #[derive(Clone, Copy, Debug, PartialEq, Eq, Hash)]
 #[non_exhaustive]
 pub enum Cause {
@@ -386,7 +486,20 @@ impl Cause {
 
 /// That a connection is given up.
 ///
-/// [`Output`] has an example.
+/// ```
+/// use dirwolleu::{Cause, Client, Moment, Output};
+/// use std::time::Duration;
+///
+/// let now = Moment::from_millis(1);
+/// let mut client = Client::open(Duration::from_secs(9))?;
+/// let _ = client.opened(now)?;
+/// let mut outputs = client.bytes(now, &[255; 4])?; // no length of a frame
+/// let Some(Output::Drop(given_up)) = outputs.next()? else { panic!("the connection is given up") };
+/// assert_eq!(given_up.cause, Cause::Frame);
+/// assert_eq!(given_up.code.to_string(), "F1");
+/// println!("{}", given_up.words()?); // for a log
+/// # Ok::<(), dirwolleu::Fault>(())
+/// ```
 #[derive(Clone, Copy, Debug)]
 pub struct GivenUp<'a> {
     /// Why.

@@ -2,7 +2,13 @@
 
 /// How contenders are named: a name counts where it ends in ten digits, as that of a sequential node does, right after a marker.
 ///
-/// [`Standing`] has an example.
+/// ```
+/// use dirwolleu::Markers;
+///
+/// let exclusive = Markers { own: "-write-", against: &["-write-", "-read-"] };
+/// let shared = Markers { own: "-read-", against: &["-write-"] }; // it waits for no other that shares it
+/// assert!(exclusive.against.contains(&shared.own));
+/// ```
 #[derive(Clone, Copy, Debug, PartialEq, Eq)]
 pub struct Markers<'a> {
     /// That of the session's name.
@@ -13,7 +19,17 @@ pub struct Markers<'a> {
 
 /// A session's node in a directory, and the names that were listed there.
 ///
-/// [`Standing`] has an example.
+/// ```
+/// use dirwolleu::{Client, Contender, Markers, Standing};
+/// use std::time::Duration;
+///
+/// let client = Client::open(Duration::from_secs(10))?;
+/// let names = ["lock-0000000004".into(), "lock-0000000007".into()];
+/// let markers = Markers { own: "lock-", against: &["lock-"] };
+/// let contender = Contender { directory: "/lock", name: "lock-0000000007", names: &names, listed: 9, markers };
+/// assert_eq!(client.standing(&contender)?, Standing::After { rival: "lock-0000000004".into() });
+/// # Ok::<(), dirwolleu::Fault>(())
+/// ```
 #[derive(Clone, Copy, Debug, PartialEq, Eq)]
 pub struct Contender<'a> {
     /// The path of the directory.

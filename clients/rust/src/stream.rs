@@ -10,7 +10,16 @@ const SHORTEST_WAIT: Duration = Duration::from_millis(1);
 
 /// The server that is dialled.
 ///
-/// [`Dial`] has an example.
+/// ```
+/// use dirwolleu::{Connection, Dial, Server, SessionOptions, Tcp};
+/// use std::{io, time::Duration};
+///
+/// fn dial(server: &Server<'_>, within: Duration) -> io::Result<Connection> {
+///     println!("{} at {}", server.name, server.address);
+///     Tcp.dial(server, within)
+/// }
+/// let options = SessionOptions::new(Duration::from_secs(10)).dial(dial);
+/// ```
 #[derive(Clone, Copy, Debug, PartialEq, Eq)]
 #[non_exhaustive]
 pub struct Server<'a> {
@@ -28,7 +37,24 @@ impl<'a> Server<'a> {
 
 /// The half of a connection that is read. One thread has it.
 ///
-/// [`Connection`] has an example.
+/// ```
+/// use dirwolleu::Incoming;
+/// use std::{io::{self, Read}, time::Duration};
+///
+/// /// What a server once said, for a test.
+/// struct Recorded(io::Cursor<Vec<u8>>);
+///
+/// impl Incoming for Recorded {
+///     fn read(&mut self, room: &mut [u8], _: Duration) -> io::Result<usize> {
+///         self.0.read(room)
+///     }
+/// }
+///
+/// let mut recorded = Recorded(io::Cursor::new(b"one".to_vec()));
+/// assert_eq!(recorded.read(&mut [0; 8], Duration::from_secs(1))?, 3);
+/// assert_eq!(recorded.read(&mut [0; 8], Duration::from_secs(1))?, 0); // the stream has ended
+/// # Ok::<(), io::Error>(())
+/// ```
 pub trait Incoming: Send {
     /// Waits until there are bytes, for so long at most, and reads as many as there are and there is room for. `Ok(0)` says that the
     /// stream has ended.
@@ -42,7 +68,27 @@ pub trait Incoming: Send {
 
 /// The half of a connection that is written. Any thread writes to it, one at a time, while another one reads.
 ///
-/// [`Connection`] has an example.
+/// ```
+/// use dirwolleu::Outgoing;
+/// use std::io;
+///
+/// /// Keeps what is said to a server, for a test.
+/// struct Kept(Vec<u8>);
+///
+/// impl Outgoing for Kept {
+///     fn write_all(&mut self, bytes: &[u8]) -> io::Result<()> {
+///         self.0.extend(bytes);
+///         Ok(())
+///     }
+///
+///     fn close(&mut self) {}
+/// }
+///
+/// let mut kept = Kept(Vec::new());
+/// kept.write_all(b"one")?;
+/// assert_eq!(kept.0, b"one");
+/// # Ok::<(), io::Error>(())
+/// ```
 pub trait Outgoing: Send {
     /// Writes all of these bytes and has them sent. It waits for room for as long as the attempt to connect could have taken.
     ///
@@ -126,7 +172,13 @@ where
 
 /// Connections over TCP, each frame sent at once.
 ///
-/// [`Dial`] has an example.
+/// ```
+/// use dirwolleu::{Dial, Server, SessionOptions, Tcp};
+/// use std::time::Duration;
+///
+/// let hasty = |server: &Server<'_>, within: Duration| Tcp.dial(server, within.min(Duration::from_secs(1)));
+/// let options = SessionOptions::new(Duration::from_secs(10)).dial(hasty);
+/// ```
 #[derive(Clone, Copy, Debug, Default)]
 pub struct Tcp;
 

@@ -6,7 +6,14 @@ use crate::node::{DataStat, Side};
 
 /// A node of a [`Subtree`].
 ///
-/// [`TreeSnapshot`](crate::TreeSnapshot) has an example.
+/// ```
+/// use dirwolleu::{DataStat, SubtreeNode};
+///
+/// let stat = DataStat { version: 3, ..DataStat::default() };
+/// let node = SubtreeNode { path: "/config/host".into(), data: Some(b"alpha".to_vec()), stat, pzxid: 5 };
+/// assert_eq!(node.name(), "host");
+/// assert_eq!(node.stat.version, 3); // for the next set
+/// ```
 #[derive(Clone, Debug, PartialEq, Eq)]
 pub struct SubtreeNode {
     /// Its path.
@@ -65,7 +72,15 @@ impl Subtree {
 
 /// A read, with a watch, that is lacking before there is a subtree.
 ///
-/// [`Subtree`] has an example.
+/// ```
+/// use dirwolleu::{Client, Lacking, Side};
+/// use std::time::Duration;
+///
+/// let client = Client::open(Duration::from_secs(10))?;
+/// let lacking = client.lacking("/config", 1_000)?; // nothing was read yet
+/// assert!(lacking.contains(&Lacking { path: "/config".into(), side: Side::Data }));
+/// # Ok::<(), dirwolleu::Fault>(())
+/// ```
 #[derive(Clone, Debug, PartialEq, Eq, Hash)]
 pub struct Lacking {
     /// The path to read.

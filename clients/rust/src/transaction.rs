@@ -11,7 +11,18 @@ use std::fmt;
 
 /// What an operation of a transaction has brought.
 ///
-/// [`Transaction`] has an example.
+/// ```
+/// use dirwolleu::Change;
+///
+/// let changes = [Change::Checked, Change::Created("/config/log-0000000007".into())]; // of `Transaction::commit`
+/// for change in &changes {
+///     match change {
+///         Change::Created(path) => assert_eq!(path, "/config/log-0000000007"),
+///         Change::Set(stat) => println!("version {}", stat.version),
+///         other => println!("{other:?}"),
+///     }
+/// }
+/// ```
 #[derive(Clone, Debug, PartialEq, Eq)]
 #[non_exhaustive]
 pub enum Change {

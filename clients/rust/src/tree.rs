@@ -144,7 +144,20 @@ impl fmt::Debug for Tree {
 /// The snapshots of a tree as they come: of [`Tree::snapshots`]. It is an iterator, which waits, and by
 /// [`poll_next`](Snapshots::poll_next) a stream of no runtime.
 ///
-/// Its functions, and [`Tree`], have examples.
+/// ```no_run
+/// use dirwolleu::Session;
+/// # use std::time::Duration;
+///
+/// # fn main() -> Result<(), Box<dyn std::error::Error>> {
+/// # let session = Session::open("127.0.0.1:2181", Duration::from_secs(10))?;
+/// let tree = session.tree("/config")?;
+/// let mut snapshots = tree.snapshots();
+/// if let Some(first) = snapshots.next() {
+///     println!("{} nodes", first?.len());
+/// }
+/// # Ok(())
+/// # }
+/// ```
 #[must_use = "it waits for nothing before it is asked for the next"]
 pub struct Snapshots<'a> {
     tree: &'a Tree,
