@@ -1,8 +1,7 @@
 #!/usr/bin/env bash
-# Runs `zk_shell live`, `zk_shell watch` and the examples `config_follower` and `conclusions_example` against real ZooKeeper servers: one
-# alone, ensembles of three of which one stops, and one that is cut off
-# for a while. What is printed is checked line by line. All traffic stays on 127.0.0.1; servers and folders are gone at the end, however it
-# ends.
+# Runs `zk_shell live`, `zk_shell watch`, its commands that ask for one node and the examples `config_follower` and `conclusions_example`
+# against real ZooKeeper servers: one alone, ensembles of three of which one stops, and one that is cut off for a while. What is printed is
+# checked line by line. All traffic stays on 127.0.0.1; servers and folders are gone at the end, however it ends.
 #
 # usage: scripts/real_server.sh [ZK_SHELL CONFIG_FOLLOWER CONCLUSIONS_EXAMPLE]     the programs; without them, they are built first.
 # The last line is `passed`, or `skipped: ..` where there is no server to be had. Else the exit status is 1.
@@ -333,6 +332,7 @@ run_alone() {
     rises @create @two @refused @b @queue @full @gone @a @again @three @c @write @closed
     rises @three @later @write
     run_resumed "$port"
+    run_asks "$port"
     run_changes "$port"
     run_idle "$port"
     run_expired "$port"
@@ -377,6 +377,98 @@ state Connecting
 state Expired
 answer 1 - K2
 EOF
+}
+
+# Runs a command that asks for one node: what it prints and tells, and its status after `=`, come to asks.out.
+asks() {
+    local status=0
+    timeout 60 "$program" "$@" >>"$folder/asks.out" 2>&1 || status=$?
+    echo "= $status" >>"$folder/asks.out"
+}
+
+# The commands that ask for one node: a text, null and no bytes come back as they went, a version is compared, names and fields are told, a path
+# is below another, and each way in which a call is not done has its words and its status.
+run_asks() {
+    local at=127.0.0.1:$1 nobody
+    nobody=127.0.0.1:$(free_ports 1)
+    known=()
+    : >"$folder/asks.out"
+    asks create "$at" /asks 'level = 1'
+    asks create "$at" /asks 'level = 1'
+    asks get "$at" /asks
+    asks get "$at" /asks --hex
+    asks set "$at" /asks 'level = 2' --version 0
+    asks set "$at" /asks 'level = 3' --version 0
+    asks create "$at/asks" /null --null
+    asks create "$at/asks" /empty --hex '\e'
+    asks create "$nobody,$at" /asks/bytes 00ff0a --hex
+    asks get "$at" /asks/null --hex
+    asks get "$at/asks" /empty --hex
+    asks get "$at" /asks/bytes
+    asks ls "$at" /asks
+    asks stat "$at" /asks
+    asks delete "$at" /asks
+    asks delete "$at" /asks/bytes --version 1
+    asks delete "$at" /asks/bytes --version 0
+    asks get "$at/asks" /bytes
+    asks create "$at" /none/node x
+    asks set "$at" /none x
+    asks ls "$nobody" /asks --wait 1
+    expect asks <<'EOF'
+/asks
+= 0
+refused: /asks: the node is there (-110)
+= 6
+level = 1
+= 0
+6c6576656c203d2031
+= 0
+= 0
+refused: /asks: the node has another version (-103)
+= 6
+/null
+= 0
+/empty
+= 0
+/asks/bytes
+= 0
+\0
+= 0
+\e
+= 0
+00ff0a
+= 0
+bytes
+empty
+null
+= 0
+czxid @made
+mzxid @set
+ctime @ctime
+mtime @mtime
+version 1
+cversion 3
+aversion 0
+ephemeralOwner 0
+dataLength 9
+numChildren 3
+pzxid @last
+= 0
+refused: /asks: the node has children (-111)
+= 6
+refused: /asks/bytes: the node has another version (-103)
+= 6
+= 0
+no node: /bytes
+= 5
+no node: /none/node
+= 5
+no node: /none
+= 5
+not connected: /asks: no server has answered in time
+= 7
+EOF
+    rises @made @set @last
 }
 
 # A watch of both sides of a node that is not there at first, that comes, changes, has a child, loses it, and goes.
