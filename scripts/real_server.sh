@@ -333,6 +333,7 @@ run_alone() {
     rises @three @later @write
     run_resumed "$port"
     run_asks "$port"
+    run_operator "$port"
     run_changes "$port"
     run_idle "$port"
     run_expired "$port"
@@ -469,6 +470,25 @@ not connected: /asks: no server has answered in time
 = 7
 EOF
     rises @made @set @last
+}
+
+# The lines of a session that may differ each time are those of a watch: their numbers are left out.
+without_numbers() {
+    sed -E '/^ *[0-9]+\.[0-9]{3} /s/[0-9]+/N/g' "$1"
+}
+
+# The session of an operator that the cookbook shows: each command after a `$` prints what stands below it there.
+run_operator() {
+    local at=127.0.0.1:$1 line status=0
+    sed -n '/^## An operator/,/^- /p' "$top/docs/COOKBOOK.md" | sed -n '/^```sh$/,/^```$/p' | sed "1d;\$d;s/127\.0\.0\.1:2181/$at/g" >"$folder/page"
+    zk_shell() { timeout 60 "$program" "$@"; }
+    while IFS= read -r line; do
+        [[ $line == '$ '* ]] || continue
+        echo "$line"
+        eval "(exit $status); ${line#??}" </dev/null && status=0 || status=$?
+    done <"$folder/page" >"$folder/operator.out" 2>&1
+    diff <(without_numbers "$folder/page") <(without_numbers "$folder/operator.out") || fail "the cookbook shows another session"
+    echo "operator: $(wc -l <"$folder/page") lines as wanted"
 }
 
 # A watch of both sides of a node that is not there at first, that comes, changes, has a child, loses it, and goes.
