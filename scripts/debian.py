@@ -11,6 +11,8 @@ from provenance import PREBUILT, PROGRAM, TOP, VERSION
 
 LIBRARIES = "usr/lib/x86_64-linux-gnu"
 MODULES = "usr/lib/python3/dist-packages"
+# The session for C over the header, and what goes over it.
+SESSION = ("session.h", "lane.h", "lock.h")
 SHELL = TOP / "crates" / PROGRAM / "out" / PROGRAM
 MAINTAINER = "Dirwolleu maintainers <maintainers@users.noreply.dirwolleu.example>"
 ABOUT = """\
@@ -168,10 +170,11 @@ def make_library(build: Build) -> None:
 def make_development(build: Build) -> None:
     package = Package(
         "libdirwolleu-dev",
-        "proved client of ZooKeeper, header and libraries",
+        "proved client of ZooKeeper, headers and libraries",
         {"Section": "libdevel", "Multi-Arch": "same", "Depends": f"libdirwolleu0 (= {VERSION})"},
         {
             "usr/include/dirwolleu.h": (TOP / "include/dirwolleu.h").read_bytes(),
+            **{f"usr/include/dirwolleu/{name}": (TOP / "clients/c" / name).read_bytes() for name in SESSION},
             f"{LIBRARIES}/libdirwolleu.a": stripped(PREBUILT / "libdirwolleu.a", build, "--strip-debug"),
             f"{LIBRARIES}/pkgconfig/dirwolleu.pc": PKG_CONFIG.encode(),
         },
