@@ -208,13 +208,13 @@ def make_shell(build: Build) -> None:
 def make_python(build: Build, metadata: bytes) -> None:
     """The Python client over the shared library of libdirwolleu0."""
     sources = TOP / "clients/python/dirwolleu"
-    modules = [*sources.glob("*.py"), sources / "py.typed"]
+    modules = [*sources.rglob("*.py"), sources / "py.typed"]
     package = Package(
         "python3-dirwolleu",
         "proved client of ZooKeeper for Python",
         {"Section": "python", "Depends": f"python3 (>= 3.9), libdirwolleu0 (= {VERSION})"},
         {
-            **{f"{MODULES}/dirwolleu/{path.name}": path.read_bytes() for path in modules},
+            **{f"{MODULES}/dirwolleu/{path.relative_to(sources)}": path.read_bytes() for path in modules},
             f"{MODULES}/dirwolleu-{VERSION}.dist-info/METADATA": metadata,
             f"{MODULES}/dirwolleu-{VERSION}.dist-info/INSTALLER": b"dpkg\n",
         },
