@@ -11,6 +11,8 @@ from provenance import PREBUILT, PROGRAM, TOP, VERSION
 
 LIBRARIES = "usr/lib/x86_64-linux-gnu"
 MODULES = "usr/lib/python3/dist-packages"
+# The session for C over the header, and what goes over it.
+SESSION = ("session.h", "lane.h", "lock.h")
 SHELL = TOP / "crates" / PROGRAM / "out" / PROGRAM
 MAINTAINER = "Dirwolleu maintainers <maintainers@users.noreply.dirwolleu.example>"
 ABOUT = """\
@@ -168,10 +170,11 @@ def make_library(build: Build) -> None:
 def make_development(build: Build) -> None:
     package = Package(
         "libdirwolleu-dev",
-        "proved client of ZooKeeper, header and libraries",
+        "proved client of ZooKeeper, headers and libraries",
         {"Section": "libdevel", "Multi-Arch": "same", "Depends": f"libdirwolleu0 (= {VERSION})"},
         {
             "usr/include/dirwolleu.h": (TOP / "include/dirwolleu.h").read_bytes(),
+            **{f"usr/include/dirwolleu/{name}": (TOP / "clients/c" / name).read_bytes() for name in SESSION},
             f"{LIBRARIES}/libdirwolleu.a": stripped(PREBUILT / "libdirwolleu.a", build, "--strip-debug"),
             f"{LIBRARIES}/pkgconfig/dirwolleu.pc": PKG_CONFIG.encode(),
         },
@@ -205,13 +208,13 @@ def make_shell(build: Build) -> None:
 def make_python(build: Build, metadata: bytes) -> None:
     """The Python client over the shared library of libdirwolleu0."""
     sources = TOP / "clients/python/dirwolleu"
-    modules = [*sources.glob("*.py"), sources / "py.typed"]
+    modules = [*sources.rglob("*.py"), sources / "py.typed"]
     package = Package(
         "python3-dirwolleu",
         "proved client of ZooKeeper for Python",
         {"Section": "python", "Depends": f"python3 (>= 3.9), libdirwolleu0 (= {VERSION})"},
         {
-            **{f"{MODULES}/dirwolleu/{path.name}": path.read_bytes() for path in modules},
+            **{f"{MODULES}/dirwolleu/{path.relative_to(sources)}": path.read_bytes() for path in modules},
             f"{MODULES}/dirwolleu-{VERSION}.dist-info/METADATA": metadata,
             f"{MODULES}/dirwolleu-{VERSION}.dist-info/INSTALLER": b"dpkg\n",
         },

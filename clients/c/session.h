@@ -1,6 +1,7 @@
 /* A session over POSIX sockets, for loops by poll and for small programs that wait: connection strings, calls, nodes and trees that are followed.
  * It is built on dw_session of dirwolleu.h, which is proved and says whom to dial and when, what becomes of calls, and what is kept good. What is here
- * is tested: look-ups of names, sockets, callbacks, trees. Define _POSIX_C_SOURCE as 200809L before it. It is C11 and C++11.
+ * is tested: look-ups of names, sockets, callbacks, trees. It is one file, of C11 and C++11, that wants dirwolleu.h alone. Define _POSIX_C_SOURCE as
+ * 200809L before it.
  *
  *     static void show(dws_session *session, dws_subject *node)
  *     {
@@ -30,7 +31,6 @@
 #define DIRWOLLEU_SESSION_H
 
 #include "dirwolleu.h"
-#include "words.h"
 
 #include <ctype.h>
 #include <errno.h>
@@ -318,6 +318,8 @@ static inline enum dw_result dws_saved(dws_session *s, uint8_t *room, size_t siz
 
 /* What follows is the session's own. */
 
+/* ---- What a session has. ---- */
+
 struct dws_buffer {
     uint8_t *bytes;
     size_t length, room;
@@ -390,10 +392,1733 @@ struct dws_session {
     enum dw_result result;
 };
 
-#include "session_machine.h"
-#include "session_wires.h"
-#include "session_subjects.h"
-#include "session_trees.h"
+/* ---- Words: messages for people about the numbers of dirwolleu.h. A message has the reason in the words of that header, the path where there is
+ * one, and what to do where there is something: `the node has children: /jobs; delete them first`. ---- */
+
+/* made by scripts/interface from include/interface.toml */
+/* What to do about what a function answered: the empty text where its words say it. */
+static inline const char *advice_of_result(enum dw_result result)
+{
+    switch (result) {
+    case DW_OK: return "";
+    case DW_NONE: return "";
+    case DW_WAITS: return "";
+    case DW_HALTED: return "take the saved session, and resume it";
+    case DW_NO_MEMORY: return "hand the same in again";
+    case DW_CLOSED: return "open one";
+    case DW_NOT_TEXT: return "";
+    case DW_NOT_PATH: return "";
+    case DW_BAD_TIMEOUT: return "";
+    case DW_NO_SUCH_MODE: return "";
+    case DW_NOT_SAVED: return "take all of those that dw_saved gave";
+    case DW_NOT_WHOLE: return "read what is lacking, with a watch";
+    case DW_TOO_MANY: return "ask for more, or for a path below";
+    case DW_NOT_TEXTS: return "";
+    }
+    return "take both of one version";
+}
+
+/* What to do where there is no reply: the empty text where its words say it. */
+static inline const char *advice_of_outcome(enum dw_outcome outcome)
+{
+    switch (outcome) {
+    case DW_OUTCOME_REPLIED: return "";
+    case DW_OUTCOME_LOST: return "it may or may not have happened: read again";
+    case DW_OUTCOME_EXPIRED: return "renew it";
+    case DW_OUTCOME_CLOSED: return "open another one";
+    case DW_OUTCOME_NOT_CONNECTED: return "call again later";
+    case DW_OUTCOME_TOO_MANY_WATCHES: return "read without a watch, or in another session";
+    case DW_OUTCOME_TOO_LARGE: return "send less";
+    case DW_OUTCOME_TOO_MANY_PENDING: return "call again when one was answered";
+    }
+    return "take both of one version";
+}
+
+/* Why a server refuses a call, by a code that the header does not name. NULL where there are no words either. */
+static inline const char *words_of_other_code(int32_t code)
+{
+    switch (code) {
+    case -1: return "the server has failed";
+    case -2: return "the server has found itself inconsistent";
+    case -3: return "the server has found its data inconsistent";
+    case -5: return "the server can not read the request";
+    case -7: return "the server has not done it in time";
+    case -12: return "the server does not know the session";
+    case -13: return "no quorum of the new servers is connected";
+    case -14: return "the servers are being changed";
+    case -100: return "the server refuses the request";
+    case -113: return "the callback is refused";
+    case -115: return "the server does not take these credentials";
+    case -119: return "the server is read-only";
+    case -120: return "a local session makes no ephemeral nodes";
+    case -121: return "no such watch is set";
+    case -122: return "the leader has not answered the server in time";
+    case -123: return "the servers are not to be changed by clients";
+    case -124: return "the server wants SASL, and has closed the session";
+    case -125: return "the quota would be exceeded";
+    case -127: return "the server has too much to do";
+    default: return NULL;
+    }
+}
+
+/* What to do where a server refuses a call. */
+static inline const char *advice_of_code(int32_t code)
+{
+    switch (code) {
+    case -4: return "it may or may not have happened: read again";
+    case -103: return "read it again";
+    case -111: return "delete them first";
+    case -112: return "call again";
+    case -118: return "have one program use it";
+    case -14: return "call again later";
+    case -127: return "call again later";
+    default: return "";
+    }
+}
+/* end of what is made */
+
+/* Why the library takes a text that is UTF-8 for no path of a node, or NULL where this function sees no reason. */
+static inline const char *words_of_path(const char *path)
+{
+    static const size_t longest = 4096;
+    size_t length = strlen(path);
+    if (length == 0) {
+        return "it is empty";
+    }
+    if (length > longest) {
+        return "more than 4096 bytes";
+    }
+    if (path[0] != '/') {
+        return "no slash at its beginning";
+    }
+    for (size_t i = 0; i < length; i++) {
+        if ((unsigned char)path[i] < ' ' || path[i] == 0x7f) {
+            return "a character that paths do not have";
+        }
+    }
+    if (strstr(path, "//") != NULL || (length > 1 && path[length - 1] == '/')) {
+        return "an empty name";
+    }
+    for (const char *name = path; name != NULL; name = strchr(name + 1, '/')) {
+        size_t count = strcspn(name + 1, "/");
+        if ((count == 1 || count == 2) && strncmp(name + 1, "..", count) == 0) {
+            return "a name that is . or ..";
+        }
+    }
+    return NULL;
+}
+
+/* Ends a text that had no room for its length with two dots. */
+static inline void end_cut(char *room, size_t size, int length)
+{
+    if (length >= 0 && (size_t)length >= size && size > 2) {
+        memcpy(room + size - 3, "..", 3);
+    }
+}
+
+/* Writes a reason, with the path where it is not NULL and what to do where there is something, as far as there is room. */
+static inline void write_words(char *room, size_t size, const char *reason, const char *path, const char *advice)
+{
+    const char *before = path != NULL ? ": " : "", *after = advice[0] != 0 ? "; " : "";
+    end_cut(room, size, snprintf(room, size, "%s%s%s%s%s", reason, before, path != NULL ? path : "", after, advice));
+}
+
+/* Writes what a function of the library answered about a path, or about none where that is NULL. */
+static inline void write_result(char *room, size_t size, enum dw_result result, const char *path)
+{
+    if (result == DW_NOT_PATH && path != NULL) {
+        const char *why = words_of_path(path);
+        const char *shown = path[0] != 0 ? path : "\"\"", *before = why != NULL ? ": " : "";
+        end_cut(room, size, snprintf(room, size, "%s is no path%s%s", shown, before, why != NULL ? why : ""));
+    } else {
+        write_words(room, size, dw_result_words(result), path, advice_of_result(result));
+    }
+}
+
+/* Writes why a call about a path has no reply. */
+static inline void write_outcome(char *room, size_t size, enum dw_outcome outcome, const char *path)
+{
+    write_words(room, size, dw_outcome_words(outcome), path, advice_of_outcome(outcome));
+}
+
+/* Writes why a server refuses a call about a path. A code that has no name in the header is told by its number. */
+static inline void write_code(char *room, size_t size, int32_t code, const char *path)
+{
+    char numbered[64];
+    const char *reason = dw_code_words(code);
+    if (strcmp(reason, dw_code_words(0)) == 0) { /* 0 is no error, and so has no name either */
+        reason = words_of_other_code(code);
+    }
+    if (code == DW_CODE_INVALID_ACL) { /* the header knows calls with the open one alone */
+        reason = "the server does not take this ACL";
+    }
+    if (reason == NULL) {
+        snprintf(numbered, sizeof numbered, "the server answers %" PRId32, code);
+        reason = numbered;
+    }
+    write_words(room, size, reason, path, advice_of_code(code));
+}
+
+/* ---- Steps: what a step of the library's session says, and calls that are handed to it. ---- */
+
+static inline uint64_t dws_now_ms(void)
+{
+    struct timespec now;
+    clock_gettime(CLOCK_MONOTONIC, &now);
+    return (uint64_t)now.tv_sec * 1000 + (uint64_t)now.tv_nsec / 1000000;
+}
+
+static inline uint64_t dws_least(uint64_t one, uint64_t other)
+{
+    return one < other ? one : other;
+}
+
+static inline uint64_t dws_most(uint64_t one, uint64_t other)
+{
+    return one < other ? other : one;
+}
+
+/* A random number of the system's; where it has none, one of the moment and the process. */
+static inline uint64_t dws_chance(const dws_session *s)
+{
+    uint64_t number = 0;
+    int source = open("/dev/urandom", O_RDONLY | O_CLOEXEC);
+    ssize_t count = source >= 0 ? read(source, &number, sizeof number) : -1;
+    if (source >= 0) {
+        close(source);
+    }
+    if (count == (ssize_t)sizeof number) {
+        return number;
+    }
+    struct timespec now;
+    clock_gettime(CLOCK_MONOTONIC, &now);
+    number = (uint64_t)now.tv_nsec << 32 ^ (uint64_t)(uintptr_t)s ^ (uint64_t)getpid() << 16;
+    return number * 0x9e3779b97f4a7c15;
+}
+
+/* Makes room for this many bytes in all. */
+static inline bool dws_reserve(void **block, size_t *room, size_t wanted)
+{
+    if (wanted <= *room) {
+        return true;
+    }
+    void *grown = realloc(*block, wanted < 2 * *room ? 2 * *room : wanted);
+    if (grown == NULL) {
+        return false;
+    }
+    *block = grown;
+    *room = wanted < 2 * *room ? 2 * *room : wanted;
+    return true;
+}
+
+static inline bool dws_reserve_text(char **text, size_t *room, size_t wanted)
+{
+    void *block = *text;
+    bool is_there = dws_reserve(&block, room, wanted);
+    *text = (char *)block;
+    return is_there;
+}
+
+static inline bool dws_reserve_names(char ***names, size_t *room, size_t wanted)
+{
+    void *block = *names;
+    bool is_there = dws_reserve(&block, room, wanted);
+    *names = (char **)block;
+    return is_there;
+}
+
+static inline void dws_tell(dws_session *s, enum dws_event event, const char *words)
+{
+    if (s->options.told != NULL) {
+        s->options.told(s, event, s->server, words);
+    }
+}
+
+static inline void dws_append(struct dws_line *line, dws_call *call)
+{
+    if (line->count == 0) {
+        line->last = &line->first;
+    }
+    call->next = NULL;
+    *line->last = call;
+    line->last = &call->next;
+    line->count++;
+}
+
+/* Takes the call out of the line at which this points. */
+static inline dws_call *dws_remove(struct dws_line *line, dws_call **at)
+{
+    dws_call *call = *at;
+    *at = call->next;
+    if (line->last == &call->next) {
+        line->last = at;
+    }
+    line->count--;
+    return call;
+}
+
+/* Answers a call. */
+static inline void dws_finish(dws_session *s, dws_call *call, int32_t why)
+{
+    call->why = why;
+    call->is_answered = s->has_news = true;
+    if (call->then != NULL) {
+        call->then(s, call);
+    }
+}
+
+/* Answers as many calls as there are in a line. A callback may take others out of it. */
+static inline void dws_finish_all(dws_session *s, struct dws_line *line, int32_t why)
+{
+    for (size_t count = line->count; count > 0 && line->count > 0; count--) {
+        dws_finish(s, dws_remove(line, &line->first), why);
+    }
+}
+
+/* The first moment at which the library is to be told the moment. */
+static inline uint64_t dws_deadline(dws_session *s)
+{
+    if (!s->is_due_known && dw_session_deadline(&s->machine, &s->due_ms) != DW_OK) {
+        s->due_ms = UINT64_MAX;
+    }
+    s->is_due_known = true;
+    return s->due_ms;
+}
+
+static inline bool dws_is_connected(dws_session *s)
+{
+    return dw_session_state(&s->machine) == DW_STATE_CONNECTED;
+}
+
+/* Why a session takes no calls any more. */
+static inline int32_t dws_why_over(const dws_session *s)
+{
+    if (s->result != DW_OK || s->barred != 0) {
+        return s->result != DW_OK ? DWS_REFUSED - (int32_t)s->result : s->barred;
+    }
+    return s->is_expired ? (int32_t)DW_OUTCOME_EXPIRED : (int32_t)DW_OUTCOME_CLOSED;
+}
+
+static inline void dws_hang_up(dws_session *s);
+static inline void dws_begin_trees(dws_session *s, bool is_lost);
+
+/* Answers all calls of a session that is over. Those that were asked may have happened, where there is a connection. */
+static inline void dws_answer_rest(dws_session *s)
+{
+    if (s->is_over) {
+        bool may_happen = s->result == DW_OK && s->barred == 0 && dws_is_connected(s);
+        dws_hang_up(s);
+        dws_finish_all(s, &s->sent, may_happen ? (int32_t)DW_OUTCOME_LOST : dws_why_over(s));
+        dws_finish_all(s, &s->queue, dws_why_over(s));
+    }
+}
+
+/* Memory ran out, or what the library answers is not known: the session is over. */
+static inline void dws_fail(dws_session *s, enum dw_result result)
+{
+    if (s->result == DW_OK) {
+        s->result = result;
+        s->is_over = true;
+        dws_begin_trees(s, true);
+        dws_hang_up(s);
+        dws_tell(s, DWS_FAILED, dw_result_words(result));
+    }
+}
+
+static inline uint64_t dws_timeout_ms(dws_session *s)
+{
+    return (uint64_t)dw_session_timeout_ms(&s->machine);
+}
+
+/* Closes the connection, or gives the attempt up. */
+static inline void dws_hang_up(dws_session *s)
+{
+    if (s->wire.socket < 0) {
+        return;
+    }
+    if (s->wire.state != NULL && s->wire.release != NULL) {
+        s->wire.release(s->wire.state);
+    }
+    close(s->wire.socket);
+    s->wire.socket = -1;
+    s->wire.state = NULL;
+    s->wire.words = NULL;
+    if (s->beside != NULL) {
+        s->beside->end(s);
+    }
+    s->is_over = s->is_over || s->is_closing;
+    s->is_connecting = s->has_more = false;
+    s->read_wants = s->write_wants = 0;
+    s->unsent.length = 0;
+    s->waiting.first = s->waiting.count = 0;
+    s->pings.first = s->pings.count = 0;
+    memset(&s->came, 0, sizeof s->came);
+}
+
+/* A request goes out that the server answers by one frame. Without memory it is not counted. Pings wait apart: they are answered at once, also
+ * where a request before them is not. */
+static inline void dws_expect_answer(dws_session *s, struct dws_waiting *waiting)
+{
+    size_t entry = sizeof *waiting->since_ms;
+    if (waiting->first > 0 && (waiting->first + waiting->count + 1) * entry > waiting->room) {
+        memmove(waiting->since_ms, waiting->since_ms + waiting->first, waiting->count * entry);
+        waiting->first = 0;
+    }
+    void *block = waiting->since_ms;
+    bool is_there = dws_reserve(&block, &waiting->room, (waiting->first + waiting->count + 1) * entry);
+    waiting->since_ms = (uint64_t *)block;
+    if (is_there) {
+        waiting->since_ms[waiting->first + waiting->count++] = s->now_ms;
+    }
+}
+
+/* This many frames came that answer what waits. */
+static inline void dws_note_answers(struct dws_waiting *waiting, size_t count)
+{
+    size_t answered = (size_t)dws_least(count, waiting->count);
+    waiting->count -= answered;
+    waiting->first = waiting->count > 0 ? waiting->first + answered : 0;
+}
+
+static inline uint64_t dws_oldest_ms(const struct dws_waiting *waiting)
+{
+    return waiting->count > 0 ? waiting->since_ms[waiting->first] : UINT64_MAX;
+}
+
+/* When the connection is to be given up, unless answers come: so that a server that sends other things is not waited for. */
+static inline uint64_t dws_end_of_waiting(dws_session *s)
+{
+    uint64_t oldest_ms = dws_least(dws_oldest_ms(&s->waiting), dws_oldest_ms(&s->pings));
+    return oldest_ms < UINT64_MAX ? oldest_ms + dws_timeout_ms(s) * 2 / 3 : UINT64_MAX;
+}
+
+/* Whether the xid of a frame, which stands after its length, is that of pings. */
+static inline bool dws_is_ping(const uint8_t *frame)
+{
+    static const uint8_t ping[] = {0xff, 0xff, 0xff, 0xfe};
+    return memcmp(frame + 4, ping, sizeof ping) == 0;
+}
+
+/* How many frames that are no notices end in these bytes, which come next in the stream: answers to pings, and others. */
+static inline struct dws_answers dws_count_answers(struct dws_frames *frames, const uint8_t *bytes, size_t length)
+{
+    static const uint8_t notice[] = {0xff, 0xff, 0xff, 0xff};
+    const uint8_t *head = frames->head;
+    struct dws_answers came = {0, 0};
+    for (size_t taken, i = 0; i < length; i += taken) {
+        if (frames->held < sizeof frames->head) {
+            taken = 1;
+            frames->head[frames->held++] = bytes[i];
+            frames->left = (size_t)head[0] << 24 | (size_t)head[1] << 16 | (size_t)head[2] << 8 | head[3];
+            frames->left -= frames->left < sizeof notice ? frames->left : sizeof notice;
+        } else {
+            taken = (size_t)dws_least(frames->left, length - i);
+            frames->left -= taken;
+        }
+        if (frames->held == sizeof frames->head && frames->left == 0) {
+            bool is_ping = dws_is_ping(head);
+            came.to_pings += is_ping;
+            came.to_requests += !is_ping && memcmp(head + 4, notice, sizeof notice) != 0;
+            frames->held = 0;
+        }
+    }
+    return came;
+}
+
+/* Keeps the frame of the action that was told last until it is written. One of a connection that is over is forgotten. */
+static inline void dws_send_later(dws_session *s, size_t length)
+{
+    if (s->wire.socket < 0) {
+        return;
+    }
+    void *block = s->unsent.bytes;
+    bool is_there = dws_reserve(&block, &s->unsent.room, s->unsent.length + length);
+    s->unsent.bytes = (uint8_t *)block;
+    if (!is_there) {
+        dws_fail(s, DW_NO_MEMORY);
+        return;
+    }
+    const uint8_t *frame = s->unsent.bytes + s->unsent.length;
+    s->unsent.length += dw_session_copy(&s->machine, 0, s->unsent.bytes + s->unsent.length, length);
+    dws_expect_answer(s, length >= 8 && dws_is_ping(frame) ? &s->pings : &s->waiting);
+}
+
+/* The path that the program knows, of one that the servers know. */
+static inline const char *dws_inner(const dws_session *s, const char *path)
+{
+    size_t length = strlen(s->root);
+    if (length == 0 || strncmp(path, s->root, length) != 0 || (path[length] != '/' && path[length] != 0)) {
+        return path;
+    }
+    return path[length] == 0 ? "/" : path + length;
+}
+
+/* Copies the text of an answer: the data, or the path that was made. */
+static inline bool dws_keep_text(dws_session *s, dws_call *call, const dw_output *answer)
+{
+    if (!dws_reserve_text(&call->text, &call->room, answer->length + 1)) {
+        return false;
+    }
+    dw_session_copy(&s->machine, 0, call->text, answer->length);
+    call->text[answer->length] = 0;
+    call->length = answer->length;
+    call->is_null = answer->is_null;
+    if (answer->reply == DW_REPLY_CREATED) {
+        const char *inner = dws_inner(s, call->text);
+        call->length = strlen(inner);
+        memmove(call->text, inner, call->length + 1);
+    }
+    return true;
+}
+
+/* How many bytes the names of the listing that was told last have, each with a 0 after it. */
+static inline size_t dws_measure_names(dws_session *s, size_t count)
+{
+    char none;
+    size_t total = 0;
+    for (size_t i = 0; i < count; i++) {
+        total += dw_session_name(&s->machine, i, &none, 0) + 1;
+    }
+    return total;
+}
+
+static inline bool dws_keep_names(dws_session *s, dws_call *call, size_t count)
+{
+    size_t total = dws_measure_names(s, count), table = count * sizeof(char *);
+    if (!dws_reserve_names(&call->names, &call->names_room, table + total + 1)) {
+        return false;
+    }
+    char *at = (char *)call->names + table, *end = at + total;
+    for (size_t i = 0; i < count; i++) {
+        call->names[i] = at;
+        at += dw_session_name(&s->machine, i, at, (size_t)(end - at));
+        *at++ = 0;
+    }
+    call->count = count;
+    return true;
+}
+
+/* The call of a ticket, which waits no longer; NULL where none has it. Calls are mostly answered in the order in which they were asked. */
+static inline dws_call *dws_answered(dws_session *s, uint64_t ticket)
+{
+    dws_call **at = &s->sent.first;
+    for (size_t i = 0; i < s->sent.count; i++) {
+        if ((*at)->ticket == ticket) {
+            return dws_remove(&s->sent, at);
+        }
+        at = &(*at)->next;
+    }
+    return NULL;
+}
+
+/* Answers the calls beside the library that were asked before this ticket, where the connection is over. The library answers its own. */
+static inline void dws_lose_beside(dws_session *s, uint64_t ticket)
+{
+    struct dws_line lost;
+    if (s->wire.socket >= 0) {
+        return;
+    }
+    memset(&lost, 0, sizeof lost);
+    dws_call **at = &s->sent.first;
+    for (size_t left = s->sent.count; left > 0 && (*at)->ticket < ticket; left--) {
+        if ((*at)->kind == DWS_BESIDE) {
+            dws_append(&lost, dws_remove(&s->sent, at));
+        } else {
+            at = &(*at)->next;
+        }
+    }
+    dws_finish_all(s, &lost, DW_OUTCOME_LOST);
+}
+
+static inline void dws_take_answer(dws_session *s, const dw_output *answer)
+{
+    dws_lose_beside(s, answer->ticket);
+    dws_call *call = dws_answered(s, answer->ticket);
+    if (call == NULL) {
+        return;
+    }
+    bool is_reply = answer->outcome == DW_OUTCOME_REPLIED, is_kept = true;
+    call->zxid = answer->zxid;
+    call->stat = answer->stat;
+    if (is_reply && (answer->reply == DW_REPLY_DATA || answer->reply == DW_REPLY_CREATED)) {
+        is_kept = dws_keep_text(s, call, answer);
+    } else if (is_reply && answer->reply == DW_REPLY_NAMES) {
+        is_kept = dws_keep_names(s, call, answer->names);
+    }
+    int32_t why = is_reply && answer->reply == DW_REPLY_CODE ? answer->code : (int32_t)answer->outcome;
+    dws_finish(s, call, is_kept ? why : DWS_REFUSED - (int32_t)DW_NO_MEMORY);
+}
+
+/* The limit of a call has come. */
+static inline void dws_take_late(dws_session *s, const dw_output *late)
+{
+    dws_call *call = dws_answered(s, late->ticket);
+    if (call != NULL) {
+        dws_finish(s, call, late->was_sent ? (int32_t)DWS_LATE : (int32_t)DW_OUTCOME_NOT_CONNECTED);
+    }
+}
+
+/* The session has expired. The library answers the calls that it has, and here those are answered that wait to be handed to it. */
+static inline void dws_take_expiry(dws_session *s)
+{
+    s->is_expired = s->options.is_over_at_expiry;
+    s->is_over = s->is_over || s->is_expired;
+    dws_begin_trees(s, true);
+    dws_hang_up(s);
+    dws_tell(s, DWS_EXPIRED, "the session has expired");
+    dws_finish_all(s, &s->queue, DW_OUTCOME_EXPIRED);
+}
+
+static inline void dws_take_state(dws_session *s, enum dw_state state)
+{
+    s->must_look = s->has_news = true;
+    if (state == DW_STATE_CONNECTED) {
+        s->is_resumed = false;
+        dws_begin_trees(s, false);
+        dws_tell(s, DWS_CONNECTED, "connected");
+    } else if (state == DW_STATE_EXPIRED) {
+        dws_take_expiry(s);
+    } else if (state == DW_STATE_CLOSED) {
+        s->is_over = true;
+        dws_begin_trees(s, true);
+        dws_hang_up(s);
+        dws_tell(s, DWS_CLOSED, "the session is closed");
+    }
+}
+
+/* The connection is given up. Where it was over already, it was told why. */
+static inline void dws_take_drop(dws_session *s)
+{
+    char words[256];
+    size_t length;
+    if (s->wire.socket < 0) {
+        return;
+    }
+    enum dw_result result = dw_session_words(&s->machine, words, sizeof words - 1, &length);
+    words[length < sizeof words ? length : sizeof words - 1] = 0;
+    dws_hang_up(s);
+    dws_tell(s, DWS_CUT, result == DW_OK ? words : dw_result_words(result));
+}
+
+static inline void dws_tell_missed(dws_session *s, const char *why);
+
+/* The connection is to be closed. Where it was not said why, the attempt took too long, or a server has told that the session is not its own. */
+static inline void dws_take_hang_up(dws_session *s)
+{
+    if (s->is_connecting || s->is_dial_due) {
+        s->is_dial_due = false;
+        dws_hang_up(s);
+        dws_tell_missed(s, strerror(ETIMEDOUT));
+    } else if (s->wire.socket >= 0) {
+        dws_hang_up(s);
+        dws_tell(s, DWS_CUT, "the session is not of this connection any more");
+    }
+}
+
+static inline void dws_hear_of_trees(dws_session *s, const dw_output *report);
+
+/* What is kept has become stale, which a subject shows. */
+static inline void dws_take_report(dws_session *s, const dw_output *report)
+{
+    s->must_look = s->has_news = true;
+    if (s->trees != NULL) {
+        dws_hear_of_trees(s, report);
+    }
+}
+
+static inline void dws_take_refusal(dws_session *s, const dw_output *refused);
+
+static inline void dws_take(dws_session *s, const dw_output *action)
+{
+    switch (action->kind) {
+    case DW_KIND_SEND: dws_send_later(s, action->length); break;
+    case DW_KIND_ANSWER: dws_take_answer(s, action); break;
+    case DW_KIND_REPORT: dws_take_report(s, action); break;
+    case DW_KIND_STATE: dws_take_state(s, action->state); break;
+    case DW_KIND_DROP: dws_take_drop(s); break;
+    case DW_KIND_DIAL:
+        s->is_dial_due = true;
+        s->place = action->place;
+        break;
+    case DW_KIND_HANG_UP: dws_take_hang_up(s); break;
+    case DW_KIND_TIMED_OUT: dws_take_late(s, action); break;
+    case DW_KIND_RENEWED:
+    case DW_KIND_SHOWN: s->must_look = true; break;
+    case DW_KIND_REFUSED: dws_take_refusal(s, action); break;
+    }
+}
+
+static inline void dws_resume(dws_session *s);
+
+/* Takes what a step answered: all that it says, in its order. A session that is over does nothing more. */
+static inline void dws_act(dws_session *s, enum dw_result result)
+{
+    dw_output action;
+    s->is_due_known = false;
+    while (result == DW_OK && !s->is_over) {
+        result = dw_session_next(&s->machine, &action);
+        if (result == DW_OK) {
+            dws_take(s, &action);
+        }
+    }
+    dws_lose_beside(s, UINT64_MAX);
+    if (s->is_over || result == DW_NONE) {
+        return;
+    }
+    if (result == DW_HALTED) {
+        dws_resume(s);
+    } else {
+        dws_fail(s, result);
+    }
+}
+
+/* Ends a connection that was open. */
+static inline void dws_cut(dws_session *s, const char *why)
+{
+    dws_hang_up(s);
+    dws_tell(s, DWS_CUT, why);
+    if (!s->is_over) {
+        dws_act(s, dw_session_cut(&s->machine, s->now_ms));
+    }
+}
+
+/* Puts the reads of a line before what waits, and gives the rest of it. */
+static inline struct dws_line dws_ask_again(dws_session *s, struct dws_line *asked)
+{
+    struct dws_line again, rest;
+    memset(&again, 0, sizeof again);
+    memset(&rest, 0, sizeof rest);
+    while (asked->count > 0) {
+        dws_call *call = dws_remove(asked, &asked->first);
+        bool is_read = call->kind == DWS_EXISTS || call->kind == DWS_GET || call->kind == DWS_CHILDREN;
+        dws_append(is_read ? &again : &rest, call);
+    }
+    while (s->queue.count > 0) {
+        dws_append(&again, dws_remove(&s->queue, &s->queue.first));
+    }
+    s->queue = again;
+    return rest;
+}
+
+/* Memory ran out within a step, so the library goes no further: another one takes its session up, and follows what was followed. Reads are asked
+ * again; whether writes have happened is not known. */
+static inline void dws_resume(dws_session *s)
+{
+    uint8_t saved[DWS_LONGEST_SAVED];
+    size_t length = 0;
+    enum dw_result result = s->is_resumed ? DW_HALTED : dw_session_saved(&s->machine, saved, sizeof saved, &length);
+    if (result == DW_OK && length > sizeof saved) {
+        result = DW_NO_MEMORY;
+    }
+    if (result == DW_OK) {
+        result = dw_session_resume(&s->machine, s->options.timeout_ms, s->host_count, dws_chance(s), saved, length);
+    }
+    if (result != DW_OK) {
+        dws_fail(s, result);
+        return;
+    }
+    s->is_resumed = s->must_look = s->must_follow = true;
+    s->is_dial_due = s->is_due_known = false;
+    s->gone_count = 0;
+    for (dws_subject *one = s->subjects; one != NULL; one = one->next) {
+        one->ticket = 0;
+    }
+    struct dws_line rest = dws_ask_again(s, &s->sent);
+    dws_begin_trees(s, true);
+    dws_hang_up(s);
+    dws_tell(s, DWS_CUT, dw_result_words(DW_HALTED));
+    dws_finish_all(s, &rest, DW_OUTCOME_LOST);
+}
+
+/* Whether something was due before this turn, since the program was stopped or worked: then what the connection has is told with the last
+ * moment before that. When the bytes came is not known, and a server that has sent something is not silent. */
+static inline uint64_t dws_in_time(dws_session *s)
+{
+    uint64_t due = dws_deadline(s);
+    return due <= s->now_ms && due > 0 ? due - 1 : s->now_ms;
+}
+
+/* Hands a call to the library, at this moment. */
+static inline enum dw_result dws_step(dws_session *s, dws_call *call, uint64_t now_ms)
+{
+    dw_session *machine = &s->machine;
+    const uint8_t *bytes = (const uint8_t *)call->bytes;
+    uint64_t ticket = call->ticket, until_ms = call->until_ms;
+    size_t length = call->path != NULL ? strlen(call->path) : 0;
+    switch (call->kind) {
+    case DWS_EXISTS: return dw_session_exists(machine, now_ms, ticket, until_ms, call->path, length, call->watch);
+    case DWS_GET: return dw_session_get_data(machine, now_ms, ticket, until_ms, call->path, length, call->watch);
+    case DWS_CHILDREN: return dw_session_get_children(machine, now_ms, ticket, until_ms, call->path, length, call->watch);
+    case DWS_SET:
+        return dw_session_set_data(machine, now_ms, ticket, until_ms, call->path, length, bytes, call->bytes_length, call->is_null_sent,
+                                   call->number);
+    case DWS_CREATE:
+        return dw_session_create(machine, now_ms, ticket, until_ms, call->path, length, bytes, call->bytes_length, call->is_null_sent,
+                                 (uint32_t)call->number);
+    case DWS_DELETE: return dw_session_delete(machine, now_ms, ticket, until_ms, call->path, length, call->number);
+    case DWS_CLOSE: return dw_session_close(machine, now_ms, ticket, until_ms);
+    case DWS_BESIDE: return s->beside->ask(s, call, now_ms);
+    }
+    return DW_NOT_PATH;
+}
+
+/* Asks the first call of the queue, at this moment. */
+static inline void dws_send(dws_session *s, uint64_t now_ms)
+{
+    dws_call *call = dws_remove(&s->queue, &s->queue.first);
+    call->ticket = ++s->last_ticket;
+    dws_append(&s->sent, call);
+    enum dw_result result = dws_step(s, call, now_ms);
+    if (result == DW_OK || result == DW_HALTED || result == DW_CLOSED) {
+        dws_act(s, result);
+    } else if (dws_answered(s, call->ticket) != NULL) {
+        dws_finish(s, call, DWS_REFUSED - (int32_t)result);
+    }
+}
+
+/* Asks what waits. Where a server has accepted the session is the library's to know; a call beside it waits for that here, and those after it. */
+static inline void dws_send_queued(dws_session *s)
+{
+    uint64_t now_ms = s->queue.count > 0 ? dws_in_time(s) : s->now_ms;
+    for (size_t count = s->queue.count; count > 0 && s->queue.count > 0 && s->sent.count < DWS_MOST_ASKED && !s->is_over; count--) {
+        dws_call *first = s->queue.first;
+        if (first->until_ms <= s->now_ms) {
+            dws_finish(s, dws_remove(&s->queue, &s->queue.first), DW_OUTCOME_NOT_CONNECTED);
+        } else if (first->kind != DWS_BESIDE || dws_is_connected(s)) {
+            dws_send(s, now_ms);
+        } else {
+            return;
+        }
+    }
+}
+
+/* ---- Wires: hosts, connections, and what goes over them. ---- */
+
+/* Reads a host, HOST[:PORT] or [HOST][:PORT]. Without a port it is 2181. */
+static inline bool dws_read_host(struct dws_host *host, const char *text, size_t length)
+{
+    const char *end = text + length, *name = text, *after = text;
+    host->turn = 0;
+    while (name < end && *name == ' ') {
+        name++;
+    }
+    bool is_bracketed = name < end && *name == '[';
+    name += is_bracketed;
+    const char *mark = (const char *)memchr(name, is_bracketed ? ']' : ':', (size_t)(end - name));
+    after = mark == NULL ? end : mark + is_bracketed;
+    size_t name_length = (size_t)((mark == NULL ? end : mark) - name);
+    if ((is_bracketed && mark == NULL) || name_length == 0 || name_length >= sizeof host->name) {
+        return false;
+    }
+    snprintf(host->name, sizeof host->name, "%.*s", (int)name_length, name);
+    host->name[strcspn(host->name, " ")] = 0;
+    snprintf(host->port, sizeof host->port, "2181");
+    if (after == end || *after == ' ') {
+        return host->name[0] != 0;
+    }
+    size_t digits = strspn(after + 1, "0123456789");
+    snprintf(host->port, sizeof host->port, "%.*s", (int)digits, after + 1);
+    return *after == ':' && digits > 0 && digits < sizeof host->port && strtol(host->port, NULL, 10) < 65536
+        && after + 1 + digits + strspn(after + 1 + digits, " ") >= end;
+}
+
+/* Reads the hosts of a connection string, which a comma parts. */
+static inline bool dws_read_hosts(dws_session *s, size_t length, char *why, size_t size)
+{
+    for (const char *at = s->hosts_text, *end = at + length; at <= end;) {
+        size_t count = strcspn(at, ",");
+        count = (size_t)dws_least(count, (uint64_t)(end - at));
+        struct dws_host *grown = (struct dws_host *)realloc(s->hosts, (s->host_count + 1) * sizeof *s->hosts);
+        if (grown == NULL) {
+            snprintf(why, size, "%s", dw_result_words(DW_NO_MEMORY));
+            return false;
+        }
+        s->hosts = grown;
+        if (!dws_read_host(&s->hosts[s->host_count], at, count)) {
+            snprintf(why, size, "'%.*s' is no HOST:PORT", (int)count, at);
+            return false;
+        }
+        s->host_count++;
+        at += count + 1;
+    }
+    return true;
+}
+
+/* Reads a connection string: hosts, and the chroot after them. */
+static inline bool dws_read_string(dws_session *s, const char *text, char *why, size_t size)
+{
+    size_t length = strcspn(text, "/");
+    s->hosts_text = (char *)malloc(strlen(text) + 1);
+    if (s->hosts_text == NULL) {
+        snprintf(why, size, "%s", dw_result_words(DW_NO_MEMORY));
+        return false;
+    }
+    strcpy(s->hosts_text, text);
+    s->root = s->hosts_text + length + (strcmp(text + length, "/") == 0);
+    const char *reason = s->root[0] != 0 ? words_of_path(s->root) : NULL;
+    if (reason != NULL) {
+        snprintf(why, size, "%s is no path: %s", s->root, reason);
+        return false;
+    }
+    return dws_read_hosts(s, length, why, size);
+}
+
+/* An address of the host, of which a name may have several: the next one at each look-up, which may take a while. */
+static inline bool dws_find_address(dws_session *s, struct dws_host *host, struct sockaddr_storage *address, socklen_t *length)
+{
+    struct addrinfo wanted, *found = NULL;
+    memset(&wanted, 0, sizeof wanted);
+    wanted.ai_family = AF_UNSPEC;
+    wanted.ai_socktype = SOCK_STREAM;
+    snprintf(s->server, sizeof s->server, strchr(host->name, ':') != NULL ? "[%s]:%s" : "%s:%s", host->name, host->port);
+    int unknown = getaddrinfo(host->name, host->port, &wanted, &found);
+    if (unknown != 0) {
+        snprintf(s->trouble, sizeof s->trouble, "%s", gai_strerror(unknown));
+        return false;
+    }
+    struct addrinfo *one = found;
+    for (size_t i = 0; i < host->turn && one->ai_next != NULL; i++) {
+        one = one->ai_next;
+    }
+    host->turn = one->ai_next != NULL ? host->turn + 1 : 0;
+    memcpy(address, one->ai_addr, one->ai_addrlen);
+    *length = one->ai_addrlen;
+    freeaddrinfo(found);
+    return true;
+}
+
+/* A socket that does not block and is connecting to the address, or -1 with errno. */
+static inline int dws_begin_connection(const struct sockaddr_storage *address, socklen_t length)
+{
+    int on = 1, made = socket(address->ss_family, SOCK_STREAM, 0);
+    if (made < 0) {
+        return -1;
+    }
+    if (fcntl(made, F_SETFD, FD_CLOEXEC) == 0 && fcntl(made, F_SETFL, O_NONBLOCK) == 0
+        && setsockopt(made, IPPROTO_TCP, TCP_NODELAY, &on, sizeof on) == 0
+        && (connect(made, (const struct sockaddr *)address, length) == 0 || errno == EINPROGRESS)) {
+        return made;
+    }
+    int kept = errno;
+    close(made);
+    errno = kept;
+    return -1;
+}
+
+/* Tells why an attempt to connect has failed. */
+static inline void dws_tell_missed(dws_session *s, const char *why)
+{
+    if (why != s->trouble) {
+        snprintf(s->trouble, sizeof s->trouble, "%s", why);
+    }
+    s->trouble[0] = (char)tolower((unsigned char)s->trouble[0]);
+    dws_tell(s, DWS_ATTEMPT_FAILED, s->trouble);
+}
+
+/* An attempt to connect has failed. */
+static inline void dws_miss(dws_session *s, const char *why)
+{
+    dws_hang_up(s);
+    dws_tell_missed(s, why);
+    if (!s->is_over) {
+        dws_act(s, dw_session_failed(&s->machine, s->now_ms));
+    }
+}
+
+/* Dials the host that the library has named; or, where they are dialled in order, the next one. */
+static inline void dws_dial(dws_session *s)
+{
+    struct dws_host *host = &s->hosts[s->options.is_in_order ? s->dials++ % s->host_count : s->place];
+    struct sockaddr_storage address;
+    socklen_t length = 0;
+    s->is_dial_due = false;
+    bool is_found = dws_find_address(s, host, &address, &length);
+    s->now_ms = dws_now_ms();
+    if (!is_found) {
+        dws_miss(s, s->trouble);
+        return;
+    }
+    s->wire.socket = dws_begin_connection(&address, length);
+    if (s->wire.socket < 0) {
+        dws_miss(s, strerror(errno));
+        return;
+    }
+    s->wire.host = host->name;
+    s->is_connecting = true;
+}
+
+/* The attempt to connect is over. */
+static inline void dws_finish_connection(dws_session *s)
+{
+    int error = 0;
+    socklen_t length = sizeof error;
+    if (getsockopt(s->wire.socket, SOL_SOCKET, SO_ERROR, &error, &length) != 0) {
+        error = errno;
+    }
+    if (error != 0) {
+        dws_miss(s, strerror(error));
+        return;
+    }
+    s->is_connecting = false;
+    s->write_wants = POLLOUT;
+    snprintf(s->trouble, sizeof s->trouble, "connected, and it has not accepted the session");
+    dws_act(s, dw_session_opened(&s->machine, s->now_ms));
+    if (s->beside != NULL && s->wire.socket >= 0) {
+        s->beside->begin(s);
+    }
+}
+
+static inline bool dws_is_passing(int error)
+{
+    return error == EINTR || error == EAGAIN || error == EWOULDBLOCK;
+}
+
+/* Why a read or a write has failed. */
+static inline const char *dws_why_failed(const dws_session *s)
+{
+    return s->wire.words != NULL ? s->wire.words : strerror(errno);
+}
+
+static inline ssize_t dws_read(dws_session *s, void *room, size_t size)
+{
+    s->wire.wants = 0;
+    if (s->options.read != NULL) {
+        return s->options.read(&s->wire, room, size, s->options.context);
+    }
+    return recv(s->wire.socket, room, size, 0);
+}
+
+static inline ssize_t dws_write(dws_session *s, const void *bytes, size_t size)
+{
+    s->wire.wants = 0;
+    if (s->options.write != NULL) {
+        return s->options.write(&s->wire, bytes, size, s->options.context);
+    }
+    return send(s->wire.socket, bytes, size, MSG_NOSIGNAL);
+}
+
+/* Hands bytes from the server to the library. */
+static inline void dws_hear(dws_session *s, uint64_t came_ms, const uint8_t *bytes, size_t length)
+{
+    enum dw_result result = dw_session_bytes(&s->machine, came_ms, bytes, length);
+    if (result == DW_NO_MEMORY) {
+        dws_cut(s, dw_result_words(result)); /* no step was made */
+    } else {
+        dws_act(s, result);
+    }
+}
+
+/* Takes bytes from the server. */
+static inline void dws_hear_all(dws_session *s, uint64_t came_ms, const uint8_t *bytes, size_t length)
+{
+    struct dws_answers came = dws_count_answers(&s->came, bytes, length);
+    dws_note_answers(&s->waiting, came.to_requests);
+    dws_note_answers(&s->pings, came.to_pings);
+    if (s->beside != NULL) {
+        s->beside->hear(s, came_ms, bytes, length);
+    } else {
+        dws_hear(s, came_ms, bytes, length);
+    }
+}
+
+/* Takes what the connection has. */
+static inline void dws_receive(dws_session *s)
+{
+    uint8_t piece[DWS_PIECE];
+    uint64_t came_ms = dws_in_time(s);
+    s->has_more = true;
+    for (int i = 0; i < DWS_MOST_PIECES && s->wire.socket >= 0 && s->has_more; i++) {
+        ssize_t count = dws_read(s, piece, sizeof piece);
+        if (count > 0) {
+            dws_hear_all(s, came_ms, piece, (size_t)count);
+            s->has_more = s->options.read != NULL || count == (ssize_t)sizeof piece || s->waiting.count + s->pings.count > 0; /* else poll tells of more */
+        } else if (count == 0) {
+            dws_cut(s, "the server has ended the connection");
+        } else if (dws_is_passing(errno)) {
+            s->has_more = false;
+        } else {
+            dws_cut(s, dws_why_failed(s));
+        }
+    }
+    s->read_wants = s->wire.wants;
+    s->has_more = s->has_more && s->wire.socket >= 0;
+}
+
+/* Writes as much as the connection takes. The rest waits for poll. */
+static inline void dws_transmit(dws_session *s)
+{
+    if (s->unsent.length == 0 || s->is_connecting || s->wire.socket < 0) {
+        return;
+    }
+    ssize_t count = dws_write(s, s->unsent.bytes, s->unsent.length);
+    if (count >= 0) {
+        s->unsent.length -= (size_t)count;
+        memmove(s->unsent.bytes, s->unsent.bytes + count, s->unsent.length);
+        s->write_wants = POLLOUT;
+    } else if (dws_is_passing(errno)) {
+        s->write_wants = s->wire.wants != 0 ? s->wire.wants : POLLOUT;
+    } else {
+        dws_cut(s, dws_why_failed(s));
+    }
+}
+
+/* ---- Subjects: nodes that are followed. ---- */
+
+/* The names that follow one another in this room, each after its length in four bytes, as texts with a 0 after each. */
+static inline void dws_point_at_names(char **names, char *at, size_t count)
+{
+    for (size_t i = 0; i < count; i++) {
+        const uint8_t *spelled = (const uint8_t *)at;
+        size_t length = (size_t)spelled[0] << 24 | (size_t)spelled[1] << 16 | (size_t)spelled[2] << 8 | spelled[3];
+        *at = 0;
+        names[i] = at + 4;
+        at += 4 + length;
+    }
+    *at = 0;
+}
+
+/* Copies the names that are kept of a subject. */
+static inline enum dw_result dws_look_at_names(dws_session *s, dws_subject *subject, const dw_kept_names *kept)
+{
+    size_t length = 0, table = kept->count * sizeof(char *), path_length = strlen(subject->path);
+    uint8_t none;
+    enum dw_result result = dw_session_peek_names(&s->machine, subject->path, path_length, &none, 0, &length);
+    if (result != DW_OK) {
+        return result;
+    }
+    if (!dws_reserve_names(&subject->names, &subject->names_room, table + length + 1)) {
+        return DW_NO_MEMORY;
+    }
+    char *block = (char *)subject->names + table;
+    result = dw_session_peek_names(&s->machine, subject->path, path_length, (uint8_t *)block, length, &length);
+    if (result == DW_OK) {
+        dws_point_at_names(subject->names, block, kept->count);
+        subject->count = kept->count;
+    }
+    return result;
+}
+
+/* Copies the data that are kept of a subject. */
+static inline enum dw_result dws_look_at_data(dws_session *s, dws_subject *subject, dw_kept_data *kept)
+{
+    if (!dws_reserve_text(&subject->text, &subject->room, kept->length + 1)) {
+        return DW_NO_MEMORY;
+    }
+    subject->text[kept->length] = 0;
+    subject->length = kept->length;
+    subject->is_null = kept->is_null;
+    subject->stat = kept->stat;
+    return dw_session_peek_data(&s->machine, subject->path, strlen(subject->path), kept, (uint8_t *)subject->text, kept->length);
+}
+
+/* Looks at what is kept of the data of a subject. Whether it is another thing than before. */
+static inline bool dws_look_at_node(dws_session *s, dws_subject *subject, enum dw_result *result)
+{
+    dw_kept_data kept;
+    uint8_t none;
+    *result = dw_session_peek_data(&s->machine, subject->path, strlen(subject->path), &kept, &none, 0);
+    if (*result != DW_OK) {
+        return false;
+    }
+    if (kept.kind == DW_KEPT_KNOWN) { /* another read has found a node, of which the data are not known yet */
+        bool was_good = subject->mark == DW_MARK_GOOD;
+        subject->mark = was_good ? DW_MARK_STALE : subject->mark;
+        return was_good;
+    }
+    if (kept.kind == subject->kind && kept.mark == subject->mark && kept.stat.czxid == subject->stat.czxid
+        && kept.stat.mzxid == subject->stat.mzxid) {
+        return false;
+    }
+    subject->kind = kept.kind;
+    subject->mark = kept.mark;
+    *result = dws_look_at_data(s, subject, &kept);
+    return true;
+}
+
+/* The same of names. Where there is no node, that is kept of its data. */
+static inline bool dws_look_at_children(dws_session *s, dws_subject *subject, enum dw_result *result)
+{
+    dw_kept_names kept;
+    dw_kept_data data;
+    uint8_t none;
+    *result = dw_session_peek_children(&s->machine, subject->path, strlen(subject->path), &kept);
+    if (*result == DW_OK) {
+        *result = dw_session_peek_data(&s->machine, subject->path, strlen(subject->path), &data, &none, 0);
+    }
+    if (*result != DW_OK) {
+        return false;
+    }
+    bool is_absent = data.kind == DW_KEPT_ABSENT && kept.mark != DW_MARK_GOOD;
+    enum dw_kept kind = is_absent ? DW_KEPT_ABSENT : kept.mark != 0 ? DW_KEPT_FULL : DW_KEPT_NOTHING;
+    enum dw_mark mark = is_absent ? data.mark : kept.mark;
+    if (kind == subject->kind && mark == subject->mark && (kind != DW_KEPT_FULL || kept.pzxid == subject->pzxid)) {
+        return false;
+    }
+    subject->kind = kind;
+    subject->mark = mark;
+    subject->pzxid = kept.pzxid;
+    subject->count = 0;
+    *result = kind == DW_KEPT_FULL ? dws_look_at_names(s, subject, &kept) : DW_OK;
+    return true;
+}
+
+/* Looks at all subjects, with no step between: those that are good are of one moment, that of the last zxid. */
+static inline void dws_look(dws_session *s)
+{
+    enum dw_result result = DW_OK;
+    for (dws_subject *one = s->subjects; one != NULL && result == DW_OK; one = one->next) {
+        bool is_changed = one->side == DW_SIDE_DATA ? dws_look_at_node(s, one, &result) : dws_look_at_children(s, one, &result);
+        one->is_changed = one->is_changed || is_changed;
+    }
+    if (result != DW_OK) {
+        dws_fail(s, result);
+    }
+}
+
+/* Shows a subject of which another thing is kept, where there is one. */
+static inline bool dws_show_next(dws_session *s)
+{
+    for (dws_subject *one = s->subjects; one != NULL; one = one->next) {
+        if (one->is_changed) {
+            one->is_changed = false;
+            s->has_news = true;
+            if (one->changed != NULL) {
+                one->changed(s, one);
+            }
+            return true;
+        }
+    }
+    return false;
+}
+
+static inline bool dws_is_good(const dws_subject *subject)
+{
+    return subject->mark == DW_MARK_GOOD;
+}
+
+/* A read of a subject was refused, for another reason than the last one. */
+static inline void dws_take_refusal(dws_session *s, const dw_output *refused)
+{
+    char line[DWS_LONGEST_LINE];
+    const dws_subject *subject = s->subjects;
+    while (subject != NULL && subject->ticket != refused->ticket) {
+        subject = subject->next;
+    }
+    if (subject == NULL || refused->refusal == DW_REFUSAL_CLOSED) {
+        return;
+    }
+    const char *path = dws_inner(s, subject->path);
+    if (refused->refusal == DW_REFUSAL_CODE) {
+        write_code(line, sizeof line, refused->code, path);
+    } else {
+        bool is_large = refused->refusal == DW_REFUSAL_TOO_LARGE;
+        write_outcome(line, sizeof line, is_large ? DW_OUTCOME_TOO_LARGE : DW_OUTCOME_TOO_MANY_WATCHES, path);
+    }
+    dws_tell(s, DWS_READ_REFUSED, line);
+}
+
+/* Has the library follow a subject, from this moment on. */
+static inline void dws_begin_subject(dws_session *s, dws_subject *subject, uint64_t now_ms)
+{
+    const char *path = subject->path;
+    uint64_t ticket = subject->ticket = ++s->last_ticket;
+    dws_act(s, subject->side == DW_SIDE_DATA ? dw_session_follow_data(&s->machine, now_ms, ticket, path, strlen(path))
+                                             : dw_session_follow_names(&s->machine, now_ms, ticket, path, strlen(path)));
+}
+
+/* A subject that the library does not follow yet; NULL where there is none. */
+static inline dws_subject *dws_next_new(dws_session *s)
+{
+    dws_subject *one = s->subjects;
+    while (one != NULL && one->ticket != 0) {
+        one = one->next;
+    }
+    return one;
+}
+
+/* Has the library follow what is to be followed, and no more what is not. Callbacks may change both. */
+static inline void dws_follow_new(dws_session *s)
+{
+    dws_subject *one;
+    while (s->must_follow && !s->is_over) {
+        uint64_t now_ms = dws_in_time(s);
+        s->must_follow = false;
+        while (!s->is_over && (one = dws_next_new(s)) != NULL) {
+            dws_begin_subject(s, one, now_ms);
+        }
+        while (!s->is_over && s->gone_count > 0) {
+            dws_act(s, dw_session_unfollow(&s->machine, now_ms, s->gone[--s->gone_count]));
+        }
+    }
+}
+
+/* ---- Trees that are followed. ---- */
+
+static inline uint32_t dws_read_int(const uint8_t *at)
+{
+    return (uint32_t)at[0] << 24 | (uint32_t)at[1] << 16 | (uint32_t)at[2] << 8 | at[3];
+}
+
+static inline void dws_spell_int(uint8_t *at, uint32_t number)
+{
+    for (int i = 0; i < 4; i++) {
+        at[i] = (uint8_t)(number >> (24 - 8 * i));
+    }
+}
+
+static inline int64_t dws_read_long(const uint8_t *at)
+{
+    return (int64_t)((uint64_t)dws_read_int(at) << 32 | dws_read_int(at + 4));
+}
+
+static inline bool dws_read_node(uint8_t **at, const uint8_t *end, dws_node *node)
+{
+    if (*at >= end) {
+        return false;
+    }
+    uint8_t *path = *at + 4, *after = path + dws_read_int(*at);
+    uint32_t length = dws_read_int(after);
+    node->is_null = length == UINT32_MAX;
+    node->length = node->is_null ? 0 : length;
+    uint8_t *data = after + 4, *rest = data + node->length;
+    node->path = (const char *)path;
+    node->data = (const char *)data;
+    node->stat.czxid = dws_read_long(rest);
+    node->stat.mzxid = dws_read_long(rest + 8);
+    node->stat.ctime = dws_read_long(rest + 16);
+    node->stat.mtime = dws_read_long(rest + 24);
+    node->stat.version = (int32_t)dws_read_int(rest + 32);
+    node->stat.ephemeral_owner = dws_read_long(rest + 36);
+    node->stat.data_length = (int32_t)dws_read_int(rest + 44);
+    node->pzxid = dws_read_long(rest + 48);
+    *after = *rest = 0; /* they were read */
+    *at = rest + 56;
+    return true;
+}
+
+static inline bool dws_read_lacking(const uint8_t **at, const uint8_t *end, const char **path, size_t *length, enum dw_side *side)
+{
+    if (*at >= end) {
+        return false;
+    }
+    *length = dws_read_int(*at);
+    *path = (const char *)*at + 4;
+    *side = (enum dw_side)dws_read_int(*at + 4 + *length);
+    *at += 8 + *length;
+    return true;
+}
+
+/* Whether a path is below another one. */
+static inline bool dws_is_below(const char *path, const char *above)
+{
+    size_t length = strlen(above);
+    return strncmp(path, above, length) == 0 && path[length] != 0 && (path[length] == '/' || length == 1);
+}
+
+/* Compares two paths so that a node is followed by all that are below it: a slash is before all that names have. */
+static inline int dws_compare_paths(const char *one, const char *other)
+{
+    size_t i = 0;
+    while (one[i] != 0 && one[i] == other[i]) {
+        i++;
+    }
+    unsigned first = one[i] == '/' ? 1 : (unsigned char)one[i], second = other[i] == '/' ? 1 : (unsigned char)other[i];
+    return first < second ? -1 : first > second;
+}
+
+static inline int dws_compare_nodes(const void *one, const void *other)
+{
+    return dws_compare_paths(((const dws_node *)one)->path, ((const dws_node *)other)->path);
+}
+
+static inline const dws_node *dws_find_node(const dws_tree *tree, const char *path)
+{
+    dws_node wanted;
+    wanted.path = path;
+    if (tree->count == 0) {
+        return NULL;
+    }
+    return (const dws_node *)bsearch(&wanted, tree->nodes, tree->count, sizeof wanted, dws_compare_nodes);
+}
+
+static inline const dws_node *dws_next_child(const dws_tree *tree, const dws_node *above, const dws_node *before)
+{
+    const dws_node *end = tree->nodes + tree->count, *next = before == NULL ? above + 1 : before + 1;
+    while (before != NULL && next < end && dws_is_below(next->path, before->path)) {
+        next++;
+    }
+    return next < end && dws_is_below(next->path, above->path) ? next : NULL;
+}
+
+/* Why a tree has no newer nodes: it is told where it is another reason. */
+static inline void dws_trouble_tree(dws_session *s, dws_tree *tree, int32_t why, const char *path)
+{
+    bool is_news = tree->why != why || tree->trouble == NULL || strcmp(tree->trouble, path) != 0;
+    tree->is_good = false;
+    if (!is_news) {
+        return;
+    }
+    char *kept = (char *)malloc(strlen(path) + 1);
+    if (kept == NULL) {
+        dws_fail(s, DW_NO_MEMORY);
+        return;
+    }
+    strcpy(kept, path);
+    free(tree->trouble);
+    tree->trouble = kept;
+    tree->why = why;
+    tree->is_changed = true;
+}
+
+static inline void dws_tree_words(dws_session *s, const dws_tree *tree, char *room, size_t size)
+{
+    const char *path = tree->trouble != NULL ? tree->trouble : tree->path;
+    const char *inner = path != NULL ? dws_inner(s, path) : "";
+    if (tree->why > DWS_REFUSED) {
+        write_result(room, size, (enum dw_result)(DWS_REFUSED - tree->why), inner);
+    } else if (tree->why < 0) {
+        write_code(room, size, tree->why, inner);
+    } else {
+        write_outcome(room, size, (enum dw_outcome)tree->why, inner);
+    }
+}
+
+static inline bool dws_reserve_texts(struct dws_texts *texts, size_t wanted)
+{
+    void *block = texts->bytes;
+    bool is_there = dws_reserve(&block, &texts->room, wanted);
+    texts->bytes = (uint8_t *)block;
+    return is_there;
+}
+
+/* Adds a read to those that are to be asked. */
+static inline void dws_want(dws_session *s, dws_tree *tree, const char *path, enum dw_side side)
+{
+    struct dws_texts *lacking = &tree->lacking;
+    size_t length = strlen(path);
+    if (lacking->at == lacking->length) {
+        lacking->at = lacking->length = 0;
+    }
+    if (!dws_reserve_texts(lacking, lacking->length + length + 8)) {
+        dws_fail(s, DW_NO_MEMORY);
+        return;
+    }
+    uint8_t *at = lacking->bytes + lacking->length;
+    dws_spell_int(at, (uint32_t)length);
+    dws_spell_int(at + 4 + length, (uint32_t)side);
+    memcpy(at + 4, path, length);
+    lacking->length += length + 8;
+}
+
+/* What was good of a path has ended. Of a node that was deleted the names above tell. */
+static inline void dws_hear_of_trees(dws_session *s, const dw_output *output)
+{
+    char path[DWS_LONGEST_LINE];
+    size_t length = dw_session_copy(&s->machine, 0, path, sizeof path - 1);
+    if (length >= sizeof path) {
+        return;
+    }
+    path[length] = 0;
+    for (dws_tree *tree = s->trees; tree != NULL; tree = tree->next) {
+        bool is_root = strcmp(path, tree->path) == 0;
+        if (!is_root && !dws_is_below(path, tree->path)) {
+            continue;
+        }
+        tree->is_good = false;
+        tree->must_look = tree->has_moved = true;
+        tree->is_missing = tree->is_missing && !is_root;
+        if (output->event != DW_EVENT_DELETED || (is_root && output->side == DW_SIDE_DATA)) {
+            dws_want(s, tree, path, output->side);
+        }
+    }
+}
+
+/* A server has accepted the session; or it is lost, and nothing is kept any more. */
+static inline void dws_begin_trees(dws_session *s, bool is_lost)
+{
+    for (dws_tree *tree = s->trees; tree != NULL; tree = tree->next) {
+        tree->has_moved = true;
+        if (is_lost) {
+            tree->must_look = true;
+            tree->is_good = tree->is_missing = false;
+            tree->lacking.length = tree->lacking.at = 0;
+            tree->look_at_ms = 0;
+        }
+    }
+}
+
+/* Whether a read that was refused so may be answered later, for reasons of the server's or of the connection. */
+static inline bool dws_is_busy(int32_t why)
+{
+    enum { THROTTLED = -127 };
+    return why == THROTTLED || why == DW_CODE_CONNECTION_LOSS || why == DW_CODE_SESSION_EXPIRED || why == DW_CODE_SESSION_MOVED
+           || why == DW_OUTCOME_TOO_MANY_PENDING;
+}
+
+/* A read of a tree is answered. Where its root was not there, it is asked whether it is, which leaves a watch. */
+static inline void dws_take_tree_read(dws_session *s, dws_call *call)
+{
+    dws_tree *tree = (dws_tree *)call->context;
+    bool is_question = call->kind == DWS_EXISTS, has_no_root = call->why == DW_CODE_NO_NODE && strcmp(call->path, tree->path) == 0;
+    bool is_lost = call->why == DW_OUTCOME_LOST || call->why == DW_OUTCOME_NOT_CONNECTED || call->why == DW_OUTCOME_EXPIRED
+                   || call->why == DW_OUTCOME_CLOSED || call->why == DWS_LATE;
+    free(call->text); /* the library keeps it */
+    free(call->names);
+    call->text = NULL;
+    call->names = NULL;
+    call->room = call->names_room = 0;
+    call->next = tree->idle;
+    tree->idle = call;
+    tree->asked--;
+    tree->must_look = true;
+    tree->has_moved = tree->has_moved || (call->why == 0 && !is_question) || (has_no_root && !tree->is_missing);
+    tree->is_missing = has_no_root || (tree->is_missing && !is_question);
+    if (call->why == 0 || call->why == DW_CODE_NO_NODE || is_lost) {
+        return;
+    }
+    tree->look_at_ms = s->now_ms + DWS_BETWEEN_READS_MS;
+    if (!dws_is_busy(call->why)) {
+        dws_trouble_tree(s, tree, call->why, call->path);
+    }
+}
+
+static inline void dws_put(dws_session *s, dws_call *call);
+
+/* Asks the next read, where one is to be asked. */
+static inline bool dws_ask_tree_read(dws_session *s, dws_tree *tree)
+{
+    const uint8_t *at = tree->lacking.bytes + tree->lacking.at;
+    const char *path;
+    size_t length;
+    enum dw_side side;
+    if (tree->idle == NULL || !dws_read_lacking(&at, tree->lacking.bytes + tree->lacking.length, &path, &length, &side)) {
+        return false;
+    }
+    dws_call *read = tree->idle;
+    char *kept = (char *)realloc(read->path, length + 1);
+    if (kept == NULL) {
+        dws_fail(s, DW_NO_MEMORY);
+        return false;
+    }
+    memcpy(kept, path, length);
+    kept[length] = 0;
+    tree->lacking.at = (size_t)(at - tree->lacking.bytes);
+    tree->idle = read->next;
+    tree->asked++;
+    bool is_question = tree->is_missing && side == DW_SIDE_DATA && strcmp(kept, tree->path) == 0;
+    read->kind = is_question ? DWS_EXISTS : side == DW_SIDE_DATA ? DWS_GET : DWS_CHILDREN;
+    read->path = kept;
+    read->watch = true;
+    dws_put(s, read);
+    return true;
+}
+
+/* Takes the nodes that the library has spelled. */
+static inline void dws_show_tree(dws_session *s, dws_tree *tree)
+{
+    uint8_t *at = tree->text.bytes, *end = at + tree->text.length;
+    dws_node node;
+    tree->count = 0;
+    while (dws_read_node(&at, end, &node)) {
+        void *block = tree->nodes;
+        bool is_there = dws_reserve(&block, &tree->nodes_room, (tree->count + 1) * sizeof node);
+        tree->nodes = (dws_node *)block;
+        if (!is_there) {
+            tree->count = 0;
+            dws_fail(s, DW_NO_MEMORY);
+            return;
+        }
+        node.path = dws_inner(s, node.path);
+        tree->nodes[tree->count++] = node;
+    }
+    qsort(tree->nodes, tree->count, sizeof node, dws_compare_nodes);
+    tree->zxid = dw_session_last_zxid(&s->machine);
+    tree->is_good = tree->is_changed = true;
+    tree->why = 0;
+}
+
+/* Whether it is known that there is no root. */
+static inline bool dws_has_no_root(dws_session *s, const dws_tree *tree)
+{
+    dw_kept_data kept;
+    uint8_t none;
+    enum dw_result result = dw_session_peek_data(&s->machine, tree->path, strlen(tree->path), &kept, &none, 0);
+    return result == DW_OK && kept.kind == DW_KEPT_ABSENT && kept.mark == DW_MARK_GOOD;
+}
+
+/* Copies what this function of the library finds at and below the root of a tree. */
+static inline enum dw_result dws_collect(dws_session *s, const dws_tree *tree, struct dws_texts *texts,
+                                         enum dw_result (*find)(dw_session *, const char *, size_t, size_t, uint8_t *, size_t, size_t *))
+{
+    size_t length = strlen(tree->path);
+    texts->length = texts->at = 0;
+    if (!dws_reserve_texts(texts, 4096)) {
+        return DW_NO_MEMORY;
+    }
+    enum dw_result result = find(&s->machine, tree->path, length, tree->most, texts->bytes, texts->room, &texts->length);
+    if (result == DW_OK && texts->length > texts->room) {
+        if (!dws_reserve_texts(texts, texts->length + texts->length / 8)) {
+            return DW_NO_MEMORY;
+        }
+        result = find(&s->machine, tree->path, length, tree->most, texts->bytes, texts->room, &texts->length);
+    }
+    return result;
+}
+
+/* Finds out what is lacking. Where nothing has come of the reads before, they are asked again after a second. */
+static inline enum dw_result dws_learn(dws_session *s, dws_tree *tree)
+{
+    if (dws_has_no_root(s, tree)) {
+        dws_trouble_tree(s, tree, DW_CODE_NO_NODE, tree->path);
+        return DW_OK;
+    }
+    if (!tree->has_moved) {
+        tree->must_look = tree->has_moved = true;
+        tree->look_at_ms = s->now_ms + DWS_BETWEEN_READS_MS;
+        return DW_OK;
+    }
+    tree->has_moved = false;
+    return dws_collect(s, tree, &tree->lacking, dw_session_lacking);
+}
+
+/* Shows a tree where it is whole, and else has what is lacking be read. */
+static inline void dws_look_at_tree(dws_session *s, dws_tree *tree)
+{
+    struct timespec begun, ended;
+    clock_gettime(CLOCK_MONOTONIC, &begun);
+    tree->must_look = false;
+    enum dw_result result = dws_collect(s, tree, &tree->text, dw_session_subtree);
+    if (result == DW_OK) {
+        dws_show_tree(s, tree);
+    } else if (result == DW_NOT_WHOLE) {
+        result = dws_learn(s, tree);
+    }
+    if (result == DW_NO_MEMORY || result == DW_CLOSED) {
+        dws_fail(s, result);
+    } else if (result != DW_OK) {
+        dws_trouble_tree(s, tree, DWS_REFUSED - (int32_t)result, tree->path);
+    }
+    clock_gettime(CLOCK_MONOTONIC, &ended);
+    int64_t took_us = (int64_t)(ended.tv_sec - begun.tv_sec) * 1000000 + (ended.tv_nsec - begun.tv_nsec) / 1000;
+    tree->look_at_ms = dws_most(tree->look_at_ms, dws_now_ms() + (uint64_t)took_us * DWS_SHARE / 1000);
+}
+
+/* Whether a tree may be another one, and nothing of it is to be asked or on its way. */
+static inline bool dws_may_look(const dws_tree *tree)
+{
+    return tree->must_look && tree->asked == 0 && tree->lacking.at == tree->lacking.length;
+}
+
+/* Shows a tree of which there is something to be told, where there is one. */
+static inline bool dws_show_next_tree(dws_session *s)
+{
+    for (dws_tree *tree = s->trees; tree != NULL; tree = tree->next) {
+        if (tree->is_changed) {
+            tree->is_changed = false;
+            s->has_news = true;
+            if (tree->shown != NULL) {
+                tree->shown(s, tree);
+            }
+            return true;
+        }
+    }
+    return false;
+}
+
+/* Has trees go on, where a server has accepted the session. */
+static inline void dws_grow_trees(dws_session *s)
+{
+    bool is_connected = dws_is_connected(s) && !s->is_closing;
+    for (dws_tree *tree = s->trees; tree != NULL && is_connected && !s->is_over; tree = tree->next) {
+        if (dws_may_look(tree) && tree->look_at_ms <= s->now_ms) {
+            dws_look_at_tree(s, tree);
+        }
+        while (!s->is_over && dws_ask_tree_read(s, tree)) {
+        }
+    }
+    while (!s->is_over && dws_show_next_tree(s)) {
+    }
+}
+
+/* When a tree is to go on, though nothing comes from the server. */
+static inline uint64_t dws_growth(dws_session *s)
+{
+    uint64_t first = UINT64_MAX;
+    bool is_connected = dws_is_connected(s) && !s->is_closing;
+    for (dws_tree *tree = s->trees; tree != NULL && is_connected; tree = tree->next) {
+        first = dws_may_look(tree) ? dws_least(first, tree->look_at_ms) : first;
+    }
+    return first;
+}
+
+static inline char *dws_outer(const dws_session *s, const char *path);
+
+/* Makes the calls by which a tree reads. */
+static inline bool dws_make_reads(dws_tree *tree)
+{
+    tree->reads = (dws_call *)calloc(DWS_MOST_READS, sizeof *tree->reads);
+    for (size_t i = 0; tree->reads != NULL && i < DWS_MOST_READS; i++) {
+        dws_call *read = &tree->reads[i];
+        read->then = dws_take_tree_read;
+        read->context = tree;
+        read->next = tree->idle;
+        tree->idle = read;
+    }
+    return tree->reads != NULL;
+}
+
+static inline enum dw_result dws_follow_tree(dws_session *s, dws_tree *tree, const char *path, size_t most,
+                                             void (*shown)(dws_session *, dws_tree *))
+{
+    dw_kept_data kept;
+    uint8_t none;
+    tree->path = dws_outer(s, path);
+    enum dw_result result = tree->path == NULL ? DW_NO_MEMORY : words_of_path(path) != NULL ? DW_NOT_PATH : DW_OK;
+    if (result == DW_OK) {
+        result = dw_session_peek_data(&s->machine, tree->path, strlen(tree->path), &kept, &none, 0);
+    }
+    if (result == DW_OK && !dws_make_reads(tree)) {
+        result = DW_NO_MEMORY;
+    }
+    if (result != DW_OK) {
+        free(tree->path);
+        tree->path = NULL;
+        return result;
+    }
+    tree->most = most > 0 ? most : (size_t)DWS_MOST_NODES;
+    tree->shown = shown;
+    tree->must_look = tree->has_moved = true;
+    tree->next = s->trees;
+    s->trees = tree;
+    return DW_OK;
+}
+
+static inline void dws_drop_read(dws_session *s, struct dws_line *line, dws_call *read);
+
+static inline void dws_unfollow_tree(dws_session *s, dws_tree *tree)
+{
+    dws_tree **at = &s->trees;
+    while (*at != NULL && *at != tree) {
+        at = &(*at)->next;
+    }
+    if (*at != NULL) {
+        *at = tree->next;
+    }
+    for (size_t i = 0; tree->reads != NULL && i < DWS_MOST_READS; i++) {
+        dws_drop_read(s, &s->queue, &tree->reads[i]);
+        dws_drop_read(s, &s->sent, &tree->reads[i]);
+        dws_release(&tree->reads[i]);
+    }
+    free(tree->reads);
+    free(tree->lacking.bytes);
+    free(tree->text.bytes);
+    free(tree->nodes);
+    free(tree->trouble);
+    free(tree->path);
+    memset(tree, 0, sizeof *tree);
+}
+
+/* ---- Turns: what is due, what poll is to wait for, and what it has told. ---- */
 
 /* What is due at a moment. */
 static inline void dws_keep_time(dws_session *s)
@@ -492,6 +2217,8 @@ static inline bool dws_turn(dws_session *s)
     dws_go_on(s, polled.revents);
     return !s->is_over;
 }
+
+/* ---- Calls: how they are asked, and why they have failed. ---- */
 
 /* How long a call waits, where there is a limit. */
 static inline uint64_t dws_patience_ms(const dws_session *s)
@@ -648,6 +2375,8 @@ static inline void dws_words(dws_session *s, const dws_call *call, char *room, s
     }
 }
 
+/* ---- What is followed, and no longer. ---- */
+
 /* Follows one side of a path. */
 static inline enum dw_result dws_follow_side(dws_session *s, dws_subject *subject, const char *path, enum dw_side side,
                                              void (*changed)(dws_session *, dws_subject *))
@@ -730,6 +2459,8 @@ static inline void dws_unfollow(dws_session *s, dws_subject *subject)
     free(subject->names);
     memset(subject, 0, sizeof *subject);
 }
+
+/* ---- A session's beginning and end, and what it says of itself. ---- */
 
 /* Whether the library is that of the header; else `why` says so. */
 static inline bool dws_check_version(char *why, size_t size)

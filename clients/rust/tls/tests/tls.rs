@@ -1,12 +1,13 @@
-//! Sessions over TLS, at a server of the test's own. Where there is no openssl to make certificates, each test says so and passes.
+//! Sessions over TLS, at a server of the test's own, in a program that takes the crate by the name of the client. Where there is no openssl to make certificates, each test says so and passes.
 
 #[path = "../../tests/jute/mod.rs"]
 mod jute;
 #[path = "../../tests/partner/mod.rs"]
 mod partner;
 
-use dirwolleu::{NoReply, Request, Session, SessionOptions, State};
-use dirwolleu_rustls::{rustls, Tls};
+extern crate dirwolleu_rustls as dirwolleu;
+
+use dirwolleu::{rustls, NoReply, Request, Session, SessionOptions, State, Tls};
 use jute::{PING, PONG, SET_DATA};
 use partner::Line;
 use rustls::{
