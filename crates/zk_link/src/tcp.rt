@@ -2,7 +2,7 @@
 
 use crate::dial::{Dial, Stream};
 use std::io::{self, ErrorKind, Read, Write};
-use std::net::{Net, OpenStream, SocketAddr, SocketAddrV4, TcpStream};
+use std::net::{Net, OpenStream, SocketAddr, TcpStream};
 use std::time::Duration;
 
 /// How long a write may wait for room, in milliseconds.
@@ -53,13 +53,13 @@ impl<S: Read + Write + OpenStream + Drop> Stream for Socket<S> {
 impl<'a, R: Net> Dial for Tcp<'a, R> {
     type Stream = Socket<R::Stream>;
 
-    /// The address is four numbers joined by dots, a colon and a port.
+    /// The address is four numbers joined by dots, or an IPv6 address in brackets; behind it stand a colon and a port.
     fn dial(&mut self, address: &str, within_ms: u64) -> io::Result<Socket<R::Stream>> {
-        let Ok(address) = SocketAddrV4::parse_ascii(address.as_bytes()) else {
+        let Ok(address) = SocketAddr::parse_ascii(address.as_bytes()) else {
             return Err(io::Error::from(ErrorKind::InvalidInput));
         };
         let within = Duration::from_millis(within_ms);
-        let stream = TcpStream::connect_timeout(self.net, &SocketAddr::V4(address), within)?;
+        let stream = TcpStream::connect_timeout(self.net, &address, within)?;
         stream.set_write_timeout(Some(Duration::from_millis(LONGEST_WRITE_MS)))?;
         Ok(Socket { stream })
     }
