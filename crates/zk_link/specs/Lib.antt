@@ -1,4 +1,5 @@
 pub mod Frames
+pub mod Hosts
 pub mod Replies
 pub mod StopText
 pub mod Trails
