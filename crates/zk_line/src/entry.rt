@@ -61,7 +61,7 @@ pub(crate) fn goes_back<A: Allocator>(call: &Call<A>, outcome: &Outcome<A>) -> b
 }
 
 /// Whether a moment has come, if there is one.
-fn has_come(now: u64, moment: Option<u64>) -> bool
+pub(crate) fn has_come(now: u64, moment: Option<u64>) -> bool
     ensures { result ≡ has_come now moment }
 {
     match moment {

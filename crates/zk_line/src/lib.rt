@@ -6,8 +6,11 @@
 #![tactic(auto)]
 
 mod copies;
+mod ending;
 mod entry;
 mod line;
+mod order;
+mod turn;
 
 pub use entry::{Ended, Ending, Entry};
 pub use line::Line;

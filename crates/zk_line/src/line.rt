@@ -1,143 +1,38 @@
 //! The line of calls.
 
-ghost use Rattle.std.specs.Prelude.{◌≡◌, ◌++◌, ◌∷◌, [], false, map, not, Some, None, IfOk, OnOk, OnErr, if◌then◌else◌};
+ghost use Rattle.std.specs.Prelude.{◌≡◌, ◌++◌, ◌∷◌, ◌+◌, [], false, true, map, not, Some, None, IfOk, OnOk, OnErr, if◌then◌else◌};
 ghost use Rattle.std.specs.Option.{option_map};
 ghost use Rattle.std.specs.List.{position};
+ghost use Rattle.std.proofs.Props.{props};
 ghost use Rattle.zk_conversation.specs.Views.{call_view};
 ghost use Rattle.zk_client.specs.Views.{outcome_view};
-ghost use Rattle.zk_line.specs.Lines.{answered, ended, ended_of, first_handed, first_limit, first_of, is_ended, left, next_call, settles, waits_turn};
+ghost use Rattle.zk_line.specs.Lines.{answered, ended, ended_of, first_handed, first_limit, is_ended, left, next_call, settles, waits_turn};
+ghost use Rattle.zk_line.specs.Orders.{ends_first, in_order, is_below, AreHanded};
 
-use crate::copies::copied_call;
-use crate::entry::{Ended, Ending, Entry, goes_back};
+use crate::ending::{remove, told_of};
+use crate::entry::{Ended, Ending, Entry, has_come};
+use crate::order::{first_limit, limits_rise, place_of, tickets_rise};
+use crate::turn::{copied_at, hand, place_of_next, settle};
 use std::alloc::{AllocError, Allocator, Global};
+use std::collections::VecDeque;
 use zk_client::{Call, Outcome};
 
 /// The calls of a program that wait, in the order of asking. No two of them are to have one ticket: where two have, an answer goes to the
-/// first that was handed over, and the others are lost.
+/// first that was handed over, and the others are lost. An answer is found by a search where the tickets rise in the order of asking, and the
+/// first limit is that of the first call where the limits rise; where they don't, each call is looked at.
 #[derive(Drop)]
 pub struct Line<A: Allocator + Copy = Global> {
     alloc: A,
-    pub(crate) entries: Vec<Entry<A>, A>,
-}
-
-/// The place of the first call of this ticket that was handed over.
-fn place_of<A: Allocator>(entries: &[Entry<A>], ticket: u64) -> Option<usize>
-    ensures { result ≡ position (is_ended (Ending.LostOf ticket)) entries.now }
-{
-    entries.iter().position(
-        |entry: &Entry<A>| -> bool
-            ensures { result ≡ is_ended (Ending.LostOf ticket) entry.now }
-        { entry.is_ended(Ending::LostOf(ticket)) },
-    )
-}
-
-/// The place of the first call that waits for its turn.
-fn place_of_next<A: Allocator>(entries: &[Entry<A>]) -> Option<usize>
-    ensures { result ≡ position waits_turn entries.now }
-{
-    entries.iter().position(
-        |entry: &Entry<A>| -> bool
-            ensures { result ≡ waits_turn entry.now }
-        { !entry.is_sent },
-    )
-}
-
-/// Adds what is told of a call, where it waits no more.
-fn add_told<A: Allocator>(
-    told: &mut Vec<Ended, A>,
-    entry: &Entry<A>,
-    ending: Ending,
-) -> Result<(), AllocError>
-    ensures { OnOk result (told.new.items ≡ told.old.items ++ map ended_of (ended ending (entry.now ∷ []))) }
-{
-    if entry.is_ended(ending) {
-        told.push(entry.ended())?;
-    }
-    Ok(())
-}
-
-/// What is told of those that wait no more.
-fn told_of<A: Allocator + Copy>(
-    alloc: A,
-    entries: &[Entry<A>],
-    ending: Ending,
-) -> Result<Vec<Ended, A>, AllocError>
-    ensures { IfOk result (λ told. told.items ≡ map ended_of (ended ending entries.now)) }
-{
-    let mut told = Vec::new(alloc);
-    for entry in entries {
-        add_told(&mut told, entry, ending)?;
-    }
-    Ok(told)
-}
-
-/// Takes out those that wait no more.
-fn remove<A: Allocator>(entries: &mut Vec<Entry<A>, A>, ending: Ending)
-    ensures { entries.new.items ≡ left ending entries.old.items }
-{
-    entries.retain(
-        |entry: &Entry<A>| -> bool
-            ensures { result ≡ not (is_ended ending entry.now) }
-        { !entry.is_ended(ending) },
-    );
-}
-
-/// The first of two moments.
-fn first_of(moment: Option<u64>, other: Option<u64>) -> Option<u64>
-    ensures { result ≡ first_of moment other }
-{
-    match (moment, other) {
-        (Some(moment), Some(other)) => Some(moment.min(other)),
-        (Some(moment), None) => Some(moment),
-        (None, other) => other,
-    }
-}
-
-/// The first limit of these.
-fn first_limit<A: Allocator>(entries: &[Entry<A>]) -> Option<u64>
-    ensures { result ≡ first_limit entries.now }
-{
-    let mut first = None;
-    for entry in entries {
-        first = first_of(first, entry.until);
-    }
-    first
-}
-
-/// Settles the call at this place, or lets it wait for its turn again. What it is answered, where that ends its wait.
-fn settle<A: Allocator>(
-    entries: &mut Vec<Entry<A>, A>,
-    place: usize,
-    ticket: u64,
-    outcome: Outcome<A>,
-) -> Option<Outcome<A>>
-    requires { position (is_ended (Ending.LostOf ticket)) entries.old.items ≡ Some place }
-    ensures entries { entries.new.items ≡ answered ticket (outcome_view outcome) entries.old.items }
-    ensures told { option_map outcome_view result ≡ (if settles ticket (outcome_view outcome) entries.old.items then Some (outcome_view outcome) else None) }
-{
-    if goes_back(&entries[place].call, &outcome) {
-        entries[place].is_sent = false;
-        return None;
-    }
-    let _entry = entries.remove(place);
-    Some(outcome)
-}
-
-/// Hands over the call at this place: a copy of it is given.
-fn hand<A: Allocator + Copy>(
-    alloc: A,
-    entries: &mut Vec<Entry<A>, A>,
-    place: usize,
-) -> Result<(u64, Call<A>), AllocError>
-    requires { position waits_turn entries.old.items ≡ Some place }
-    ensures next { IfOk result (λ it. next_call entries.old.items ≡ Some (it.0, call_view it.1)) }
-    ensures entries { OnOk result (entries.new.items ≡ first_handed entries.old.items) }
-    ensures same { OnErr result (entries.new ≡ entries.old) }
-{
-    let ticket = entries[place].ticket;
-    let call = copied_call(alloc, &entries[place].call)?;
-    entries[place].is_sent = true;
-    Ok((ticket, call))
+    pub(crate) entries: VecDeque<Entry<A>, A>,
+    /// All before this place were handed over.
+    handed: usize,
+    /// Whether it is known that each ticket is above those before it.
+    tickets_rise: bool,
+    /// Whether it is known that no limit comes before that of a call that was asked earlier. None never comes.
+    limits_rise: bool,
+    ghost first_ones: { AreHanded handed entries.items } by { Prim.hlevel props },
+    ghost by_ticket: { tickets_rise ≡ true → in_order is_below entries.items ≡ true } by { Prim.hlevel props },
+    ghost by_limit: { limits_rise ≡ true → in_order ends_first entries.items ≡ true } by { Prim.hlevel props },
 }
 
 impl<A: Allocator + Copy> Line<A> {
@@ -147,7 +42,10 @@ impl<A: Allocator + Copy> Line<A> {
     {
         Line {
             alloc,
-            entries: Vec::new(alloc),
+            entries: VecDeque::new(alloc),
+            handed: 0,
+            tickets_rise: true,
+            limits_rise: true,
         }
     }
 
@@ -164,10 +62,48 @@ impl<A: Allocator + Copy> Line<A> {
             until,
             is_sent,
         };
-        match self.entries.push(entry) {
-            Ok(()) => Ok(()),
+        let tickets = tickets_rise(&self.entries, self.tickets_rise, &entry);
+        let limits = limits_rise(&self.entries, self.limits_rise, &entry);
+        match self.entries.push_back(entry) {
+            Ok(()) => {
+                self.tickets_rise = tickets;
+                self.limits_rise = limits;
+                Ok(())
+            }
             Err(_) => Err(AllocError),
         }
+    }
+
+    /// The place of the call whose turn it is.
+    fn place_of_next(&self) -> Option<usize>
+        ensures { result ≡ position waits_turn self.now.entries.items }
+    {
+        place_of_next(&self.entries, self.handed)
+    }
+
+    /// A copy of the call at this place, with its ticket.
+    fn copied_at(&self, place: usize) -> Result<(u64, Call<A>), AllocError>
+        requires { position waits_turn self.now.entries.items ≡ Some place }
+        ensures { IfOk result (λ it. next_call self.now.entries.items ≡ Some (it.0, call_view it.1)) }
+    {
+        copied_at(self.alloc, &self.entries, place)
+    }
+
+    /// The call at this place counts as handed over.
+    fn hand(&mut self, place: usize)
+        requires { position waits_turn self.old.entries.items ≡ Some place }
+        ensures { self.new.entries.items ≡ first_handed self.old.entries.items }
+    {
+        hand(&mut self.entries, place);
+        self.handed = place + 1;
+    }
+
+    /// All were handed over.
+    fn note_all(&mut self)
+        requires { position waits_turn self.old.entries.items ≡ None }
+        ensures { self.new.entries.items ≡ self.old.entries.items }
+    {
+        self.handed = self.entries.len();
     }
 
     /// The call whose turn it is: the first of those that wait for theirs, and none where none does. It counts as handed over, and a copy of
@@ -177,13 +113,13 @@ impl<A: Allocator + Copy> Line<A> {
         ensures entries { OnOk result (self.new.entries.items ≡ first_handed self.old.entries.items) }
         ensures same { OnErr result (self.new ≡ self.old) }
     {
-        let Some(place) = place_of_next(self.entries.as_slice()) else {
+        let Some(place) = self.place_of_next() else {
+            self.note_all();
             return Ok(None);
         };
-        match hand(self.alloc, &mut self.entries, place) {
-            Ok(next) => Ok(Some(next)),
-            Err(fault) => Err(fault),
-        }
+        let next = self.copied_at(place)?;
+        self.hand(place);
+        Ok(Some(next))
     }
 
     /// The client answers a call of this ticket: the first of those that were handed over. What its asker is to be told: nothing where there
@@ -192,13 +128,26 @@ impl<A: Allocator + Copy> Line<A> {
         ensures entries { self.new.entries.items ≡ answered ticket (outcome_view outcome) self.old.entries.items }
         ensures told { option_map outcome_view result ≡ (if settles ticket (outcome_view outcome) self.old.entries.items then Some (outcome_view outcome) else None) }
     {
-        let place = place_of(self.entries.as_slice(), ticket);
+        let place = place_of(&self.entries, self.tickets_rise, ticket);
         match place {
-            Some(place) => settle(&mut self.entries, place, ticket, outcome),
+            Some(place) => settle(&mut self.entries, &mut self.handed, place, ticket, outcome),
             None => {
                 drop(outcome);
                 None
             }
+        }
+    }
+
+    /// Whether it is known without a look at each that no call waits no more.
+    fn has_none(&self, ending: Ending) -> bool
+        ensures { result ≡ true → ended ending self.now.entries.items ≡ [] }
+    {
+        match ending {
+            Ending::LostOf(ticket) => {
+                self.tickets_rise && place_of(&self.entries, self.tickets_rise, ticket).is_none()
+            }
+            Ending::Late(now) => !has_come(now, self.deadline()),
+            Ending::Lost | Ending::Expired => false,
         }
     }
 
@@ -208,8 +157,12 @@ impl<A: Allocator + Copy> Line<A> {
         ensures entries { OnOk result (self.new.entries.items ≡ left ending self.old.entries.items) }
         ensures same { OnErr result (self.new ≡ self.old) }
     {
-        let told = told_of(self.alloc, self.entries.as_slice(), ending)?;
+        if self.has_none(ending) {
+            return Ok(Vec::new(self.alloc));
+        }
+        let told = told_of(self.alloc, &self.entries, ending)?;
         remove(&mut self.entries, ending);
+        self.handed = 0;
         Ok(told)
     }
 
@@ -218,12 +171,13 @@ impl<A: Allocator + Copy> Line<A> {
         ensures { self.new.entries.items ≡ [] }
     {
         self.entries.clear();
+        self.handed = 0;
     }
 
     /// The first moment at which the limit of a call comes.
     pub fn deadline(&self) -> Option<u64>
         ensures { result ≡ first_limit self.now.entries.items }
     {
-        first_limit(self.entries.as_slice())
+        first_limit(&self.entries, self.limits_rise)
     }
 }
