@@ -25,7 +25,7 @@ topic_by None (negsuc n) =
     else Unasked
 
 -- What a frame of the server with this xid is about: -1 is that of a notice, and another that of the last request with it.
-abbrev pub topic_of : List RequestHeader → ℤ → Topic
+unfoldable pub topic_of : List RequestHeader → ℤ → Topic
 topic_of asked xid = if int_eq xid (negsuc 0) then Notice else topic_by (last_type None asked xid) xid
 
 abbrev pub noted_by : List RequestHeader → Result (Value request_header × List ℕ) TakeError → List RequestHeader

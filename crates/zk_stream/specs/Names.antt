@@ -77,5 +77,5 @@ code_by (code.Other (pos zero)) = codes "Ok"
 code_by (code.Other (pos (suc n))) = codes "unknown"
 code_by (code.Other (negsuc n)) = codes "unknown"
 
-abbrev pub code_name : ℤ → List ℕ
+unfoldable pub code_name : ℤ → List ℕ
 code_name number = code_by (code_of number)

@@ -32,6 +32,7 @@ fn last_type(asked: &[RequestHeader], xid: i32) -> Option<i32>
 }
 
 /// What a frame with this xid is about, after these requests.
+#[tactic(auto, unfolding(crate::specs::Asked::topic_of))]
 pub fn topic_of(asked: &[RequestHeader], xid: i32) -> Topic
     ensures { result ≡ topic_of asked.now xid }
 {

@@ -71,6 +71,7 @@ pub fn event_name(number: i32) -> &'static str
 }
 
 /// The name of the code of an error.
+#[tactic(auto, unfolding(crate::specs::Names::code_name))]
 pub fn code_name(number: i32) -> &'static str
     ensures { result.now ≡ code_name number }
 {
