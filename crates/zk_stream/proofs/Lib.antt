@@ -1,3 +1,3 @@
+mod AnswerLemmas
 mod FieldLemmas
 mod StreamLemmas
-mod TextLemmas

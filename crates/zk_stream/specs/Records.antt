@@ -6,11 +6,12 @@ use Rattle.zk_stream.specs.Names.{event_name}
 use Rattle.zk_stream.specs.Words.{count_word, named, numbered, size_word}
 
 infixr 5 ◌&◌
--- How a record's fields are told: not at all, under a name, as the type of an event under a name, one field after another.
+-- How a record's fields are told: not at all, under a name, as the type of an event under a name, the first alone, one field after another.
 pub data Labels : Type 0 where
   untold : Labels
   one : List ℕ → Labels
   event : List ℕ → Labels
+  only : Labels → Labels
   ◌&◌ : Labels → Labels → Labels
 
 -- the words of a value, whose fields are told so: of data how many bytes they are, and of a list how many elements it has
@@ -23,6 +24,7 @@ words_of buffer (one name) bytes = named name (size_word bytes)
 words_of ustring (one name) text = named name (text_word text)
 words_of (vector element) (one name) values = named name (count_word values)
 words_of (first ⨾ second) (before & behind) value = words_of first before value.0 ++ words_of second behind value.1
+words_of (first ⨾ second) (only label) value = words_of first label value.0
 words_of layout labels value = []
 
 -- without the password
@@ -41,8 +43,9 @@ create_labels = one (codes "path") & (one (codes "data") & (one (codes "acl") & 
 abbrev pub delete_labels : Labels
 delete_labels = one (codes "path") & one (codes "version")
 
+-- without the paths
 abbrev pub set_watches_labels : Labels
-set_watches_labels = one (codes "relativeZxid") & (one (codes "dataWatches") & (one (codes "existWatches") & one (codes "childWatches")))
+set_watches_labels = only (one (codes "relativeZxid"))
 
 abbrev pub event_labels : Labels
 event_labels = event (codes "type") & (one (codes "state") & one (codes "path"))

@@ -187,8 +187,20 @@ impl<A: Allocator + Copy> Stream<A> {
         ensures { IfOk result (λ text. string_bytes text ≡ left_line Way.Client self.now.client.place self.now.client.came ++ left_line Way.Server self.now.server.place self.now.server.came) }
     {
         let mut text = String::new(alloc);
-        push_left(&mut text, alloc, Way::Client, self.client.place, self.client.came)?;
-        push_left(&mut text, alloc, Way::Server, self.server.place, self.server.came)?;
+        push_left(
+            &mut text,
+            alloc,
+            Way::Client,
+            self.client.place,
+            self.client.came,
+        )?;
+        push_left(
+            &mut text,
+            alloc,
+            Way::Server,
+            self.server.place,
+            self.server.came,
+        )?;
         Ok(text)
     }
 
@@ -198,10 +210,18 @@ impl<A: Allocator + Copy> Stream<A> {
     {
         match line {
             Line::Came(Way::Client, bytes) => hear(
-                alloc, Way::Client, &mut self.client, &mut self.asked, bytes.as_slice(),
+                alloc,
+                Way::Client,
+                &mut self.client,
+                &mut self.asked,
+                bytes.as_slice(),
             ),
             Line::Came(Way::Server, bytes) => hear(
-                alloc, Way::Server, &mut self.server, &mut self.asked, bytes.as_slice(),
+                alloc,
+                Way::Server,
+                &mut self.server,
+                &mut self.asked,
+                bytes.as_slice(),
             ),
             Line::Over => self.left(alloc),
         }

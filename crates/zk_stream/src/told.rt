@@ -120,10 +120,7 @@ impl<A: Allocator + Copy> Told<A> for SetWatches<A> {
     ghost labels = { set_watches_labels };
 
     fn push_words(&self, text: &mut String<A>, alloc: A) -> Result<(), AllocError> {
-        push_value(text, alloc, "relativeZxid", &self.relative_zxid)?;
-        push_count(text, alloc, "dataWatches", &self.data_watches)?;
-        push_count(text, alloc, "existWatches", &self.exist_watches)?;
-        push_count(text, alloc, "childWatches", &self.child_watches)
+        push_value(text, alloc, "relativeZxid", &self.relative_zxid)
     }
 }
 
