@@ -1,5 +1,5 @@
 -- What a command line asks for, by the definition that `clap` gives of a simple command's matches.
-use Rattle.std.specs.Prelude.{◌≡◌, ◌≢◌, ◌⊎◌, ◌*◌, ◌==◌, ℕ, ℤ, pos, Bool, true, not, is_some, if◌then◌else◌, List, [], ◌∷◌, ◌++◌, map, codes, Option, Some, None}
+use Rattle.std.specs.Prelude.{◌≡◌, ◌≢◌, ◌⊎◌, ◌*◌, ◌==◌, ◌&&◌, bytes_eq, ℕ, ℤ, pos, Bool, true, false, not, is_some, if◌then◌else◌, List, [], ◌∷◌, ◌++◌, map, codes, Option, Some, None}
 use Rattle.std.specs.Prelude.{option_and_then, option_map, unwrap_or, string_bytes}
 use Rattle.std.specs.Borrow.{Bor}
 use Rattle.std.specs.List.{list_all}
@@ -177,6 +177,11 @@ IsFound (Watch addresses subjects timeout_ms for_ms) found = (rows : List Row) �
     × IsWatch (map (λ a. a.now) addresses.items) (aims_of subjects.items) timeout_ms for_ms rows
 IsFound (Ask addresses chroot name call form wait_ms) found = (verb : Verb) × (rows : List Row) × (found ≡ Some (verb_word verb, rows))
     × IsAsked verb (map (λ a. a.now) addresses.items) (string_bytes chroot) name.now (call_view call) form wait_ms rows
+
+-- the words are those that ask for the frames of a capture: they have a meaning of their own, and all others are `clap`'s
+abbrev pub asks_stream : List Text → Bool
+asks_stream (program ∷ (command ∷ (option ∷ []))) = bytes_eq command (codes "show") && bytes_eq option (codes "--stream")
+asks_stream words = false
 
 -- the words ask for this command
 abbrev pub AsksFor : List Text → Command → Type 0

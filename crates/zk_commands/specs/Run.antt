@@ -13,7 +13,8 @@ use Rattle.zk_commands.specs.declared.line_fault.LineFault.{LineFault}
 use Rattle.zk_commands.specs.declared.line_fault.LineFault.TheVariants.{Help, Refused}
 use Rattle.zk_commands.specs.declared.fault.ShowFault.{ShowFault}
 use Rattle.zk_commands.specs.declared.kind.Kind.{Kind}
-use Rattle.zk_commands.specs.CommandLine.{AsksFor, IsDue}
+use Rattle.zk_commands.specs.CommandLine.{AsksFor, IsDue, asks_stream}
+use Rattle.zk_stream.specs.Lines.{IsShown}
 use Rattle.zk_conversation.specs.Views.{call_view}
 use Rattle.zk_conversation.specs.declared.call.Call.{Call}
 use Rattle.zk_ask.specs.declared.plan.Form.{Form}
@@ -35,10 +36,11 @@ abbrev pub IsRefusalText : LineFault → List ℕ → Type 0
 IsRefusalText (Refused text) told = told ≡ string_bytes text
 IsRefusalText fault told = ⊥
 
--- The words ask for a frame, and the text is what is shown of it; or for a command that takes a script, and it is what all lines of
+-- The words ask for a frame, and the text is what is shown of it; or for the frames of a capture, and it is what is told of all of them; or for a command that takes a script, and it is what all lines of
 -- the input print; or for a watch, and it is what that prints; or for a call, and it is what its answer brings; or for help.
 pub data IsDone (words : List Text) (input : Option (List ℕ)) (text : List ℕ) : Type 0 where
   shows : (kind : Kind) (hex : Bor Text) → AsksFor words (Show kind hex) → ShowsFrame kind hex.now text → IsDone words input text
+  tells : (script : List ℕ) → asks_stream words ≡ true → IsInput input script → IsShown (lines_of script) text ends.Taken → IsDone words input text
   plays : (command : Command) (script : List ℕ) → AsksFor words command → IsInput input script → IsTranscriptOf command (lines_of script) text ends.Taken
       → IsDone words input text
   watches : (addresses : Vec (Bor Text)) (subjects : Vec (Subject Global)) (timeout_ms : ℤ) (for_ms : Option ℕ)
@@ -47,11 +49,13 @@ pub data IsDone (words : List Text) (input : Option (List ℕ)) (text : List ℕ
       → AsksFor words (Ask addresses chroot name call form wait_ms) → PrintsAnswer Global (call_view call) form (string_bytes chroot) text → IsDone words input text
   helps : (fault : LineFault) → IsDue words fault → IsHelpText fault text → IsDone words input text
 
--- The words ask for a frame that is refused, and nothing is written; or for a command that takes a script, with a line that is refused, and
+-- The words ask for a frame that is refused, and nothing is written; or for a command that takes a script or a capture, with a line that is refused, and
 -- the text is what stands before what that line would print. What is told is the first fault.
 pub data IsFaulty (words : List Text) (input : Option (List ℕ)) (text told : List ℕ) : Type 0 where
   unshown : (kind : Kind) (hex : Bor Text) (fault : ShowFault) → AsksFor words (Show kind hex) → IsFault kind hex.now fault → text ≡ []
       → told ≡ fault_text fault ++ 10 ∷ [] → IsFaulty words input text told
+  untold : (script : List ℕ) (number : ℕ) (why : ScriptFault) → asks_stream words ≡ true → IsInput input script
+      → IsShown (lines_of script) text (ends.Refused number why) → told ≡ refusal_text number why → IsFaulty words input text told
   stopped : (command : Command) (script : List ℕ) (number : ℕ) (why : ScriptFault) → AsksFor words command → IsInput input script
       → IsTranscriptOf command (lines_of script) text (ends.Refused number why) → told ≡ refusal_text number why → IsFaulty words input text told
 
@@ -82,6 +86,8 @@ IsRefusal words told = (fault : LineFault) × IsDue words fault × IsRefusalText
 -- No line's print is cut. The line of a halt stands after them where a step of the client halted.
 pub data IsWhole (words : List Text) (input : Option (List ℕ)) (text : List ℕ) : Type 0 where
   nothing : text ≡ [] → IsWhole words input text
+  starts : (script printed told : List ℕ) (end : End) → asks_stream words ≡ true → IsInput input script → IsShown (lines_of script) printed end
+      → RunsOut end told → text ≡ printed ++ told → IsWhole words input text
   begins : (command : Command) (script printed told : List ℕ) (end : End) → AsksFor words command → IsInput input script
       → IsTranscriptOf command (lines_of script) printed end → RunsOut end told → text ≡ printed ++ told → IsWhole words input text
   ceases : (addresses : Vec (Bor Text)) (subjects : Vec (Subject Global)) (timeout_ms : ℤ) (for_ms : Option ℕ) (printed told : List ℕ)

@@ -92,6 +92,7 @@ fn show_form<'a>(alloc: Global) -> Result<clap::Command<'a>, AllocError>
         .help("What kind of payload the frame has");
     let show = clap::Command::new(alloc, "show")
         .about("Prints the fields of a frame, and its bytes again")
+        .after_help(help::SHOW)
         .arg(kind)?;
     let hex = Arg::new(alloc, "HEX")
         .required(true)

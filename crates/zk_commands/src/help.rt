@@ -162,6 +162,34 @@ Examples:
   zk_shell get 127.0.0.1:2181 /config >config
   zk_shell set 127.0.0.1:2181 /config 'level = 2' --version 0 || echo changed meanwhile";
 
+/// At the end of the help of `show`.
+pub const SHOW: &str =
+    r"zk_shell show --stream takes a capture of one connection on standard input instead, and prints a line for
+each frame of it. Each line of the capture has the bytes of a piece of it, in their order:
+  > HEX                         What the client sent
+  < HEX                         What the server sent
+Empty lines and those that begin with # are skipped. A capture of one direction will do, and pieces may
+be cut anywhere. It has to begin where the connection begins. From a file that tcpdump wrote, for its
+first connection (tcp.stream eq 0):
+  tshark -r FILE -q -z follow,tcp,raw,0 |
+    sed -n 's/^\t\([0-9a-f]*\)$/< \1/p; s/^\([0-9a-f][0-9a-f]*\)$/> \1/p' | zk_shell show --stream
+
+Printed, by ZooKeeper's names, of data how many bytes they are, and of a list how many elements it has:
+  > PLACE length N connect FIELDS           The first frame of the client; its password is not printed
+  < PLACE length N connected FIELDS         That of the server
+  > PLACE length N xid XID type T NAME FIELDS
+  < PLACE length N xid XID type T NAME zxid ZXID err E NAME FIELDS
+                                A reply, with the type of the last request with its xid; unasked in place of
+                                the type where there was none. FIELDS only where err is 0
+  < PLACE length N xid -1 notice zxid ZXID err E NAME type T NAME state S path PATH
+  .. fault WORDS                What is wrong in the frame, with the byte of its payload; or what is wrong with a
+                                length, after which no frame of this direction can be found
+  > PLACE left N bytes          At the end: these are no whole frame
+
+PLACE is the byte of its direction at which the frame begins, with its length, and N the bytes after the
+length. Of types whose records zk_shell does not read, the number and N are printed, and the name where
+it knows one, else unknown. A text is printed as in `zk_shell live`, null as \0.";
+
 /// At the end of the help of `history`.
 pub const HISTORY: &str =
     r"The script on standard input tells a history, and then asks it. Empty lines and those that begin

@@ -5,6 +5,7 @@ mod ask;
 mod ask_forms;
 mod ask_words;
 mod asked;
+mod capture;
 pub mod command;
 mod data_words;
 mod fault;

@@ -8,6 +8,7 @@ ghost use Rattle.zk_commands.specs.CommandLine.{AsksFor};
 ghost use Rattle.zk_commands.specs.Run.{IsDone, IsFaulty, IsHelpText, IsNeverConnected, IsRefusal, IsRefusalText, IsUndoneBy, IsWhole};
 
 use crate::ask::ask_over;
+use crate::capture::{ToldCapture, asks_stream};
 use crate::command::{Command, command_of};
 use crate::line_fault::LineFault;
 use crate::plays::{LiveClient, RehearsedClient, ReplayedClient, ToldHistory};
@@ -120,7 +121,7 @@ pub fn run<D: Dial + Drop, C: Clock + Drop, I: Read, O: Write, E: Write>(
     errors: &mut E,
     words: &[&str],
 ) -> Status
-    // A frame is shown, a history is answered, a replay, a rehearsal, a session, a watch or the answer to a call is printed, or help is told.
+    // A frame is shown, the frames of a capture are told, a history is answered, a replay, a rehearsal, a session, a watch or the answer to a call is printed, or help is told.
     ensures done { result ≡ Status.Done → (text : List ℕ) × IsDone (map (λ w. w.now) words.entry.now) (I.remaining input.old) text
         × Appends (O.contents out.old) (O.contents out.new) text × (errors.new ≡ errors.old) }
     // The frame or a line of the script is refused, and this is told.
@@ -140,6 +141,9 @@ pub fn run<D: Dial + Drop, C: Clock + Drop, I: Read, O: Write, E: Write>(
     ensures memory { result ≡ Status.Memory → (text : List ℕ) × IsWhole (map (λ w. w.now) words.entry.now) (I.remaining input.old) text
         × Appends (O.contents out.old) (O.contents out.new) text × (errors.new ≡ errors.old) }
 {
+    if asks_stream(words) {
+        return script_over(alloc, ToldCapture, input, out, errors);
+    }
     match command_of(alloc, words) {
         Ok(command) => perform(alloc, dial, clock, input, out, errors, command),
         Err(fault) => tell_line(out, errors, fault),

@@ -8,7 +8,7 @@ pub returns : goal.returns
 returns c =
     let names = c.as_slice.result in
     let are : AreKinds names = search rules in
-    let new : app_of c.about.result ≡ new_app (codes "show") = search rules in
+    let new : app_of c.after_help.result ≡ new_app (codes "show") = search rules in
     let kind : rule_of c.help-kind.result ≡ kind_rule names = search rules in
     let kind_local : c.help-kind.result.global ≡ false = search rules in
     let show = c.in_ok-show.ensures.shape kind_local ∙ ap₂ with_rule new kind in
