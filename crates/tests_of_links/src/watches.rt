@@ -10,6 +10,7 @@ use std::alloc::Global;
 use std::io::Write;
 use world::Event;
 use zk_client::Side;
+use zk_watch::Style;
 
 /// The next transaction changes what is watched.
 static CHANGE: [Event; 1] = [Event::Takes];
@@ -33,7 +34,7 @@ static END: [Event; 2] = [Event::Expires, Event::Cuts];
 static NOTHING: [Event; 0] = [];
 
 /// Rows of which each is played once.
-fn single_rows() -> [Row; 6] {
+fn single_rows() -> [Row; 7] {
     let data = |name, events| Row::new(name, Side::Data, "/config", events);
     [
         data("an expiry, after a change", &END).after(1),
@@ -42,6 +43,7 @@ fn single_rows() -> [Row; 6] {
         data("a read that is refused", &NOTHING).refused(-102),
         data("an address that refuses", &EXPIRY).away(1, 2_000),
         data("no server ever", &NOTHING).away(u32::MAX, 1_000),
+        data("a change, as text", &CHANGE).printed(Style::Text),
     ]
 }
 

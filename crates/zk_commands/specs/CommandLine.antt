@@ -18,6 +18,8 @@ use Rattle.zk_conversation.specs.Calls.{Call}
 use Rattle.zk_conversation.specs.Views.{call_view}
 use Rattle.zk_ask.specs.declared.plan.Form.{Form}
 use Rattle.zk_watch.specs.Watching.{aims_of}
+use Rattle.zk_watch.specs.declared.plan.Style.{Style}
+use Rattle.zk_watch.specs.declared.plan.Style.TheVariants as style
 use Rattle.zk_commands.specs.declared.command.Command.{Command}
 use Rattle.zk_commands.specs.declared.command.Command.TheVariants.{Show, History, Replay, Rehearse, Live, Watch, Ask}
 use Rattle.zk_commands.specs.declared.line_fault.LineFault.{LineFault}
@@ -25,7 +27,7 @@ use Rattle.zk_commands.specs.declared.line_fault.LineFault.TheVariants.{Help, Re
 use Rattle.zk_commands.specs.declared.kind.Kind.TheVariants as kind
 use Rattle.zk_commands.specs.Kinds.{kind_word}
 use Rattle.zk_commands.specs.declared.verb.Verb.{Verb}
-use Rattle.zk_commands.specs.Asks.{AreServers, absolute, call_for, form_for, verb_word, with_reads, with_writes}
+use Rattle.zk_commands.specs.Asks.{AreServers, absolute, call_for, form_for, verb_word, with_reads, with_writes, flag, flag_rule}
 
 -- the kinds that `show` knows, in the order in which help lists them
 abbrev pub kind_words : List Text
@@ -80,7 +82,7 @@ duration_rule = option_rule (codes "for")
 
 abbrev pub watch_app : App
 watch_app =
-    with_rule (with_rule (with_rule (with_rule (with_rule (new_app (codes "watch")) address_rule) (path_rule (codes "data"))) (path_rule (codes "children"))) timeout_rule) duration_rule
+    with_rule (with_rule (with_rule (with_rule (with_rule (with_rule (new_app (codes "watch")) address_rule) (path_rule (codes "data"))) (path_rule (codes "children"))) timeout_rule) duration_rule) (flag_rule (codes "text"))
 
 -- the program without its subcommands: one must be given
 abbrev pub shell_top : App
@@ -143,10 +145,14 @@ IsTimeout ms rows = option_and_then timeout_at (first_of (codes "timeout") rows)
 abbrev pub IsDuration : Option ℕ → List Row → Type 0
 IsDuration ms rows = duration_read (first_of (codes "for") rows) ≡ Some ms
 
--- what `watch` was given: addresses, what to watch, a timeout, and how long
-abbrev pub IsWatch : List Text → List (Side × Text) → ℤ → Option ℕ → List Row → Type 0
-IsWatch addresses aims timeout_ms for_ms rows =
-    AreAddresses addresses rows × AreAims aims rows × IsTimeout timeout_ms rows × IsDuration for_ms rows
+-- how a watch prints
+abbrev pub style_in : List Row → Style
+style_in rows = if flag (codes "text") rows then style.Text else style.Hex
+
+-- what `watch` was given: addresses, what to watch, a timeout, how long, and how to print
+abbrev pub IsWatch : List Text → List (Side × Text) → ℤ → Option ℕ → Style → List Row → Type 0
+IsWatch addresses aims timeout_ms for_ms how rows =
+    AreAddresses addresses rows × AreAims aims rows × IsTimeout timeout_ms rows × IsDuration for_ms rows × (how ≡ style_in rows)
 
 -- how long to wait, in milliseconds: the words say it in seconds
 abbrev pub wait_at : Text → Option ℕ
@@ -173,8 +179,8 @@ IsFound History found = (rows : List Row) × (found ≡ Some (codes "history", r
 IsFound Replay found = (rows : List Row) × (found ≡ Some (codes "replay", rows))
 IsFound Rehearse found = (rows : List Row) × (found ≡ Some (codes "rehearse", rows))
 IsFound (Live addresses) found = (rows : List Row) × (found ≡ Some (codes "live", rows)) × AreAddresses (map (λ a. a.now) addresses.items) rows
-IsFound (Watch addresses subjects timeout_ms for_ms) found = (rows : List Row) × (found ≡ Some (codes "watch", rows))
-    × IsWatch (map (λ a. a.now) addresses.items) (aims_of subjects.items) timeout_ms for_ms rows
+IsFound (Watch addresses subjects timeout_ms for_ms how) found = (rows : List Row) × (found ≡ Some (codes "watch", rows))
+    × IsWatch (map (λ a. a.now) addresses.items) (aims_of subjects.items) timeout_ms for_ms how rows
 IsFound (Ask addresses chroot name call form wait_ms) found = (verb : Verb) × (rows : List Row) × (found ≡ Some (verb_word verb, rows))
     × IsAsked verb (map (λ a. a.now) addresses.items) (string_bytes chroot) name.now (call_view call) form wait_ms rows
 

@@ -21,6 +21,7 @@ use Rattle.zk_ask.specs.declared.plan.Form.{Form}
 use Rattle.zk_commands.specs.Asks.{PrintsAnswer, TellsWhy}
 use Rattle.zk_commands.specs.declared.status.Status.{Status}
 use Rattle.zk_watch.specs.Watching.{aims_of, IsPrinted, IsWatched}
+use Rattle.zk_watch.specs.declared.plan.Style.{Style}
 use Rattle.zk_watch.specs.declared.plan.Subject.{Subject}
 use Rattle.zk_commands.specs.Scripts.{IsInput, IsTranscriptOf}
 use Rattle.zk_commands.specs.Written.{IsHalt, RunsOut}
@@ -43,8 +44,8 @@ pub data IsDone (words : List Text) (input : Option (List ℕ)) (text : List ℕ
   tells : (script : List ℕ) → asks_stream words ≡ true → IsInput input script → IsShown (lines_of script) text ends.Taken → IsDone words input text
   plays : (command : Command) (script : List ℕ) → AsksFor words command → IsInput input script → IsTranscriptOf command (lines_of script) text ends.Taken
       → IsDone words input text
-  watches : (addresses : Vec (Bor Text)) (subjects : Vec (Subject Global)) (timeout_ms : ℤ) (for_ms : Option ℕ)
-      → AsksFor words (Watch addresses subjects timeout_ms for_ms) → IsWatched Global (aims_of subjects.items) for_ms text true → IsDone words input text
+  watches : (addresses : Vec (Bor Text)) (subjects : Vec (Subject Global)) (timeout_ms : ℤ) (for_ms : Option ℕ) (style : Style)
+      → AsksFor words (Watch addresses subjects timeout_ms for_ms style) → IsWatched Global style (aims_of subjects.items) for_ms text true → IsDone words input text
   asks : (addresses : Vec (Bor Text)) (chroot : String Global) (name : Bor Text) (call : Call Global) (form : Form) (wait_ms : ℕ)
       → AsksFor words (Ask addresses chroot name call form wait_ms) → PrintsAnswer Global (call_view call) form (string_bytes chroot) text → IsDone words input text
   helps : (fault : LineFault) → IsDue words fault → IsHelpText fault text → IsDone words input text
@@ -76,8 +77,9 @@ pub record IsNeverConnected (words : List Text) (text : List ℕ) : Type 0 where
   pub subjects : Vec (Subject Global)
   pub timeout_ms : ℤ
   pub for_ms : Option ℕ
-  pub asks : AsksFor words (Watch addresses subjects timeout_ms for_ms)
-  pub watched : IsWatched Global (aims_of subjects.items) for_ms text false
+  pub style : Style
+  pub asks : AsksFor words (Watch addresses subjects timeout_ms for_ms style)
+  pub watched : IsWatched Global style (aims_of subjects.items) for_ms text false
 
 -- the words are refused
 abbrev pub IsRefusal : List Text → List ℕ → Type 0
@@ -90,6 +92,6 @@ pub data IsWhole (words : List Text) (input : Option (List ℕ)) (text : List �
       → RunsOut end told → text ≡ printed ++ told → IsWhole words input text
   begins : (command : Command) (script printed told : List ℕ) (end : End) → AsksFor words command → IsInput input script
       → IsTranscriptOf command (lines_of script) printed end → RunsOut end told → text ≡ printed ++ told → IsWhole words input text
-  ceases : (addresses : Vec (Bor Text)) (subjects : Vec (Subject Global)) (timeout_ms : ℤ) (for_ms : Option ℕ) (printed told : List ℕ)
-      → AsksFor words (Watch addresses subjects timeout_ms for_ms) → IsPrinted Global (aims_of subjects.items) printed → IsHalt told
+  ceases : (addresses : Vec (Bor Text)) (subjects : Vec (Subject Global)) (timeout_ms : ℤ) (for_ms : Option ℕ) (style : Style) (printed told : List ℕ)
+      → AsksFor words (Watch addresses subjects timeout_ms for_ms style) → IsPrinted Global style (aims_of subjects.items) printed → IsHalt told
       → text ≡ printed ++ told → IsWhole words input text

@@ -30,7 +30,7 @@ fn node_arg<'a>(alloc: Global) -> Arg<'a>
 }
 
 /// A flag, and what help says of it.
-fn flag_arg<'a>(alloc: Global, name: &'a str, about: &'a str) -> Arg<'a>
+pub(crate) fn flag_arg<'a>(alloc: Global, name: &'a str, about: &'a str) -> Arg<'a>
     ensures rule { rule_of result ≡ flag_rule name.now }
     ensures local { result.global ≡ false }
 {

@@ -12,6 +12,7 @@ ghost use Rattle.zk_conversation.specs.Calls.{Call as Calls};
 ghost use Rattle.zk_conversation.specs.Views.{call_view};
 ghost use Rattle.zk_conversation.specs.declared.call.Call.{Call};
 ghost use Rattle.zk_nodes.specs.declared.side.Side.{Side};
+ghost use Rattle.zk_watch.specs.declared.plan.Style.{Style};
 ghost use Rattle.zk_watch.specs.declared.plan.Subject.{Subject};
 ghost use Rattle.zk_watch.specs.Watching.{aims_of};
 
@@ -22,14 +23,16 @@ use crate::help;
 use crate::kind::Kind;
 use crate::line_fault::{LineFault, no_address, no_command};
 use crate::verb::Verb;
-use crate::watch_words::{addresses_arg, duration_of, subjects_of, timeout_of, watch_form};
+use crate::watch_words::{
+    addresses_arg, duration_of, style_of, subjects_of, timeout_of, watch_form,
+};
 use clap::error::ErrorKind;
 use clap::{Arg, ArgMatches, Error};
 use std::alloc::{AllocError, Global};
 use zk_ask::Form;
 use zk_client::Call;
 use zk_live::address::is_address;
-use zk_watch::Subject;
+use zk_watch::{Style, Subject};
 
 static KINDS: [&str; 11] = [
     "connect",
@@ -64,12 +67,13 @@ pub enum Command<'a> {
         addresses: Vec<&'a str>,
     },
     /// Watches nodes over connections to these addresses, by a timeout that is above 0, for this many milliseconds; for ever where
-    /// there is no such number.
+    /// there is no such number. What it prints has this style.
     Watch {
         addresses: Vec<&'a str>,
         subjects: Vec<Subject<Global>>,
         timeout_ms: i32,
         for_ms: Option<u64>,
+        style: Style,
     },
     /// Asks one call of servers at these addresses, and waits this many milliseconds for its answer. The node has this name below a chroot.
     Ask {
@@ -252,11 +256,11 @@ fn live_of<'a>(alloc: Global, matches: &ArgMatches<'a>) -> Result<Command<'a>, L
 
 /// The command that the matches of `watch` give.
 fn watch_of<'a>(alloc: Global, matches: &ArgMatches<'a>) -> Result<Command<'a>, LineFault>
-    ensures ok { IfOk result (λ command. (addresses : Vec (Bor Text)) × (subjects : Vec (Subject Global)) × (timeout_ms : ℤ) × (for_ms : Option ℕ)
-        × (command ≡ Command.Watch addresses subjects timeout_ms for_ms)
-        × IsWatch (map (λ a. a.now) addresses.items) (aims_of subjects.items) timeout_ms for_ms (rows_of (found_of matches.now))) }
-    ensures err { IfErr result (TellsIf ((addresses : List Text) (aims : List (Side × Text)) (timeout_ms : ℤ) (for_ms : Option ℕ)
-        → IsWatch addresses aims timeout_ms for_ms (rows_of (found_of matches.now)) → ⊥)) }
+    ensures ok { IfOk result (λ command. (addresses : Vec (Bor Text)) × (subjects : Vec (Subject Global)) × (timeout_ms : ℤ) × (for_ms : Option ℕ) × (style : Style)
+        × (command ≡ Command.Watch addresses subjects timeout_ms for_ms style)
+        × IsWatch (map (λ a. a.now) addresses.items) (aims_of subjects.items) timeout_ms for_ms style (rows_of (found_of matches.now))) }
+    ensures err { IfErr result (TellsIf ((addresses : List Text) (aims : List (Side × Text)) (timeout_ms : ℤ) (for_ms : Option ℕ) (style : Style)
+        → IsWatch addresses aims timeout_ms for_ms style (rows_of (found_of matches.now)) → ⊥)) }
 {
     let timeout_ms = timeout_of(alloc, matches)?;
     let for_ms = duration_of(alloc, matches)?;
@@ -267,6 +271,7 @@ fn watch_of<'a>(alloc: Global, matches: &ArgMatches<'a>) -> Result<Command<'a>, 
         subjects,
         timeout_ms,
         for_ms,
+        style: style_of(matches),
     })
 }
 

@@ -108,6 +108,9 @@ printed as \x20. Where MARK is good, this is what the servers' history says at Z
 known; where it is stale, a change was told, and the node is being read again. REASON is connection
 refused, timed out, connection reset, unreachable, end of stream, a write failed, or another fault.
 
+With --text the DATA of data full stand in quotes, with the escapes of JSON, where they are text: UTF-8 with
+no control characters other than tab and newline. Others stand in hex, and null as \0.
+
 The session is closed when the time of --for is over, and when a line can't be written. That standard
 output is closed is seen at the next line alone. An interrupt is not seen at all: it ends the program, and
 the server ends the session after its timeout.

@@ -20,7 +20,7 @@ use std::alloc::Global;
 use std::io::{Read, Write};
 use zk_ask::Plan as Question;
 use zk_link::{Clock, Dial};
-use zk_watch::Plan;
+use zk_watch::{Plan, Style, Subject};
 
 /// Writes a text, and answers this status unless that fails.
 fn write_text<W: Write>(to: &mut W, text: &str, status: Status) -> Status
@@ -29,6 +29,27 @@ fn write_text<W: Write>(to: &mut W, text: &str, status: Status) -> Status
     match to.write_all(text.as_bytes()) {
         Ok(()) => status,
         Err(_) => Status::Stream,
+    }
+}
+
+/// The plan of a watch.
+fn plan_of<'a>(
+    addresses: &'a [&'a str],
+    subjects: Vec<Subject<Global>>,
+    timeout_ms: i32,
+    for_ms: Option<u64>,
+    style: Style,
+) -> Plan<'a, Global>
+    ensures subjects { result.subjects ≡ subjects }
+    ensures for_ms { result.for_ms ≡ for_ms }
+    ensures style { result.style ≡ style }
+{
+    Plan {
+        addresses,
+        subjects,
+        timeout_ms,
+        for_ms,
+        style,
     }
 }
 
@@ -64,13 +85,10 @@ fn perform<D: Dial + Drop, C: Clock + Drop, I: Read, O: Write, E: Write>(
             subjects,
             timeout_ms,
             for_ms,
+            style,
         } => {
-            let plan = Plan {
-                addresses: addresses.as_slice(),
-                subjects,
-                timeout_ms,
-                for_ms,
-            };
+            let addresses = addresses.as_slice();
+            let plan = plan_of(addresses, subjects, timeout_ms, for_ms, style);
             watch_over(alloc, dial, clock, plan, out)
         }
         Command::Ask {

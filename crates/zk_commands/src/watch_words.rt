@@ -6,15 +6,17 @@ ghost use Rattle.std.specs.List.{list_all};
 ghost use Rattle.clap.specs.Words.{Text, app_of, first_of, found_of, rows_of, rule_of};
 ghost use Rattle.zk_nodes.specs.declared.side.Side.{Side as Sides};
 ghost use Rattle.zk_watch.specs.Watching.{aims_of};
-ghost use Rattle.zk_commands.specs.CommandLine.{AreAims, IsDuration, IsTimeout, TellsIf, address_rule, aims_at, count_at, duration_rule, duration_read, given, is_path, option_rule, path_rule, timeout_at, timeout_rule, watch_app};
+ghost use Rattle.zk_commands.specs.CommandLine.{AreAims, IsDuration, IsTimeout, TellsIf, address_rule, aims_at, count_at, duration_rule, duration_read, given, is_path, option_rule, path_rule, style_in, timeout_at, timeout_rule, watch_app};
 
+use crate::ask_forms::flag_arg;
+use crate::ask_words::flag;
 use crate::help;
 use crate::line_fault::{LineFault, no_command, no_duration, no_path, no_timeout};
 use clap::{Arg, ArgAction, ArgMatches};
 use std::alloc::{AllocError, Global};
 use zk_nodes::{Path, PathFault, Side};
 use zk_script::numbers::natural_of;
-use zk_watch::Subject;
+use zk_watch::{Style, Subject};
 
 /// The most milliseconds of a timeout.
 const MOST_MS: u64 = 2_147_483_647;
@@ -86,7 +88,19 @@ pub(crate) fn watch_form<'a>(alloc: Global) -> Result<clap::Command<'a>, AllocEr
     let watch = watch.arg(paths_arg(alloc, "data", "A node whose data to watch"))?;
     let watch = watch.arg(paths_arg(alloc, "children", "A node below which to watch the names"))?;
     let watch = watch.arg(timeout_arg(alloc))?;
-    watch.arg(duration_arg(alloc))
+    let watch = watch.arg(duration_arg(alloc))?;
+    watch.arg(flag_arg(alloc, "text", "Prints data in quotes where they are text"))
+}
+
+/// How a watch prints.
+pub(crate) fn style_of(matches: &ArgMatches<'_>) -> Style
+    ensures { result ≡ style_in (rows_of (found_of matches.now)) }
+{
+    if flag(matches, "text") {
+        Style::Text
+    } else {
+        Style::Hex
+    }
 }
 
 /// The number that a word means, from 1 to the most.

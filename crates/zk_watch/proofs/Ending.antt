@@ -15,8 +15,9 @@ use Rattle.zk_agent.specs.Agents.{IsLed}
 use Rattle.zk_agent.specs.declared.input.Input.{Input}
 use Rattle.zk_agent.specs.declared.input.Input.TheVariants as happens
 use Rattle.zk_driver.specs.Driving.{Course, Hands}
-use Rattle.zk_watch.specs.Watching.{view_in, AllStood, end_of, Closes, Does, EndsBy, EndsFrom, FollowsAll, HasCome, IsBegun, IsOver, IsPrinted, IsWatched, Move, Prints, PrintsFrom, Stand, Takes, Writes, WritesEnd, WritesOn}
-use Rattle.zk_watch.proofs.Printing.{after, none, on_after, one, writes_after, writes_none}
+use Rattle.zk_watch.specs.declared.plan.Style.{Style}
+use Rattle.zk_watch.specs.Watching.{view_in, AllStood, end_of, Closes, Does, EndsFrom, FollowsAll, HasCome, IsBegun, IsOver, IsPrinted, IsWatched, Move, Prints, PrintsFrom, Stand, Takes, Writes, WritesEnd, WritesOn}
+use Rattle.zk_watch.proofs.Printing.{after, none, on_after, one, writes_none}
 
 -- ---- the end of a session
 
@@ -119,21 +120,21 @@ follows_led (aim ∷ aims) first ready all led =
 fresh : (start : Start) → IsLed (view_at start [])
 fresh start = (start, [], record { standing = refl; saved = refl; lists = refl; cache = refl; going = λ _. refl; said = tt; asked = tt })
 
-begun_led : {A : Type 0} (first : Stand A) → IsBegun first → IsLed (view_in first)
-begun_led first begun = subst IsLed (sym begun.client) (fresh (new_start begun.timeout))
+begun_led : {A : Type 0} (style : Style) (first : Stand A) → IsBegun style first → IsLed (view_in first)
+begun_led style first begun = subst IsLed (sym begun.client) (fresh (new_start begun.timeout))
 
 -- ---- the whole
 
-pub printed : {A : Type 0} (aims : List (Side × Text)) (first : Stand A) (text : List ℕ) → IsBegun first → (text ≡ []) ⊎ PrintsFrom aims first text → IsPrinted A aims text
-printed aims first text begun (inl none) = inl none
-printed aims first text begun (inr from) =
-    let led = follows_led aims first from.ready from.follows (begun_led first begun) in
+pub printed : {A : Type 0} (style : Style) (aims : List (Side × Text)) (first : Stand A) (text : List ℕ) → IsBegun style first → (text ≡ []) ⊎ PrintsFrom aims first text → IsPrinted A style aims text
+printed style aims first text begun (inl none) = inl none
+printed style aims first text begun (inr from) =
+    let led = follows_led aims first from.ready from.follows (begun_led style first begun) in
     inr (first, begun, from, all_stood from.prints.moves from.ready from.last from.prints.does led)
 
-pub watched : {A : Type 0} (aims : List (Side × Text)) (for_ms : Option ℕ) (first : Stand A) (text : List ℕ) (is_accepted : Bool) → IsBegun first → EndsFrom aims for_ms first text is_accepted
-    → IsWatched A aims for_ms text is_accepted
-watched aims for_ms first text is_accepted begun from =
-    let led = follows_led aims first from.ready from.follows (begun_led first begun) in
+pub watched : {A : Type 0} (style : Style) (aims : List (Side × Text)) (for_ms : Option ℕ) (first : Stand A) (text : List ℕ) (is_accepted : Bool) → IsBegun style first → EndsFrom aims for_ms first text is_accepted
+    → IsWatched A style aims for_ms text is_accepted
+watched style aims for_ms first text is_accepted begun from =
+    let led = follows_led aims first from.ready from.follows (begun_led style first begun) in
     let over = from.over in (
       first,
       begun,

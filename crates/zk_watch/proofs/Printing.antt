@@ -2,7 +2,6 @@
 use Rattle.std.proofs.Common.{◌≡◌, ◌≤◌, ◌<◌, ◌+◌, ◌++◌, ◌∙◌, ℕ, Bool, true, List, [], ◌∷◌, length, get_or, take, Option, refl, sym, ap, subst, append_assoc, append-nil}
 use Rattle.std.proofs.lemmas.List.{map-append, take_more}
 use Rattle.std.specs.Prelude.{Result, Ok, Err, OnOk, IfErr}
-use Rattle.std.specs.Io.KnownBytes.{Appends}
 use Rattle.std.proofs.KnownBytes.{Appends-nil, Appends-trans}
 use Rattle.std.specs.List.{flat_map, FoldsTo}
 use Rattle.std.specs.Prelude.{◌||◌, None, string_bytes}
@@ -16,9 +15,10 @@ use Rattle.zk_driver.specs.Noting.{is_come, notes_of, passed_in, GoesBy}
 use Rattle.zk_watch.specs.declared.shown.Watched.{Watched}
 use Rattle.zk_nodes.specs.Path.{Text}
 use Rattle.zk_nodes.specs.declared.side.Side.{Side}
+use Rattle.zk_watch.specs.declared.plan.Style.{Style}
 use Rattle.zk_watch.specs.declared.plan.Subject.{Subject}
 use Rattle.zk_watch.specs.Lines.{none_words}
-use Rattle.zk_watch.specs.Watching.{accepts, aim_of, aims_of, stand_of, text_of, FollowsAll, FollowsSo, TellsTurn, Does, HasCome, Heard, Move, Prints, Stand, Takes, Turns, Writes, WritesOn}
+use Rattle.zk_watch.specs.Watching.{accepts, aim_of, aims_of, stand_of, text_of, FollowsAll, FollowsSo, TellsTurn, Does, Heard, Move, Prints, Stand, Takes, Writes, WritesOn}
 
 pub does_on : {A : Type 0} (moves more : List (Move A)) (old between new : Stand A) → FoldsTo Does old moves between → FoldsTo Does between more new → FoldsTo Does old (moves ++ more) new
 does_on {A} [] more old between new same rest = subst (λ (s : Stand A). FoldsTo Does s more new) (sym same) rest
@@ -88,39 +88,40 @@ follows_more {A} subjects index subject first here new within is follows next =
     on [] first same = (new, subst (λ (s : Stand A). FollowsSo (aim_of subject) s new) (sym same) next, refl)
     on (aim ∷ aims) first all = (all.0, all.1, on aims all.0 all.2)
 
-pub ok_follows : {A S X E : Type 0} (result : Result X E) (aim : Side × Text) (first last : Engine A S) (olds news : List (Watched A)) (one : Watched A) (is_accepted : Bool) (ticket : ℕ)
+pub ok_follows : {A S X E : Type 0} (result : Result X E) (aim : Side × Text) (first last : Engine A S) (olds news : List (Watched A)) (one : Watched A) (is_accepted : Bool) (style : Style) (ticket : ℕ)
     → aim_of one.subject ≡ aim → string_bytes one.words ≡ none_words aim.0 → news ≡ olds ++ one ∷ [] → ticket ≡ length olds + 1
-    → OnOk result (Hands (happens.Follow ticket aim.0 aim.1) (course_of first None) (course_of last None)) → OnOk result (FollowsSo aim (stand_of first olds is_accepted) (stand_of last news is_accepted))
-ok_follows {A} (Ok x) aim first last olds news one is_accepted ticket is words more place hands = record {
+    → OnOk result (Hands (happens.Follow ticket aim.0 aim.1) (course_of first None) (course_of last None)) → OnOk result (FollowsSo aim (stand_of first olds is_accepted style) (stand_of last news is_accepted style))
+ok_follows {A} (Ok x) aim first last olds news one is_accepted style ticket is words more place hands = record {
   hands = subst (λ (t : ℕ). Hands (happens.Follow t aim.0 aim.1) (course_of first None) (course_of last None)) place hands;
   one = one;
   its_aim = is;
   its_words = words;
   watched = more;
   accepted = refl;
+  style = refl;
 }
-ok_follows (Err e) aim first last olds news one is_accepted ticket is words more place hands = tt
+ok_follows (Err e) aim first last olds news one is_accepted style ticket is words more place hands = tt
 
 -- ---- one turn, heard
 
 -- what a driver has come to, with what it hands on
-pub heard_so : {A S : Type 0} (until : ℕ) (is_over : Bool) (turn : Turn A) (first between last : Engine A S) (olds news : List (Watched A)) (was is : Bool) (text : List ℕ) → last ≡ between
+pub heard_so : {A S : Type 0} (until : ℕ) (is_over : Bool) (turn : Turn A) (first between last : Engine A S) (olds news : List (Watched A)) (was is : Bool) (style : Style) (text : List ℕ) → last ≡ between
     → GoesBy (notes_of turn) (course_of first None) (course_of between (passed_in turn))
-    → TellsTurn turn (view_of between.agent.asker.follower.client) (told_by between.waiting.items) olds news text → is ≡ (was || accepts turn) → is_over ≡ is_come turn
+    → TellsTurn style turn (view_of between.agent.asker.follower.client) (told_by between.waiting.items) olds news text → is ≡ (was || accepts turn) → is_over ≡ is_come turn
     → (is_come turn ≡ true → until ≤ between.agent.latest) → (is_come turn ≡ true → between.waiting.items ≡ [])
-    → Heard until is_over (stand_of first olds was) text (stand_of last news is)
-heard_so {A} {S} until is_over turn first between last olds news was is text same goes tells accepted over comes waits =
-    subst (λ (e : Engine A S). Heard until is_over (stand_of first olds was) text (stand_of e news is)) (sym same) (record {
+    → Heard until is_over (stand_of first olds was style) text (stand_of last news is style)
+heard_so {A} {S} until is_over turn first between last olds news was is style text same goes tells accepted over comes waits =
+    subst (λ (e : Engine A S). Heard until is_over (stand_of first olds was style) text (stand_of e news is style)) (sym same) (record {
       turn = turn;
-      turns = record { goes = goes; tells = tells; accepted = accepted };
+      turns = record { goes = goes; tells = tells; accepted = accepted; style = refl };
       comes = λ is_so. (comes (sym over ∙ is_so), ap told_by (waits (sym over ∙ is_so)));
     })
 
 -- the same of a driver that is the same, and of the same subjects
-pub same_tells : {A S : Type 0} (turn : Turn A) (text : List ℕ) (engine other : Engine A S) (olds others news nexts : List (Watched A)) → other ≡ engine → others ≡ olds → nexts ≡ news
-    → TellsTurn turn (view_of other.agent.asker.follower.client) (told_by other.waiting.items) others news text
-    → TellsTurn turn (view_of engine.agent.asker.follower.client) (told_by engine.waiting.items) olds nexts text
-same_tells {A} {S} turn text engine other olds others news nexts is was now tells =
-    subst (λ (e : Engine A S). TellsTurn turn (view_of e.agent.asker.follower.client) (told_by e.waiting.items) olds nexts text) is
-    (subst (λ (ws : List (Watched A)). TellsTurn turn (view_of other.agent.asker.follower.client) (told_by other.waiting.items) ws nexts text) was
-    (subst (λ (ws : List (Watched A)). TellsTurn turn (view_of other.agent.asker.follower.client) (told_by other.waiting.items) others ws text) (sym now) tells))
+pub same_tells : {A S : Type 0} (style : Style) (turn : Turn A) (text : List ℕ) (engine other : Engine A S) (olds others news nexts : List (Watched A)) → other ≡ engine → others ≡ olds → nexts ≡ news
+    → TellsTurn style turn (view_of other.agent.asker.follower.client) (told_by other.waiting.items) others news text
+    → TellsTurn style turn (view_of engine.agent.asker.follower.client) (told_by engine.waiting.items) olds nexts text
+same_tells {A} {S} style turn text engine other olds others news nexts is was now tells =
+    subst (λ (e : Engine A S). TellsTurn style turn (view_of e.agent.asker.follower.client) (told_by e.waiting.items) olds nexts text) is
+    (subst (λ (ws : List (Watched A)). TellsTurn style turn (view_of other.agent.asker.follower.client) (told_by other.waiting.items) ws nexts text) was
+    (subst (λ (ws : List (Watched A)). TellsTurn style turn (view_of other.agent.asker.follower.client) (told_by other.waiting.items) others ws text) (sym now) tells))

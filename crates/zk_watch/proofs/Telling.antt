@@ -1,14 +1,13 @@
 -- What is printed of one turn.
-use Rattle.std.proofs.Common.{◌≡◌, ◌≢◌, ◌++◌, ◌∙◌, ℕ, Bool, true, false, List, [], ◌∷◌, length, take, refl, sym, ap, subst, append-nil}
+use Rattle.std.proofs.Common.{◌≡◌, ◌≢◌, ◌++◌, ◌∙◌, ℕ, List, [], ◌∷◌, length, take, refl, sym, ap, append-nil}
 use Rattle.std.proofs.Math.Seq.{take-append_seam}
-use Rattle.std.specs.Prelude.{Result, Ok, Err, OnOk, ◌||◌}
+use Rattle.std.specs.Prelude.{Result, Ok, Err, OnOk}
 use Rattle.zk_turns.specs.View.{View}
 use Rattle.zk_agent.specs.declared.action.Action.{Action}
 use Rattle.zk_agent.specs.Telling.{Told, told_by}
-use Rattle.zk_driver.specs.Driving.{course_of}
 use Rattle.zk_driver.specs.declared.turn.Turn.{Turn}
+use Rattle.zk_watch.specs.declared.plan.Style.{Style}
 use Rattle.zk_watch.specs.declared.shown.Watched.{Watched}
-use Rattle.zk_watch.specs.Lines.{stamp_of}
 use Rattle.zk_watch.specs.Watching.{LinesOf, ShowsAll, ShowsThen, TellsTurn}
 
 -- where nothing is told, nothing waits
@@ -17,9 +16,9 @@ none_told [] none = refl
 none_told (action ∷ actions) none = absurd cc
 
 -- something waits, and nothing is shown
-pub shows_nothing : {A : Type 0} (stamp : List ℕ) (view : View) (waits : List (Action A)) (watched : List (Watched A)) (text : List ℕ) → waits ≢ []
-    → ShowsThen stamp view (told_by waits) watched watched text text
-shows_nothing stamp view waits watched text some = record {
+pub shows_nothing : {A : Type 0} (style : Style) (ms : ℕ) (view : View) (waits : List (Action A)) (watched : List (Watched A)) (text : List ℕ) → waits ≢ []
+    → ShowsThen style ms view (told_by waits) watched watched text text
+shows_nothing style ms view waits watched text some = record {
   shown = [];
   shows = λ none. absurd (some (none_told waits none));
   rests = λ _. (refl, refl);
@@ -27,32 +26,28 @@ shows_nothing stamp view waits watched text some = record {
 }
 
 -- nothing waits, and each is shown
-pub ok_shows : {A X E : Type 0} (result : Result X E) (stamp : List ℕ) (view : View) (waits : List (Action A)) (old new : List (Watched A)) (before after : List ℕ) → waits ≡ []
-    → OnOk result ((told : List ℕ) × ShowsAll stamp view old new told × (after ≡ before ++ told)) → OnOk result (ShowsThen stamp view (told_by waits) old new before after)
-ok_shows (Ok x) stamp view waits old new before after none shows = record {
+pub ok_shows : {A X E : Type 0} (result : Result X E) (style : Style) (ms : ℕ) (view : View) (waits : List (Action A)) (old new : List (Watched A)) (before after : List ℕ) → waits ≡ []
+    → OnOk result ((told : List ℕ) × ShowsAll style ms view old new told × (after ≡ before ++ told)) → OnOk result (ShowsThen style ms view (told_by waits) old new before after)
+ok_shows (Ok x) style ms view waits old new before after none shows = record {
   shown = shows.0;
   shows = λ _. shows.1;
   rests = λ some. absurd (some (ap told_by none));
   added = shows.2;
 }
-ok_shows (Err e) stamp view waits old new before after none shows = tt
+ok_shows (Err e) style ms view waits old new before after none shows = tt
 
 -- a slice that was written, in its place
 pub whole_written : {X : Type 0} (count : ℕ) (xs rest : List X) → count ≡ length xs → take count (xs ++ rest) ≡ xs
 whole_written count xs rest size = ap (λ n. take n (xs ++ rest)) size ∙ take-append_seam xs rest
 
 -- the line of a turn, and what is shown after it
-pub tells : {A : Type 0} (ms : ℕ) (stamp : List ℕ) (turn : Turn A) (view : View) (waits : List Told) (old new : List (Watched A)) (line text : List ℕ) → stamp ≡ stamp_of ms
-    → LinesOf stamp turn view old line → ShowsThen stamp view waits old new line text → TellsTurn turn view waits old new text
-tells {A} ms stamp turn view waits old new line text is lines shows =
-    so (subst (λ (s : List ℕ). LinesOf s turn view old line) is lines) (subst (λ (s : List ℕ). ShowsThen s view waits old new line text) is shows)
-  where
-    so : LinesOf (stamp_of ms) turn view old line → ShowsThen (stamp_of ms) view waits old new line text → TellsTurn turn view waits old new text
-    so lines shows = record {
-      ms = ms;
-      at = lines.0;
-      shown = shows.shown;
-      shows = shows.shows;
-      rests = shows.rests;
-      are = shows.added ∙ ap (λ l. l ++ shows.shown) lines.1;
-    }
+pub tells : {A : Type 0} (style : Style) (ms : ℕ) (turn : Turn A) (view : View) (waits : List Told) (old new : List (Watched A)) (line text : List ℕ)
+    → LinesOf style ms turn view old line → ShowsThen style ms view waits old new line text → TellsTurn style turn view waits old new text
+tells style ms turn view waits old new line text lines shows = record {
+  ms = ms;
+  at = lines.0;
+  shown = shows.shown;
+  shows = shows.shows;
+  rests = shows.rests;
+  are = shows.added ∙ ap (λ l. l ++ shows.shown) lines.1;
+}

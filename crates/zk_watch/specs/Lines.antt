@@ -1,12 +1,19 @@
 -- What a watch prints, word by word.
-use Rattle.std.specs.Prelude.{◌≡◌, ◌==◌, ◌-◌, ◌/◌, ◌%◌, nat_lt, slice_get, ℕ, ℤ, pos, negsuc, Bool, true, false, if◌then◌else◌, List, [], ◌∷◌, ◌++◌, codes, Option, Some, None, string_bytes}
+use Rattle.std.specs.Prelude.{◌≡◌, ◌==◌, ◌-◌, ◌/◌, ◌%◌, ◌&&◌, ◌||◌, not, nat_le, nat_lt, chars, slice_get, ℕ, ℤ, pos, negsuc, Bool, true, false, if◌then◌else◌, List, [], ◌∷◌, ◌++◌, codes, Option, Some, None}
 use Rattle.std.specs.Fmt.{decimal, signed_decimal}
+use Rattle.std.specs.List.{list_any}
+use Rattle.std.specs.Str.{is_utf8}
+use Rattle.json.specs.Print.{print}
+use Rattle.json.specs.Token as json
 use Rattle.zk_nodes.specs.Path.{Text}
 use Rattle.zk_nodes.specs.declared.side.Side.{Side}
 use Rattle.zk_nodes.specs.declared.side.Side.TheVariants.{Data, Child}
 use Rattle.zk_session.specs.declared.states.State.{State}
 use Rattle.zk_session.specs.declared.states.State.TheVariants.{Connected}
 use Rattle.zk_turns.specs.Turns.{Fault, Enters, Drop}
+use Rattle.zk_cache.specs.Kept.{Answer, Full}
+use Rattle.zk_cache.specs.declared.held.Kept.{Kept}
+use Rattle.zk_cache.specs.declared.held.Mark.{Mark}
 use Rattle.zk_turns.specs.View.{View}
 use Rattle.zk_client.specs.FaultText.{fault_words}
 use Rattle.zk_follow.specs.declared.news.News.TheVariants as news
@@ -18,11 +25,13 @@ use Rattle.zk_driver.specs.declared.reason.Reason.{Reason}
 use Rattle.zk_driver.specs.declared.reason.Reason.TheVariants as reason
 use Rattle.zk_driver.specs.declared.turn.Turn.{Turn}
 use Rattle.zk_driver.specs.declared.turn.Turn.TheVariants as turn
-use Rattle.zk_script.specs.Values.{spaced}
-use Rattle.zk_script.specs.Words.{text_word}
+use Rattle.zk_script.specs.Values.{spaced, stat_words}
+use Rattle.zk_script.specs.Words.{bytes_word, text_word}
 use Rattle.zk_replay.specs.ClientLines.{PeekLine}
 use Rattle.zk_replay.specs.Played.{DoesClient}
-use Rattle.zk_replay.specs.Shown.{drop_words, state_word}
+use Rattle.zk_replay.specs.Shown.{drop_words, mark_word, state_word}
+use Rattle.zk_watch.specs.declared.plan.Style.{Style}
+use Rattle.zk_watch.specs.declared.plan.Style.TheVariants as style_is
 use Rattle.zk_watch.specs.declared.shown.Watched.{Watched}
 
 -- ---- a line
@@ -53,9 +62,46 @@ LooksWhere false side path view words = DoesClient (PeekLine side path) view vie
 abbrev pub Looks : Side → Text → View → List ℕ → Type 0
 Looks side path view words = LooksWhere (is_kept says_none (view.cache.nodes path)) side path view words
 
+-- ---- data as text
+
+-- a control character other than tab and newline: U+0000 to U+001F, and U+007F to U+009F
+abbrev pub is_hidden : ℕ → Bool
+is_hidden c = nat_le c 8 || (nat_le 11 c && nat_le c 31) || (nat_le 127 c && nat_le c 159)
+
+-- UTF-8 with no such character
+abbrev pub is_text : List ℕ → Bool
+is_text bytes = is_utf8 bytes && not (list_any is_hidden (chars bytes))
+
+-- a text in quotes, with the escapes of JSON
+abbrev pub quoted_word : List ℕ → List ℕ
+quoted_word text = print (json.string text ∷ [])
+
+-- data in quotes where they are text, and else in hex
+abbrev pub data_word : Option (List ℕ) → List ℕ
+data_word None = bytes_word None
+data_word (Some bytes) = if is_text bytes then quoted_word bytes else bytes_word (Some bytes)
+
+-- the words of a look-up, and those of data that are kept whole, with the data as text
+abbrev pub words_by : Answer → Mark → (words : List ℕ) → List ℕ
+words_by (Full bytes stat) mark words = codes "data full " ++ (data_word bytes ++ (stat_words stat ++ spaced (mark_word mark)))
+words_by answer mark words = words
+
+abbrev pub text_words : Option (Kept Answer) → (words : List ℕ) → List ℕ
+text_words None words = words
+text_words (Some kept) words = words_by kept.answer kept.mark words
+
+-- the words of a look-up in a style
+abbrev pub words_in : Style → Side → Option (Kept Answer) → (words : List ℕ) → List ℕ
+words_in style_is.Text Data kept words = text_words kept words
+words_in style side kept words = words
+
 -- the path, what is kept, and the last seen zxid
 abbrev pub subject_words : Text → List ℕ → ℤ → List ℕ
 subject_words path words zxid = text_word (Some path) ++ (spaced words ++ (codes " last" ++ spaced (signed_decimal zxid)))
+
+-- the line of a subject of which a look-up has these words
+abbrev pub subject_line : Style → (ms : ℕ) → Side → Text → View → (words : List ℕ) → List ℕ
+subject_line style ms side path view words = line_of (stamp_of ms) (subject_words path (words_in style side (view.cache.nodes path) words) view.saved.last)
 
 -- ---- what a driver tells
 
@@ -126,3 +172,7 @@ turn_words watched at view turn.Dials = codes "dial" ++ spaced at
 turn_words watched at view (turn.Failed why) = codes "failed" ++ (spaced at ++ spaced (reason_words why))
 turn_words watched at view (turn.Ended why) = codes "ended" ++ (spaced at ++ spaced (reason_words why))
 turn_words watched at view turn = []
+
+-- the line of a turn
+abbrev pub turn_line : {A : Type 0} → Style → (ms : ℕ) → List (Watched A) → (at : Text) → View → Turn A → List ℕ
+turn_line style ms watched at view turn = line_of (stamp_of ms) (turn_words watched at view turn)

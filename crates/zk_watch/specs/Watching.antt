@@ -1,5 +1,5 @@
 -- What a watch does, and what it prints.
-use Rattle.std.specs.Prelude.{◌≡◌, ◌≢◌, ◌≤◌, ◌+◌, ◌||◌, min, ◌^◌, ◌-◌, ◌⊎◌, ⊤, ℕ, ℤ, Bool, true, false, if◌then◌else◌, bytes_eq, List, [], ◌∷◌, ◌++◌, length, map, Option, Some, None, string_bytes}
+use Rattle.std.specs.Prelude.{◌≡◌, ◌≢◌, ◌≤◌, ◌+◌, ◌||◌, min, ◌^◌, ◌-◌, ◌⊎◌, ⊤, ℕ, Bool, true, false, if◌then◌else◌, bytes_eq, List, [], ◌∷◌, ◌++◌, length, map, Option, Some, None, string_bytes}
 use Rattle.std.specs.List.{flat_map, FoldsTo}
 use Rattle.std.specs.Io.KnownBytes.{Appends}
 use Rattle.zk_nodes.specs.Path.{Text}
@@ -11,14 +11,14 @@ use Rattle.zk_turns.specs.View.{View, view_at}
 use Rattle.zk_client.specs.Clients.{view_of}
 use Rattle.zk_agent.specs.Agents.{IsLed}
 use Rattle.zk_agent.specs.Telling.{Told, Says, action_view}
-use Rattle.zk_agent.specs.declared.input.Input.{Input}
 use Rattle.zk_agent.specs.declared.input.Input.TheVariants as happens
 use Rattle.zk_driver.specs.declared.engine.Engine.{Engine}
 use Rattle.zk_driver.specs.Driving.{closed, course_of, passed_by, AreFollowed, Course, Hands}
 use Rattle.zk_driver.specs.Noting.{notes_of, passed_in, GoesBy}
 use Rattle.zk_driver.specs.declared.turn.Turn.{Turn}
 use Rattle.zk_driver.specs.declared.turn.Turn.TheVariants as turn
-use Rattle.zk_watch.specs.Lines.{line_of, none_words, stamp_of, subject_words, turn_words, Looks}
+use Rattle.zk_watch.specs.Lines.{none_words, subject_line, turn_line, Looks}
+use Rattle.zk_watch.specs.declared.plan.Style.{Style}
 use Rattle.zk_watch.specs.declared.plan.Subject.{Subject}
 use Rattle.zk_watch.specs.declared.shown.Watched.{Watched}
 
@@ -32,32 +32,33 @@ aims_of subjects = map aim_of subjects
 -- ---- what is shown of subjects
 
 -- the line of a subject, where the words are not those that were printed last
-abbrev pub changed_line : (stamp : List ℕ) → Text → (old new : List ℕ) → (zxid : ℤ) → List ℕ
-changed_line stamp path old new zxid = if bytes_eq new old then [] else line_of stamp (subject_words path new zxid)
+abbrev pub changed_line : Style → (ms : ℕ) → Side → Text → View → (old new : List ℕ) → List ℕ
+changed_line style ms side path view old new = if bytes_eq new old then [] else subject_line style ms side path view new
 
 -- A subject is shown: what was printed of it last is the look-up then, and it is printed where it was not.
-pub record ShowsSo {A : Type 0} (stamp : List ℕ) (view : View) (old new : Watched A) (text : List ℕ) : Type 0 where
+pub record ShowsSo {A : Type 0} (style : Style) (ms : ℕ) (view : View) (old new : Watched A) (text : List ℕ) : Type 0 where
   pub aim : aim_of new.subject ≡ aim_of old.subject
   pub looks : Looks new.subject.side new.subject.path view (string_bytes new.words)
-  pub line : text ≡ changed_line stamp new.subject.path (string_bytes old.words) (string_bytes new.words) view.saved.last
+  pub line : text ≡ changed_line style ms new.subject.side new.subject.path view (string_bytes old.words) (string_bytes new.words)
 
 -- Each is, in order.
-abbrev pub ShowsAll : {A : Type 0} → (stamp : List ℕ) → View → (old new : List (Watched A)) → (text : List ℕ) → Type 0
-ShowsAll stamp view [] [] text = text ≡ []
-ShowsAll stamp view (old ∷ olds) (new ∷ news) text = (first rest : List ℕ) × ShowsSo stamp view old new first × ShowsAll stamp view olds news rest × (text ≡ first ++ rest)
-ShowsAll stamp view olds news text = ⊥
+abbrev pub ShowsAll : {A : Type 0} → Style → (ms : ℕ) → View → (old new : List (Watched A)) → (text : List ℕ) → Type 0
+ShowsAll style ms view [] [] text = text ≡ []
+ShowsAll style ms view (old ∷ olds) (new ∷ news) text = (first rest : List ℕ) × ShowsSo style ms view old new first × ShowsAll style ms view olds news rest × (text ≡ first ++ rest)
+ShowsAll style ms view olds news text = ⊥
 
 -- ---- how far a watch has come
 
--- The agent and its connection, with what it has told that was not taken yet; the subjects with what was printed of each last; and whether a
--- server has accepted a session.
+-- The agent and its connection, with what it has told that was not taken yet; the subjects with what was printed of each last; whether a
+-- server has accepted a session; and how it is printed.
 pub record Stand (A : Type 0) : Type 0 where
   pub course : Course A
   pub watched : List (Watched A)
   pub is_accepted : Bool
+  pub style : Style
 
-abbrev pub stand_of : {A S : Type 0} → Engine A S → List (Watched A) → (is_accepted : Bool) → Stand A
-stand_of engine watched is_accepted = record { course = course_of engine None; watched = watched; is_accepted = is_accepted }
+abbrev pub stand_of : {A S : Type 0} → Engine A S → List (Watched A) → (is_accepted : Bool) → Style → Stand A
+stand_of engine watched is_accepted style = record { course = course_of engine None; watched = watched; is_accepted = is_accepted; style = style }
 
 abbrev pub view_in : {A : Type 0} → Stand A → View
 view_in stand = view_of stand.course.agent.asker.follower.client
@@ -72,31 +73,32 @@ accepts (turn.Told action) = accepts_by (action_view action)
 accepts turn = false
 
 -- The line of a turn, with some address.
-abbrev pub LinesOf : {A : Type 0} → (stamp : List ℕ) → Turn A → View → List (Watched A) → List ℕ → Type 0
-LinesOf stamp turn view watched text = (at : Text) × (text ≡ line_of stamp (turn_words watched at view turn))
+abbrev pub LinesOf : {A : Type 0} → Style → (ms : ℕ) → Turn A → View → List (Watched A) → List ℕ → Type 0
+LinesOf style ms turn view watched text = (at : Text) × (text ≡ turn_line style ms watched at view turn)
 
 -- Subjects are shown where nothing waits to be told, and this is added to a text.
-pub record ShowsThen {A : Type 0} (stamp : List ℕ) (view : View) (waits : List Told) (old new : List (Watched A)) (before after : List ℕ) : Type 0 where
+pub record ShowsThen {A : Type 0} (style : Style) (ms : ℕ) (view : View) (waits : List Told) (old new : List (Watched A)) (before after : List ℕ) : Type 0 where
   pub shown : List ℕ
-  pub shows : waits ≡ [] → ShowsAll stamp view old new shown
+  pub shows : waits ≡ [] → ShowsAll style ms view old new shown
   pub rests : waits ≢ [] → (new ≡ old) × (shown ≡ [])
   pub added : after ≡ before ++ shown
 
 -- What is printed of a turn: its words, after some time. Where nothing waits to be told then, each subject is printed after them of which what
 -- the client keeps is not what was printed last: so what was printed last of each subject is the look-up then.
-pub record TellsTurn {A : Type 0} (turn : Turn A) (view : View) (waits : List Told) (old new : List (Watched A)) (text : List ℕ) : Type 0 where
+pub record TellsTurn {A : Type 0} (style : Style) (turn : Turn A) (view : View) (waits : List Told) (old new : List (Watched A)) (text : List ℕ) : Type 0 where
   pub ms : ℕ
   pub at : Text
   pub shown : List ℕ
-  pub shows : waits ≡ [] → ShowsAll (stamp_of ms) view old new shown
+  pub shows : waits ≡ [] → ShowsAll style ms view old new shown
   pub rests : waits ≢ [] → (new ≡ old) × (shown ≡ [])
-  pub are : text ≡ line_of (stamp_of ms) (turn_words old at view turn) ++ shown
+  pub are : text ≡ turn_line style ms old at view turn ++ shown
 
 -- One turn of the driver, and what is printed of it. What waits to be told is neither lost nor told twice.
 pub record Turns {A : Type 0} (turn : Turn A) (old : Stand A) (text : List ℕ) (new : Stand A) : Type 0 where
   pub goes : GoesBy (notes_of turn) old.course (record new.course { told = passed_by (passed_in turn) ++ new.course.told })
-  pub tells : TellsTurn turn (view_in new) new.course.told old.watched new.watched text
+  pub tells : TellsTurn old.style turn (view_in new) new.course.told old.watched new.watched text
   pub accepted : new.is_accepted ≡ (old.is_accepted || accepts turn)
+  pub style : new.style ≡ old.style
 
 -- A subject is followed, by the ticket that is its place, counted from 1: as if nothing were kept of it and that were printed.
 pub record FollowsSo {A : Type 0} (aim : Side × Text) (old new : Stand A) : Type 0 where
@@ -106,6 +108,7 @@ pub record FollowsSo {A : Type 0} (aim : Side × Text) (old new : Stand A) : Typ
   pub its_words : string_bytes one.words ≡ none_words aim.0
   pub watched : new.watched ≡ old.watched ++ one ∷ []
   pub accepted : new.is_accepted ≡ old.is_accepted
+  pub style : new.style ≡ old.style
 
 -- Each of these is, in order.
 abbrev pub FollowsAll : {A : Type 0} → List (Side × Text) → (old new : Stand A) → Type 0
@@ -128,7 +131,7 @@ text_of (Closes until) = []
 -- A turn is made and printed, or the end of the session is asked for.
 abbrev pub Does : {A : Type 0} → Stand A → Move A → Stand A → Type 0
 Does old (Takes turn text) new = Turns turn old text new
-Does old (Closes until) new = Hands (happens.Call 0 call.Close (Some until)) old.course new.course × (new.watched ≡ old.watched) × (new.is_accepted ≡ old.is_accepted)
+Does old (Closes until) new = Hands (happens.Call 0 call.Close (Some until)) old.course new.course × (new.watched ≡ old.watched) × (new.is_accepted ≡ old.is_accepted) × (new.style ≡ old.style)
 
 -- Some moves print this.
 pub record Prints {A : Type 0} (old : Stand A) (text : List ℕ) (new : Stand A) : Type 0 where
@@ -182,8 +185,8 @@ pub record IsOver {A : Type 0} (for_ms : Option ℕ) (ready last : Stand A) (tex
 
 -- ---- the whole
 
--- A new session, which asks for some timeout, and no connection.
-pub record IsBegun {A : Type 0} (first : Stand A) : Type 0 where
+-- A new session, which asks for some timeout, and no connection; and how it is printed.
+pub record IsBegun {A : Type 0} (style : Style) (first : Stand A) : Type 0 where
   pub timeout : ℕ
   pub client : view_in first ≡ view_at (new_start timeout) []
   pub followed : AreFollowed first.course.agent
@@ -191,6 +194,7 @@ pub record IsBegun {A : Type 0} (first : Stand A) : Type 0 where
   pub told : first.course.told ≡ []
   pub watched : first.watched ≡ []
   pub accepted : first.is_accepted ≡ false
+  pub prints : first.style ≡ style
 
 -- What a watch of these has printed, wherever it stopped: nothing before each is followed.
 pub record PrintsFrom {A : Type 0} (aims : List (Side × Text)) (first : Stand A) (text : List ℕ) : Type 0 where
@@ -215,10 +219,10 @@ AllStood (move ∷ moves) old new does = IsLed (view_in does.0) × AllStood move
 abbrev pub IsStood : {A : Type 0} → (old : Stand A) → (text : List ℕ) → (new : Stand A) → Prints old text new → Type 0
 IsStood old text new prints = AllStood prints.moves old new prints.does
 
-abbrev pub IsPrinted : (A : Type 0) → List (Side × Text) → List ℕ → Type 0
-IsPrinted A aims text = (text ≡ []) ⊎ ((first : Stand A) × IsBegun first × (from : PrintsFrom aims first text) × IsStood from.ready text from.last from.prints)
+abbrev pub IsPrinted : (A : Type 0) → Style → List (Side × Text) → List ℕ → Type 0
+IsPrinted A style aims text = (text ≡ []) ⊎ ((first : Stand A) × IsBegun style first × (from : PrintsFrom aims first text) × IsStood from.ready text from.last from.prints)
 
-abbrev pub IsWatched : (A : Type 0) → List (Side × Text) → Option ℕ → List ℕ → (is_accepted : Bool) → Type 0
-IsWatched A aims for_ms text is_accepted =
-    (first : Stand A) × IsBegun first × (from : EndsFrom aims for_ms first text is_accepted)
+abbrev pub IsWatched : (A : Type 0) → Style → List (Side × Text) → Option ℕ → List ℕ → (is_accepted : Bool) → Type 0
+IsWatched A style aims for_ms text is_accepted =
+    (first : Stand A) × IsBegun style first × (from : EndsFrom aims for_ms first text is_accepted)
     × IsStood from.ready from.over.told from.over.over from.over.prints × IsStood from.over.over from.over.rest from.last from.over.closes

@@ -11,9 +11,10 @@ mod plan;
 mod planned;
 mod shown;
 mod stamp;
+mod texts;
 mod watcher;
 mod words;
 
 pub use end::End;
-pub use plan::{Plan, Subject};
+pub use plan::{Plan, Style, Subject};
 pub use planned::watch;

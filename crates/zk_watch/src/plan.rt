@@ -10,7 +10,16 @@ pub struct Subject<A: Allocator> {
     pub path: Path<A>,
 }
 
-/// What to watch, for how long, and by which timeout.
+/// How data are printed.
+#[derive(Clone, Copy, Debug, PartialEq, Eq)]
+pub enum Style {
+    /// In hex.
+    Hex,
+    /// In quotes, with the escapes of JSON, where they are text: UTF-8 with no control character other than tab and newline. Else in hex.
+    Text,
+}
+
+/// What to watch, for how long, by which timeout, and how it is printed.
 #[derive(Drop)]
 pub struct Plan<'a, A: Allocator + Copy> {
     /// Four numbers joined by dots, a colon and a port, each.
@@ -20,4 +29,5 @@ pub struct Plan<'a, A: Allocator + Copy> {
     pub timeout_ms: i32,
     /// How long, in milliseconds; none: until output fails.
     pub for_ms: Option<u64>,
+    pub style: Style,
 }

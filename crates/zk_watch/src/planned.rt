@@ -30,13 +30,13 @@ pub fn watch<A: Allocator + Copy, D: Dial + Drop, C: Clock + Drop, O: Write>(
 ) -> End
     // Its time is over. Each subject was followed; each turn of the driver was printed; after each, what was printed last of each subject was what
     // the client kept of it; and a server had accepted a session.
-    ensures over { result ≡ End.Over → (text : List ℕ) × IsWatched A (aims_of plan.entry.subjects.items) plan.entry.for_ms text true
+    ensures over { result ≡ End.Over → (text : List ℕ) × IsWatched A plan.entry.style (aims_of plan.entry.subjects.items) plan.entry.for_ms text true
         × Appends (O.contents out.old) (O.contents out.new) text }
     // The same, where none had.
-    ensures never { result ≡ End.NeverConnected → (text : List ℕ) × IsWatched A (aims_of plan.entry.subjects.items) plan.entry.for_ms text false
+    ensures never { result ≡ End.NeverConnected → (text : List ℕ) × IsWatched A plan.entry.style (aims_of plan.entry.subjects.items) plan.entry.for_ms text false
         × Appends (O.contents out.old) (O.contents out.new) text }
     // Turns are printed so, wherever it stopped.
-    ensures printed { result ≢ End.Stream → (text : List ℕ) × IsPrinted A (aims_of plan.entry.subjects.items) text
+    ensures printed { result ≢ End.Stream → (text : List ℕ) × IsPrinted A plan.entry.style (aims_of plan.entry.subjects.items) text
         × Appends (O.contents out.old) (O.contents out.new) text }
 {
     let Plan {
@@ -44,6 +44,7 @@ pub fn watch<A: Allocator + Copy, D: Dial + Drop, C: Clock + Drop, O: Write>(
         subjects,
         timeout_ms,
         for_ms,
+        style,
     } = plan;
     let Ok(driver) = Driver::begin(alloc, timeout_ms.max(1), dial, clock, addresses) else {
         return End::Memory;
@@ -54,6 +55,7 @@ pub fn watch<A: Allocator + Copy, D: Dial + Drop, C: Clock + Drop, O: Write>(
         watched: Vec::new(alloc),
         is_accepted: false,
         begins: 0,
+        style,
     };
     let end = watcher.watch_for(subjects.as_slice(), for_ms, out);
     drop(watcher);

@@ -2,12 +2,12 @@
 
 ghost use Rattle.std.specs.Prelude.{◌≡◌, ◌++◌, ℕ, List, IfOk, OnOk, string_bytes};
 ghost use Rattle.zk_client.specs.Clients.{view_of};
-ghost use Rattle.zk_watch.specs.Lines.{none_words, subject_words};
+ghost use Rattle.zk_watch.specs.Lines.{none_words, subject_line, subject_words};
 ghost use Rattle.zk_watch.specs.Watching.{aim_of, ShowsAll, ShowsSo};
 
-use crate::looks::{look, none_words};
-use crate::plan::Subject;
-use crate::stamp::push_line;
+use crate::looks::{look, none_words, words_in};
+use crate::plan::{Style, Subject};
+use crate::stamp::line_at;
 use std::alloc::{AllocError, Allocator};
 use zk_client::{Client, Path};
 use zk_replay::words::push_spaced;
@@ -47,6 +47,23 @@ fn subject_words<A: Allocator + Copy>(
     Ok(text)
 }
 
+/// The line of a subject of which a look-up has these words.
+fn subject_line<A: Allocator + Copy>(
+    alloc: A,
+    style: Style,
+    ms: u64,
+    client: &Client<A>,
+    subject: &Subject<A>,
+    words: &str,
+) -> Result<String<A>, AllocError>
+    ensures { IfOk result (λ text. string_bytes text ≡ subject_line style ms subject.now.side subject.now.path (view_of client.now) words.now) }
+{
+    let shown = words_in(alloc, style, client, subject, words)?;
+    let path = subject.path.as_str();
+    let line = subject_words(alloc, path, shown.as_str(), client.last_zxid())?;
+    line_at(alloc, ms, line.as_str())
+}
+
 impl<A: Allocator + Copy> Watched<A> {
     /// A copy of a subject, as if nothing were kept of it and that were printed.
     pub(crate) fn new(alloc: A, subject: &Subject<A>) -> Result<Watched<A>, AllocError>
@@ -66,23 +83,19 @@ impl<A: Allocator + Copy> Watched<A> {
     fn show(
         &mut self,
         alloc: A,
+        style: Style,
+        ms: u64,
         client: &Client<A>,
-        stamp: &str,
         text: &mut String<A>,
     ) -> Result<(), AllocError>
-        ensures { OnOk result ((told : List ℕ) × ShowsSo stamp.now (view_of client.now) self.old self.new told × (string_bytes text.new ≡ string_bytes text.old ++ told)) }
+        ensures { OnOk result ((told : List ℕ) × ShowsSo style ms (view_of client.now) self.old self.new told × (string_bytes text.new ≡ string_bytes text.old ++ told)) }
     {
         let words = look(alloc, client, &self.subject)?;
         if words.as_str() == self.words.as_str() {
             return Ok(());
         }
-        let line = subject_words(
-            alloc,
-            self.subject.path.as_str(),
-            words.as_str(),
-            client.last_zxid(),
-        )?;
-        push_line(text, stamp, line.as_str())?;
+        let line = subject_line(alloc, style, ms, client, &self.subject, words.as_str())?;
+        text.push_str(line.as_str())?;
         self.words = words;
         Ok(())
     }
@@ -91,15 +104,16 @@ impl<A: Allocator + Copy> Watched<A> {
 /// Adds the line of each subject of which what a client keeps is not what was printed last.
 pub(crate) fn show_all<A: Allocator + Copy>(
     alloc: A,
+    style: Style,
+    ms: u64,
     client: &Client<A>,
-    stamp: &str,
     watched: &mut [Watched<A>],
     text: &mut String<A>,
 ) -> Result<(), AllocError>
-    ensures { OnOk result ((told : List ℕ) × ShowsAll stamp.now (view_of client.now) watched.old watched.new told × (string_bytes text.new ≡ string_bytes text.old ++ told)) }
+    ensures { OnOk result ((told : List ℕ) × ShowsAll style ms (view_of client.now) watched.old watched.new told × (string_bytes text.new ≡ string_bytes text.old ++ told)) }
 {
     for one in watched.iter_mut() {
-        one.show(alloc, client, stamp, text)?;
+        one.show(alloc, style, ms, client, text)?;
     }
     Ok(())
 }

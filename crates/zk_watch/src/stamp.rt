@@ -17,7 +17,7 @@ fn zeros_before(ms: u64) -> &'static str
 }
 
 /// Seconds, and milliseconds after a dot.
-pub(crate) fn stamp_of<A: Allocator + Copy>(alloc: A, ms: u64) -> Result<String<A>, AllocError>
+fn stamp_of<A: Allocator + Copy>(alloc: A, ms: u64) -> Result<String<A>, AllocError>
     ensures { IfOk result (λ text. string_bytes text ≡ stamp_of ms) }
 {
     let (seconds, rest) = (ms / 1_000, ms % 1_000);
@@ -30,11 +30,7 @@ pub(crate) fn stamp_of<A: Allocator + Copy>(alloc: A, ms: u64) -> Result<String<
 }
 
 /// Adds a line of these words, and none where there are none.
-pub(crate) fn push_line<A: Allocator>(
-    text: &mut String<A>,
-    stamp: &str,
-    words: &str,
-) -> Result<(), AllocError>
+fn push_line<A: Allocator>(text: &mut String<A>, stamp: &str, words: &str) -> Result<(), AllocError>
     ensures { OnOk result (string_bytes text.new ≡ string_bytes text.old ++ line_of stamp.now words.now) }
 {
     if words.is_empty() {
@@ -44,4 +40,18 @@ pub(crate) fn push_line<A: Allocator>(
     text.push_str(" ")?;
     text.push_str(words)?;
     text.push_str("\n")
+}
+
+/// The line of these words at this moment, and none where there are none.
+pub(crate) fn line_at<A: Allocator + Copy>(
+    alloc: A,
+    ms: u64,
+    words: &str,
+) -> Result<String<A>, AllocError>
+    ensures { IfOk result (λ text. string_bytes text ≡ line_of (stamp_of ms) words.now) }
+{
+    let stamp = stamp_of(alloc, ms)?;
+    let mut text = String::new(alloc);
+    push_line(&mut text, stamp.as_str(), words)?;
+    Ok(text)
 }

@@ -8,10 +8,9 @@ ghost use Rattle.zk_driver.specs.Noting.{is_come};
 ghost use Rattle.zk_watch.specs.Watching.{accepts, aim_of, aims_of, end_of, stand_of, EndsFrom, FollowsAll, FollowsSo, HasCome, Closes, Does, Heard, IsOver, LinesOf, PrintsFrom, ShowsThen, TellsTurn, Writes, WritesEnd, WritesOn};
 
 use crate::end::{End, Failure};
-use crate::plan::Subject;
+use crate::plan::{Style, Subject};
 use crate::shown::{Watched, copy_of, show_all};
-use crate::stamp::{push_line, stamp_of};
-use crate::words::turn_words;
+use crate::words::turn_line;
 use std::alloc::{AllocError, Allocator};
 use std::io::{self, Write};
 use zk_client::{Call, State};
@@ -21,7 +20,7 @@ use zk_link::{Clock, Dial};
 /// The ticket of the call that ends the session. Those of subjects begin at 1.
 const CLOSE: u64 = 0;
 
-/// A driver, what was printed of the subjects, whether a server has accepted a session, and when the watch began.
+/// A driver, what was printed of the subjects, whether a server has accepted a session, when the watch began, and how it is printed.
 #[derive(Drop)]
 pub(crate) struct Watcher<'a, A: Allocator + Copy, D: Dial + Drop, C: Clock + Drop> {
     pub(crate) alloc: A,
@@ -29,6 +28,7 @@ pub(crate) struct Watcher<'a, A: Allocator + Copy, D: Dial + Drop, C: Clock + Dr
     pub(crate) watched: Vec<Watched<A>, A>,
     pub(crate) is_accepted: bool,
     pub(crate) begins: u64,
+    pub(crate) style: Style,
 }
 
 /// Writes what was made, if anything was.
@@ -83,46 +83,45 @@ impl<'a, A: Allocator + Copy, D: Dial + Drop, C: Clock + Drop> Watcher<'a, A, D,
         ensures engine { self.new.driver.engine ≡ self.old.driver.engine }
         ensures watched { self.new.watched ≡ self.old.watched }
         ensures accepted { self.new.is_accepted ≡ self.old.is_accepted }
+        ensures style { self.new.style ≡ self.old.style }
     {
         self.driver.now().saturating_sub(self.begins)
     }
 
     /// Adds each subject of which what is kept is not what was printed last, where nothing waits to be told.
-    fn show(&mut self, stamp: &str, text: &mut String<A>) -> Result<(), AllocError>
+    fn show(&mut self, ms: u64, text: &mut String<A>) -> Result<(), AllocError>
         ensures engine { self.new.driver.engine ≡ self.old.driver.engine }
         ensures accepted { self.new.is_accepted ≡ self.old.is_accepted }
-        ensures shows { OnOk result (ShowsThen stamp.now (view_of self.old.driver.engine.agent.asker.follower.client) (told_by self.old.driver.engine.waiting.items) self.old.watched.items self.new.watched.items (string_bytes text.old) (string_bytes text.new)) }
+        ensures style { self.new.style ≡ self.old.style }
+        ensures shows { OnOk result (ShowsThen self.old.style ms (view_of self.old.driver.engine.agent.asker.follower.client) (told_by self.old.driver.engine.waiting.items) self.old.watched.items self.new.watched.items (string_bytes text.old) (string_bytes text.new)) }
     {
         if self.driver.has_told() {
             return Ok(());
         }
         let client = self.driver.client();
         let watched = self.watched.as_mut_slice();
-        show_all(self.alloc, client, stamp, watched, text)
+        show_all(self.alloc, self.style, ms, client, watched, text)
     }
 
     /// The line of a turn, and none where it is not printed.
-    fn line(&self, turn: &Turn<A>, stamp: &str) -> Result<String<A>, AllocError>
-        ensures { IfOk result (λ text. LinesOf stamp.now turn.now (view_of self.now.driver.engine.agent.asker.follower.client) self.now.watched.items (string_bytes text)) }
+    fn line(&self, turn: &Turn<A>, ms: u64) -> Result<String<A>, AllocError>
+        ensures { IfOk result (λ text. LinesOf self.now.style ms turn.now (view_of self.now.driver.engine.agent.asker.follower.client) self.now.watched.items (string_bytes text)) }
     {
         let client = self.driver.client();
         let at = self.driver.address().unwrap_or("");
-        let words = turn_words(self.alloc, client, self.watched.as_slice(), at, turn)?;
-        let mut text = String::new(self.alloc);
-        push_line(&mut text, stamp, words.as_str())?;
-        Ok(text)
+        let watched = self.watched.as_slice();
+        turn_line(self.alloc, self.style, ms, client, watched, at, turn)
     }
 
     /// What is printed of a turn, after this time, and where nothing waits to be told after it, of what is kept.
     fn tell(&mut self, turn: &Turn<A>, ms: u64) -> Result<String<A>, AllocError>
         ensures engine { self.new.driver.engine ≡ self.old.driver.engine }
         ensures accepted { self.new.is_accepted ≡ self.old.is_accepted }
-        ensures tells { IfOk result (λ text. TellsTurn turn.now (view_of self.old.driver.engine.agent.asker.follower.client) (told_by self.old.driver.engine.waiting.items) self.old.watched.items self.new.watched.items (string_bytes text)) }
+        ensures style { self.new.style ≡ self.old.style }
+        ensures tells { IfOk result (λ text. TellsTurn self.old.style turn.now (view_of self.old.driver.engine.agent.asker.follower.client) (told_by self.old.driver.engine.waiting.items) self.old.watched.items self.new.watched.items (string_bytes text)) }
     {
-        let time = stamp_of(self.alloc, ms)?;
-        let stamp = time.as_str();
-        let mut text = self.line(turn, stamp)?;
-        self.show(stamp, &mut text)?;
+        let mut text = self.line(turn, ms)?;
+        self.show(ms, &mut text)?;
         Ok(text)
     }
 
@@ -131,6 +130,7 @@ impl<'a, A: Allocator + Copy, D: Dial + Drop, C: Clock + Drop> Watcher<'a, A, D,
         ensures accepted { self.new.is_accepted ≡ (self.old.is_accepted || accepts turn.now) }
         ensures engine { self.new.driver.engine ≡ self.old.driver.engine }
         ensures watched { self.new.watched ≡ self.old.watched }
+        ensures style { self.new.style ≡ self.old.style }
     {
         if accepts(turn) {
             self.is_accepted = true;
@@ -139,7 +139,7 @@ impl<'a, A: Allocator + Copy, D: Dial + Drop, C: Clock + Drop> Watcher<'a, A, D,
 
     /// One turn, and what is printed of it. Whether the moment has come, and nothing waits to be told.
     fn hear(&mut self, until: u64) -> Result<(bool, String<A>), Failure>
-        ensures ok { IfOk result (λ heard. Heard until heard.0 (stand_of self.old.driver.engine self.old.watched.items self.old.is_accepted) (string_bytes heard.1) (stand_of self.new.driver.engine self.new.watched.items self.new.is_accepted)) }
+        ensures ok { IfOk result (λ heard. Heard until heard.0 (stand_of self.old.driver.engine self.old.watched.items self.old.is_accepted self.old.style) (string_bytes heard.1) (stand_of self.new.driver.engine self.new.watched.items self.new.is_accepted self.new.style)) }
         ensures err { IfErr result (λ why. why ≢ Failure.Stream) }
     {
         let turn = self.driver.turn(until)?;
@@ -151,8 +151,8 @@ impl<'a, A: Allocator + Copy, D: Dial + Drop, C: Clock + Drop> Watcher<'a, A, D,
 
     /// One turn, which is printed. Whether the moment has come, and nothing waits to be told.
     fn round<O: Write>(&mut self, until: u64, out: &mut O) -> Result<bool, Failure>
-        ensures ok { OnOk result (Writes (stand_of self.old.driver.engine self.old.watched.items self.old.is_accepted) (stand_of self.new.driver.engine self.new.watched.items self.new.is_accepted) (O.contents out.old) (O.contents out.new)) }
-        ensures come { IfOk result (λ is_over. is_over ≡ true → HasCome until (stand_of self.new.driver.engine self.new.watched.items self.new.is_accepted)) }
+        ensures ok { OnOk result (Writes (stand_of self.old.driver.engine self.old.watched.items self.old.is_accepted self.old.style) (stand_of self.new.driver.engine self.new.watched.items self.new.is_accepted self.new.style) (O.contents out.old) (O.contents out.new)) }
+        ensures come { IfOk result (λ is_over. is_over ≡ true → HasCome until (stand_of self.new.driver.engine self.new.watched.items self.new.is_accepted self.new.style)) }
         ensures err { IfErr result (λ why. why ≢ Failure.Stream → out.new ≡ out.old) }
     {
         let (is_over, text) = self.hear(until)?;
@@ -162,9 +162,9 @@ impl<'a, A: Allocator + Copy, D: Dial + Drop, C: Clock + Drop> Watcher<'a, A, D,
 
     /// Goes on until this moment.
     fn run<O: Write>(&mut self, end: u64, out: &mut O) -> Result<(), Failure>
-        ensures ok { OnOk result (Writes (stand_of self.old.driver.engine self.old.watched.items self.old.is_accepted) (stand_of self.new.driver.engine self.new.watched.items self.new.is_accepted) (O.contents out.old) (O.contents out.new)) }
-        ensures come { OnOk result (HasCome end (stand_of self.new.driver.engine self.new.watched.items self.new.is_accepted)) }
-        ensures err { IfErr result (λ why. why ≢ Failure.Stream → WritesOn (stand_of self.old.driver.engine self.old.watched.items self.old.is_accepted) (O.contents out.old) (O.contents out.new)) }
+        ensures ok { OnOk result (Writes (stand_of self.old.driver.engine self.old.watched.items self.old.is_accepted self.old.style) (stand_of self.new.driver.engine self.new.watched.items self.new.is_accepted self.new.style) (O.contents out.old) (O.contents out.new)) }
+        ensures come { OnOk result (HasCome end (stand_of self.new.driver.engine self.new.watched.items self.new.is_accepted self.new.style)) }
+        ensures err { IfErr result (λ why. why ≢ Failure.Stream → WritesOn (stand_of self.old.driver.engine self.old.watched.items self.old.is_accepted self.old.style) (O.contents out.old) (O.contents out.new)) }
     {
         for _ in 0..u64::MAX {
             match self.round(end, out) {
@@ -178,8 +178,8 @@ impl<'a, A: Allocator + Copy, D: Dial + Drop, C: Clock + Drop> Watcher<'a, A, D,
 
     /// Goes on until the client is not connected any more, and nothing waits to be told, but not past this moment.
     fn await_close<O: Write>(&mut self, until: u64, out: &mut O) -> Result<(), Failure>
-        ensures ok { OnOk result (Writes (stand_of self.old.driver.engine self.old.watched.items self.old.is_accepted) (stand_of self.new.driver.engine self.new.watched.items self.new.is_accepted) (O.contents out.old) (O.contents out.new)) }
-        ensures err { IfErr result (λ why. why ≢ Failure.Stream → WritesOn (stand_of self.old.driver.engine self.old.watched.items self.old.is_accepted) (O.contents out.old) (O.contents out.new)) }
+        ensures ok { OnOk result (Writes (stand_of self.old.driver.engine self.old.watched.items self.old.is_accepted self.old.style) (stand_of self.new.driver.engine self.new.watched.items self.new.is_accepted self.new.style) (O.contents out.old) (O.contents out.new)) }
+        ensures err { IfErr result (λ why. why ≢ Failure.Stream → WritesOn (stand_of self.old.driver.engine self.old.watched.items self.old.is_accepted self.old.style) (O.contents out.old) (O.contents out.new)) }
     {
         for _ in 0..u64::MAX {
             if !self.is_connected() && !self.driver.has_told() {
@@ -196,7 +196,7 @@ impl<'a, A: Allocator + Copy, D: Dial + Drop, C: Clock + Drop> Watcher<'a, A, D,
 
     /// Asks for the end of the session. The answer is the moment until which it is waited for: a third of the timeout.
     fn ask_close(&mut self) -> Result<u64, Stop>
-        ensures { IfOk result (λ until. Does (stand_of self.old.driver.engine self.old.watched.items self.old.is_accepted) (Closes until) (stand_of self.new.driver.engine self.new.watched.items self.new.is_accepted)) }
+        ensures { IfOk result (λ until. Does (stand_of self.old.driver.engine self.old.watched.items self.old.is_accepted self.old.style) (Closes until) (stand_of self.new.driver.engine self.new.watched.items self.new.is_accepted self.new.style)) }
     {
         let wait = u64::from(self.driver.client().timeout_ms() / 3);
         let until = self.driver.now().saturating_add(wait);
@@ -206,8 +206,8 @@ impl<'a, A: Allocator + Copy, D: Dial + Drop, C: Clock + Drop> Watcher<'a, A, D,
 
     /// Ends the session where the client is connected, and waits for that a third of the timeout at most.
     fn close<O: Write>(&mut self, out: &mut O) -> Result<(), Failure>
-        ensures ok { OnOk result (WritesEnd (stand_of self.old.driver.engine self.old.watched.items self.old.is_accepted) (stand_of self.new.driver.engine self.new.watched.items self.new.is_accepted) (O.contents out.old) (O.contents out.new)) }
-        ensures err { IfErr result (λ why. why ≢ Failure.Stream → WritesOn (stand_of self.old.driver.engine self.old.watched.items self.old.is_accepted) (O.contents out.old) (O.contents out.new)) }
+        ensures ok { OnOk result (WritesEnd (stand_of self.old.driver.engine self.old.watched.items self.old.is_accepted self.old.style) (stand_of self.new.driver.engine self.new.watched.items self.new.is_accepted self.new.style) (O.contents out.old) (O.contents out.new)) }
+        ensures err { IfErr result (λ why. why ≢ Failure.Stream → WritesOn (stand_of self.old.driver.engine self.old.watched.items self.old.is_accepted self.old.style) (O.contents out.old) (O.contents out.new)) }
     {
         if !self.is_connected() {
             return Ok(());
@@ -230,7 +230,7 @@ impl<'a, A: Allocator + Copy, D: Dial + Drop, C: Clock + Drop> Watcher<'a, A, D,
 
     /// Follows a subject, by the ticket that is its place, counted from 1.
     fn follow(&mut self, subject: &Subject<A>) -> Result<(), Stop>
-        ensures { OnOk result (FollowsSo (aim_of subject.now) (stand_of self.old.driver.engine self.old.watched.items self.old.is_accepted) (stand_of self.new.driver.engine self.new.watched.items self.new.is_accepted)) }
+        ensures { OnOk result (FollowsSo (aim_of subject.now) (stand_of self.old.driver.engine self.old.watched.items self.old.is_accepted self.old.style) (stand_of self.new.driver.engine self.new.watched.items self.new.is_accepted self.new.style)) }
     {
         let Ok(path) = copy_of(self.alloc, &subject.path) else {
             return Err(Stop::Memory);
@@ -247,7 +247,7 @@ impl<'a, A: Allocator + Copy, D: Dial + Drop, C: Clock + Drop> Watcher<'a, A, D,
 
     /// Follows each subject.
     fn follow_all(&mut self, subjects: &[Subject<A>]) -> Result<(), Stop>
-        ensures { OnOk result (FollowsAll (aims_of subjects.now) (stand_of self.old.driver.engine self.old.watched.items self.old.is_accepted) (stand_of self.new.driver.engine self.new.watched.items self.new.is_accepted)) }
+        ensures { OnOk result (FollowsAll (aims_of subjects.now) (stand_of self.old.driver.engine self.old.watched.items self.old.is_accepted self.old.style) (stand_of self.new.driver.engine self.new.watched.items self.new.is_accepted self.new.style)) }
     {
         for subject in subjects {
             self.follow(subject)?;
@@ -257,8 +257,8 @@ impl<'a, A: Allocator + Copy, D: Dial + Drop, C: Clock + Drop> Watcher<'a, A, D,
 
     /// Goes on for this many milliseconds, and then ends the session.
     fn go_on<O: Write>(&mut self, for_ms: Option<u64>, out: &mut O) -> Result<(), Failure>
-        ensures ok { OnOk result ((text : List ℕ) × IsOver for_ms (stand_of self.old.driver.engine self.old.watched.items self.old.is_accepted) (stand_of self.new.driver.engine self.new.watched.items self.new.is_accepted) text × Appends (O.contents out.old) (O.contents out.new) text) }
-        ensures err { IfErr result (λ why. why ≢ Failure.Stream → WritesOn (stand_of self.old.driver.engine self.old.watched.items self.old.is_accepted) (O.contents out.old) (O.contents out.new)) }
+        ensures ok { OnOk result ((text : List ℕ) × IsOver for_ms (stand_of self.old.driver.engine self.old.watched.items self.old.is_accepted self.old.style) (stand_of self.new.driver.engine self.new.watched.items self.new.is_accepted self.new.style) text × Appends (O.contents out.old) (O.contents out.new) text) }
+        ensures err { IfErr result (λ why. why ≢ Failure.Stream → WritesOn (stand_of self.old.driver.engine self.old.watched.items self.old.is_accepted self.old.style) (O.contents out.old) (O.contents out.new)) }
     {
         self.begins = self.driver.now();
         let end = end_of(self.begins, for_ms);
@@ -287,9 +287,9 @@ impl<'a, A: Allocator + Copy, D: Dial + Drop, C: Clock + Drop> Watcher<'a, A, D,
         for_ms: Option<u64>,
         out: &mut O,
     ) -> End
-        ensures over { result ≡ End.Over → (text : List ℕ) × EndsFrom (aims_of subjects.now) for_ms (stand_of self.old.driver.engine self.old.watched.items self.old.is_accepted) text true × Appends (O.contents out.old) (O.contents out.new) text }
-        ensures never { result ≡ End.NeverConnected → (text : List ℕ) × EndsFrom (aims_of subjects.now) for_ms (stand_of self.old.driver.engine self.old.watched.items self.old.is_accepted) text false × Appends (O.contents out.old) (O.contents out.new) text }
-        ensures printed { result ≢ End.Stream → (text : List ℕ) × ((text ≡ []) ⊎ PrintsFrom (aims_of subjects.now) (stand_of self.old.driver.engine self.old.watched.items self.old.is_accepted) text) × Appends (O.contents out.old) (O.contents out.new) text }
+        ensures over { result ≡ End.Over → (text : List ℕ) × EndsFrom (aims_of subjects.now) for_ms (stand_of self.old.driver.engine self.old.watched.items self.old.is_accepted self.old.style) text true × Appends (O.contents out.old) (O.contents out.new) text }
+        ensures never { result ≡ End.NeverConnected → (text : List ℕ) × EndsFrom (aims_of subjects.now) for_ms (stand_of self.old.driver.engine self.old.watched.items self.old.is_accepted self.old.style) text false × Appends (O.contents out.old) (O.contents out.new) text }
+        ensures printed { result ≢ End.Stream → (text : List ℕ) × ((text ≡ []) ⊎ PrintsFrom (aims_of subjects.now) (stand_of self.old.driver.engine self.old.watched.items self.old.is_accepted self.old.style) text) × Appends (O.contents out.old) (O.contents out.new) text }
     {
         if let Err(stop) = self.follow_all(subjects) {
             return Failure::from(stop).end();

@@ -4,10 +4,12 @@ ghost use Rattle.std.specs.Prelude.{◌≡◌, ◌++◌, IfOk, OnOk, string_byte
 ghost use Rattle.zk_client.specs.Clients.{view_of};
 ghost use Rattle.zk_client.specs.Views.{fault_view};
 ghost use Rattle.zk_agent.specs.Telling.{action_view};
-ghost use Rattle.zk_watch.specs.Lines.{action_words, code_words, connected_words, drop_text, path_of, reason_words, refusal_words, state_words, turn_words, why_text};
+ghost use Rattle.zk_watch.specs.Lines.{action_words, code_words, connected_words, drop_text, path_of, reason_words, refusal_words, state_words, turn_line, turn_words, why_text};
 ghost use Rattle.zk_script.specs.Values.{spaced};
 
+use crate::plan::Style;
 use crate::shown::Watched;
+use crate::stamp::line_at;
 use std::alloc::{AllocError, Allocator};
 use zk_client::{Client, Fault, State};
 use zk_driver::{Action, Reason, Refusal, Turn};
@@ -178,7 +180,7 @@ fn action_words<A: Allocator + Copy>(
 }
 
 /// The words of a turn, and none where it is not printed.
-pub(crate) fn turn_words<A: Allocator + Copy>(
+fn turn_words<A: Allocator + Copy>(
     alloc: A,
     client: &Client<A>,
     watched: &[Watched<A>],
@@ -194,4 +196,20 @@ pub(crate) fn turn_words<A: Allocator + Copy>(
         Turn::Ended(why) => why_words(alloc, "ended", at, *why),
         _ => Ok(String::new(alloc)),
     }
+}
+
+/// The line of a turn, and none where it is not printed.
+pub(crate) fn turn_line<A: Allocator + Copy>(
+    alloc: A,
+    _style: Style,
+    ms: u64,
+    client: &Client<A>,
+    watched: &[Watched<A>],
+    at: &str,
+    turn: &Turn<A>,
+) -> Result<String<A>, AllocError>
+    ensures { IfOk result (λ text. string_bytes text ≡ turn_line _style ms watched.now at.now (view_of client.now) turn.now) }
+{
+    let words = turn_words(alloc, client, watched, at, turn)?;
+    line_at(alloc, ms, words.as_str())
 }

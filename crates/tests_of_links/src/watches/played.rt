@@ -9,7 +9,7 @@ use std::alloc::{AllocError, Allocator, Global};
 use std::cell::RefCell;
 use std::io::Write;
 use zk_client::{Path, Side};
-use zk_watch::{End, Plan, Subject, watch};
+use zk_watch::{End, Plan, Style, Subject, watch};
 
 /// What is dialled.
 static ADDRESSES: [&str; 1] = ["a"];
@@ -29,6 +29,7 @@ pub struct Row {
     code: i32,
     refusals: u32,
     for_ms: u64,
+    style: Style,
 }
 
 impl Row {
@@ -48,6 +49,7 @@ impl Row {
             code: 0,
             refusals: 0,
             for_ms: 2_000,
+            style: Style::Hex,
         }
     }
 
@@ -59,6 +61,11 @@ impl Row {
     /// The same where the data of /config are refused with this code.
     pub fn refused(self, code: i32) -> Row {
         Row { code, ..self }
+    }
+
+    /// The same in this style.
+    pub fn printed(self, style: Style) -> Row {
+        Row { style, ..self }
     }
 
     /// The same where this many attempts to connect are refused, for this many milliseconds.
@@ -106,6 +113,7 @@ fn watched<A: Allocator + Copy, W: Write>(
         subjects,
         timeout_ms: TIMEOUT,
         for_ms: Some(row.for_ms),
+        style: row.style,
     };
     let (dial, clock) = (Shared::new(&world, &moments), Shared::new(&world, &moments));
     Ok(watch(alloc, dial, clock, plan, out))

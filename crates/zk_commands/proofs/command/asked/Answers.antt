@@ -17,6 +17,7 @@ use Rattle.zk_commands.specs.Asks.{verb_word}
 use Rattle.zk_commands.specs.declared.verb.Verb.{Verb}
 use Rattle.zk_commands.proofs.VerbLemmas.{is_new, same_verb}
 use Rattle.zk_watch.specs.Watching.{aims_of}
+use Rattle.zk_watch.specs.declared.plan.Style.{Style}
 use Rattle.zk_nodes.specs.declared.side.Side.{Side}
 use Rattle.zk_commands.proofs.AddressLemmas.{tells, tells_more}
 use Rattle.zk_commands.proofs.command.asked.Goals as goal
@@ -46,7 +47,7 @@ without_values found rows is absent History f = apart is f.1 refl
 without_values found rows is absent Replay f = apart is f.1 refl
 without_values found rows is absent Rehearse f = apart is f.1 refl
 without_values found rows is absent (Live addresses) f = apart is f.1 refl
-without_values found rows is absent (Watch addresses subjects timeout_ms for_ms) f = apart is f.1 refl
+without_values found rows is absent (Watch addresses subjects timeout_ms for_ms style) f = apart is f.1 refl
 without_values found rows is absent (Ask addresses chroot name call form wait_ms) f = apart f.2 is (is_new f.0).shows
 
 -- where `live` was found without words that are addresses, the words ask for no command
@@ -59,21 +60,21 @@ without_addresses found rows is absent Rehearse f = apart is f.1 refl
 without_addresses found rows is absent (Live addresses) f =
     let same : rows ≡ f.0 = ap rows_in (sym is ∙ f.1) in
     absent (map (λ a. a.now) addresses.items) (rw same f.2)
-without_addresses found rows is absent (Watch addresses subjects timeout_ms for_ms) f = apart is f.1 refl
+without_addresses found rows is absent (Watch addresses subjects timeout_ms for_ms style) f = apart is f.1 refl
 without_addresses found rows is absent (Ask addresses chroot name call form wait_ms) f = apart f.2 is (is_new f.0).lives
 
 -- where `watch` was found without what it is to be given, the words ask for no command
 without_watch : (found : Option (Text × List Row)) (rows : List Row) → found ≡ Some (codes "watch", rows)
-    → ((addresses : List Text) (aims : List (Side × Text)) (timeout_ms : ℤ) (for_ms : Option ℕ) → IsWatch addresses aims timeout_ms for_ms rows → ⊥)
+    → ((addresses : List Text) (aims : List (Side × Text)) (timeout_ms : ℤ) (for_ms : Option ℕ) (style : Style) → IsWatch addresses aims timeout_ms for_ms style rows → ⊥)
     → AsksForNone found
 without_watch found rows is absent (Show kind hex) f = apart is f.1 refl
 without_watch found rows is absent History f = apart is f.1 refl
 without_watch found rows is absent Replay f = apart is f.1 refl
 without_watch found rows is absent Rehearse f = apart is f.1 refl
 without_watch found rows is absent (Live addresses) f = apart is f.1 refl
-without_watch found rows is absent (Watch addresses subjects timeout_ms for_ms) f =
+without_watch found rows is absent (Watch addresses subjects timeout_ms for_ms style) f =
     let same : rows ≡ f.0 = ap rows_in (sym is ∙ f.1) in
-    absent (map (λ a. a.now) addresses.items) (aims_of subjects.items) timeout_ms for_ms (rw same f.2)
+    absent (map (λ a. a.now) addresses.items) (aims_of subjects.items) timeout_ms for_ms style (rw same f.2)
 without_watch found rows is absent (Ask addresses chroot name call form wait_ms) f = apart f.2 is (is_new f.0).watches
 
 -- where a verb was found without what it is to be given, the words ask for no command
@@ -85,7 +86,7 @@ without_ask verb found rows is absent History f = apart is f.1 (is_new verb).tel
 without_ask verb found rows is absent Replay f = apart is f.1 (is_new verb).replays
 without_ask verb found rows is absent Rehearse f = apart is f.1 (is_new verb).rehearses
 without_ask verb found rows is absent (Live addresses) f = apart is f.1 (is_new verb).lives
-without_ask verb found rows is absent (Watch addresses subjects timeout_ms for_ms) f = apart is f.1 (is_new verb).watches
+without_ask verb found rows is absent (Watch addresses subjects timeout_ms for_ms style) f = apart is f.1 (is_new verb).watches
 without_ask verb found rows is absent (Ask addresses chroot name call form wait_ms) f =
     let its : f.0 ≡ verb = same_verb f.0 verb (ap name_in (sym f.2 ∙ is)) in
     let same : f.1 ≡ rows = ap rows_in (sym f.2 ∙ is) in

@@ -9,6 +9,7 @@ returns-clause-ok c =
       c.in_ok-subjects.subjects,
       to_z w32 (of_z w32 ms),
       c.in_ok-for_ms.for_ms,
+      c.style_of.result,
       refl,
-      (c.in_ok-addresses.ensures.ok, c.in_ok-subjects.ensures.ok, rw same c.in_ok-timeout_ms.ensures.ok, c.in_ok-for_ms.ensures.ok),
+      (c.in_ok-addresses.ensures.ok, c.in_ok-subjects.ensures.ok, rw same c.in_ok-timeout_ms.ensures.ok, c.in_ok-for_ms.ensures.ok, c.style_of.ensures),
     )

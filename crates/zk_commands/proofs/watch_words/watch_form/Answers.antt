@@ -10,5 +10,6 @@ returns c =
     let two = c.in_ok-watch-2.ensures.shape c.paths_arg.ensures.local ∙ ap₂ with_rule one c.paths_arg.ensures.rule in
     let three = c.in_ok-watch-3.ensures.shape c.paths_arg-2.ensures.local ∙ ap₂ with_rule two c.paths_arg-2.ensures.rule in
     let four = c.in_ok-watch-4.ensures.shape c.timeout_arg.ensures.local ∙ ap₂ with_rule three c.timeout_arg.ensures.rule in
-    IfOk-weaker c.arg-5.result _ _
-    (λ watch adds. adds.shape c.duration_arg.ensures.local ∙ ap₂ with_rule four c.duration_arg.ensures.rule) c.arg-5.ensures
+    let five = c.in_ok-watch-5.ensures.shape c.duration_arg.ensures.local ∙ ap₂ with_rule four c.duration_arg.ensures.rule in
+    IfOk-weaker c.arg-6.result _ _
+    (λ watch adds. adds.shape c.flag_arg.ensures.local ∙ ap₂ with_rule five c.flag_arg.ensures.rule) c.arg-6.ensures

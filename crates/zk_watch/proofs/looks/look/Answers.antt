@@ -1,8 +1,6 @@
 use Rattle.std.proofs.Common.{◌∙◌, ◌++◌, ◌∷◌, [], ℕ, List, sym, subst}
-use Rattle.std.specs.Prelude.{string_bytes}
 use Rattle.std.proofs.lemmas.Result.{IfOk-weaker}
 use Rattle.zk_client.specs.Clients.{view_of}
-use Rattle.zk_watch.specs.Lines.{LooksWhere}
 use Rattle.zk_replay.specs.ClientLines.{PeekLine}
 use Rattle.zk_replay.specs.Played.{DoesClient}
 use Rattle.zk_watch.proofs.looks.look.Goals as goal

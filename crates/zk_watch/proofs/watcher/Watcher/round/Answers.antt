@@ -8,7 +8,7 @@ returns-clause-ok g c =
     let old = c.args.self.now in
     let new = c.hear.new.self in (
       string_bytes c.in_ok-is_over.text,
-      heard c.args.until c.in_ok-is_over.is_over (stand_of old.driver.engine old.watched.items old.is_accepted) (string_bytes c.in_ok-is_over.text)
-          (stand_of new.driver.engine new.watched.items new.is_accepted) c.in_ok-is_over.ensures.ok,
+      heard c.args.until c.in_ok-is_over.is_over (stand_of old.driver.engine old.watched.items old.is_accepted old.style) (string_bytes c.in_ok-is_over.text)
+          (stand_of new.driver.engine new.watched.items new.is_accepted new.style) c.in_ok-is_over.ensures.ok,
       rw c.as_str.ensures.value at c.in_ok-write.ensures.ok,
     )

@@ -1,4 +1,3 @@
-use Rattle.std.proofs.Common.{◌∙◌}
 use Rattle.std.specs.Prelude.{string_bytes}
 use Rattle.zk_client.specs.Clients.{view_of}
 use Rattle.zk_agent.specs.Telling.{told_by}
@@ -8,5 +7,5 @@ use Rattle.zk_watch.proofs.watcher.Watcher.tell.Goals as goal
 pub returns-clause-tells : goal.returns-clause-tells
 returns-clause-tells g c =
     let engine = c.args.self.now.driver.engine in
-    tells c.args.ms c.as_str-stamp.result.now c.args.turn.now (view_of engine.agent.asker.follower.client) (told_by engine.waiting.items) c.args.self.now.watched.items c.show.new.self.watched.items
-    (string_bytes c.in_ok-text.text) (string_bytes c.show.new.text) (c.as_str-stamp.ensures.value ∙ c.in_ok-time.ensures) c.in_ok-text.ensures c.in_ok-show.ensures.shows
+    tells c.args.self.now.style c.args.ms c.args.turn.now (view_of engine.agent.asker.follower.client) (told_by engine.waiting.items) c.args.self.now.watched.items c.show.new.self.watched.items
+    (string_bytes c.in_ok-text.text) (string_bytes c.show.new.text) c.in_ok-text.ensures c.in_ok-show.ensures.shows
