@@ -4,6 +4,8 @@ use Rattle.std.specs.Fmt.{signed_decimal}
 use Rattle.std.specs.FinSet as set
 use Rattle.std.specs.List.{flat_map, list_any}
 use Rattle.std.specs.Str.{is_utf8}
+use Rattle.json.specs.Print.{print}
+use Rattle.json.specs.Token as json
 use Rattle.zk_nodes.specs.Names.{Names as NameSet}
 use Rattle.zk_nodes.specs.Path.{Text}
 use Rattle.zk_nodes.specs.declared.stat.Stat.{Stat}
@@ -17,7 +19,7 @@ use Rattle.zk_script.specs.Values.{AreNames}
 use Rattle.zk_script.specs.Lines.{line}
 use Rattle.zk_script.specs.Words.{bytes_word, text_word}
 use Rattle.zk_ask.specs.declared.plan.Form.{Form}
-use Rattle.zk_ask.specs.declared.plan.Form.TheVariants.{Plain, Hex, Quiet}
+use Rattle.zk_ask.specs.declared.plan.Form.TheVariants.{Plain, Hex, Quiet, Json}
 use Rattle.zk_ask.specs.declared.end.End.{End}
 use Rattle.zk_ask.specs.declared.end.End.TheVariants as ends
 use Rattle.zk_ask.specs.Asking.{Coming, Answered, Late}
@@ -43,6 +45,7 @@ plain_data (Some bytes) = (if is_text bytes then bytes else bytes_word (Some byt
 
 abbrev pub data_text : Form → Option (List ℕ) → List ℕ
 data_text Plain bytes = plain_data bytes
+data_text Json bytes = plain_data bytes
 data_text Hex bytes = bytes_word bytes ++ 10 ∷ []
 data_text Quiet bytes = []
 
@@ -68,22 +71,63 @@ stat_lines Quiet stat = []
 stat_lines _ stat = field_lines (fields stat)
 
 -- What is printed of a set of names: a line for each, once, in the order of their bytes.
-pub record PrintsNames (names : NameSet) (text : List ℕ) : Type 0 where
+pub record PrintsEach (line_of : Text → List ℕ) (names : NameSet) (text : List ℕ) : Type 0 where
   pub each : List Text
   pub are : AreNames each (set.contains names)
-  pub printed : text ≡ flat_map name_line each
+  pub printed : text ≡ flat_map line_of each
+
+abbrev pub PrintsNames : NameSet → List ℕ → Type 0
+PrintsNames names text = PrintsEach name_line names text
 
 -- The path of a node that was made, below a chroot: without that where it begins with it.
 abbrev pub IsBelow : (chroot path below : Text) → Type 0
 IsBelow chroot path below = (path ≡ chroot ++ below) ⊎ (((rest : Text) → path ≢ chroot ++ rest) × (below ≡ path))
 
--- What is printed of a result. The names come each once, in the order of their bytes.
+-- What is printed of a result in words. The names come each once, in the order of their bytes.
+abbrev pub PrintsWords : Form → (chroot : Text) → Result → List ℕ → Type 0
+PrintsWords form chroot (Read bytes stat) text = text ≡ data_text form bytes
+PrintsWords form chroot (Found stat) text = text ≡ stat_lines form stat
+PrintsWords form chroot (Listing names stat) text = PrintsNames (set.from_list names) text
+PrintsWords form chroot (Made path) text = (below : Text) × IsBelow chroot path below × (text ≡ name_line below)
+PrintsWords form chroot _ text = text ≡ []
+
+-- the line of an object of JSON with these members
+abbrev pub object_line : List json.Token → List ℕ
+object_line members = print (json.begin_object ∷ (members ++ json.end_object ∷ [])) ++ 10 ∷ []
+
+abbrev pub text_members : (name text : List ℕ) → List json.Token
+text_members name text = json.key name ∷ (json.string text ∷ [])
+
+-- a text in UTF-8, else hex under another key, or null
+abbrev pub data_members : Option (List ℕ) → List json.Token
+data_members None = json.key (codes "data") ∷ (json.null ∷ [])
+data_members (Some bytes) = if is_utf8 bytes then text_members (codes "data") bytes else text_members (codes "hex") (bytes_word (Some bytes))
+
+abbrev pub field_members : List (List ℕ × ℤ) → List json.Token
+field_members fields = flat_map (λ field. json.key field.0 ∷ (json.number (signed_decimal field.1) ∷ [])) fields
+
+-- data, and the fields of their node's Stat
+abbrev pub read_line : Option (List ℕ) → Stat → List ℕ
+read_line bytes stat = object_line (data_members bytes ++ field_members (fields stat))
+
+abbrev pub fields_line : Stat → List ℕ
+fields_line stat = object_line (field_members (fields stat))
+
+abbrev pub text_line : (name text : List ℕ) → List ℕ
+text_line name text = object_line (text_members name text)
+
+-- What is printed of a result as JSON: an object a line.
+abbrev pub PrintsObjects : (chroot : Text) → Result → List ℕ → Type 0
+PrintsObjects chroot (Read bytes stat) text = text ≡ read_line bytes stat
+PrintsObjects chroot (Found stat) text = text ≡ fields_line stat
+PrintsObjects chroot (Listing names stat) text = PrintsEach (text_line (codes "name")) (set.from_list names) text
+PrintsObjects chroot (Made path) text = (below : Text) × IsBelow chroot path below × (text ≡ text_line (codes "path") below)
+PrintsObjects chroot _ text = text ≡ []
+
+-- what is printed of a result
 abbrev pub PrintsResult : Form → (chroot : Text) → Result → List ℕ → Type 0
-PrintsResult form chroot (Read bytes stat) text = text ≡ data_text form bytes
-PrintsResult form chroot (Found stat) text = text ≡ stat_lines form stat
-PrintsResult form chroot (Listing names stat) text = PrintsNames (set.from_list names) text
-PrintsResult form chroot (Made path) text = (below : Text) × IsBelow chroot path below × (text ≡ name_line below)
-PrintsResult form chroot _ text = text ≡ []
+PrintsResult Json chroot result text = PrintsObjects chroot result text
+PrintsResult form chroot result text = PrintsWords form chroot result text
 
 abbrev pub Prints : Form → (chroot : Text) → Coming → List ℕ → Type 0
 Prints form chroot (Answered (Replied zxid result)) text = PrintsResult form chroot result text

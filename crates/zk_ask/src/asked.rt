@@ -16,12 +16,12 @@ use std::alloc::Allocator;
 use std::io::Write;
 use zk_link::{Clock, Dial};
 
-/// Writes a text, and answers this end unless that fails.
-fn write<W: Write>(to: &mut W, text: &str, end: End) -> End
+/// Writes bytes, and answers this end unless that fails.
+fn write<W: Write>(to: &mut W, text: &[u8], end: End) -> End
     ensures written { result ≢ End.Stream → (result ≡ end) × Appends (W.contents to.old) (W.contents to.new) text.now }
     ensures only { (result ≡ end) ⊎ (result ≡ End.Stream) }
 {
-    match to.write_all(text.as_bytes()) {
+    match to.write_all(text) {
         Ok(()) => end,
         Err(_) => End::Stream,
     }
@@ -40,7 +40,7 @@ fn print<A: Allocator + Copy, O: Write>(
     ensures only { (result ≡ End.Done) ⊎ (result ≡ End.Memory) ⊎ (result ≡ End.Stream) }
 {
     match printed(alloc, form, chroot, came) {
-        Ok(text) => write(out, text.as_str(), End::Done),
+        Ok(text) => write(out, text.as_slice(), End::Done),
         Err(_) => End::Memory,
     }
 }
@@ -58,7 +58,7 @@ fn tell<A: Allocator + Copy, E: Write>(
     ensures only { (result ≡ end) ⊎ (result ≡ End.Memory) ⊎ (result ≡ End.Stream) }
 {
     match told(alloc, name, came) {
-        Ok(text) => write(errors, text.as_str(), end),
+        Ok(text) => write(errors, text.as_bytes(), end),
         Err(_) => End::Memory,
     }
 }

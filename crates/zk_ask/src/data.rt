@@ -26,7 +26,7 @@ fn has_hidden(text: &str) -> bool
 }
 
 /// The bytes as text, where they are UTF-8.
-fn as_utf8(bytes: &[u8]) -> Option<&str>
+pub(crate) fn as_utf8(bytes: &[u8]) -> Option<&str>
     ensures { MatchOption result (is_utf8 bytes.now ≡ false) (λ text. (text.now ≡ bytes.now) × (is_utf8 bytes.now ≡ true)) }
 {
     match str::from_utf8(bytes) {
@@ -70,8 +70,8 @@ pub(crate) fn push_data<A: Allocator + Copy>(
     ensures { OnOk result (string_bytes text.new ≡ string_bytes text.old ++ data_text form (option_map (λ v. v.items) bytes.now)) }
 {
     match (form, bytes) {
-        (Form::Quiet, _) | (Form::Plain, None) => Ok(()),
-        (Form::Plain, Some(bytes)) => push_plain(text, alloc, bytes.as_slice()),
+        (Form::Quiet, _) | (Form::Plain | Form::Json, None) => Ok(()),
+        (Form::Plain | Form::Json, Some(bytes)) => push_plain(text, alloc, bytes.as_slice()),
         (Form::Hex, bytes) => {
             push_data_word(text, alloc, bytes)?;
             text.push_str("\n")

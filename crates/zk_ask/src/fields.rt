@@ -9,7 +9,7 @@ use zk_client::Stat;
 use zk_script::lines::push_shown;
 
 /// The fields of a Stat, by their names.
-fn fields_of(stat: &Stat) -> [(&'static str, i64); 11]
+pub(crate) fn fields_of(stat: &Stat) -> [(&'static str, i64); 11]
     ensures { map (λ field. (field.0.now, field.1)) result ≡ fields stat.now }
 {
     [
@@ -52,6 +52,6 @@ pub(crate) fn push_fields<A: Allocator + Copy>(
 {
     match form {
         Form::Quiet => Ok(()),
-        Form::Plain | Form::Hex => push_lines(text, alloc, &fields_of(stat)),
+        Form::Plain | Form::Hex | Form::Json => push_lines(text, alloc, &fields_of(stat)),
     }
 }

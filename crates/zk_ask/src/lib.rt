@@ -10,6 +10,7 @@ mod came;
 mod data;
 mod end;
 mod fields;
+mod json_lines;
 mod names;
 mod plan;
 mod result;

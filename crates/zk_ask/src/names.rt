@@ -44,7 +44,7 @@ pub(crate) fn push_name<A: Allocator + Copy>(
 }
 
 /// The names as a set.
-fn set_of<A: Allocator + Copy>(
+pub(crate) fn set_of<A: Allocator + Copy>(
     alloc: A,
     names: &[String<A>],
 ) -> Result<BTreeSet<String<A>, A>, AllocError>
@@ -85,7 +85,7 @@ pub(crate) fn push_names<A: Allocator + Copy>(
 }
 
 /// A path below a chroot.
-fn below<'a>(chroot: &str, path: &'a str) -> &'a str
+pub(crate) fn below<'a>(chroot: &str, path: &'a str) -> &'a str
     ensures { IsBelow chroot.now path.now result.now }
 {
     match path.strip_prefix(chroot) {

@@ -12,6 +12,8 @@ pub enum Form {
     Hex,
     /// Neither data nor a Stat.
     Quiet,
+    /// An object of JSON in a line.
+    Json,
 }
 
 /// A call, and how its answer is printed.
