@@ -4,7 +4,7 @@ use Rattle.std.specs.List.{list_all, slice_split}
 use Rattle.clap.specs.Words.{App, Row, Rule, Text, first_of, new_app, new_rule, with_rule, with_subcommand}
 use Rattle.clap.specs.declared.builder.action.ArgAction.TheVariants as action
 use Rattle.zk_ask.specs.declared.plan.Form.{Form}
-use Rattle.zk_ask.specs.declared.plan.Form.TheVariants.{Plain, Hex, Quiet}
+use Rattle.zk_ask.specs.declared.plan.Form.TheVariants.{Plain, Hex, Quiet, Json}
 use Rattle.zk_conversation.specs.Calls.{Call, Exists, GetData, GetChildren, SetData, Create, Delete}
 use Rattle.zk_ask.specs.declared.end.End.{End}
 use Rattle.zk_ask.specs.declared.end.End.TheVariants as ends
@@ -46,8 +46,11 @@ wait_rule = record (new_rule (codes "wait")) { long = Some (codes "wait"); value
 abbrev pub read_app : Text → App
 read_app name = with_rule (with_rule (with_rule (new_app name) servers_rule) node_rule) wait_rule
 
+abbrev pub json_app : Text → App
+json_app name = with_rule (read_app name) (flag_rule (codes "json"))
+
 abbrev pub get_app : App
-get_app = with_rule (read_app (codes "get")) (flag_rule (codes "hex"))
+get_app = with_rule (json_app (codes "get")) (flag_rule (codes "hex"))
 
 -- any text
 abbrev pub data_rule : Rule
@@ -64,7 +67,7 @@ abbrev pub set_app : App
 set_app = with_rule (data_app (codes "set")) version_rule
 
 abbrev pub create_app : App
-create_app = with_rule (data_app (codes "create")) (flag_rule (codes "sequential"))
+create_app = with_rule (with_rule (data_app (codes "create")) (flag_rule (codes "sequential"))) (flag_rule (codes "json"))
 
 abbrev pub delete_app : App
 delete_app = with_rule (read_app (codes "delete")) version_rule
@@ -73,7 +76,7 @@ abbrev pub with_writes : App → App
 with_writes app = with_subcommand (with_subcommand (with_subcommand app set_app.top) create_app.top) delete_app.top
 
 abbrev pub with_reads : App → App
-with_reads app = with_subcommand (with_subcommand (with_subcommand app get_app.top) (read_app (codes "ls")).top) (read_app (codes "stat")).top
+with_reads app = with_subcommand (with_subcommand (with_subcommand app get_app.top) (json_app (codes "ls")).top) (json_app (codes "stat")).top
 
 -- what stands before the first slash, and what stands after it
 abbrev pub cut : (word : Text) → Option (Text × Text) → Text × Text
@@ -158,11 +161,22 @@ call_for verb.Set path rows = option_and_then (λ bytes. option_map (SetData pat
 call_for verb.Create path rows = option_map (λ bytes. Create path bytes (mode_in rows)) (data_in rows)
 call_for verb.Delete path rows = option_map (Delete path) (version_in rows)
 
+-- JSON where this is asked for, and else this
+abbrev pub form_or_json : Form → List Row → Form
+form_or_json form rows = if flag (codes "json") rows then Json else form
+
+-- how data are printed
+abbrev pub data_form : List Row → Form
+data_form rows = if flag (codes "hex") rows then Hex else Plain
+
 -- how the answer is printed
 abbrev pub form_for : Verb → List Row → Form
-form_for verb.Get rows = if flag (codes "hex") rows then Hex else Plain
+form_for verb.Get rows = form_or_json (data_form rows) rows
+form_for verb.List rows = form_or_json Plain rows
+form_for verb.Stat rows = form_or_json Plain rows
+form_for verb.Create rows = form_or_json Plain rows
 form_for verb.Set rows = Quiet
-form_for _ rows = Plain
+form_for verb.Delete rows = Plain
 
 -- ---- how a call ends
 

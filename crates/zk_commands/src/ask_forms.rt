@@ -2,7 +2,7 @@
 
 ghost use Rattle.std.specs.Prelude.{◌≡◌, false, IfOk};
 ghost use Rattle.clap.specs.Words.{app_of, rule_of};
-ghost use Rattle.zk_commands.specs.Asks.{create_app, data_app, delete_app, flag_rule, get_app, node_rule, read_app, servers_rule, set_app, version_rule, wait_rule, with_reads, with_writes};
+ghost use Rattle.zk_commands.specs.Asks.{create_app, data_app, delete_app, flag_rule, get_app, json_app, node_rule, read_app, servers_rule, set_app, version_rule, wait_rule, with_reads, with_writes};
 
 use crate::help;
 use crate::watch_words::option_arg;
@@ -74,11 +74,23 @@ fn node_form<'a>(
     form.arg(wait_arg(alloc))
 }
 
+/// The form of a command that may print JSON.
+fn json_form<'a>(
+    alloc: Global,
+    name: &'a str,
+    about: &'a str,
+) -> Result<clap::Command<'a>, AllocError>
+    ensures { IfOk result (λ r. app_of r ≡ json_app name.now) }
+{
+    let form = node_form(alloc, name, about)?;
+    form.arg(flag_arg(alloc, "json", "Prints JSON, an object a line"))
+}
+
 /// The form of `get`.
 fn get_form<'a>(alloc: Global) -> Result<clap::Command<'a>, AllocError>
     ensures { IfOk result (λ r. app_of r ≡ get_app) }
 {
-    let get = node_form(alloc, "get", "Prints the data of a node")?;
+    let get = json_form(alloc, "get", "Prints the data of a node")?;
     get.arg(flag_arg(
         alloc,
         "hex",
@@ -95,9 +107,9 @@ pub(crate) fn with_reads<'a>(
 {
     let get = get_form(alloc)?;
     let form = form.subcommand(get)?;
-    let list = node_form(alloc, "ls", "Prints the names below a node, a line each")?;
+    let list = json_form(alloc, "ls", "Prints the names below a node, a line each")?;
     let form = form.subcommand(list)?;
-    let stat = node_form(
+    let stat = json_form(
         alloc,
         "stat",
         "Prints what is known of a node, a line for each field",
@@ -138,16 +150,17 @@ fn set_form<'a>(alloc: Global) -> Result<clap::Command<'a>, AllocError>
 fn create_form<'a>(alloc: Global) -> Result<clap::Command<'a>, AllocError>
     ensures { IfOk result (λ r. app_of r ≡ create_app) }
 {
-    let create = data_form(
+    let form = data_form(
         alloc,
         "create",
         "Makes a node that stays, and prints its path",
     )?;
-    create.arg(flag_arg(
+    let form = form.arg(flag_arg(
         alloc,
         "sequential",
         "Ends the name with a number that the server gives",
-    ))
+    ))?;
+    form.arg(flag_arg(alloc, "json", "Prints JSON, an object a line"))
 }
 
 /// The form of `delete`.

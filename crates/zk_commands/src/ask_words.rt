@@ -5,7 +5,7 @@ ghost use Rattle.std.specs.List.{list_all, slice_split};
 ghost use Rattle.std.specs.Option.{option_and_then};
 ghost use Rattle.clap.specs.Words.{Text, first_of, found_of, rows_of};
 ghost use Rattle.zk_live.specs.Addresses.{is_address};
-ghost use Rattle.zk_commands.specs.Asks.{AreServers, absolute, chroot_text, cut_at_slash, flag, form_for, is_root};
+ghost use Rattle.zk_commands.specs.Asks.{AreServers, absolute, chroot_text, cut_at_slash, data_form, flag, form_for, form_or_json, is_root};
 ghost use Rattle.zk_commands.specs.CommandLine.{TellsIf, is_path, wait_at};
 
 use crate::command::stranger;
@@ -138,13 +138,36 @@ pub(crate) fn flag(matches: &ArgMatches<'_>, name: &str) -> bool
     }
 }
 
+/// JSON where this is asked for, and else this form.
+fn form_or_json(form: Form, matches: &ArgMatches<'_>) -> Form
+    ensures { result ≡ form_or_json form (rows_of (found_of matches.now)) }
+{
+    if flag(matches, "json") {
+        Form::Json
+    } else {
+        form
+    }
+}
+
+/// How data are printed.
+fn data_form(matches: &ArgMatches<'_>) -> Form
+    ensures { result ≡ data_form (rows_of (found_of matches.now)) }
+{
+    if flag(matches, "hex") {
+        Form::Hex
+    } else {
+        Form::Plain
+    }
+}
+
 /// How the answer to the call of a verb is printed.
 pub(crate) fn form_for(verb: Verb, matches: &ArgMatches<'_>) -> Form
     ensures { result ≡ form_for verb (rows_of (found_of matches.now)) }
 {
     match verb {
-        Verb::Get if flag(matches, "hex") => Form::Hex,
+        Verb::Get => form_or_json(data_form(matches), matches),
+        Verb::List | Verb::Stat | Verb::Create => form_or_json(Form::Plain, matches),
         Verb::Set => Form::Quiet,
-        _ => Form::Plain,
+        Verb::Delete => Form::Plain,
     }
 }

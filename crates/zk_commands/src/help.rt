@@ -147,6 +147,9 @@ Printed:
                 cversion, aversion, ephemeralOwner, dataLength, numChildren, pzxid
   create        the path of the node that was made
   set, delete   nothing
+  --json        of get, ls, stat and create: an object of JSON a line. That of get has data, a text or
+                null, or hex where the data are no UTF-8, and then the fields of stat; those of ls have
+                a name each, and that of create has a path
 
 No node is ephemeral: it would be gone with the session of the command, at its end.
 
@@ -163,7 +166,8 @@ After 5, 6 and 7 nothing was changed.
 Examples:
   zk_shell create 127.0.0.1:2181 /config 'level = 1'
   zk_shell get 127.0.0.1:2181 /config >config
-  zk_shell set 127.0.0.1:2181 /config 'level = 2' --version 0 || echo changed meanwhile";
+  zk_shell set 127.0.0.1:2181 /config 'level = 2' --version 0 || echo changed meanwhile
+  zk_shell stat 127.0.0.1:2181 /config --json | jq .version";
 
 /// At the end of the help of `show`.
 pub const SHOW: &str =
