@@ -477,7 +477,7 @@ without_numbers() {
     sed -E '/^ *[0-9]+\.[0-9]{3} /s/[0-9]+/N/g' "$1"
 }
 
-# The session of an operator that the cookbook shows: each command after a `$` prints what stands below it there.
+# The session of an operator that the cookbook shows: each command after a `$` prints the lines that follow it there.
 run_operator() {
     local at=127.0.0.1:$1 line status=0
     sed -n '/^## An operator/,/^- /p' "$top/docs/COOKBOOK.md" | sed -n '/^```sh$/,/^```$/p' | sed "1d;\$d;s/127\.0\.0\.1:2181/$at/g" >"$folder/page"

@@ -22,6 +22,6 @@ limit_le (Some limit) (Some other) = nat_le limit other
 abbrev pub ends_first : {A : Type 0} → (entry other : Entry A) → Bool
 ends_first entry other = limit_le entry.until other.until
 
--- so many, the first of them, were handed over
+-- the first of them, this many, were handed over
 abbrev pub AreHanded : {A : Type 0} → (count : ℕ) → List (Entry A) → Type 0
 AreHanded {A} count entries = (count ≤ length entries) × ((k : ℕ) (d : Entry A) → k < count → waits_turn (get_or entries k d) ≡ false)

@@ -14,7 +14,7 @@ use std::alloc::{AllocError, Allocator};
 use std::collections::VecDeque;
 use zk_client::{Call, Outcome};
 
-/// The place of the first call that waits for its turn, where so many, the first of them, don't.
+/// The place of the first call that waits for its turn. The first ones, this many, don't.
 pub(crate) fn place_of_next<A: Allocator>(
     entries: &VecDeque<Entry<A>, A>,
     handed: usize,

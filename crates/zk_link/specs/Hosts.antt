@@ -15,11 +15,11 @@ second None = None
 second (Some ([], text)) = Some text
 second (Some (b ∷ bytes, text)) = None
 
--- the port of a host behind which none stands
+-- the port of a host that names none
 abbrev pub usual_port : Text
 usual_port = codes "2181"
 
--- the port that stands behind brackets: after a colon, or none does
+-- the port after brackets: after a colon, or the usual one where nothing follows them
 abbrev pub port_behind : Text → Option Text
 port_behind [] = Some usual_port
 port_behind (b ∷ bytes) = second (parted 58 (b ∷ bytes))

@@ -3,7 +3,7 @@
 ghost use Rattle.std.specs.Prelude.{◌≡◌, ◌<◌, Some, option_map};
 ghost use Rattle.zk_link.specs.Hosts.{host_of, parted, port_behind, second, with_port, with_usual};
 
-/// The port of a host behind which none stands.
+/// The port of a host that names none.
 const USUAL_PORT: &str = "2181";
 
 /// A host and its port, as they are written.
@@ -14,7 +14,7 @@ pub struct Host<'a> {
     pub port: &'a str,
 }
 
-/// What stands behind a character, where nothing stands before it.
+/// What follows a character, where nothing is before it.
 fn behind(text: &str, first: char) -> Option<&str>
     requires { first < 128 }
     ensures { option_map (λ t. t.now) result ≡ second (parted first text.now) }
@@ -25,7 +25,7 @@ fn behind(text: &str, first: char) -> Option<&str>
     }
 }
 
-/// The port that stands behind brackets: after a colon, or the usual one where nothing does.
+/// The port after brackets: after a colon, or the usual one where nothing follows them.
 fn port_behind(text: &str) -> Option<&str>
     ensures { option_map (λ t. t.now) result ≡ port_behind text.now }
 {
@@ -57,8 +57,8 @@ fn named(text: &str) -> Host<'_>
     }
 }
 
-/// The host of a text: a name or an IPv4 address, or an IPv6 address in brackets. Behind it stand a colon and the port, or nothing where
-/// the port is 2181. Whether there is such a host, and whether the port is a number, is not looked at.
+/// The host of a text: a name or an IPv4 address, or an IPv6 address in brackets. A colon and the port follow it, or nothing where the
+/// port is 2181. Whether there is such a host, and whether the port is a number, is not looked at.
 pub fn host_of(text: &str) -> Option<Host<'_>>
     ensures { option_map (λ h. (h.name.now, h.port.now)) result ≡ host_of text.now }
 {

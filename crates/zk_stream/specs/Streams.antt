@@ -24,7 +24,7 @@ pub record Telling : Type 0 where
 abbrev pub telling : ℕ → List RequestHeader → List ℕ → Telling
 telling place asked told = record { place = place; asked = asked; told = told }
 
--- the client's frames are requests, but for the first
+-- the client's frames are requests, except the first
 abbrev pub asked_after : Way → (place : ℕ) → List RequestHeader → List ℕ → List RequestHeader
 asked_after Client zero asked payload = asked
 asked_after Client (suc n) asked payload = noted asked payload

@@ -1,4 +1,4 @@
-//! The names that stand beside numbers, as ZooKeeper has them.
+//! The names of numbers, as ZooKeeper has them.
 
 ghost use Rattle.std.specs.Prelude.{◌≡◌};
 ghost use Rattle.zk_stream.specs.Names.{code_name, event_name, operation_name, other_name, type_name};

@@ -35,7 +35,7 @@ pub struct Stream<A: Allocator> {
     pub asked: Vec<RequestHeader, A>,
 }
 
-/// So many bytes further. Past 2^64 bytes memory has run out long since.
+/// This many bytes further. Past 2^64 bytes memory has run out long since.
 fn further(place: usize, count: usize) -> Result<usize, AllocError>
     ensures { IfOk result (λ next. next ≡ place + count) }
 {

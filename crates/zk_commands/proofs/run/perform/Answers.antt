@@ -107,7 +107,7 @@ returns-in-Live-clause-memory g c = λ is words asked.
 
 pub returns-in-Watch-clause-done : goal.returns-in-Watch-clause-done
 returns-in-Watch-clause-done g c = λ is words asked.
-    let told = rw (c.plan_of.ensures.subjects, c.plan_of.ensures.for_ms, c.plan_of.ensures.style) at (c.watch_over.ensures.done is) in (
+    let told = rw (c.plan_of-plan.ensures.subjects, c.plan_of-plan.ensures.for_ms, c.plan_of-plan.ensures.style) at (c.watch_over.ensures.done is) in (
       told.0,
       watches c.in-Watch.addresses c.in-Watch.subjects c.in-Watch.timeout_ms c.in-Watch.for_ms c.in-Watch.style (rw c.in-Watch.is at asked) told.1,
       told.2,
@@ -116,7 +116,7 @@ returns-in-Watch-clause-done g c = λ is words asked.
 
 pub returns-in-Watch-clause-memory : goal.returns-in-Watch-clause-memory
 returns-in-Watch-clause-memory g c = λ is words asked.
-    let told = rw (c.plan_of.ensures.subjects, c.plan_of.ensures.style) at (c.watch_over.ensures.memory is) in (
+    let told = rw (c.plan_of-plan.ensures.subjects, c.plan_of-plan.ensures.style) at (c.watch_over.ensures.memory is) in (
       told.0 ++ told.1,
       ceases c.in-Watch.addresses c.in-Watch.subjects c.in-Watch.timeout_ms c.in-Watch.for_ms c.in-Watch.style told.0 told.1 (rw c.in-Watch.is at asked) told.2 told.3 refl,
       told.4,
@@ -194,7 +194,7 @@ returns-in-Ask-clause-never g c = λ is words asked. absurd (c.ask_over.ensures.
 
 pub returns-in-Watch-clause-never : goal.returns-in-Watch-clause-never
 returns-in-Watch-clause-never g c = λ is words asked.
-    let told = rw (c.plan_of.ensures.subjects, c.plan_of.ensures.for_ms, c.plan_of.ensures.style) at (c.watch_over.ensures.never is) in (
+    let told = rw (c.plan_of-plan.ensures.subjects, c.plan_of-plan.ensures.for_ms, c.plan_of-plan.ensures.style) at (c.watch_over.ensures.never is) in (
       told.0,
       record {
         addresses = c.in-Watch.addresses;
