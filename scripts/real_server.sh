@@ -472,9 +472,9 @@ EOF
     rises @made @set @last
 }
 
-# The lines of a session that may differ each time are those of a watch: their numbers are left out.
+# The lines of a session that may differ each time are those of a watch and those in JSON: their numbers are left out.
 without_numbers() {
-    sed -E '/^ *[0-9]+\.[0-9]{3} /s/[0-9]+/N/g' "$1"
+    sed -E '/^([0-9]+\.[0-9]{3} |\{)/s/[0-9]+/N/g' "$1"
 }
 
 # The session of an operator that the cookbook shows: each command after a `$` prints the lines that follow it there.

@@ -57,7 +57,7 @@ enum {
     DWS_TIMEOUT_MS = 10000,      /* of a session, where options name none */
     DWS_CLOSE_MS = 1000,         /* the longest wait for the server's word that the session is closed */
     DWS_BETWEEN_READS_MS = 1000, /* from a read of a tree that was refused to the next one */
-    DWS_MOST_ASKED = 128,        /* calls that the library has at once, since it looks at all of them at each answer; more of them wait here */
+    DWS_MOST_ASKED = 1024,       /* calls that the library has at once, as many as it sends before an answer comes; more of them wait here */
     DWS_MOST_PIECES = 64,        /* that are read before the moment is told */
     DWS_PIECE = 65536,           /* the most bytes that are read at once */
     DWS_LONGEST_HOST = 256,      /* the most bytes of a host's name */

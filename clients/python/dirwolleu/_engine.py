@@ -70,7 +70,7 @@ _REFUSALS: dict[int, type[ZookeeperError]] = {
 _LONGEST_TIMEOUT_MS = 2_147_483_647
 _SESSION = 0xFFFF_FFFF_FFFF_FFFF
 MOST_HANDED = 256
-"""How many calls the core has at once, at most: what a step of it costs grows with their number. The others wait in the host's line."""
+"""How many calls the core has at once, at most. The others wait in the host's line, where one that is cancelled is taken out and never sent."""
 
 
 class Credential(NamedTuple):
