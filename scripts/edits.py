@@ -1,6 +1,7 @@
 """The wrong bodies of the repository: what each turns, where it applies, and the function that it is within.
 
-`scripts/wrong_bodies` tries them, and `scripts/wrong_bodies_page` writes their page. An edit is a file of lines:
+`scripts/wrong_bodies` tries them, and `scripts/wrong_bodies_page` writes their page. An edit is a file in the folder wrong_bodies of its crate, or in
+must-fail, which the toolchain tries by itself. It has lines:
 
   turns: what it turns, in words
   function: the function that has to fail, as a check names it below its crate; only where the edit lies in none
@@ -15,8 +16,9 @@ from functools import cache, cached_property
 from pathlib import Path
 
 TOP = Path(__file__).resolve().parent.parent
-CRATES, EDITS = TOP / "crates", TOP / "wrong_bodies"
-GATE = EDITS / "gate.txt"
+CRATES, PAGES = TOP / "crates", TOP / "docs/wrong_bodies"
+GATE = TOP / "scripts/gate_bodies.txt"
+FOLDERS = ("must-fail", "wrong_bodies")
 FIELDS = ("turns: ", "function: ", "file: ", "old: ", "new:")
 # the head of a function, and of what may be between functions, each with its indentation
 HEAD = re.compile(r"^( *)(?:pub(?:\([\w ]+\))? )?(?:final |const |unsafe |extern \"C\" )*fn (\w+)", re.M)
@@ -156,7 +158,7 @@ def crates_listed() -> dict[str, list[str]]:
 
 def edits_of(crate: str) -> list[Edit]:
     """The edits of a crate in the order of their names."""
-    paths = [*(CRATES / crate / "must-fail").glob("*.edit"), *(EDITS / crate).glob("*.edit")]
+    paths = [path for folder in FOLDERS for path in (CRATES / crate / folder).glob("*.edit")]
     return [Edit(crate, path) for path in sorted(paths, key=lambda path: path.name)]
 
 

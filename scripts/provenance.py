@@ -1,4 +1,4 @@
-"""What the prebuilt libraries and the packages are made of, for scripts/prebuilt and scripts/package."""
+"""What the prebuilt libraries and the packages are made of, for scripts/prebuilt and trials/package."""
 import hashlib
 import shutil
 import subprocess

@@ -48,7 +48,7 @@ SECTIONS = [*range(1, 7), *range(10, 16)]
 
 DATA = "it names data: a field or a case fewer cannot be read where they are made"
 TABLE = "it is a table of the protocol, by which the code writes and reads: tests have its values"
-OUTSIDES = "it says what a run's outside tells of its turns, and nothing of servers: wrong_bodies/zk_client turns it"
+OUTSIDES = "it says what a run's outside tells of its turns, and nothing of servers: crates/zk_client/wrong_bodies turns it"
 # definitions of these sections that have no such edit
 EXCEPTIONS = {
     **dict.fromkeys("Notice Watches Message Request Stage ServerEnd ServerStep Sent Wire Entry LocalEntry".split(), DATA),

@@ -1,4 +1,4 @@
-"""Packages for Debian and what comes from it, amd64, for scripts/package. The same bytes each time, of the same files and the same date."""
+"""Packages for Debian and what comes from it, amd64, for trials/package. The same bytes each time, of the same files and the same date."""
 import gzip
 import hashlib
 import os

@@ -3,11 +3,11 @@
 # against real ZooKeeper servers: one alone, ensembles of three of which one stops, and one that is cut off for a while. What is printed is
 # checked line by line. All traffic stays on 127.0.0.1; servers and folders are gone at the end, however it ends.
 #
-# usage: scripts/real_server.sh [ZK_SHELL CONFIG_FOLLOWER CONCLUSIONS_EXAMPLE]     the programs; without them, they are built first.
+# usage: trials/real_server.sh [ZK_SHELL CONFIG_FOLLOWER CONCLUSIONS_EXAMPLE]     the programs; without them, they are built first.
 # The last line is `passed`, or `skipped: ..` where there is no server to be had. Else the exit status is 1.
 set -euo pipefail
 top=$(cd "$(dirname "$0")/.." && pwd)
-source "$top/scripts/servers.sh"
+source "$top/trials/servers.sh"
 declare -A known=() seen=()
 
 build() {
@@ -792,7 +792,7 @@ contend_by_curator() {
     for jar in zookeeper-jute slf4j-api curator-client curator-framework curator-recipes guava netty-all; do
         classes+=:/usr/share/java/$jar.jar
     done
-    java -Xmx256m -cp "$classes" "$top/scripts/CuratorContenders.java" "$1" "$2" "$folder/contest.out" >>"$folder/outside.log" 2>&1
+    java -Xmx256m -cp "$classes" "$top/trials/CuratorContenders.java" "$1" "$2" "$folder/contest.out" >>"$folder/outside.log" 2>&1
 }
 
 has_curator() {
