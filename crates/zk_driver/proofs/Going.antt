@@ -5,21 +5,25 @@ use Rattle.std.specs.List.{flat_map, FoldsTo}
 use Rattle.zk_client.specs.Clients.{view_of}
 use Rattle.zk_agent.specs.Agents.{IsLed}
 use Rattle.zk_agent.specs.declared.input.Input.{Input}
-use Rattle.zk_driver.specs.Driving.{ChannelView, Course, AreFollowed, Does, Goes, Hands, IsShutAgent, Meets, Move, Notes, Written, Noted}
+use Rattle.zk_driver.specs.Driving.{ChannelView, Course, AreFollowed, Does, Goes, Hands, IsShutAgent, Meets, Move, Notes, Written, Looked, Noted}
 use Rattle.zk_driver.specs.Noting.{notes_by, notes_in, GoesBy, Note}
+use Rattle.zk_driver.specs.declared.look.Look.{Look}
 
 -- ---- what lasts
 
 followed_by : {A : Type 0} (move : Move A) (old new : Course A) → Does old move new → AreFollowed old.agent → AreFollowed new.agent
 followed_by {A} Written old new does followed = subst (λ (c : Course A). AreFollowed c.agent) (sym does.1) followed
+followed_by {A} (Looked look) old new does followed = subst (λ (c : Course A). AreFollowed c.agent) (sym does.1) followed
 followed_by (Noted now input) old new does followed = does.2.followed
 
 led_by : {A : Type 0} (move : Move A) (old new : Course A) → Does old move new → IsLed (view_of old.agent.asker.follower.client) → IsLed (view_of new.agent.asker.follower.client)
 led_by {A} Written old new does led = subst (λ (c : Course A). IsLed (view_of c.agent.asker.follower.client)) (sym does.1) led
+led_by {A} (Looked look) old new does led = subst (λ (c : Course A). IsLed (view_of c.agent.asker.follower.client)) (sym does.1) led
 led_by (Noted now input) old new does led = does.2.comes.led led
 
 shut_by : {A : Type 0} (move : Move A) (old new : Course A) → Does old move new → IsShutAgent old.agent → IsShutAgent new.agent
 shut_by {A} Written old new does shut = subst (λ (c : Course A). IsShutAgent c.agent) (sym does.1) shut
+shut_by {A} (Looked look) old new does shut = subst (λ (c : Course A). IsShutAgent c.agent) (sym does.1) shut
 shut_by (Noted now input) old new does shut = does.2.comes.shut shut
 
 followed_through : {A : Type 0} (moves : List (Move A)) (old new : Course A) → FoldsTo Does old moves new → AreFollowed old.agent → AreFollowed new.agent
@@ -78,6 +82,9 @@ same_by old new is = come_by [] [] old new is refl
 
 pub written_by : {A : Type 0} (old new : Course A) → Does old Written new → GoesBy [] old new
 written_by old new writes = come_by [] (Written ∷ []) old new (new, writes, refl) refl
+
+pub looked_by : {A : Type 0} (look : Look) (old new : Course A) → Does old (Looked look) new → GoesBy [] old new
+looked_by look old new looks = come_by [] (Looked look ∷ []) old new (new, looks, refl) refl
 
 -- what comes first, and what comes after it
 pub by_after : {A : Type 0} (notes more : List Note) (old between new : Course A) → GoesBy notes old between → GoesBy more between new → GoesBy (notes ++ more) old new

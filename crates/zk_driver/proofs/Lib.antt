@@ -1,2 +1,3 @@
 pub mod Going
 pub mod Carrying
+pub mod Asking

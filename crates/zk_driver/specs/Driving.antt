@@ -1,5 +1,5 @@
 -- How far a driver has come: what its agent was handed, what was carried out, and what was passed on.
-use Rattle.std.specs.Prelude.{◌≡◌, ◌≢◌, ◌+◌, ℕ, Bool, true, false, List, [], ◌∷◌, ◌++◌, fold, max, Option, Some, None, is_some, All}
+use Rattle.std.specs.Prelude.{◌≡◌, ◌≢◌, ◌≤◌, ◌<◌, ◌⊎◌, ⊤, ◌+◌, ◌-◌, ◌^◌, ℕ, Bool, true, false, if◌then◌else◌, List, [], ◌∷◌, ◌++◌, fold, max, min, Option, Some, None, is_some, All}
 use Rattle.std.specs.List.{filter, FoldsTo}
 use Rattle.zk_turns.specs.Turns.{Send}
 use Rattle.zk_session.specs.declared.states.State.TheVariants.{Expired, Closed}
@@ -10,7 +10,7 @@ use Rattle.zk_agent.specs.declared.action.Action.{Action}
 use Rattle.zk_agent.specs.declared.agent.Agent.{Agent}
 use Rattle.zk_agent.specs.declared.input.Input.{Input}
 use Rattle.zk_agent.specs.declared.input.Input.TheVariants as happens
-use Rattle.zk_agent.specs.Agents.{given_of, heard_after, how_many_asked, how_many_ended, trail_of, Comes, IsDecided, IsLed, IsShut}
+use Rattle.zk_agent.specs.Agents.{given_of, heard_after, how_many_asked, how_many_ended, trail_of, Comes, IsDecided, IsLed, IsShut, NothingAt}
 use Rattle.zk_agent.specs.Calls.{how_many, IsInTime, IsServed}
 use Rattle.zk_agent.specs.Telling.{Told, Says, Dials, HangsUp, action_view, told_by}
 use Rattle.zk_link.specs.declared.bring.Brought.{Brought}
@@ -19,23 +19,25 @@ use Rattle.zk_link.specs.Frames.{IsLeftOf}
 use Rattle.zk_driver.specs.declared.channel.Attempt.{Attempt}
 use Rattle.zk_driver.specs.declared.channel.Channel.{Channel}
 use Rattle.zk_driver.specs.declared.engine.Engine.{Engine}
+use Rattle.zk_driver.specs.declared.look.Look.{Look}
 
 -- ---- the connection
 
--- Whether there is one, the address that is to be dialled, and what is left to be written.
+-- Whether there is one, the address that is to be dialled, what is left to be written, and the last read of it.
 pub record ChannelView : Type 0 where
   pub is_open : Bool
   pub attempt : Option Attempt
   pub unsent : List ℕ
+  pub looked : Option Look
 
 abbrev pub channel_view : {A S : Type 0} → Channel A S → ChannelView
-channel_view channel = record { is_open = is_some channel.stream; attempt = channel.attempt; unsent = channel.unsent.items }
+channel_view channel = record { is_open = is_some channel.stream; attempt = channel.attempt; unsent = channel.unsent.items; looked = channel.looked }
 
 abbrev pub opened : ChannelView
-opened = record { is_open = true; attempt = None; unsent = [] }
+opened = record { is_open = true; attempt = None; unsent = []; looked = None }
 
 abbrev pub closed : ChannelView
-closed = record { is_open = false; attempt = None; unsent = [] }
+closed = record { is_open = false; attempt = None; unsent = []; looked = None }
 
 -- What a driver does itself: it dials, hangs up and sends. All else is for the program.
 abbrev pub is_passed : Told → Bool
@@ -56,6 +58,29 @@ pub record Writes (old new : ChannelView) : Type 0 where
   pub is_open : new.is_open ≡ old.is_open
   pub attempt : new.attempt ≡ old.attempt
   pub unsent : IsLeftOf old.unsent new.unsent
+  pub looked : new.looked ≡ old.looked
+
+-- how many reads were made one after the other, up to the last one
+abbrev pub row_of : Option Look → ℕ
+row_of None = 0
+row_of (Some look) = look.row
+
+-- whether a read has brought nothing
+abbrev pub is_nothing : {A : Type 0} → Brought A → Bool
+is_nothing brought.Nothing = true
+is_nothing brought = false
+
+-- a read that began at this moment, after the one before it or as the first of a row
+abbrev pub look_after : (began : ℕ) → (is_again is_quiet : Bool) → Option Look → Look
+look_after began is_again is_quiet before = record { began = began; row = if is_again then min (row_of before + 1) (2 ^ 32 - 1) else 1; is_quiet = is_quiet }
+
+-- The connection is read once, after some of what is left was written.
+pub record Looks (look : Look) (old new : ChannelView) : Type 0 where
+  pub is_open : new.is_open ≡ old.is_open
+  pub attempt : new.attempt ≡ old.attempt
+  pub unsent : IsLeftOf old.unsent new.unsent
+  pub looked : new.looked ≡ Some look
+  pub row : look.row ≤ row_of old.looked + 1
 
 -- ---- how far it has come
 
@@ -84,10 +109,34 @@ AreFollowed agent = All (IsFollowed agent.latest (view_of agent.asker.follower.c
 abbrev pub IsShutAgent : {A : Type 0} → Agent A → Type 0
 IsShutAgent agent = IsShut (trail_of agent [])
 
+-- Something was due at this moment, or before it.
+abbrev pub IsOverdue : {A : Type 0} → Agent A → (moment : ℕ) → Type 0
+IsOverdue agent moment = (first : ℕ) × (first ≤ moment) × ¬ (NothingAt agent first)
+
+-- The last read began where something was due already, and brought nothing; or it was the 64th in a row.
+abbrev pub IsSeen : {A : Type 0} → Agent A → Option Look → Type 0
+IsSeen agent None = ⊥
+IsSeen agent (Some look) = ((look.is_quiet ≡ true) × IsOverdue agent look.began) ⊎ (64 ≤ look.row)
+
+-- A moment may be told: where something was due on a connection before it, what that has brought was read.
+abbrev pub IsTimely : {A : Type 0} → (now : ℕ) → Course A → Type 0
+IsTimely now course = course.channel.is_open ≡ true → NothingAt course.agent (now - 1) ⊎ IsSeen course.agent course.channel.looked
+
+-- What comes on a connection, and what the program asks for while one is there, is handed in at a moment at which nothing is due. A moment
+-- itself is told where it may be.
+abbrev pub IsPatient : {A : Type 0} → (now : ℕ) → Input A → Course A → Type 0
+IsPatient now happens.Moment course = IsTimely now course
+IsPatient now (happens.Bytes bytes) course = 0 < now → NothingAt course.agent now
+IsPatient now happens.Opened course = ⊤
+IsPatient now happens.Failed course = ⊤
+IsPatient now happens.Cut course = ⊤
+IsPatient now _ course = course.channel.is_open ≡ true → 0 < now → NothingAt course.agent now
+
 -- The agent takes an input that was noticed at a moment, and what comes from outside is that: each subject is followed then, each call is settled
 -- once or waits, none waits past its limit or after a close, a session that has expired is over, and what was due of the connection is done. What it says is carried out, or put after what
 -- the program is told, each in its order.
 pub record Takes {A : Type 0} (now : ℕ) (input : Input A) (old new : Course A) : Type 0 where
+  pub patient : IsPatient now input old
   pub actions : List (Action A)
   pub comes : Comes (max old.agent.latest now) (given_of old.agent.dialler.phase (max old.agent.latest now) input) (trail_of old.agent []) (trail_of new.agent actions)
   pub followed : AreFollowed new.agent
@@ -114,11 +163,13 @@ Meets old _ new = ⊥
 
 pub data Move (A : Type 0) : Type 0 where
   Written : Move A
+  Looked : Look → Move A
   Noted : (now : ℕ) → Input A → Move A
 
 -- What each move does.
 abbrev pub Does : {A : Type 0} → Course A → Move A → Course A → Type 0
 Does old Written new = Writes old.channel new.channel × (new ≡ record old { channel = new.channel })
+Does old (Looked look) new = Looks look old.channel new.channel × (new ≡ record old { channel = new.channel })
 Does {A} old (Noted now input) new = (between : ChannelView) × Meets old.channel input between × Takes now input (record old { channel = between }) new
 
 -- Moves, the oldest first. A client that was led stands where it was led, and after a close there is no connection.
@@ -141,6 +192,19 @@ abbrev pub input_of : {A : Type 0} → Brought A → Input A
 input_of (brought.Piece bytes) = happens.Bytes bytes
 input_of brought.Nothing = happens.Moment
 input_of brought.End = happens.Cut
+
+-- What a read has brought may be taken at a moment.
+abbrev pub IsTaken : {A : Type 0} → (now : ℕ) → Brought A → Course A → Type 0
+IsTaken now brought.Nothing course = IsTimely now course
+IsTaken now brought course = ⊤
+
+-- what a program asks for, and a driver hands in for it
+abbrev pub IsAsked : {A : Type 0} → Input A → Type 0
+IsAsked (happens.Call ticket call until) = ⊤
+IsAsked (happens.Follow ticket side path) = ⊤
+IsAsked (happens.Unfollow ticket) = ⊤
+IsAsked (happens.Addresses count) = ⊤
+IsAsked _ = ⊥
 
 -- The program hands the agent an input, at the moment at which it does.
 pub record Hands {A : Type 0} (input : Input A) (old new : Course A) : Type 0 where

@@ -10,7 +10,7 @@ use Rattle.zk_driver.specs.declared.turn.Event.{Event}
 use Rattle.zk_driver.specs.declared.turn.Event.TheVariants as event
 use Rattle.zk_driver.specs.declared.turn.Turn.{Turn}
 use Rattle.zk_driver.specs.declared.turn.Turn.TheVariants as turn
-use Rattle.zk_driver.specs.Driving.{AreFollowed, Course, Does, IsShutAgent, Move, Written, Noted}
+use Rattle.zk_driver.specs.Driving.{AreFollowed, Course, Does, IsShutAgent, Move, Written, Looked, Noted}
 
 -- a connection that was asked for is there; one could not be made; one is over
 pub data Note : Type 0 where
@@ -24,6 +24,7 @@ notes_in input = []
 
 abbrev pub notes_by : {A : Type 0} → Move A → List Note
 notes_by Written = []
+notes_by (Looked look) = []
 notes_by (Noted now input) = notes_in input
 
 -- Moves, the oldest first, in which the agent was told this of connections, and nothing else of them.

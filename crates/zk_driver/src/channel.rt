@@ -1,12 +1,13 @@
 //! What a driver has of a connection.
 
 ghost use Rattle.std.specs.Prelude.{◌≡◌, ◌++◌, None, Some, IfOk, OnOk, is_some};
-ghost use Rattle.zk_driver.specs.Driving.{channel_view, closed, opened, Writes};
+ghost use Rattle.zk_driver.specs.Driving.{channel_view, closed, is_nothing, look_after, opened, Looks, Writes};
 ghost use Rattle.zk_driver.specs.Noting.{notes_of_event, notes_in};
 ghost use Rattle.zk_driver.specs.Driving.{input_of};
 ghost use Rattle.zk_driver.specs.Reads.{IsBrought};
 
 use crate::bring::{bring, make_room};
+use crate::look::{Look, is_nothing, look_after};
 use crate::reason::Reason;
 use crate::send::send;
 use crate::turn::Event;
@@ -23,12 +24,13 @@ pub(crate) struct Attempt {
     pub(crate) within_ms: u64,
 }
 
-/// The connection, if there is one; the address that is to be dialled, if one is; what is left to be written; and why the last connection
-/// has ended.
+/// The connection, if there is one, and the last read of it; the address that is to be dialled, if one is; what is left to be written; and
+/// why the last connection has ended.
 #[derive(Drop)]
 pub(crate) struct Channel<A: Allocator, S: Drop> {
     pub(crate) stream: Option<S>,
     pub(crate) attempt: Option<Attempt>,
+    pub(crate) looked: Option<Look>,
     unsent: Vec<u8, A>,
     room: Vec<u8, A>,
     why: Reason,
@@ -42,6 +44,7 @@ impl<A: Allocator + Copy, S: Stream> Channel<A, S> {
         Channel {
             stream: None,
             attempt: None,
+            looked: None,
             unsent: Vec::new(alloc),
             room: Vec::new(alloc),
             why: Reason::Other,
@@ -75,6 +78,7 @@ impl<A: Allocator + Copy, S: Stream> Channel<A, S> {
         ensures { channel_view self.new ≡ closed }
     {
         self.attempt = None;
+        self.looked = None;
         self.unsent.clear();
         self.stream = None;
     }
@@ -96,8 +100,26 @@ impl<A: Allocator + Copy, S: Stream> Channel<A, S> {
         }
     }
 
-    /// Writes what is left, and reads once: for `ms` milliseconds, at least 1, or for 10 at most while bytes are left.
-    pub(crate) fn exchange(&mut self, alloc: A, ms: u64) -> Result<Brought<A>, AllocError>
+    /// Writes what is left, and reads once, as the next read of a row or the first one: for `ms` milliseconds, at least 1, or for 10 at most
+    /// while bytes are left. It begins at this moment.
+    pub(crate) fn exchange(
+        &mut self,
+        alloc: A,
+        began: u64,
+        is_again: bool,
+        ms: u64,
+    ) -> Result<Brought<A>, AllocError>
+        ensures looks { IfOk result (λ brought. Looks (look_after began is_again (is_nothing brought) self.old.looked) (channel_view self.old) (channel_view self.new)) }
+        ensures brings { IfOk result (λ brought. IsBrought S.remaining self.new.stream brought) }
+    {
+        let brought = self.read(alloc, ms)?;
+        let is_quiet = is_nothing(&brought);
+        self.looked = Some(look_after(began, is_again, is_quiet, self.looked));
+        Ok(brought)
+    }
+
+    /// Writes what is left, and reads once. A connection that can't be written to has ended.
+    fn read(&mut self, alloc: A, ms: u64) -> Result<Brought<A>, AllocError>
         ensures writes { Writes (channel_view self.old) (channel_view self.new) }
         ensures brings { IfOk result (λ brought. IsBrought S.remaining self.new.stream brought) }
     {

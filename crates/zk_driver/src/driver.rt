@@ -6,13 +6,13 @@ ghost use Rattle.zk_turns.specs.View.{view_at};
 ghost use Rattle.zk_client.specs.Clients.{view_of};
 ghost use Rattle.zk_agent.specs.Telling.{told_by};
 ghost use Rattle.zk_agent.specs.declared.input.Input.TheVariants as happens;
-ghost use Rattle.zk_driver.specs.Driving.{channel_view, closed, course_of, AreFollowed, Extends, Goes, Hands, IsShutAgent};
+ghost use Rattle.zk_driver.specs.Driving.{channel_view, closed, course_of, AreFollowed, Extends, Goes, Hands, IsAsked, IsShutAgent};
 ghost use Rattle.zk_driver.specs.Noting.{is_come, notes_of, notes_of_event, passed_in, GoesBy};
 
 use crate::channel::Attempt;
-use crate::engine::Engine;
+use crate::engine::{Engine, MOST_READS};
 use crate::reason::{Reason, reason_of};
-use crate::turn::{Event, Turn};
+use crate::turn::{Event, Glance, Turn};
 use std::alloc::{AllocError, Allocator};
 use zk_agent::{Action, Agent, Input, Settings};
 use zk_client::{Call, Client, Path, Side};
@@ -146,13 +146,16 @@ impl<'a, A: Allocator + Copy, D: Dial + Drop, C: Clock + Drop> Driver<'a, A, D, 
         self.hand(Input::Addresses(addresses.len()))
     }
 
-    /// Hands in what the program asks for, at the clock's moment.
+    /// Hands in what the program asks for, at the clock's moment; where something is due on the connection, at the last moment before that, so
+    /// that what has come is read before the clock's moment is told.
     fn hand(&mut self, input: Input<A>) -> Result<(), Stop>
+        requires { IsAsked input }
         ensures hands { OnOk result (Hands input (course_of self.old.engine None) (course_of self.new.engine None)) }
         ensures kept { Extends (told_by self.old.engine.waiting.items) (told_by self.new.engine.waiting.items) }
     {
         let now = self.now();
-        match self.engine.hand(now, input) {
+        let moment = self.engine.moment_of_hand(now);
+        match self.engine.hand(moment, input) {
             Ok(_) => Ok(()),
             Err(stop) => Err(stop),
         }
@@ -292,26 +295,69 @@ impl<'a, A: Allocator + Copy, D: Dial + Drop, C: Clock + Drop> Driver<'a, A, D, 
         let now = self.now();
         let ms = self.engine.wait_ms(now, until);
         if self.engine.channel.is_open() {
-            return self.listen(ms);
+            return self.listen(now, ms);
         }
         self.clock.pause(ms);
         let now = self.now();
         Ok((self.engine.tell(now)?, Event::Nothing))
     }
 
-    /// Writes what is left, and tells the agent what the connection brings within `ms` milliseconds, or that it brings nothing.
-    fn listen(&mut self, ms: u64) -> Result<(u64, Event), Stop>
+    /// Reads the connection once, from this moment on and for `ms` milliseconds, and tells the agent what that brings, or that it brings
+    /// nothing. Where something was due before the clock's moment, and the connection may have more, that moment is not told: it is to be
+    /// read again.
+    fn read(&mut self, began: u64, is_again: bool, ms: u64) -> Result<Glance, Stop>
+        requires none { self.old.engine.channel.attempt ≡ None }
+        requires open { is_some self.old.engine.channel.stream ≡ true }
+        ensures goes { IfOk result (λ glance. GoesBy (notes_of_event glance.event) (course_of self.old.engine None) (course_of self.new.engine None)) }
+        ensures told { IfOk result (λ glance. glance.told ≤ self.new.engine.agent.latest) }
+        ensures none { IfOk result (λ glance. glance.is_again ≡ true → self.new.engine.channel.attempt ≡ None) }
+        ensures open { IfOk result (λ glance. glance.is_again ≡ true → is_some self.new.engine.channel.stream ≡ true) }
+        ensures quiet { IfOk result (λ glance. glance.is_again ≡ true → notes_of_event glance.event ≡ []) }
+        ensures kept { Extends (told_by self.old.engine.waiting.items) (told_by self.new.engine.waiting.items) }
+    {
+        let Ok(brought) = self
+            .engine
+            .channel
+            .exchange(self.alloc, began, is_again, ms)
+        else {
+            return Err(Stop::Memory);
+        };
+        let now = self.now();
+        if self.engine.puts_off(now, &brought) {
+            return Ok(Glance {
+                now,
+                told: 0,
+                event: Event::Nothing,
+                is_again: true,
+            });
+        }
+        let event = self.engine.channel.event_of(&brought);
+        let told = self.engine.take(now, brought)?;
+        let is_again = self.engine.reads_on(event, told < now);
+        Ok(Glance {
+            now,
+            told,
+            event,
+            is_again,
+        })
+    }
+
+    /// Writes what is left, and tells the agent what the connection brings within `ms` milliseconds, or that it brings nothing. Where something
+    /// was due before the clock's moment, what the connection has is read before that is told: until it has nothing, and 64 times at most.
+    fn listen(&mut self, began: u64, ms: u64) -> Result<(u64, Event), Stop>
         requires none { self.old.engine.channel.attempt ≡ None }
         requires open { is_some self.old.engine.channel.stream ≡ true }
         ensures goes { IfOk result (λ round. GoesBy (notes_of_event round.1) (course_of self.old.engine None) (course_of self.new.engine None)) }
         ensures told { IfOk result (λ round. round.0 ≤ self.new.engine.agent.latest) }
         ensures kept { Extends (told_by self.old.engine.waiting.items) (told_by self.new.engine.waiting.items) }
     {
-        let Ok(brought) = self.engine.channel.exchange(self.alloc, ms) else {
-            return Err(Stop::Memory);
-        };
-        let now = self.now();
-        let event = self.engine.channel.event_of(&brought);
-        Ok((self.engine.take(now, brought)?, event))
+        let mut glance = self.read(began, false, ms)?;
+        for _ in 1..MOST_READS {
+            if !glance.is_again {
+                break;
+            }
+            glance = self.read(glance.now, true, 0)?;
+        }
+        Ok((glance.told, glance.event))
     }
 }

@@ -1,19 +1,23 @@
 //! An agent with the connection that it has, and what its program is told.
 
-ghost use Rattle.std.specs.Prelude.{◌≡◌, ◌≤◌, ◌<◌, ◌+◌, ◌++◌, ◌∷◌, [], ℕ, None, fold, is_some, true, IfNone, IfOk, OnOk};
+ghost use Rattle.std.specs.Prelude.{◌≡◌, ◌≤◌, ◌<◌, ◌+◌, ◌++◌, ◌∷◌, ◌-◌, [], ℕ, None, fold, is_some, false, true, IfNone, IfOk, OnOk};
 ghost use Rattle.std.specs.List.{filter};
 ghost use Rattle.zk_agent.specs.Agents.{NothingAt};
 ghost use Rattle.zk_agent.specs.Telling.{action_view, told_by};
 ghost use Rattle.zk_agent.specs.declared.input.Input.TheVariants as happens;
-ghost use Rattle.zk_driver.specs.Driving.{carried, channel_view, closed, course_of, input_of, is_passed, Extends, Goes, Hands, Notes};
-ghost use Rattle.zk_driver.specs.Noting.{notes_in, Made, Missed, Lost, GoesBy};
+ghost use Rattle.zk_driver.specs.Driving.{carried, channel_view, closed, course_of, input_of, is_passed, Extends, Goes, Hands, IsOverdue, IsPatient, IsSeen, IsTaken, IsTimely, Notes};
+ghost use Rattle.zk_driver.specs.Noting.{notes_in, notes_of_event, Made, Missed, Lost, GoesBy};
 
 use crate::channel::{Attempt, Channel};
+use crate::turn::Event;
 use crate::wait::wait_between;
 use std::alloc::{AllocError, Allocator};
 use std::collections::VecDeque;
 use zk_agent::{Action, Agent, Input};
 use zk_link::{Brought, Stop, Stream};
+
+/// The most reads of what a connection has before a moment is told, where something was due before it.
+pub(crate) const MOST_READS: u32 = 64;
 
 /// An agent, the connection that it has, and the actions that its program is to be given, in order.
 #[derive(Drop)]
@@ -100,6 +104,7 @@ impl<A: Allocator + Copy, S: Stream> Engine<A, S> {
     /// Hands the agent an input that was noticed at this moment, and does what it says. The answer is the moment. That a write has failed is
     /// seen by the next read.
     pub(crate) fn hand(&mut self, now: u64, input: Input<A>) -> Result<u64, Stop>
+        requires { IsPatient now input (course_of self.old None) }
         ensures hands { OnOk result (Hands input (course_of self.old None) (course_of self.new None)) }
         ensures told { IfOk result (λ moment. moment ≤ self.new.agent.latest) }
         ensures noted { OnOk result (now ≤ self.new.agent.latest) }
@@ -145,6 +150,7 @@ impl<A: Allocator + Copy, S: Stream> Engine<A, S> {
     fn cut(&mut self, now: u64) -> Result<u64, Stop>
         requires none { self.old.channel.attempt ≡ None }
         requires open { is_some self.old.channel.stream ≡ true }
+        ensures noted { OnOk result (now ≤ self.new.agent.latest) }
         ensures goes { OnOk result (GoesBy (Lost ∷ []) (course_of self.old None) (course_of self.new None)) }
         ensures notes { OnOk result (Notes happens.Cut (course_of self.old None) (course_of self.new None)) }
         ensures told { IfOk result (λ moment. moment ≤ self.new.agent.latest) }
@@ -156,7 +162,8 @@ impl<A: Allocator + Copy, S: Stream> Engine<A, S> {
 
     /// Nothing has come but a moment.
     pub(crate) fn tell(&mut self, now: u64) -> Result<u64, Stop>
-        requires { self.old.channel.attempt ≡ None }
+        requires none { self.old.channel.attempt ≡ None }
+        requires timely { IsTimely now (course_of self.old None) }
         ensures goes { OnOk result (GoesBy [] (course_of self.old None) (course_of self.new None)) }
         ensures notes { OnOk result (Notes happens.Moment (course_of self.old None) (course_of self.new None)) }
         ensures told { IfOk result (λ moment. moment ≤ self.new.agent.latest) }
@@ -179,6 +186,80 @@ impl<A: Allocator + Copy, S: Stream> Engine<A, S> {
         }
     }
 
+    /// Whether something was due at this moment, or before it.
+    fn is_due(&self, moment: u64) -> bool
+        ensures yes { result ≡ true → IsOverdue self.now.agent moment }
+        ensures no { result ≡ false → NothingAt self.now.agent moment }
+    {
+        match self.agent.deadline() {
+            Some(first) => first <= moment,
+            None => false,
+        }
+    }
+
+    /// Whether the last read began where something was due already, and brought nothing, or was the last of as many as are made in a row.
+    fn has_seen(&self) -> bool
+        ensures { result ≡ true → IsSeen self.now.agent self.now.channel.looked }
+    {
+        match self.channel.looked {
+            Some(look) => MOST_READS <= look.row || look.is_quiet && self.is_due(look.began),
+            None => false,
+        }
+    }
+
+    /// Whether the connection that is there is to be read before this moment is told: something was due on it before that, as where the
+    /// program was stopped or was away, and what it has may be of use.
+    fn is_to_be_read(&self, now: u64) -> bool
+        ensures yes { result ≡ true → IsOverdue self.now.agent (now - 1) }
+        ensures no { result ≡ false → IsTimely now (course_of self.now None) }
+    {
+        if !self.channel.is_open() {
+            return false;
+        }
+        self.is_due(now.saturating_sub(1)) && !self.has_seen()
+    }
+
+    /// Whether what a read has brought is to be taken no sooner than the connection was read again: it brought nothing.
+    pub(crate) fn puts_off(&self, now: u64, brought: &Brought<A>) -> bool
+        ensures yes { result ≡ true → IsOverdue self.now.agent (now - 1) }
+        ensures no { result ≡ false → IsTaken now brought.now (course_of self.now None) }
+    {
+        match brought {
+            Brought::Nothing => self.is_to_be_read(now),
+            _ => false,
+        }
+    }
+
+    /// Whether the connection is to be read again where a read has come to this, and a moment before the clock's was told last.
+    pub(crate) fn reads_on(&self, event: Event, is_late: bool) -> bool
+        ensures none { result ≡ true → self.now.channel.attempt ≡ None }
+        ensures open { result ≡ true → is_some self.now.channel.stream ≡ true }
+        ensures quiet { result ≡ true → notes_of_event event ≡ [] }
+        ensures late { result ≡ true → is_late ≡ true }
+    {
+        is_late && event.is_nothing() && self.is_readable()
+    }
+
+    /// Whether the connection can be read: there is one, and no other is to be dialled.
+    fn is_readable(&self) -> bool
+        ensures none { result ≡ true → self.now.channel.attempt ≡ None }
+        ensures open { result ≡ true → is_some self.now.channel.stream ≡ true }
+    {
+        self.channel.attempt.is_none() && self.channel.is_open()
+    }
+
+    /// The moment at which what the program asks for is handed in: this one, and where something is due on the connection that is there, the
+    /// last moment before that, so that what has come on it is read first.
+    pub(crate) fn moment_of_hand(&self, now: u64) -> u64
+        ensures most { result ≤ now }
+        ensures quiet { is_some self.now.channel.stream ≡ true → 0 < result → NothingAt self.now.agent result }
+    {
+        if self.channel.is_open() {
+            return self.moment_of_bytes(now);
+        }
+        now
+    }
+
     /// The moment that is told with bytes which are read at this one: this one, and where something was due before it, the last moment
     /// before that. The program was stopped then, or was away: when the bytes came is not known, and a server that has sent something is
     /// not silent.
@@ -193,7 +274,8 @@ impl<A: Allocator + Copy, S: Stream> Engine<A, S> {
         }
     }
 
-    /// Bytes came, with the moment of bytes. Where that is before this one, this one is told after it.
+    /// Bytes came, with the moment of bytes. Where that is before this one, this one is told after it, unless the connection is to be read again
+    /// before that. The answer is the moment that was told last.
     fn bytes(&mut self, now: u64, bytes: Vec<u8, A>) -> Result<u64, Stop>
         requires none { self.old.channel.attempt ≡ None }
         requires open { is_some self.old.channel.stream ≡ true }
@@ -210,23 +292,24 @@ impl<A: Allocator + Copy, S: Stream> Engine<A, S> {
         self.catch_up(now, told)
     }
 
-    /// Tells a moment after another one, where nothing is to be dialled.
+    /// Tells a moment after another one, where nothing is to be dialled, and what the connection has was read.
     fn catch_up(&mut self, now: u64, told: u64) -> Result<u64, Stop>
         requires { told ≤ self.old.agent.latest }
         ensures goes { OnOk result (GoesBy [] (course_of self.old None) (course_of self.new None)) }
         ensures told { IfOk result (λ moment. moment ≤ self.new.agent.latest) }
         ensures kept { Extends (told_by self.old.waiting.items) (told_by self.new.waiting.items) }
     {
-        if self.channel.attempt.is_none() {
-            return self.tell(now);
+        if self.channel.attempt.is_some() || self.is_to_be_read(now) {
+            return Ok(told);
         }
-        Ok(told)
+        self.tell(now)
     }
 
     /// What a read has brought, or that it brought nothing, is noticed at this moment.
     pub(crate) fn take(&mut self, now: u64, brought: Brought<A>) -> Result<u64, Stop>
         requires none { self.old.channel.attempt ≡ None }
         requires open { is_some self.old.channel.stream ≡ true }
+        requires taken { IsTaken now brought (course_of self.old None) }
         ensures goes { OnOk result (GoesBy (notes_in (input_of brought)) (course_of self.old None) (course_of self.new None)) }
         ensures notes { OnOk result (Notes (input_of brought) (course_of self.old None) (course_of self.new None)) }
         ensures told { IfOk result (λ moment. moment ≤ self.new.agent.latest) }
@@ -239,7 +322,8 @@ impl<A: Allocator + Copy, S: Stream> Engine<A, S> {
         }
     }
 
-    /// A moment is told, whatever is to be dialled: an attempt that was not made by then counts as one that has failed.
+    /// A moment is told, whatever is to be dialled or read: an attempt that was not made by then counts as one that has failed, and a connection
+    /// that is there as one that is over.
     pub(crate) fn settle(&mut self, now: u64) -> Result<u64, Stop>
         ensures goes { OnOk result (Goes (course_of self.old None) (course_of self.new None)) }
         ensures told { OnOk result (now ≤ self.new.agent.latest) }
@@ -247,6 +331,7 @@ impl<A: Allocator + Copy, S: Stream> Engine<A, S> {
     {
         match self.channel.attempt {
             Some(_) => self.fail(now),
+            None if self.channel.is_open() => self.cut(now),
             None => self.tell(now),
         }
     }

@@ -9,6 +9,7 @@ mod bring;
 mod channel;
 mod driver;
 mod engine;
+mod look;
 mod reason;
 mod send;
 mod turn;

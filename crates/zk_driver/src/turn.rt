@@ -35,6 +35,16 @@ pub(crate) enum Event {
     Nothing,
 }
 
+/// What a read came to: the clock's moment after it, the moment that was told, what has happened, and whether the connection is to be read
+/// again before the clock's moment is told.
+#[derive(Clone, Copy)]
+pub(crate) struct Glance {
+    pub(crate) now: u64,
+    pub(crate) told: u64,
+    pub(crate) event: Event,
+    pub(crate) is_again: bool,
+}
+
 impl Event {
     /// Whether nothing has happened.
     pub(crate) fn is_nothing(self) -> bool

@@ -1,18 +1,28 @@
-use Rattle.std.proofs.Common.{[], None, refl, sym, ap}
-use Rattle.zk_driver.specs.declared.engine.Engine.{Engine}
-use Rattle.zk_driver.specs.Driving.{channel_view, course_of, input_of}
-use Rattle.zk_driver.specs.Noting.{notes_in, notes_of_event}
-use Rattle.zk_driver.proofs.Going.{by_after, by_same_notes, same_by, written_by}
+use Rattle.std.proofs.Common.{rules, ◌≡◌, [], None, true, subst}
+use Rattle.zk_agent.specs.Telling.{told_by}
+use Rattle.zk_driver.specs.Driving.{course_of}
+use Rattle.zk_driver.specs.Noting.{notes_of_event, GoesBy}
+use Rattle.zk_driver.proofs.Carrying.{extends_on}
+use Rattle.zk_driver.proofs.Going.{by_after}
 use Rattle.zk_driver.proofs.driver.Driver.listen.Goals as goal
 
-pub returns-clause-goes : goal.returns-clause-goes
-returns-clause-goes g c =
+pub returns-in_err-glance-2-clause-kept : goal.returns-in_err-glance-2-clause-kept
+returns-in_err-glance-2-clause-kept g c =
+    extends_on (told_by c.args.self.now.engine.waiting.items) (told_by c.loop.self.engine.waiting.items) (told_by c.read-in-loop.new.self.engine.waiting.items) c.loop.invariant.kept
+    c.read-in-loop.ensures.kept
+
+pub loop-preserved : goal.loop-preserved
+loop-preserved g c =
     let old = course_of c.args.self.now.engine None in
-    let between = record old { channel = channel_view c.exchange.new.self } in
-    let later = course_of c.now-now.new.self.engine None in
-    let new = course_of c.take.new.self None in
-    let notes = notes_in (input_of c.in-Ok.brought) in
-    by_same_notes notes (notes_of_event c.event_of-event.result) old new c.event_of-event.ensures
-    (by_after [] notes old later new
-    (by_after [] [] old between later (written_by old between (c.exchange.ensures.writes, refl))
-    (same_by between later (sym (ap (λ (e : Engine g.row.A.Denot g.row.D-Stream.Denot). course_of e None) c.now-now.ensures.engine)))) c.in_ok-take.ensures.goes)
+    let so_far = course_of c.loop.self.engine None in
+    let new = course_of c.read-in-loop.new.self.engine None in
+    let again : c.loop.glance.is_again ≡ true = search rules in
+    let notes = notes_of_event c.in_ok-glance-2.glance.event in
+    record {
+      goes = by_after [] notes old so_far new (subst (λ ns. GoesBy ns old so_far) (c.loop.invariant.quiet again) c.loop.invariant.goes) c.in_ok-glance-2.ensures.goes;
+      told = c.in_ok-glance-2.ensures.told;
+      none = c.in_ok-glance-2.ensures.none;
+      stream = c.in_ok-glance-2.ensures.open;
+      quiet = c.in_ok-glance-2.ensures.quiet;
+      kept = extends_on old.told so_far.told new.told c.loop.invariant.kept c.read-in-loop.ensures.kept;
+    }

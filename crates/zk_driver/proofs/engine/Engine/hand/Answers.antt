@@ -8,6 +8,7 @@ returns-clause-hands g c = record {
   now = c.args.now;
   between = record { agent = c.step.new.self; channel = channel_view c.carry_all.new.channel; told = told_by c.carry_all.new.waiting.items };
   takes = record {
+    patient = c.requires;
     actions = c.in-Ok.actions.items;
     comes = c.in-Ok.ensures.comes;
     followed = c.in-Ok.ensures.followed;

@@ -1,6 +1,6 @@
 use Rattle.std.proofs.Common.{[], ◌∷◌, None}
 use Rattle.zk_driver.specs.Driving.{course_of}
-use Rattle.zk_driver.specs.Noting.{Missed}
+use Rattle.zk_driver.specs.Noting.{Lost, Missed}
 use Rattle.zk_driver.proofs.Going.{ok_goes}
 use Rattle.zk_driver.proofs.engine.Engine.settle.Goals as goal
 
@@ -8,4 +8,7 @@ pub returns-in-Some-clause-goes : goal.returns-in-Some-clause-goes
 returns-in-Some-clause-goes g c = ok_goes c.fail.result (Missed ∷ []) (course_of c.args.self.now None) (course_of c.fail.new.self None) c.fail.ensures.goes
 
 pub returns-in-None-clause-goes : goal.returns-in-None-clause-goes
-returns-in-None-clause-goes g c = ok_goes c.tell.result [] (course_of c.args.self.now None) (course_of c.tell.new.self None) c.tell.ensures.goes
+returns-in-None-clause-goes g c = ok_goes c.cut.result (Lost ∷ []) (course_of c.args.self.now None) (course_of c.cut.new.self None) c.cut.ensures.goes
+
+pub returns-in-None-2-clause-goes : goal.returns-in-None-2-clause-goes
+returns-in-None-2-clause-goes g c = ok_goes c.tell.result [] (course_of c.args.self.now None) (course_of c.tell.new.self None) c.tell.ensures.goes

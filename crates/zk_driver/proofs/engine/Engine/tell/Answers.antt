@@ -5,7 +5,7 @@ use Rattle.zk_driver.proofs.Going.{first, noted}
 use Rattle.zk_driver.proofs.engine.Engine.tell.Goals as goal
 
 pub returns-clause-goes : goal.returns-clause-goes
-returns-clause-goes g c = noted c.hand.result happens.Moment (course_of c.args.self.now None) (course_of c.hand.new.self None) (channel_view c.args.self.now.channel) (c.requires, refl) c.hand.ensures.hands
+returns-clause-goes g c = noted c.hand.result happens.Moment (course_of c.args.self.now None) (course_of c.hand.new.self None) (channel_view c.args.self.now.channel) (c.requires.none, refl) c.hand.ensures.hands
 
 pub returns-clause-notes : goal.returns-clause-notes
-returns-clause-notes g c = first c.hand.result happens.Moment (course_of c.args.self.now None) (course_of c.hand.new.self None) (channel_view c.args.self.now.channel) (c.requires, refl) c.hand.ensures.hands
+returns-clause-notes g c = first c.hand.result happens.Moment (course_of c.args.self.now None) (course_of c.hand.new.self None) (channel_view c.args.self.now.channel) (c.requires.none, refl) c.hand.ensures.hands

@@ -1,0 +1,16 @@
+use Rattle.std.proofs.Common.{◌≡◌, ◌≤◌, [], None, true, is_some}
+use Rattle.zk_agent.specs.Telling.{told_by}
+use Rattle.zk_driver.specs.Driving.{course_of, Extends}
+use Rattle.zk_driver.specs.Noting.{notes_of_event, GoesBy}
+use Rattle.zk_driver.proofs.driver.Driver.listen.Given as goal
+
+-- what was read so far, and whether more is to be read
+abbrev pub invariant-loop : goal.invariant-loop
+invariant-loop g l = record {
+  goes : GoesBy (notes_of_event l.glance.event) (course_of l.fn.self.engine None) (course_of l.self.engine None);
+  told : l.glance.told ≤ l.self.engine.agent.latest;
+  none : l.glance.is_again ≡ true → l.self.engine.channel.attempt ≡ None;
+  stream : l.glance.is_again ≡ true → is_some l.self.engine.channel.stream ≡ true;
+  quiet : l.glance.is_again ≡ true → notes_of_event l.glance.event ≡ [];
+  kept : Extends (told_by l.fn.self.engine.waiting.items) (told_by l.self.engine.waiting.items);
+}

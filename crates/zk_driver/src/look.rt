@@ -1,0 +1,39 @@
+//! The last read of a connection.
+
+ghost use Rattle.std.specs.Prelude.{◌≡◌};
+ghost use Rattle.zk_driver.specs.Driving.{is_nothing, look_after};
+
+use std::alloc::Allocator;
+use zk_link::Brought;
+
+/// A read: it began at this moment or after it, it was one of so many, one after the other, before anything else was told, and it brought
+/// nothing or did.
+#[derive(Clone, Copy)]
+pub(crate) struct Look {
+    pub(crate) began: u64,
+    pub(crate) row: u32,
+    pub(crate) is_quiet: bool,
+}
+
+/// Whether a read has brought nothing.
+pub(crate) fn is_nothing<A: Allocator>(brought: &Brought<A>) -> bool
+    ensures { result ≡ is_nothing brought.now }
+{
+    matches!(brought, Brought::Nothing)
+}
+
+/// A read that began at this moment, after the one before it or as the first of a row.
+pub(crate) fn look_after(began: u64, is_again: bool, is_quiet: bool, before: Option<Look>) -> Look
+    ensures { result ≡ look_after began is_again is_quiet before }
+{
+    let made = match before {
+        Some(look) => look.row,
+        None => 0,
+    };
+    let row = if is_again { made.saturating_add(1) } else { 1 };
+    Look {
+        began,
+        row,
+        is_quiet,
+    }
+}
