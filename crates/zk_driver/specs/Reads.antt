@@ -4,7 +4,7 @@ use Rattle.std.specs.Io.KnownBytes.{Consumes, Keeps}
 use Rattle.std_io.specs.IoError.{error_kind}
 use Rattle.std_io.specs.declared.io.error.Error.{Error}
 use Rattle.std_io.specs.declared.io.kind.ErrorKind.{ErrorKind}
-use Rattle.std_io.specs.declared.io.kind.ErrorKind.TheVariants.{WouldBlock, TimedOut, Interrupted, ConnectionRefused, ConnectionReset, HostUnreachable, NetworkUnreachable}
+use Rattle.std_io.specs.declared.io.kind.ErrorKind.TheVariants.{WouldBlock, TimedOut, Interrupted, ConnectionRefused, ConnectionReset, HostUnreachable, NetworkUnreachable, NotFound}
 use Rattle.zk_driver.specs.declared.reason.Reason.{Reason}
 use Rattle.zk_driver.specs.declared.reason.Reason.TheVariants as reason
 use Rattle.zk_link.specs.declared.bring.Brought.{Brought}
@@ -26,6 +26,7 @@ reason_of TimedOut = reason.TimedOut
 reason_of ConnectionReset = reason.Reset
 reason_of HostUnreachable = reason.Unreachable
 reason_of NetworkUnreachable = reason.Unreachable
+reason_of NotFound = reason.NotFound
 reason_of kind = reason.Other
 
 -- What a read has brought. One that failed, and not because it was late, is the end of a connection, as one that has no more bytes.

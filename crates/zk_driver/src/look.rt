@@ -6,8 +6,8 @@ ghost use Rattle.zk_driver.specs.Driving.{is_nothing, look_after};
 use std::alloc::Allocator;
 use zk_link::Brought;
 
-/// A read: it began at this moment or after it, it was one of so many, one after the other, before anything else was told, and it brought
-/// nothing or did.
+/// A read: the moment at which it began, or one before that; its number in a row of reads, one after the other; and whether it brought
+/// nothing.
 #[derive(Clone, Copy)]
 pub(crate) struct Look {
     pub(crate) began: u64,

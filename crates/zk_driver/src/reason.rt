@@ -18,6 +18,8 @@ pub enum Reason {
     Reset,
     /// No way leads to the address.
     Unreachable,
+    /// The address is a name, and nothing was found for it.
+    NotFound,
     /// A write failed.
     Unwritten,
     /// Anything else.
@@ -34,6 +36,7 @@ pub(crate) fn reason_of(kind: ErrorKind) -> Reason
         ErrorKind::ConnectionReset => Reason::Reset,
         ErrorKind::HostUnreachable => Reason::Unreachable,
         ErrorKind::NetworkUnreachable => Reason::Unreachable,
+        ErrorKind::NotFound => Reason::NotFound,
         _ => Reason::Other,
     }
 }
