@@ -2,11 +2,10 @@
 use Rattle.std.specs.Prelude.{ℕ, zero, suc, ◌+◌, ◌-◌, ◌*◌, ◌/◌, ◌^◌, min, Bool, true, false}
 use Rattle.zk_dialler.specs.Chances.{number_below}
 
--- The longest pause of all: a second, and a tenth of the timeout, while the session may live; and ten seconds where the client was not
--- connected for longer than the timeout.
+-- The longest pause of all: a second, and a tenth of the timeout too until the client was not connected for longer than the timeout.
 abbrev pub most_ms : (is_over : Bool) (timeout : ℕ) → ℕ
 most_ms false timeout = min 1000 (timeout / 10)
-most_ms true timeout = 10000
+most_ms true timeout = 1000
 
 -- The longest pause after this many attempts that failed in a row: none after none, then 100, and twice as long after each further one.
 abbrev pub longest_ms : (failures most : ℕ) → ℕ
