@@ -15,6 +15,7 @@ import dirwolleu  # noqa: E402
 from dirwolleu import State  # noqa: E402
 
 TIMEOUT = 10.0
+PRINTS = threading.Lock()
 
 
 class Member:
@@ -24,7 +25,9 @@ class Member:
         self.client.add_listener(self.hear)
 
     def print(self, *words: str) -> None:
-        print(f"{time.time():.3f} {self.number}", *words, flush=True)
+        line = " ".join((f"{time.time():.3f}", str(self.number), *words))
+        with PRINTS:
+            print(line, flush=True)
 
     def hear(self, state: State) -> None:
         if state is State.CONNECTED:
@@ -33,7 +36,7 @@ class Member:
             self.print("cut" if state is State.SUSPENDED else "expired")
 
     def follow(self, path: str) -> None:
-        self.client.start()
+        self.client.start(timeout=None)
         for kept in self.client.follow(path):
             self.print("data", (kept.data or b"").decode() if kept.exists else "-")
 
