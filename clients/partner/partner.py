@@ -337,6 +337,7 @@ class Partner:
         self.cuts = {"sent": Cut(), "heard": Cut()}
         self.sessions: dict[int, Session] = {}
         self.connections: dict[Connection, None] = {}
+        self.came = 0
         self._numbers = itertools.count(0x1000_0000_0000_0001)
         self._listener: Optional[asyncio.Server] = None
         self.port = 0
@@ -386,7 +387,7 @@ class Partner:
         return "spared" if is_spared else "done"
 
     async def obey(self, line: str) -> str:
-        """Does a command. Answers `done`, `refused: CODE`, `spared`, or `unknown: ` and the line."""
+        """Does a command. Answers `done`, `refused: CODE`, `spared`, a number, or `unknown: ` and the line."""
         word, _, rest = line.rstrip("\r\n").partition(" ")
         path, _, text = rest.partition(" ")
         try:
@@ -402,6 +403,8 @@ class Partner:
                 self.pace = int(path) or None
             elif word == "spare":
                 return self.spare()
+            elif word == "connections":
+                return str(self.came)
             elif not await self._obey_word(line.strip()):
                 return f"unknown: {line.strip()}"
         except Refused as refused:
@@ -440,6 +443,7 @@ class Connection(asyncio.Protocol):
         assert isinstance(transport, asyncio.Transport)
         self.transport = transport
         self._partner.connections[self] = None
+        self._partner.came += 1
 
     def connection_lost(self, _: Optional[Exception]) -> None:
         self._forget()

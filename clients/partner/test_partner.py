@@ -224,7 +224,7 @@ class PartnerTest(unittest.TestCase):
         peer.send(struct.pack(">ii", -2, 11))
         self.assertEqual(peer.take_bytes(5), struct.pack(">i", 16) + b"\xff")
         self.assertIsNone(peer.take_bytes(1))
-        self.assertEqual(self.command("spare"), "done")
+        self.assertEqual((self.command("spare"), self.command("connections")), ("done", "2"))
         self.assertEqual(header(other.ask(-2, 11)), (-2, 2, 0))
 
     def test_a_connection_is_cut_after_so_many_bytes_that_were_heard(self) -> None:
