@@ -91,8 +91,20 @@ stop_server() {
     unset "servers[$1]"
 }
 
+# Ends a server at once: it has no time to say or to write anything.
+kill_server() {
+    kill -KILL "${servers[$1]}"
+    wait "${servers[$1]}" 2>/dev/null || true
+    unset "servers[$1]"
+}
+
 is_gone() {
     ! kill -0 "$1" 2>/dev/null
+}
+
+# This moment, in seconds of the system's clock.
+moment() {
+    date +%s.%3N
 }
 
 # What the server at a port says of itself: standalone, leader or follower. It says nothing before it serves.
@@ -102,6 +114,31 @@ mode_of() {
 
 serves() {
     [[ -n $(mode_of "$1") ]]
+}
+
+# Waits for up to 60 seconds until each of the servers at these ports serves, and prints the moment from which on all do. It is told some 20
+# milliseconds late.
+serve_since() {
+    python3 - "$@" <<'EOF'
+import socket, sys, time
+
+
+def serves(port):
+    try:
+        with socket.create_connection(("127.0.0.1", port), 2) as asked:
+            asked.sendall(b"srvr")
+            return b"Mode: " in asked.makefile("rb").read()
+    except OSError:
+        return False
+
+
+end = time.monotonic() + 60
+while not all(serves(int(port)) for port in sys.argv[1:]):
+    if time.monotonic() > end:
+        sys.exit(1)
+    time.sleep(0.02)
+print(f"{time.time():.3f}")
+EOF
 }
 
 # A command of ZooKeeper's own client, at a port.
@@ -204,4 +241,44 @@ has_six_sessions() {
 
 doors_are_open() {
     [[ ! -e $folder/doors.close ]]
+}
+
+# A way from a port to another one, by a name. While the file NAME.hold is there, it passes nothing on and ends nothing, as where a cable is out.
+start_way() {
+    python3 - "$folder/$1" "$2" "$3" <<'EOF' &
+import asyncio, os, sys
+
+name, port, target = sys.argv[1], int(sys.argv[2]), int(sys.argv[3])
+
+
+async def pass_on(reader, writer):
+    try:
+        while data := await reader.read(65536):
+            while os.path.exists(name + ".hold"):
+                await asyncio.sleep(0.05)
+            writer.write(data)
+            await writer.drain()
+    except ConnectionError:
+        pass
+    writer.close()
+
+
+async def enter(reader, writer):
+    try:
+        other_reader, other_writer = await asyncio.open_connection("127.0.0.1", target)
+    except ConnectionError:
+        return writer.close()
+    await asyncio.gather(pass_on(reader, other_writer), pass_on(other_reader, writer))
+
+
+async def main():
+    server = await asyncio.start_server(enter, "127.0.0.1", port)
+    open(name + ".way", "w").close()
+    await server.serve_forever()
+
+
+asyncio.run(main())
+EOF
+    begun[$1]=$!
+    within 20 test -e "$folder/$1.way" || fail "no way $1"
 }

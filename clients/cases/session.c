@@ -9,10 +9,10 @@ enum { MOST_WORDS = 40, MOST_ACLS = 8 };
 static dws_call call;
 static dws_lane_call lane;
 static dws_lock lock;
-static dws_subject followed;
+static dws_subject followed, names;
 static dws_tree tree;
-static bool is_news, is_shown;
-static char told[4000];
+static bool is_news, is_named, is_shown;
+static char told[4000], told_data[100], told_names[1000];
 static int64_t last_token;
 
 static void print_line(const char *text)
@@ -25,6 +25,12 @@ static void note(dws_session *session, dws_subject *subject)
 {
     (void)session;
     is_news = is_news || dws_is_good(subject);
+}
+
+static void note_names(dws_session *session, dws_subject *subject)
+{
+    (void)session;
+    is_named = is_named || dws_is_good(subject);
 }
 
 static int compare(const void *one, const void *other)
@@ -112,14 +118,37 @@ static void write_by(dws_session *session, const char *name, const char *path, c
     }
 }
 
+/* Prints the next data that are good, where they are others than before. */
 static void print_next(dws_session *session)
 {
-    while (!is_news && dws_turn(session)) {
-    }
-    is_news = false;
-    bool is_there = followed.kind == DW_KEPT_FULL;
-    printf("%s%s\n", is_there ? "data " : "none", is_there ? followed.text : "");
-    fflush(stdout);
+    char said[sizeof told_data] = "";
+    do {
+        while (!is_news && dws_turn(session)) {
+        }
+        is_news = false;
+        bool is_there = followed.kind == DW_KEPT_FULL;
+        snprintf(said, sizeof said, "%s%s", is_there ? "data " : "none", is_there ? followed.text : "");
+    } while (strcmp(said, told_data) == 0 && !dws_is_over(session));
+    strcpy(told_data, said);
+    print_line(said);
+}
+
+/* The same of the names below a node. */
+static void print_listed(dws_session *session)
+{
+    char said[sizeof told_names] = "";
+    do {
+        while (!is_named && dws_turn(session)) {
+        }
+        is_named = false;
+        size_t length = 0;
+        said[0] = 0;
+        for (size_t i = 0; i < names.count && length < sizeof said; i++) {
+            length += (size_t)snprintf(said + length, sizeof said - length, "%s%s", i > 0 ? " " : "", names.names[i]);
+        }
+    } while (strcmp(said, told_names) == 0 && !dws_is_over(session));
+    strcpy(told_names, said);
+    print_line(said);
 }
 
 static void take_tree(dws_session *session, dws_tree *shown)
@@ -326,6 +355,10 @@ static bool obey(dws_session *session, char *line)
         dws_follow(session, &followed, path, note);
     } else if (strcmp(name, "next") == 0) {
         print_next(session);
+    } else if (strcmp(name, "names") == 0) {
+        dws_follow_children(session, &names, path, note_names);
+    } else if (strcmp(name, "listed") == 0) {
+        print_listed(session);
     } else if (strcmp(name, "tree") == 0) {
         follow_tree(session, path, data);
     } else if (strcmp(name, "subtree") == 0) {

@@ -71,6 +71,12 @@ class Told:
         kept = next(self.followed)
         return f"data {(kept.data or b'').decode()}" if kept.exists else "none"
 
+    def names(self, path: str) -> None:
+        self.named = self.client.follow_children(path)
+
+    def listed(self) -> str:
+        return " ".join(sorted(next(self.named).names))
+
     def tree(self, path: str) -> None:
         self.grown, self.told = self.client.tree(path), None
         self.snapshots = self.grown.snapshots()

@@ -311,6 +311,20 @@ class Session:
     connection: Optional[Connection] = None
 
 
+class Cut:
+    """Where connections are to end: after this many bytes more, of all connections together. None where no cut is to come."""
+
+    left: Optional[int] = None
+
+    def leave(self, data: bytes) -> tuple[bytes, bool]:
+        """What passes of these bytes, and whether the connection ends after that."""
+        if self.left is None or len(data) <= self.left:
+            self.left = None if self.left is None else self.left - len(data)
+            return data, False
+        passed, self.left = data[: self.left], None
+        return passed, True
+
+
 class Partner:
     """The server: its tree, its sessions and its connections."""
 
@@ -319,8 +333,11 @@ class Partner:
         self.random = None if hostile_seed is None else random.Random(hostile_seed)
         self.tree = Tree()
         self.is_mute = False
+        self.pace: Optional[int] = None
+        self.cuts = {"sent": Cut(), "heard": Cut()}
         self.sessions: dict[int, Session] = {}
         self.connections: dict[Connection, None] = {}
+        self.came = 0
         self._numbers = itertools.count(0x1000_0000_0000_0001)
         self._listener: Optional[asyncio.Server] = None
         self.port = 0
@@ -362,8 +379,15 @@ class Partner:
         for connection in list(self.connections):
             connection.go_on()
 
+    def spare(self) -> str:
+        """Forgets the cut that is to come. Answers `done`, or `spared` where there was one."""
+        is_spared = any(cut.left is not None for cut in self.cuts.values())
+        for cut in self.cuts.values():
+            cut.left = None
+        return "spared" if is_spared else "done"
+
     async def obey(self, line: str) -> str:
-        """Does a command. Answers `done`, `refused: CODE`, or `unknown: ` and the line."""
+        """Does a command. Answers `done`, `refused: CODE`, `spared`, a number, or `unknown: ` and the line."""
         word, _, rest = line.rstrip("\r\n").partition(" ")
         path, _, text = rest.partition(" ")
         try:
@@ -373,6 +397,14 @@ class Partner:
                 self.tree.set(path, text.encode())
             elif word == "delete":
                 self.tree.delete(path)
+            elif word == "cut" and path in self.cuts and text.isdecimal():
+                self.cuts[path].left = int(text)
+            elif word == "pace" and path.isdecimal():
+                self.pace = int(path) or None
+            elif word == "spare":
+                return self.spare()
+            elif word == "connections":
+                return str(self.came)
             elif not await self._obey_word(line.strip()):
                 return f"unknown: {line.strip()}"
         except Refused as refused:
@@ -404,20 +436,24 @@ class Connection(asyncio.Protocol):
     def __init__(self, partner: Partner) -> None:
         self._partner, self._tree = partner, partner.tree
         self._session: Optional[Session] = None
-        self._came, self._held = bytearray(), bytearray()
-        self._is_over = False
+        self._came, self._held, self._paced = bytearray(), bytearray(), bytearray()
+        self._is_over = self._is_cut = self._is_pacing = self._is_closing = False
 
     def connection_made(self, transport: asyncio.BaseTransport) -> None:
         assert isinstance(transport, asyncio.Transport)
         self.transport = transport
         self._partner.connections[self] = None
+        self._partner.came += 1
 
     def connection_lost(self, _: Optional[Exception]) -> None:
         self._forget()
 
     def data_received(self, data: bytes) -> None:
+        data, is_cut = self._partner.cuts["heard"].leave(data)
         self._came += data
         self._work()
+        if is_cut:
+            self._cut()
 
     def go_on(self) -> None:
         held, self._held = bytes(self._held), bytearray()
@@ -427,7 +463,16 @@ class Connection(asyncio.Protocol):
     def abort(self) -> None:
         """Ends the connection at once. What was not sent yet is lost."""
         self._forget()
+        self._paced.clear()
         self.transport.abort()
+
+    def _cut(self) -> None:
+        """Ends the connection after what was written: so the client has just that."""
+        self._forget()
+        self._paced.clear()
+        if not (self._is_cut or self.transport.is_closing()):
+            self._is_cut = True
+            self.transport.write_eof()
 
     def notify(self, event: int, path: str) -> None:
         self._reply(NOTICE_XID, OK, struct.pack(">ii", event, SYNC_CONNECTED) + put_text(path), zxid=-1)
@@ -435,7 +480,9 @@ class Connection(asyncio.Protocol):
     def _close(self) -> None:
         """Ends the connection after what was sent."""
         self._forget()
-        self.transport.close()
+        self._is_closing = True
+        if not self._is_pacing:
+            self.transport.close()
 
     def _forget(self) -> None:
         self._is_over = True
@@ -602,10 +649,34 @@ class Connection(asyncio.Protocol):
         if self._partner.is_mute:
             self._held += data
             return
+        if self._is_pacing or self._partner.pace is not None:
+            self._paced += data
+            if not self._is_pacing:
+                self._go_by_pace()
+            return
         piece = self._partner.piece or max(len(data), 1)
         for place in range(0, len(data), piece):
-            if not self.transport.is_closing():
-                self.transport.write(data[place : place + piece])
+            self._pass_on(data[place : place + piece])
+
+    def _go_by_pace(self) -> None:
+        """Writes the next piece, and the one after it a millisecond later."""
+        piece = self._partner.pace or len(self._paced)
+        self._is_pacing = bool(self._paced)
+        if self._is_pacing:
+            data = bytes(self._paced[:piece])
+            del self._paced[:piece]
+            self._pass_on(data)
+            asyncio.get_running_loop().call_later(0.001, self._go_by_pace)
+        elif self._is_closing:
+            self.transport.close()
+
+    def _pass_on(self, data: bytes) -> None:
+        if self._is_cut or self.transport.is_closing():
+            return
+        passed, is_cut = self._partner.cuts["sent"].leave(data)
+        self.transport.write(passed)
+        if is_cut:
+            self._cut()
 
 
 def nonsense(source: random.Random, request: bytes) -> bytes:

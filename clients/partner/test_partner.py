@@ -7,6 +7,7 @@ import socket
 import struct
 import subprocess
 import sys
+import time
 import unittest
 from typing import Optional
 
@@ -214,6 +215,38 @@ class PartnerTest(unittest.TestCase):
         peer.socket.settimeout(WAIT)
         self.command("unmute")
         self.assertEqual(header(peer.take()), (-2, 1, 0))
+
+    def test_a_connection_is_cut_after_so_many_bytes_that_were_sent(self) -> None:
+        self.start()
+        peer, other = self.connected(), self.connected()
+        self.assertEqual(self.command("cut sent 25"), "done")
+        self.assertEqual(header(other.ask(-2, 11)), (-2, 2, 0))  # 20 bytes
+        peer.send(struct.pack(">ii", -2, 11))
+        self.assertEqual(peer.take_bytes(5), struct.pack(">i", 16) + b"\xff")
+        self.assertIsNone(peer.take_bytes(1))
+        self.assertEqual((self.command("spare"), self.command("connections")), ("done", "2"))
+        self.assertEqual(header(other.ask(-2, 11)), (-2, 2, 0))
+
+    def test_a_connection_is_cut_after_so_many_bytes_that_were_heard(self) -> None:
+        self.start()
+        peer = self.connected()
+        self.assertEqual(self.command("cut heard 23"), "done")
+        self.assertEqual(header(peer.ask(-2, 11)), (-2, 1, 0))  # 12 bytes
+        self.assertIsNone(peer.ask(-2, 11))
+        self.assertEqual((self.command("spare"), self.command("cut heard 0"), self.command("spare")), ("done", "done", "spared"))
+        self.assertIsNotNone(self.peer().connect())
+
+    def test_bytes_are_sent_by_pace(self) -> None:
+        self.start()
+        self.assertEqual(self.command("pace 7"), "done")
+        peer = self.connected()
+        self.assertEqual(header(peer.ask(-2, 11)), (-2, 1, 0))
+        begun = time.monotonic()
+        self.assertIsNotNone(peer.ask(1, 12, text("/") + b"\0"))  # 92 bytes, so 14 pieces
+        self.assertGreater(time.monotonic() - begun, 0.013)
+        self.assertEqual((header(peer.ask(2, -11)), peer.take()), ((2, 2, 0), None))  # the reply, and then the end
+        self.assertEqual([self.command(line) for line in ("pace 0", "pace", "cut sent", "cut both 1")],
+                         ["done", "unknown: pace", "unknown: cut sent", "unknown: cut both 1"])  # fmt: skip
 
     def test_pieces_and_hostility(self) -> None:
         self.start("--piece", "1", "--hostile", "7")

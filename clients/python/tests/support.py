@@ -46,11 +46,15 @@ class Partner:
         self.port = int(self._answers.readline().split()[1])
         self.host = f"127.0.0.1:{self.port}"
 
+    def ask(self, command: str) -> str:
+        """Hands in a command, and gives the answer."""
+        self._commands.sendall(f"{command}\n".encode())
+        return self._answers.readline().strip()
+
     def do(self, *commands: str) -> None:
         """Hands in commands, each of which has to be done."""
         for command in commands:
-            self._commands.sendall(f"{command}\n".encode())
-            answer = self._answers.readline().strip()
+            answer = self.ask(command)
             if answer != "done":
                 raise AssertionError(f"{command}: {answer}")
 

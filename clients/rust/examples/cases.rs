@@ -1,8 +1,8 @@
 //! A session that does what it is told, for the table of cases, `clients/cases`: `cases HOSTS TRIES`.
 
 use dirwolleu::{
-    Acl, Follow, Lock, Mode, Permissions, Retry, Session, SessionOptions, Sharing, Snapshots,
-    SubtreeNode, TreeSnapshot,
+    Acl, Follow, Kept, Lock, Mark, Mode, Permissions, Request, Retry, Session, SessionOptions,
+    Sharing, Snapshots, SubtreeNode, TreeSnapshot,
 };
 use std::env;
 use std::error::Error;
@@ -15,6 +15,8 @@ type Answer = Result<String, Box<dyn Error>>;
 struct Told<'a> {
     session: &'a Session,
     followed: Option<Follow<'a>>,
+    named: String,
+    names: Option<Vec<String>>,
     tree: Option<Snapshots<'static>>,
     told: Option<String>,
     lock: Option<Lock<'a>>,
@@ -109,6 +111,24 @@ impl Told<'_> {
         let node = followed.next().ok_or("the session is over")??;
         let data = node.map(|node| format!("data {}", shown(node.data)));
         Ok(data.unwrap_or_else(|| String::from("none")))
+    }
+
+    /// The next names that are good, where they are others than before: they are read again after each report and each expiry.
+    fn listed(&mut self) -> Answer {
+        loop {
+            match self.session.peek_children(&self.named)? {
+                Some(Kept {
+                    answer,
+                    mark: Mark::Good,
+                }) => {
+                    if self.names.as_ref() != Some(&answer.names) {
+                        return Ok(self.names.insert(answer.names).join(" "));
+                    }
+                    self.session.next_event(None)?;
+                }
+                _ => drop(self.session.call(Request::children(&self.named).watched())),
+            }
+        }
     }
 
     fn follow_tree(&mut self, path: &str, most: Option<&str>) -> Result<(), Box<dyn Error>> {
@@ -222,6 +242,11 @@ impl Told<'_> {
                 return Ok(None);
             }
             ["next"] => self.next()?,
+            ["names", path] => {
+                self.named = String::from(*path);
+                return Ok(None);
+            }
+            ["listed"] => self.listed()?,
             ["tree", path] => {
                 self.follow_tree(path, None)?;
                 return Ok(None);
@@ -258,6 +283,8 @@ fn main() -> Result<(), Box<dyn Error>> {
     let mut told = Told {
         session: &session,
         followed: None,
+        named: String::new(),
+        names: None,
         tree: None,
         told: None,
         lock: None,

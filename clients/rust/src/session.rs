@@ -39,7 +39,7 @@ const LATENESS: u32 = 6;
 /// It dials at once: one of its [`Hosts`] after the other, in an order that is random in each session, and goes on to the next one where
 /// a server is silent or the connection ends. Watches and what is kept go on over reconnects. An attempt may take a third of the timeout,
 /// and a second at least. The pause after one that has failed is random, between a half of this and the whole: 100 milliseconds, and twice
-/// as long after each further one, up to a second and to a tenth of the timeout; and up to 10 seconds once there was no connection for
+/// as long after each further one, up to a second and to a tenth of the timeout; and up to a second once there was no connection for
 /// longer than the timeout. There is none after an answered call, after an expiry that a server told, and after a connection that has
 /// lasted for a third of the timeout. A third of a second lies between two attempts at least, so a session of less than some three seconds
 /// does not outlive a lost connection for sure.
