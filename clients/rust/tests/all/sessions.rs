@@ -14,7 +14,7 @@ use std::thread;
 use std::time::{Duration, Instant};
 
 /// How long an event may take.
-const PATIENCE: Duration = Duration::from_secs(30);
+const PATIENCE: Duration = Duration::from_secs(120);
 
 fn session_at(server: &Server, timeout_ms: u64) -> Session {
     Session::open([server.address], Duration::from_millis(timeout_ms)).unwrap()
