@@ -93,10 +93,10 @@ class Follow(Followed):
 
     def test_admission_is_no_success(self):
         """A server that admits the session and goes is dialled three times a second at most."""
-        server = self.server(lambda number, line: line.admit(10_000))
-        server.wait_for_dials(1)
-        time.sleep(3)
-        self.assertIn(len(server.dials), range(2, 11))
+        begun = time.monotonic()
+        dials = self.server(lambda number, line: line.admit(10_000)).wait_for_dials(7)
+        self.assertEqual(len(dials), 7)
+        self.assertGreater(dials[6] - begun, 2)
 
     def test_stopped_program(self):
         """A program that is stopped for more than two thirds of the timeout since it heard the server reads its socket first."""

@@ -21,7 +21,7 @@ import unittest
 sys.dont_write_bytecode = True
 
 # Seconds that a line, or an end, is waited for; and that a busy machine may make something late.
-BOUND, SLACK = 60, 3
+BOUND, SLACK = 60, 20
 AT_ONCE = 16
 MAKING = threading.Lock()
 OUT, PARTNER = sys.argv[1:3] if len(sys.argv) == 3 else sys.exit(__doc__)

@@ -64,13 +64,13 @@ class Servers(Followed):
 
     def test_server_that_never_answers(self):
         """A connection that nothing comes over is given up after two thirds of the timeout, which is 10 seconds."""
-        server = self.server(lambda number, line: (line.frame(), time.sleep(BOUND)))
-        dials = server.wait_for_dials(1)
+        begun = time.monotonic()
+        self.server(lambda number, line: (line.frame(), time.sleep(BOUND)))
         self.addCleanup(self.followed.end)
         self.wait_for_words("nothing was heard for two thirds of the timeout\n")
         self.assertNotIn("an answer does not come", self.said())
-        self.assertGreater(time.monotonic() - dials[0], 6)
-        self.assertLess(time.monotonic() - dials[0], 6.7 + SLACK)
+        self.assertGreater(time.monotonic() - begun, 6.66)
+        self.assertLess(time.monotonic() - begun, 6.7 + SLACK)
 
     def test_server_beside_one_that_never_answers(self):
         mute = self.server(lambda number, line: (line.frame(), time.sleep(BOUND)))
@@ -96,17 +96,19 @@ class Servers(Followed):
             begun = time.monotonic()
             self.follow(f"127.0.0.1:{full.getsockname()[1]}")
             self.wait_for_words("connection timed out\n")
-            self.assertGreater(time.monotonic() - begun, 3)
+            self.assertGreater(time.monotonic() - begun, 3.33)
             self.assertLess(time.monotonic() - begun, 3.4 + SLACK)
 
     def test_server_that_stays_away(self):
         """It is dialled three times a second at most, and the pauses grow; once it is there it is found."""
         partner = self.partner()
         partner.do("down")
+        begun = time.monotonic()
         self.follow(partner.address)
-        time.sleep(4)
-        attempts = self.said().count("connection refused")
-        self.assertIn(attempts, range(2, 13))
+        while (attempts := self.said().count("connection refused")) < 6 and time.monotonic() < begun + BOUND:
+            time.sleep(0.05)
+        self.assertGreaterEqual(attempts, 6)
+        self.assertLess(attempts, 3 * (time.monotonic() - begun) + 1)
         partner.do("up")
         self.expect("good absent")
 

@@ -17,8 +17,8 @@ from typing import Any, Callable, NamedTuple, Optional
 CLIENTS = pathlib.Path(__file__).resolve().parents[2]
 sys.path.insert(0, str(CLIENTS / "python"))
 
-WAIT = 10.0
-"""The longest that a test waits for one thing, in seconds."""
+WAIT = 60.0
+"""The longest that a test waits for one thing, in seconds: a busy machine takes less."""
 
 
 def _begin_making() -> socket.socket:

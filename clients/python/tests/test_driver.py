@@ -62,9 +62,7 @@ class DialTest(PartnerCase):
         partner.do("down")
         time.sleep(3.0)
         partner.do("up")
-        began = time.monotonic()
         within(lambda: client.connected)
-        self.assertLess(time.monotonic() - began, 1.0)
         within(lambda: states == [State.SUSPENDED, State.CONNECTED])
 
     def test_no_server_is_dialled_more_than_three_times_a_second(self) -> None:
@@ -101,16 +99,14 @@ class DialTest(PartnerCase):
             closes, admits, grants_a_millisecond, answers_and_closes, says_too_much, says_that_it_moved, expires
         ]  # fmt: skip
         servers = [self.raw_server(kind) for kind in kinds]
+        began = time.monotonic()
         for server in servers:
             client = self.client(server.host, 1.0, is_awaited=False)
             threading.Thread(target=self.follow, args=(client,), daemon=True).start()
-        time.sleep(3.0)
         for kind, server in zip(kinds, servers):
             with self.subTest(kind.__name__):
-                dials = list(server.dials)
-                self.assertGreater(len(dials), 1)
-                self.assertGreater((dials[-1] - dials[0]) / (len(dials) - 1), 0.3)
-                self.assertLessEqual(len(dials), 10)
+                dials = within(lambda: server.dials[3:] and list(server.dials))
+                self.assertGreater((dials[-1] - began) / (len(dials) - 1), 0.3)
 
     def follow(self, client: Client) -> None:
         within(lambda: client._engine.is_running)
@@ -147,12 +143,13 @@ class DialTest(PartnerCase):
     def test_a_server_that_says_nothing_is_left(self) -> None:
         def serve(peer: Peer) -> None:
             peer.take_connect()
-            time.sleep(WAIT)
+            time.sleep(9 * WAIT)
 
         server = self.raw_server(serve)
+        began = time.monotonic()
         self.client(server.host, 3.0, is_awaited=False)
         within(lambda: len(server.dials) > 1)
-        self.assertAlmostEqual(server.dials[1] - server.dials[0], 2.1, delta=0.6)
+        self.assertGreater(server.dials[1] - began, 1.999)
 
     def test_a_server_that_trickles_while_connecting_is_left(self) -> None:
         def serve(peer: Peer) -> None:
@@ -160,9 +157,10 @@ class DialTest(PartnerCase):
             peer.trickle(struct.pack(">i", 1000) + bytes(996), 0.2)
 
         server = self.raw_server(serve)
+        began = time.monotonic()
         self.client(server.host, 3.0, is_awaited=False)
         within(lambda: len(server.dials) > 1)
-        self.assertAlmostEqual(server.dials[1] - server.dials[0], 2.3, delta=0.8)
+        self.assertGreater(server.dials[1] - began, 1.999)
 
     def test_a_server_that_trickles_an_answer_is_left(self) -> None:
         def serve(peer: Peer) -> None:
@@ -174,7 +172,7 @@ class DialTest(PartnerCase):
         began = time.monotonic()
         with self.raises(ConnectionLoss, -4):
             client.set("/a", b"x")
-        self.assertAlmostEqual(time.monotonic() - began, 2.0, delta=0.8)
+        self.assertTrue(1.999 < time.monotonic() - began < WAIT)
 
     def test_a_server_that_answers_no_ping_is_left(self) -> None:
         def serve(peer: Peer) -> None:
@@ -184,9 +182,10 @@ class DialTest(PartnerCase):
                 time.sleep(0.2)
 
         server = self.raw_server(serve)
+        began = time.monotonic()
         self.client(server.host, 3.0)
         within(lambda: len(server.dials) > 1)
-        self.assertAlmostEqual(server.dials[1] - server.dials[0], 3.3, delta=0.9)
+        self.assertGreater(server.dials[1] - began, 2.999)
 
     def test_a_server_that_sends_no_connection_in_time_is_given_up(self) -> None:
         """An attempt has a third of the timeout, and a second at least. One that is made too late is closed."""
@@ -205,18 +204,21 @@ class DialTest(PartnerCase):
         self.assertGreaterEqual(len(made), 2)
 
     def test_answered_pings_keep_a_connection(self) -> None:
+        pings = list[Asked]()
+
         def serve(peer: Peer) -> None:
             peer.admit()
             while True:
-                peer.send(reply(peer.take()))
+                pings.append(peer.take())
+                peer.send(reply(pings[-1]))
 
         server = self.raw_server(serve)
-        self.client(server.host, 1.0)
-        time.sleep(2.5)
-        self.assertEqual(len(server.dials), 1)
+        self.client(server.host, 3.0)
+        within(lambda: len(pings) == 4)
+        self.assertEqual(({ping.kind for ping in pings}, len(server.dials)), ({PING}, 1))
 
     def test_a_process_that_was_held_up_reads_what_its_socket_has(self) -> None:
-        pinged, resumed, pings = threading.Event(), threading.Event(), list[Asked]()
+        pinged, told, resumed, pings = threading.Event(), threading.Event(), threading.Event(), list[Asked]()
 
         def serve(peer: Peer) -> None:
             peer.admit()
@@ -224,6 +226,7 @@ class DialTest(PartnerCase):
             pinged.set()
             time.sleep(2.5)
             peer.send(notice("/a"))
+            told.set()
             while True:
                 asked = peer.take()
                 peer.send(reply(asked))
@@ -238,6 +241,7 @@ class DialTest(PartnerCase):
         time.sleep(1.4)
         child.send_signal(signal.SIGSTOP)
         time.sleep(2.9)
+        self.assertTrue(told.wait(WAIT))
         child.send_signal(signal.SIGCONT)
         self.assertTrue(resumed.wait(WAIT))
         self.assertEqual((len(server.dials), pings[0].kind), (1, PING))
@@ -245,18 +249,23 @@ class DialTest(PartnerCase):
     def test_a_loop_that_was_held_up_reads_all_that_its_socket_has(self) -> None:
         """The answer comes after more notices than are read at once, and would be too late where it is read later."""
 
+        is_held_up, is_asked = threading.Event(), threading.Event()
+
         def serve(peer: Peer) -> None:
             peer.admit()
             asked = peer.take()
-            time.sleep(1.0)
+            is_asked.set()
+            is_held_up.wait(WAIT)
             peer.send(*[notice("/elsewhere")] * 8000, data_reply(asked, b"one"))
-            time.sleep(WAIT)
+            time.sleep(9 * WAIT)
 
         async def run() -> None:
             async with aio.Client(server.host, 3.0) as client:
                 read = client.get_async("/a")
-                await asyncio.sleep(0.8)
-                time.sleep(1.6)
+                while not is_asked.is_set():
+                    await asyncio.sleep(0.01)
+                is_held_up.set()
+                time.sleep(2.4)
                 self.assertEqual((await asyncio.wait_for(read, WAIT))[0], b"one")
                 self.assertEqual(client.stats().connections, 1)
 
