@@ -93,7 +93,7 @@ class HostsTest(unittest.TestCase):
 
     def test_a_name_that_is_not_found_is_told(self) -> None:
         with mock.patch("socket.getaddrinfo", side_effect=socket.gaierror(-2, "Name or service not known")):
-            client = Client("nowhere.example:2181", 1.0)
+            client = Client("nowhere.example:2181", 30.0)
             self.addCleanup(client.close)
             with self.assertRaisesRegex(TimeoutError, "nowhere.example: Name or service not known"):
                 client.start(3.0)

@@ -167,7 +167,7 @@ class LockTest(RecipeCase):
                         self.other.delete(held.path)
                     else:
                         self.server.do(end)
-                    within(lambda: not held.is_held)
+                    within(lambda: not held.is_held and len(seen) >= len(wanted))
                 self.assertEqual(seen[: len(wanted)], wanted)
                 within(lambda: self.one.connected)
                 held.release()
