@@ -26,19 +26,24 @@ class Servers(Followed):
 
     def test_server_that_is_behind(self):
         """An answer that is older than what was seen is not shown: the connection is given up, and another server is dialled."""
-        seen = []
+        seen, shown = [], threading.Semaphore(0)
 
         def serve(number, line):
             seen.append(line.admit(10_000))
             xid, _ = line.request()
             line.put(reply(xid, (9, 12)[number], (b"one", b"two")[number]))
+            shown.acquire(timeout=BOUND)
             line.put(CHANGED)
             xid, _ = line.request()
             line.put(reply(xid, 8 if number == 0 else 13, b"old" if number == 0 else b"new"))
             line.serve({PING: line.answer})
 
         self.server(serve)
-        self.expect('good "one"', 'stale "one"', 'good "two"', 'stale "two"', 'good "new"')
+        self.expect('good "one"')
+        shown.release()
+        self.expect('stale "one"', 'good "two"')
+        shown.release()
+        self.expect('stale "two"', 'good "new"')
         self.assertEqual(seen, [0, 9])
         self.assertIn("zxid 9 was seen, and a reply to a watched read has zxid 8\n", self.said())
 

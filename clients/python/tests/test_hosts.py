@@ -28,7 +28,7 @@ def found(*addresses: str) -> Any:
     return [(socket.AF_INET, socket.SOCK_STREAM, 6, "", (address, 2181)) for address in addresses]
 
 
-class HostsTest(unittest.TestCase):
+class HostsTest(PartnerCase):
     def test_a_text_is_servers_and_a_root(self) -> None:
         hosts = hosts_of("a:1, b,[::1]:3,[::1]")
         self.assertEqual(hosts.servers, (("a", 1), ("b", 2181), ("::1", 3), ("::1", 2181)))
@@ -95,8 +95,7 @@ class HostsTest(unittest.TestCase):
         with mock.patch("socket.getaddrinfo", side_effect=socket.gaierror(-2, "Name or service not known")):
             client = Client("nowhere.example:2181", 30.0)
             self.addCleanup(client.close)
-            with self.assertRaisesRegex(TimeoutError, "nowhere.example: Name or service not known"):
-                client.start(3.0)
+            self.start_fails(client, "nowhere.example: Name or service not known")
 
 
 class NamesTest(PartnerCase):

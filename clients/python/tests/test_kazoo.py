@@ -248,7 +248,7 @@ class StatesTest(KazooCase):
         zk = KazooClient("127.0.0.1:1", timeout=1.0)
         begin = time.monotonic()
         with self.assertRaisesRegex(KazooTimeoutError, "connection refused"):
-            zk.start(0.3)
+            zk.start(3.0)
         self.assertLess(time.monotonic() - begin, WAIT)
         with self.assertRaises(ConnectionClosedError):
             zk.get("/")
