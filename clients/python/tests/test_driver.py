@@ -248,15 +248,15 @@ class DialTest(PartnerCase):
 
     def test_a_loop_that_was_held_up_reads_all_that_its_socket_has(self) -> None:
         """The answer comes after more notices than are read at once, and would be too late where it is read later."""
-
-        is_held_up, is_asked = threading.Event(), threading.Event()
+        is_held_up, is_asked, is_there = threading.Event(), threading.Event(), threading.Event()
 
         def serve(peer: Peer) -> None:
             peer.admit()
             asked = peer.take()
             is_asked.set()
             is_held_up.wait(WAIT)
-            peer.send(*[notice("/elsewhere")] * 8000, data_reply(asked, b"one"))
+            peer.send(*[notice("/elsewhere")] * 200, data_reply(asked, b"one"))
+            is_there.set()
             time.sleep(9 * WAIT)
 
         async def run() -> None:
@@ -266,11 +266,13 @@ class DialTest(PartnerCase):
                     await asyncio.sleep(0.01)
                 is_held_up.set()
                 time.sleep(2.4)
+                self.assertTrue(is_there.wait(WAIT))
                 self.assertEqual((await asyncio.wait_for(read, WAIT))[0], b"one")
                 self.assertEqual(client.stats().connections, 1)
 
         server = self.raw_server(serve)
-        asyncio.run(run())
+        with mock.patch("dirwolleu._driver.ROOM", 1024):
+            asyncio.run(run())
 
     def test_a_call_may_come_before_the_loop_has_begun(self) -> None:
         engine = Engine(3.0, None, lambda function, argument: None)
