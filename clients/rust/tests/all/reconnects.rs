@@ -11,6 +11,7 @@ use dirwolleu::{
 use std::fmt::Debug;
 use std::io::{BufRead, BufReader};
 use std::process::{Command, Stdio};
+use std::sync::mpsc::channel;
 use std::thread::{self, sleep};
 use std::time::{Duration, Instant};
 
@@ -140,18 +141,24 @@ fn a_timeout_of_a_millisecond_does_not_lock_the_client_out() {
 
 #[test]
 fn a_program_that_was_stopped_keeps_a_server_that_has_sent_something() {
-    let partner = Partner::start(|_, mut line| {
+    let (stop, stopped) = channel();
+    let (note, told) = channel();
+    let partner = Partner::start(move |_, mut line| {
         line.admit(3_000);
         let request = line.request().unwrap();
         line.tell_data(request.xid);
-        sleep(millis(500));
+        stopped.recv_timeout(PATIENCE).unwrap();
         line.send(&jute::Record::notice(3, "/a"));
+        note.send(()).unwrap();
         serve_well(line);
     });
     let mut session = session_at(&partner, millis(3_000));
     session.watch("/a").unwrap();
+    stop.send(()).unwrap();
     sleep(millis(2_300));
-    assert!(session.exists("/").unwrap().is_some());
+    told.recv_timeout(PATIENCE).unwrap();
+    let answer = session.call(Request::exists("/").within(PATIENCE));
+    assert!(answer.unwrap().is_some());
     let mark = session.data_mark("/a");
     assert_eq!(mark, Ok(Some(Mark::Stale)));
     assert_eq!(partner.dials(), 1, "the connection goes on");
@@ -326,17 +333,27 @@ fn a_ping_that_is_not_answered_ends_the_connection() {
 
 #[test]
 fn a_program_that_was_stopped_keeps_a_server_that_has_answered() {
-    let partner = Partner::start(|_, mut line| {
+    let (note_ping, pinged) = channel();
+    let (stop, stopped) = channel();
+    let (note_answer, answered) = channel();
+    let partner = Partner::start(move |_, mut line| {
         line.admit(1_500);
         let ping = line.request().unwrap();
-        sleep(millis(300));
+        note_ping.send(()).unwrap();
+        stopped.recv_timeout(PATIENCE).unwrap();
         line.refuse(ping.xid, 0);
+        note_answer.send(()).unwrap();
         serve_well(line);
     });
     let mut session = session_at(&partner, millis(1_500));
-    go_on(&mut session, millis(600)); // the ping is sent after a third of the timeout
+    while pinged.try_recv().is_err() {
+        go_on(&mut session, millis(20));
+    }
+    stop.send(()).unwrap();
     sleep(millis(1_300));
+    answered.recv_timeout(PATIENCE).unwrap();
     assert_eq!(session.state(), None);
-    assert!(session.exists("/").unwrap().is_some());
+    let answer = session.call(Request::exists("/").within(PATIENCE));
+    assert!(answer.unwrap().is_some());
     assert_eq!(partner.dials(), 1, "the connection goes on");
 }
