@@ -4,6 +4,7 @@ import signal
 import struct
 import subprocess
 import tempfile
+import threading
 import time
 
 from programs import BOUND, DATA, EXISTS, GET_DATA, PING, SLACK, STAT, Case, program, unused_address
@@ -93,27 +94,30 @@ class Follow(Followed):
 
     def test_admission_is_no_success(self):
         """A server that admits the session and goes is dialled three times a second at most."""
-        server = self.server(lambda number, line: line.admit(10_000))
-        server.wait_for_dials(1)
-        time.sleep(3)
-        self.assertIn(len(server.dials), range(2, 11))
+        begun = time.monotonic()
+        dials = self.server(lambda number, line: line.admit(10_000)).wait_for_dials(7)
+        self.assertEqual(len(dials), 7)
+        self.assertGreater(dials[6] - begun, 2)
 
     def test_stopped_program(self):
         """A program that is stopped for more than two thirds of the timeout since it heard the server reads its socket first."""
+        shown = threading.Event()
 
         def serve(_, line):
             line.admit(3_000)
             xid, _ = line.request()
             line.answer(xid, 0, DATA)
-            time.sleep(0.4)
+            shown.wait(BOUND)
             self.followed.process.send_signal(signal.SIGSTOP)
             line.answer(-1, 0, struct.pack(">iii", 3, 3, 7) + b"/config")
-            time.sleep(2)
+            time.sleep(2.4)
             self.followed.process.send_signal(signal.SIGCONT)
             line.serve({GET_DATA: lambda xid: line.answer(xid, 0, DATA), PING: line.answer})
 
         server = self.server(serve)
-        self.expect('good "one"', 'stale "one"', 'good "one"')
+        self.expect('good "one"')
+        shown.set()
+        self.expect('stale "one"', 'good "one"')
         self.assertEqual(len(server.dials), 1)
 
     def test_refused_reads(self):

@@ -1,8 +1,9 @@
 /* What a session asks beside the library, at a server that the test is itself, over 127.0.0.1: it reads each request, and answers in pieces. With
  * `quick` the stream is cut at few places. Frames are spelled by zookeeper.jute. */
 #define _POSIX_C_SOURCE 200809L
-#include "../lane.h"
 #include "served.h"
+
+#include "../lane.h"
 
 enum { TYPE_DELETE = 2, TYPE_EXISTS = 3, TYPE_GET = 4, TYPE_SET = 5, BIG = 1 << 20 };
 
@@ -257,7 +258,7 @@ static void lose_both(void)
     hear_request(2, TYPE_GET, NULL);
     hear_request(-1002, DWS_TYPE_GET_ACL, NULL);
     hear_request(3, TYPE_DELETE, NULL);
-    close(line);
+    end_line();
     wait_for(&acl.lane.call);
     expect_said("sync 1\nset 1\nacl 1\nlast 1\n");
     dws_words(session, &acl.lane.call, why, sizeof why);
@@ -286,7 +287,7 @@ static void keep_the_order(void)
     hear_request(1, TYPE_GET, NULL);
     hear_request(-1001, DWS_TYPE_SYNC, NULL);
     hear_request(2, TYPE_GET, NULL);
-    close(line);
+    end_line();
     wait_for(&sync_call.lane.call);
     expect_said("sync 1\n");
     named(&acl.lane.call, "acl");
@@ -411,7 +412,7 @@ static void introduce(void)
     answer(&came, 7, 11);
     wait_for(&get.call);
     expect_said("bob 0\nget 0\n");
-    close(line);
+    end_line();
     wait_for(&acl.lane.call);
     expect_said("eve 1\n");
     admit();

@@ -5,7 +5,9 @@
 
 import concurrent.futures
 import contextlib
+import functools
 import importlib
+import json
 import pathlib
 import queue
 import socket
@@ -19,8 +21,9 @@ import unittest
 sys.dont_write_bytecode = True
 
 # Seconds that a line, or an end, is waited for; and that a busy machine may make something late.
-BOUND, SLACK = 20, 3
-AT_ONCE = 12
+BOUND, SLACK = 60, 20
+AT_ONCE = 16
+MAKING = threading.Lock()
 OUT, PARTNER = sys.argv[1:3] if len(sys.argv) == 3 else sys.exit(__doc__)
 
 
@@ -55,19 +58,35 @@ class Process:
                 stream.close()
 
 
-class Partner(Process):
+@functools.cache
+def maker():
+    """What makes the servers in memory, and ends with this program; and where it does."""
+    process = subprocess.Popen([sys.executable, pathlib.Path(PARTNER).with_name("maker.py")], stdin=subprocess.PIPE, stdout=subprocess.PIPE, text=True)
+    return process, ("127.0.0.1", int(process.stdout.readline().removeprefix("making ")))
+
+
+class Partner:
     """The server in memory."""
 
     def __init__(self, *options):
-        super().__init__(sys.executable, PARTNER, *options, stdin=subprocess.PIPE)
-        self.address = "127.0.0.1:" + self.line().removeprefix("listening ")
+        with MAKING:
+            _, place = maker()
+        self._commands = socket.create_connection(place, BOUND)
+        self._answers = self._commands.makefile()
+        self._commands.sendall(f"{json.dumps(options)}\n".encode())
+        self.address = "127.0.0.1:" + self._answers.readline().rstrip().removeprefix("listening ")
 
     def do(self, *commands):
         for command in commands:
-            self.process.stdin.write(command + "\n")
-            self.process.stdin.flush()
-            if self.line() != "done":
+            self._commands.sendall(f"{command}\n".encode())
+            if self._answers.readline() != "done\n":
                 raise AssertionError(command)
+
+    def end(self):
+        """Ends its process."""
+        with self._commands, self._answers:
+            self._commands.shutdown(socket.SHUT_WR)
+            self._answers.read()
 
 
 class Line:

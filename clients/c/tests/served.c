@@ -1,11 +1,12 @@
 /* A session of session.h at a server that the test is itself: the moment of a ping, when the server was heard, expired sessions, a lock, and memory
  * that runs out within a session, each request for it in turn. */
 #define _POSIX_C_SOURCE 200809L
-#include "../lock.h"
 #include "refusing_heap.h"
 #include "served.h"
 
-enum { TYPE_CONNECT = 0, TYPE_CREATE = 1, TYPE_EXISTS = 3, TYPE_GET = 4, TYPE_SET = 5, TYPE_PING = 11, TYPE_CHILDREN = 12, SOON_MS = 1500 /* of a machine that is busy */ };
+#include "../lock.h"
+
+enum { TYPE_CONNECT = 0, TYPE_CREATE = 1, TYPE_EXISTS = 3, TYPE_GET = 4, TYPE_SET = 5, TYPE_PING = 11, TYPE_CHILDREN = 12, PATIENCE_MS = 50 };
 
 static dws_call get, set, many[2 * DWS_MOST_ASKED];
 static dws_subject node;
@@ -39,18 +40,20 @@ static void ping_in_time(void)
     open_session();
     EXPECT_NUMBER(-1, dws_heard_ms(session));
     admit();
-    uint64_t admitted_ms = dws_now_ms();
-    EXPECT(dws_heard_ms(session) >= 0 && dws_heard_ms(session) < SOON_MS);
+    uint64_t admitted_ms = clock_ms;
+    EXPECT_NUMBER(0, dws_heard_ms(session));
     turn(0); /* what there was to tell was told */
-    int wait_ms = dws_wanted(session, &polled);
-    EXPECT(wait_ms > 0 && wait_ms <= GRANTED_MS / 3);
+    EXPECT_NUMBER(GRANTED_MS / 3, dws_wanted(session, &polled));
+    let_pass(GRANTED_MS / 3 - 1);
+    turn(0);
+    EXPECT(taken == written);
     hear_request(XID_PING, TYPE_PING, NULL);
-    uint64_t waited_ms = dws_now_ms() - admitted_ms;
-    EXPECT(waited_ms + SOON_MS > GRANTED_MS / 3 && waited_ms < GRANTED_MS / 3 + SOON_MS);
-    EXPECT(dws_heard_ms(session) + SOON_MS > GRANTED_MS / 3);
-    for (int i = 0; i < 2; i++) { /* and the next ones, for longer than two thirds of it */
+    EXPECT_NUMBER(GRANTED_MS / 3, clock_ms - admitted_ms);
+    EXPECT_NUMBER(GRANTED_MS / 3, dws_heard_ms(session));
+    for (int i = 2; i < 4; i++) { /* and the next ones, for longer than two thirds of it */
         answer_nothing(XID_PING, 5);
         hear_request(XID_PING, TYPE_PING, NULL);
+        EXPECT_NUMBER(i * GRANTED_MS / 3, clock_ms - admitted_ms);
     }
     EXPECT(!has_told(DWS_CUT));
     close_all();
@@ -61,18 +64,19 @@ static void answer_pings_alone(void)
 {
     open_session();
     admit();
-    uint64_t asked_ms = dws_now_ms();
+    let_pass(100);
+    uint64_t asked_ms = clock_ms;
     dws_set(session, &set, "/a", "one", 3, -1);
     hear_request(1, TYPE_SET, NULL);
     hear_request(XID_PING, TYPE_PING, NULL);
     answer_nothing(XID_PING, 5);
-    while (!has_told(DWS_CUT) && dws_now_ms() < asked_ms + GRANTED_MS) {
-        turn(SHORT_TURNS);
+    for (int i = 0; !has_told(DWS_CUT); i++) {
+        EXPECT(clock_ms <= asked_ms + GRANTED_MS * 2 / 3);
+        turn(i);
     }
-    uint64_t waited_ms = dws_now_ms() - asked_ms;
-    EXPECT(waited_ms + SOON_MS > GRANTED_MS * 2 / 3 && waited_ms < GRANTED_MS * 2 / 3 + SOON_MS);
+    EXPECT_NUMBER(GRANTED_MS * 2 / 3, clock_ms - asked_ms);
     EXPECT(set.is_answered && set.why == DW_OUTCOME_LOST);
-    close(line);
+    end_line();
     accept_line(); /* it dials again */
     close_all();
 }
@@ -80,7 +84,7 @@ static void answer_pings_alone(void)
 /* The next connection begins with the request to connect, whatever was not written on the one before. */
 static void expect_new_connection(void)
 {
-    close(line);
+    end_line();
     events[0] = 0;
     for (int i = 0; !has_told(DWS_CUT); i++) {
         turn(i);
@@ -95,7 +99,6 @@ static void expect_new_connection(void)
 /* What was not written is forgotten with its connection: a call that it has no room for, and a ping that is due when it ends. */
 static void forget_unsent(void)
 {
-    struct timespec third = {GRANTED_MS / 3000, 100000000};
     struct bytes connected;
     open_session();
     admit();
@@ -107,7 +110,7 @@ static void forget_unsent(void)
     connected.length = 0;
     add_connected(&connected);
     answer_at_once(&connected);
-    nanosleep(&third, NULL);
+    let_pass(GRANTED_MS / 3 + 100);
     expect_new_connection();
     close_all();
 }
@@ -138,7 +141,7 @@ static void expire(bool is_over_at_expiry)
     for (int i = 0; i < 2 * DWS_MOST_ASKED; i++) {
         dws_get(session, &many[i], "/b", false);
     }
-    close(line);
+    end_line();
     accept_line();
     hear();
     EXPECT_NUMBER(SESSION, dws_read_long(out.at + 16));
@@ -167,11 +170,22 @@ static void renew_at_expiry(void)
     EXPECT(!dws_is_over(session));
     dws_words(session, &get, why, sizeof why);
     EXPECT(strcmp(why, "the session has expired: /a; call again") == 0);
-    close(line);
+    end_line();
     accept_line();
     hear();
     EXPECT_NUMBER(0, dws_read_long(out.at + 16));
     close_all();
+}
+
+/* The call waits for as long as it is to, and no longer. */
+static void let_be_late(void)
+{
+    let_pass(PATIENCE_MS - 1);
+    turn(0);
+    EXPECT(!get.is_answered);
+    let_pass(1);
+    turn(0);
+    EXPECT(get.is_answered);
 }
 
 /* The limit of a call that is not sent, and of one that is. */
@@ -179,15 +193,15 @@ static void be_late(void)
 {
     dws_options options;
     memset(&options, 0, sizeof options);
-    options.patience_ms = 50;
+    options.patience_ms = PATIENCE_MS;
     open_session_with(options);
     dws_get(session, &get, "/a", false);
-    wait_for(&get);
+    let_be_late();
     EXPECT_NUMBER(DW_OUTCOME_NOT_CONNECTED, get.why);
     admit();
     dws_get(session, &get, "/a", false);
     hear_request(1, TYPE_GET, NULL);
-    wait_for(&get);
+    let_be_late();
     EXPECT_NUMBER(DWS_LATE, get.why);
     answer_data(1);
     EXPECT(get.text == NULL && !dws_is_over(session));
@@ -335,7 +349,7 @@ static void lose_a_lock(void)
     hear_about(3, TYPE_CHILDREN, "/l");
     answer_names(3, 7, place + 3, "note");
     EXPECT(lock.is_held);
-    close(line);
+    end_line();
     accept_line();
     hear();
     expired.length = 0;
@@ -343,7 +357,7 @@ static void lose_a_lock(void)
     answer_at_once(&expired);
     turn(0);
     EXPECT(!lock.is_held && lock.why == 0);
-    close(line);
+    end_line();
     admit();
     hear_about(1, TYPE_CHILDREN, "/l");
     answer_names(1, 8, "note", "z__lock__0000000004");
@@ -365,7 +379,7 @@ static void share_a_lock(void)
     hear_request(1, TYPE_CREATE, NULL);
     text_at(8, place, sizeof place);
     strcat(place, "0000000007");
-    close(line);
+    end_line();
     admit();
     hear_about(2, TYPE_CHILDREN, "/l");
     answer_names(2, 7, place + 3, "a__rlock__0000000001");
@@ -386,10 +400,10 @@ static void serve(void)
     if (accepted >= 0) {
         close(line);
         line = accepted;
-        length = 0;
+        length = heard = told = 0;
         is_admitted = false;
     }
-    ssize_t count = line >= 0 ? recv(line, in + length, sizeof in - length, MSG_DONTWAIT) : -1;
+    ssize_t count = line >= 0 ? take(in + length, sizeof in - length) : -1;
     length += count > 0 ? (size_t)count : 0;
     while (length >= 4 && length >= 4 + dws_read_int(in)) {
         struct bytes came;
@@ -406,7 +420,9 @@ static void serve(void)
         is_admitted = true;
         memmove(in, in + whole, length - whole);
         length -= whole;
-        EXPECT(send(line, came.at, came.length, MSG_NOSIGNAL) != 0);
+        ssize_t sent = send(line, came.at, came.length, MSG_NOSIGNAL);
+        EXPECT(sent != 0);
+        told += sent > 0 ? (size_t)sent : 0;
     }
 }
 

@@ -1,6 +1,9 @@
-/* A session and a server that is the test itself, over 127.0.0.1: it reads each request, and answers in pieces. Frames are spelled by zookeeper.jute. */
+/* A session and a server that is the test itself, over 127.0.0.1: it reads each request, and answers in pieces. Frames are spelled by zookeeper.jute.
+ * Time passes by clock.h, where nothing is under way and the session waits for a moment. */
 #ifndef DIRWOLLEU_TESTS_SERVED_H
 #define DIRWOLLEU_TESTS_SERVED_H
+
+#include "clock.h"
 
 #include "../session.h"
 #include "expect.h"
@@ -16,7 +19,9 @@ static dws_session *session;
 static int listener, line;
 static char said[8192], events[64];
 static struct bytes out;
-static size_t heard; /* bytes that the session has read of this connection */
+static size_t heard, told;    /* bytes of this connection that the session has read, and that it was sent */
+static size_t written, taken; /* bytes of it that the session has sent, and that the test has read */
+static bool is_ended;         /* the test has ended it, and the session has not noticed */
 
 /* Adds to what was said, as printf does. */
 static inline void say(const char *format, ...)
@@ -66,6 +71,7 @@ static inline ssize_t read_counted(dws_wire *wire, void *room, size_t size, void
     ssize_t count = recv(wire->socket, room, size, 0);
     (void)context;
     heard += count > 0 ? (size_t)count : 0;
+    is_ended = is_ended && count < 0 && dws_is_passing(errno);
     return count;
 }
 
@@ -78,16 +84,46 @@ static inline ssize_t write_plain(dws_wire *wire, const void *bytes, size_t size
         errno = EAGAIN;
         return -1;
     }
-    return send(wire->socket, bytes, size, MSG_NOSIGNAL);
+    ssize_t sent = send(wire->socket, bytes, size, MSG_NOSIGNAL);
+    written += sent > 0 ? (size_t)sent : 0;
+    return sent;
 }
 
-/* The turn of this number of a wait: the first ones do not wait for the socket. */
+/* What the test reads of the connection without waiting, as recv says it. */
+static inline ssize_t take(uint8_t *at, size_t size)
+{
+    ssize_t count = recv(line, at, size, MSG_DONTWAIT);
+    taken += count > 0 ? (size_t)count : 0;
+    return count;
+}
+
+/* The test ends the connection. */
+static inline void end_line(void)
+{
+    close(line);
+    is_ended = true;
+}
+
+/* Whether something is on its way between the session and the test, or the session is connecting. */
+static inline bool is_under_way(void)
+{
+    if (session->wire.socket < 0 || session->is_connecting) {
+        heard = told = written = taken = 0;
+        is_ended = false;
+    }
+    return session->is_connecting || heard < told || taken < written || is_ended;
+}
+
+/* The turn of this number of a wait: the first ones do not wait for the socket. Later ones may wait for a moment, which then has come. */
 static inline void turn(int number)
 {
     struct pollfd polled;
     EXPECT(number < MOST_TURNS);
-    dws_wanted(session, &polled);
-    poll(&polled, 1, number < SHORT_TURNS ? 0 : 1);
+    int wait_ms = dws_wanted(session, &polled);
+    bool is_quiet = poll(&polled, 1, number < SHORT_TURNS ? 0 : 1) == 0;
+    if (!is_under_way() && is_quiet && number >= SHORT_TURNS && wait_ms > 0) {
+        let_pass((uint64_t)wait_ms);
+    }
     dws_go_on(session, polled.revents);
 }
 
@@ -125,7 +161,7 @@ static inline void hear(void)
     size_t wanted = 4, count = 0;
     uint8_t *at = out.at;
     for (int i = 0; count < wanted; i++) {
-        ssize_t read = recv(line, at + count, wanted - count, MSG_DONTWAIT);
+        ssize_t read = take(at + count, wanted - count);
         if (read > 0) {
             count += (size_t)read;
         } else {
@@ -159,6 +195,7 @@ static inline void send_all(const uint8_t *bytes, size_t length)
     while (length > 0) {
         ssize_t sent = send(line, bytes, length, MSG_NOSIGNAL);
         EXPECT(sent > 0);
+        told += (size_t)sent;
         bytes += sent;
         length -= (size_t)sent;
     }
@@ -190,7 +227,6 @@ static inline void accept_line(void)
         turn(i);
     }
     EXPECT(setsockopt(line, IPPROTO_TCP, TCP_NODELAY, &on, sizeof on) == 0);
-    heard = 0;
 }
 
 /* Takes the next connection, and admits the session, in this version of the protocol. */

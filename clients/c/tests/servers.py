@@ -26,19 +26,24 @@ class Servers(Followed):
 
     def test_server_that_is_behind(self):
         """An answer that is older than what was seen is not shown: the connection is given up, and another server is dialled."""
-        seen = []
+        seen, shown = [], threading.Semaphore(0)
 
         def serve(number, line):
             seen.append(line.admit(10_000))
             xid, _ = line.request()
             line.put(reply(xid, (9, 12)[number], (b"one", b"two")[number]))
+            shown.acquire(timeout=BOUND)
             line.put(CHANGED)
             xid, _ = line.request()
             line.put(reply(xid, 8 if number == 0 else 13, b"old" if number == 0 else b"new"))
             line.serve({PING: line.answer})
 
         self.server(serve)
-        self.expect('good "one"', 'stale "one"', 'good "two"', 'stale "two"', 'good "new"')
+        self.expect('good "one"')
+        shown.release()
+        self.expect('stale "one"', 'good "two"')
+        shown.release()
+        self.expect('stale "two"', 'good "new"')
         self.assertEqual(seen, [0, 9])
         self.assertIn("zxid 9 was seen, and a reply to a watched read has zxid 8\n", self.said())
 
@@ -64,13 +69,13 @@ class Servers(Followed):
 
     def test_server_that_never_answers(self):
         """A connection that nothing comes over is given up after two thirds of the timeout, which is 10 seconds."""
-        server = self.server(lambda number, line: (line.frame(), time.sleep(BOUND)))
-        dials = server.wait_for_dials(1)
+        begun = time.monotonic()
+        self.server(lambda number, line: (line.frame(), time.sleep(BOUND)))
         self.addCleanup(self.followed.end)
         self.wait_for_words("nothing was heard for two thirds of the timeout\n")
         self.assertNotIn("an answer does not come", self.said())
-        self.assertGreater(time.monotonic() - dials[0], 6)
-        self.assertLess(time.monotonic() - dials[0], 6.7 + SLACK)
+        self.assertGreater(time.monotonic() - begun, 6.66)
+        self.assertLess(time.monotonic() - begun, 6.7 + SLACK)
 
     def test_server_beside_one_that_never_answers(self):
         mute = self.server(lambda number, line: (line.frame(), time.sleep(BOUND)))
@@ -96,17 +101,19 @@ class Servers(Followed):
             begun = time.monotonic()
             self.follow(f"127.0.0.1:{full.getsockname()[1]}")
             self.wait_for_words("connection timed out\n")
-            self.assertGreater(time.monotonic() - begun, 3)
+            self.assertGreater(time.monotonic() - begun, 3.33)
             self.assertLess(time.monotonic() - begun, 3.4 + SLACK)
 
     def test_server_that_stays_away(self):
         """It is dialled three times a second at most, and the pauses grow; once it is there it is found."""
         partner = self.partner()
         partner.do("down")
+        begun = time.monotonic()
         self.follow(partner.address)
-        time.sleep(4)
-        attempts = self.said().count("connection refused")
-        self.assertIn(attempts, range(2, 13))
+        while (attempts := self.said().count("connection refused")) < 6 and time.monotonic() < begun + BOUND:
+            time.sleep(0.05)
+        self.assertGreaterEqual(attempts, 6)
+        self.assertLess(attempts, 3 * (time.monotonic() - begun) + 1)
         partner.do("up")
         self.expect("good absent")
 

@@ -11,7 +11,7 @@ import tempfile
 import threading
 from pathlib import Path
 
-BOUND = 20
+BOUND = 120
 PROGRAM, PARTNER = sys.argv[1:3] if len(sys.argv) == 3 else sys.exit(__doc__)
 
 

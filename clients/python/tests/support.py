@@ -5,6 +5,7 @@ from __future__ import annotations
 import contextlib
 import json
 import pathlib
+import re
 import socket
 import struct
 import subprocess
@@ -17,8 +18,8 @@ from typing import Any, Callable, NamedTuple, Optional
 CLIENTS = pathlib.Path(__file__).resolve().parents[2]
 sys.path.insert(0, str(CLIENTS / "python"))
 
-WAIT = 10.0
-"""The longest that a test waits for one thing, in seconds."""
+WAIT = 60.0
+"""The longest that a test waits for one thing, in seconds: a busy machine takes less."""
 
 
 def _begin_making() -> socket.socket:
@@ -219,6 +220,15 @@ class PartnerCase(unittest.TestCase):
         server = RawServer(serve)
         self.addCleanup(server.stop)
         return server
+
+    def start_fails(self, client: Any, pattern: str) -> None:
+        """A start says why there is no connection, as soon as that is known: on a busy machine it is given longer."""
+        for seconds in (0.5, 4.0, WAIT):
+            with self.assertRaises(TimeoutError) as caught:
+                client.start(seconds)
+            if re.search(pattern, str(caught.exception)):
+                return
+        self.assertRegex(str(caught.exception), pattern)
 
     def raises(self, kind: type[BaseException], code: Optional[int]) -> Any:
         """A context in which an error of exactly this class and code is raised."""

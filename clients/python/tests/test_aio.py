@@ -170,7 +170,7 @@ class AioTest(unittest.IsolatedAsyncioTestCase, PartnerCase):
 
     async def test_a_call_that_is_cancelled_before_it_is_handed_over_is_not_sent(self) -> None:
         partner = self.partner()
-        client = await self.client(partner)
+        client = await self.client(partner, timeout=600)
         partner.do("mute")
         others = [client.exists_async("/") for _ in range(600)]
         call = asyncio.ensure_future(client.create("/a"))
@@ -202,7 +202,7 @@ class AioTest(unittest.IsolatedAsyncioTestCase, PartnerCase):
         await client.start(WAIT)
         began = time.monotonic()
         await client.stop()
-        self.assertLess(time.monotonic() - began, 4.0)
+        self.assertLess(time.monotonic() - began, WAIT)
 
     async def test_a_session_is_put_away_and_taken_up(self) -> None:
         partner = self.partner()
@@ -247,7 +247,7 @@ class EndOfLoopTest(PartnerCase):
             async with Client(partner.host) as client:
                 await client.create("/a", ephemeral=True)
                 ready.set_result(None)
-                await asyncio.sleep(WAIT)
+                await asyncio.sleep(9 * WAIT)
 
         loop = asyncio.new_event_loop()
         self.addCleanup(loop.close)
@@ -259,7 +259,7 @@ class EndOfLoopTest(PartnerCase):
             task.cancel()
         with self.assertRaises(asyncio.CancelledError):
             loop.run_until_complete(main)
-        self.assertLess(time.monotonic() - began, 1.5)
+        self.assertLess(time.monotonic() - began, WAIT)
         self.assertEqual(asyncio.run(self.names(partner.host)), [])
 
     async def names(self, host: str) -> list[str]:

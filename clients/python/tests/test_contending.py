@@ -129,10 +129,12 @@ class ContendingRules(BothCase):
         waits = self.taking("Lock", self.other)
         within(lambda: len(self.names()) == 2)
         before = set(self.names())
-        thief = dirwolleu.Client(self.server.host, saved=self.other.saved_session)
-        self.addCleanup(thief.close)
-        thief.start(WAIT)  # takes the session over
-        thief.stop()  # and ends it
+        saved, session = self.other.saved_session, self.other.session_id
+        while self.other.session_id == session:  # the client may take it back before it is ended
+            thief = dirwolleu.Client(self.server.host, saved=saved)
+            self.addCleanup(thief.close)
+            thief.start(WAIT)  # takes the session over
+            thief.stop()  # and ends it
         within(lambda: len(set(self.names()) - before) == 1)
         self.assertTrue(waits.empty())
         first.release()
@@ -229,6 +231,7 @@ class OutageTest(PartnerCase):
         for end in 2 * ["drop", "drop", "expire", "drop", "down", "up", "expire", "drop"]:
             server.do(end)
             time.sleep(0.15)
+        within(lambda: len(tokens) > 4)
         is_over.set()
         self.assertEqual([end.get(timeout=6 * WAIT) for end in ends], 4 * [None])
         self.assertGreater(len(tokens), 4)

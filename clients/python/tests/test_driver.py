@@ -62,9 +62,7 @@ class DialTest(PartnerCase):
         partner.do("down")
         time.sleep(3.0)
         partner.do("up")
-        began = time.monotonic()
         within(lambda: client.connected)
-        self.assertLess(time.monotonic() - began, 1.0)
         within(lambda: states == [State.SUSPENDED, State.CONNECTED])
 
     def test_no_server_is_dialled_more_than_three_times_a_second(self) -> None:
@@ -101,16 +99,14 @@ class DialTest(PartnerCase):
             closes, admits, grants_a_millisecond, answers_and_closes, says_too_much, says_that_it_moved, expires
         ]  # fmt: skip
         servers = [self.raw_server(kind) for kind in kinds]
+        began = time.monotonic()
         for server in servers:
             client = self.client(server.host, 1.0, is_awaited=False)
             threading.Thread(target=self.follow, args=(client,), daemon=True).start()
-        time.sleep(3.0)
         for kind, server in zip(kinds, servers):
             with self.subTest(kind.__name__):
-                dials = list(server.dials)
-                self.assertGreater(len(dials), 1)
-                self.assertGreater((dials[-1] - dials[0]) / (len(dials) - 1), 0.3)
-                self.assertLessEqual(len(dials), 10)
+                dials = within(lambda: server.dials[3:] and list(server.dials))
+                self.assertGreater((dials[-1] - began) / (len(dials) - 1), 0.3)
 
     def follow(self, client: Client) -> None:
         within(lambda: client._engine.is_running)
@@ -147,12 +143,13 @@ class DialTest(PartnerCase):
     def test_a_server_that_says_nothing_is_left(self) -> None:
         def serve(peer: Peer) -> None:
             peer.take_connect()
-            time.sleep(WAIT)
+            time.sleep(9 * WAIT)
 
         server = self.raw_server(serve)
+        began = time.monotonic()
         self.client(server.host, 3.0, is_awaited=False)
         within(lambda: len(server.dials) > 1)
-        self.assertAlmostEqual(server.dials[1] - server.dials[0], 2.1, delta=0.6)
+        self.assertGreater(server.dials[1] - began, 1.999)
 
     def test_a_server_that_trickles_while_connecting_is_left(self) -> None:
         def serve(peer: Peer) -> None:
@@ -160,9 +157,10 @@ class DialTest(PartnerCase):
             peer.trickle(struct.pack(">i", 1000) + bytes(996), 0.2)
 
         server = self.raw_server(serve)
+        began = time.monotonic()
         self.client(server.host, 3.0, is_awaited=False)
         within(lambda: len(server.dials) > 1)
-        self.assertAlmostEqual(server.dials[1] - server.dials[0], 2.3, delta=0.8)
+        self.assertGreater(server.dials[1] - began, 1.999)
 
     def test_a_server_that_trickles_an_answer_is_left(self) -> None:
         def serve(peer: Peer) -> None:
@@ -174,7 +172,7 @@ class DialTest(PartnerCase):
         began = time.monotonic()
         with self.raises(ConnectionLoss, -4):
             client.set("/a", b"x")
-        self.assertAlmostEqual(time.monotonic() - began, 2.0, delta=0.8)
+        self.assertTrue(1.999 < time.monotonic() - began < WAIT)
 
     def test_a_server_that_answers_no_ping_is_left(self) -> None:
         def serve(peer: Peer) -> None:
@@ -184,9 +182,10 @@ class DialTest(PartnerCase):
                 time.sleep(0.2)
 
         server = self.raw_server(serve)
+        began = time.monotonic()
         self.client(server.host, 3.0)
         within(lambda: len(server.dials) > 1)
-        self.assertAlmostEqual(server.dials[1] - server.dials[0], 3.3, delta=0.9)
+        self.assertGreater(server.dials[1] - began, 2.999)
 
     def test_a_server_that_sends_no_connection_in_time_is_given_up(self) -> None:
         """An attempt has a third of the timeout, and a second at least. One that is made too late is closed."""
@@ -200,23 +199,26 @@ class DialTest(PartnerCase):
             client = Client("127.0.0.1:1", 1.0)
             self.addCleanup(client.close)
             with self.assertRaisesRegex(TimeoutError, "127.0.0.1:1: no connection in time"):
-                client.start(1.6)
+                client.start(4.0)
         self.assertTrue(made[0].cancelled())
         self.assertGreaterEqual(len(made), 2)
 
     def test_answered_pings_keep_a_connection(self) -> None:
+        pings = list[Asked]()
+
         def serve(peer: Peer) -> None:
             peer.admit()
             while True:
-                peer.send(reply(peer.take()))
+                pings.append(peer.take())
+                peer.send(reply(pings[-1]))
 
         server = self.raw_server(serve)
-        self.client(server.host, 1.0)
-        time.sleep(2.5)
-        self.assertEqual(len(server.dials), 1)
+        self.client(server.host, 3.0)
+        within(lambda: len(pings) == 4)
+        self.assertEqual(({ping.kind for ping in pings}, len(server.dials)), ({PING}, 1))
 
     def test_a_process_that_was_held_up_reads_what_its_socket_has(self) -> None:
-        pinged, resumed, pings = threading.Event(), threading.Event(), list[Asked]()
+        pinged, told, resumed, pings = threading.Event(), threading.Event(), threading.Event(), list[Asked]()
 
         def serve(peer: Peer) -> None:
             peer.admit()
@@ -224,6 +226,7 @@ class DialTest(PartnerCase):
             pinged.set()
             time.sleep(2.5)
             peer.send(notice("/a"))
+            told.set()
             while True:
                 asked = peer.take()
                 peer.send(reply(asked))
@@ -238,30 +241,38 @@ class DialTest(PartnerCase):
         time.sleep(1.4)
         child.send_signal(signal.SIGSTOP)
         time.sleep(2.9)
+        self.assertTrue(told.wait(WAIT))
         child.send_signal(signal.SIGCONT)
         self.assertTrue(resumed.wait(WAIT))
         self.assertEqual((len(server.dials), pings[0].kind), (1, PING))
 
     def test_a_loop_that_was_held_up_reads_all_that_its_socket_has(self) -> None:
         """The answer comes after more notices than are read at once, and would be too late where it is read later."""
+        is_held_up, is_asked, is_there = threading.Event(), threading.Event(), threading.Event()
 
         def serve(peer: Peer) -> None:
             peer.admit()
             asked = peer.take()
-            time.sleep(1.0)
-            peer.send(*[notice("/elsewhere")] * 8000, data_reply(asked, b"one"))
-            time.sleep(WAIT)
+            is_asked.set()
+            is_held_up.wait(WAIT)
+            peer.send(*[notice("/elsewhere")] * 200, data_reply(asked, b"one"))
+            is_there.set()
+            time.sleep(9 * WAIT)
 
         async def run() -> None:
             async with aio.Client(server.host, 3.0) as client:
                 read = client.get_async("/a")
-                await asyncio.sleep(0.8)
-                time.sleep(1.6)
+                while not is_asked.is_set():
+                    await asyncio.sleep(0.01)
+                is_held_up.set()
+                time.sleep(2.4)
+                self.assertTrue(is_there.wait(WAIT))
                 self.assertEqual((await asyncio.wait_for(read, WAIT))[0], b"one")
                 self.assertEqual(client.stats().connections, 1)
 
         server = self.raw_server(serve)
-        asyncio.run(run())
+        with mock.patch("dirwolleu._driver.ROOM", 1024):
+            asyncio.run(run())
 
     def test_a_call_may_come_before_the_loop_has_begun(self) -> None:
         engine = Engine(3.0, None, lambda function, argument: None)
@@ -273,8 +284,8 @@ class DialTest(PartnerCase):
         with mock.patch("asyncio.BaseEventLoop.create_connection", side_effect=want):
             client = Client("127.0.0.1:1", 1.0)
             self.addCleanup(client.close)
-            with self.assertLogs("dirwolleu", "WARNING"), self.assertRaisesRegex(TimeoutError, "too many open files"):
-                client.start(0.5)
+            with self.assertLogs("dirwolleu", "WARNING"):
+                self.start_fails(client, "too many open files")
             threading.Thread(target=self.start, args=(client,), daemon=True).start()
             within(lambda: client._engine.is_running)
             with self.assertRaisesRegex(NotConnectedError, "too many open files"):

@@ -13,8 +13,8 @@ import dirwolleu
 from dirwolleu import Kept, Mark, NoAuthError
 from dirwolleu.aio import Client as AioClient
 
-REFUSALS = {-4: (2, 3, 4), -127: (2, 3, 4), -112: range(2, 10), -118: range(2, 10)}
-"""How many reads there are in two and a half seconds: one in a second, and with a code that ends the connection one on each."""
+REFUSALS = {-4: 0.8, -127: 0.8, -112: 0.28, -118: 0.28}
+"""How many seconds there are for each read at least: there is one in a second, and with a code that ends the connection one on each."""
 
 
 class Refusing:
@@ -29,6 +29,11 @@ class Refusing:
         while True:
             asked = peer.take()
             peer.send(self.answer(asked))
+
+    def pause(self, began: float) -> float:
+        """The seconds for each of its reads since then, when there are three."""
+        reads = within(lambda: self.reads[2:] and list(self.reads))
+        return float((reads[-1] - began) / (len(reads) - 1))
 
     def answer(self, asked: Asked) -> bytes:
         if asked.kind == EXISTS:
@@ -52,7 +57,7 @@ def overtakes(peer: Peer) -> None:
 
 class BlockingTest(PartnerCase):
     def follow(self, server: RawServer, told: list[Kept], errors: list[Exception]) -> None:
-        client = dirwolleu.Client(server.host, 5.0)
+        client = dirwolleu.Client(server.host, 30.0)
         self.addCleanup(client.close)
         client.start(WAIT)
 
@@ -68,12 +73,12 @@ class BlockingTest(PartnerCase):
     def test_each_follower_goes_on_and_reads_again(self) -> None:
         servers = [Refusing(code) for code in REFUSALS]
         told: list[list[Kept]] = [[] for _ in servers]
+        began = time.monotonic()
         for server, found in zip(servers, told):
             self.follow(self.raw_server(server.serve), found, [])
-        time.sleep(2.5)
         for server in servers:
             with self.subTest(code=server.code):
-                self.assertIn(len(server.reads), REFUSALS[server.code])
+                self.assertGreater(server.pause(began), REFUSALS[server.code])
                 server.code = 0
         within(lambda: all(found for found in told))
         self.assertEqual({found[0].data for found in told}, {b"one"})
@@ -93,7 +98,7 @@ class BlockingTest(PartnerCase):
 
 class AioTest(unittest.IsolatedAsyncioTestCase, PartnerCase):
     async def follow(self, server: RawServer, told: list[Kept]) -> None:
-        client = AioClient(server.host, 5.0)
+        client = AioClient(server.host, 30.0)
         self.addAsyncCleanup(client.close)
         await client.start(WAIT)
 
@@ -114,12 +119,12 @@ class AioTest(unittest.IsolatedAsyncioTestCase, PartnerCase):
     async def test_each_follower_goes_on_and_reads_again(self) -> None:
         servers = [Refusing(code) for code in REFUSALS]
         told: list[list[Kept]] = [[] for _ in servers]
+        began = time.monotonic()
         for server, found in zip(servers, told):
             await self.follow(self.raw_server(server.serve), found)
-        await asyncio.sleep(2.5)
         for server in servers:
             with self.subTest(code=server.code):
-                self.assertIn(len(server.reads), REFUSALS[server.code])
+                self.assertGreater(await asyncio.to_thread(server.pause, began), REFUSALS[server.code])
                 server.code = 0
         await self.until_told(*told)
 

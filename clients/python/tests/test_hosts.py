@@ -28,7 +28,7 @@ def found(*addresses: str) -> Any:
     return [(socket.AF_INET, socket.SOCK_STREAM, 6, "", (address, 2181)) for address in addresses]
 
 
-class HostsTest(unittest.TestCase):
+class HostsTest(PartnerCase):
     def test_a_text_is_servers_and_a_root(self) -> None:
         hosts = hosts_of("a:1, b,[::1]:3,[::1]")
         self.assertEqual(hosts.servers, (("a", 1), ("b", 2181), ("::1", 3), ("::1", 2181)))
@@ -93,10 +93,9 @@ class HostsTest(unittest.TestCase):
 
     def test_a_name_that_is_not_found_is_told(self) -> None:
         with mock.patch("socket.getaddrinfo", side_effect=socket.gaierror(-2, "Name or service not known")):
-            client = Client("nowhere.example:2181", 1.0)
+            client = Client("nowhere.example:2181", 30.0)
             self.addCleanup(client.close)
-            with self.assertRaisesRegex(TimeoutError, "nowhere.example: Name or service not known"):
-                client.start(3.0)
+            self.start_fails(client, "nowhere.example: Name or service not known")
 
 
 class NamesTest(PartnerCase):
@@ -123,13 +122,13 @@ class NamesTest(PartnerCase):
     def test_a_look_up_that_hangs_holds_no_stop(self) -> None:
         may_end = threading.Event()
         self.addCleanup(may_end.set)
-        with mock.patch("socket.getaddrinfo", side_effect=lambda *_, **__: may_end.wait(WAIT) and []):
+        with mock.patch("socket.getaddrinfo", side_effect=lambda *_, **__: may_end.wait(9 * WAIT) and []):
             client = Client("name:1", 1.0)
             began = time.monotonic()
             with self.assertRaises(TimeoutError):
                 client.start(0.3)
             client.close()
-        self.assertLess(time.monotonic() - began, 8.0)
+        self.assertLess(time.monotonic() - began, WAIT)
 
     def test_hosts_can_be_replaced_at_any_time(self) -> None:
         first, second = self.partner(), self.partner()

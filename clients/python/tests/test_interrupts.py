@@ -137,8 +137,8 @@ class SignalTest(ClientCase):
         self.addCleanup(client.close)
         self.is_armed = True
         with self.on_alarm(self.interrupt):
-            signal.setitimer(signal.ITIMER_REAL, 0.2)
             with self.assertRaises(KeyboardInterrupt):
+                signal.setitimer(signal.ITIMER_REAL, 0.2)
                 client.start()
         partner.do("unmute")
         client.start(WAIT)
@@ -197,7 +197,7 @@ class EndTest(ClientCase):
         with mock.patch("dirwolleu._waiting.LONGEST_CALLBACK", 0.2), self.assertLogs("dirwolleu", "WARNING"):
             began = time.monotonic()
             client.stop()
-        self.assertLess(time.monotonic() - began, 2.0)
+        self.assertLess(time.monotonic() - began, WAIT)
 
     def test_a_callback_that_exits_leaves_the_others(self) -> None:
         partner = self.partner()
@@ -223,7 +223,7 @@ class EndTest(ClientCase):
         client = self.client(self.raw_server(serve).host)
         began = time.monotonic()
         client.stop()
-        self.assertLess(time.monotonic() - began, 4.0)
+        self.assertLess(time.monotonic() - began, WAIT)
 
     def test_a_program_that_does_not_stop_its_client_ends_at_once_and_says_nothing(self) -> None:
         program = """
@@ -249,7 +249,7 @@ class EndTest(ClientCase):
         began = time.monotonic()
         self.assertEqual(process.communicate(timeout=3 * WAIT), ("", ""))
         self.assertEqual(process.returncode, 0)
-        self.assertLess(time.monotonic() - began, 2.0)
+        self.assertLess(time.monotonic() - began, WAIT)
 
     def test_no_import_loads_asyncio(self) -> None:
         program = "import sys; sys.path.insert(0, sys.argv[1]); import dirwolleu; print({'asyncio', 'ssl'} & {*sys.modules}, dirwolleu.aio.Client.__name__)"
@@ -264,8 +264,8 @@ class EndTest(ClientCase):
         within(lambda: client.state is State.SUSPENDED)
         self.is_armed = True
         with self.on_alarm(self.interrupt):
-            signal.setitimer(signal.ITIMER_REAL, 0.2)
             with self.assertRaises(KeyboardInterrupt):
+                signal.setitimer(signal.ITIMER_REAL, 0.2)
                 client.create("/a")
         partner.do("up")
         client.create("/b")

@@ -10,7 +10,7 @@ import time
 import unittest
 from typing import Any, Callable
 
-from support import EXISTS, GET_DATA, SET_WATCHES, STAT, WAIT, Asked, PartnerCase, Peer, data_reply, notice, reply, within
+from support import EXISTS, GET_DATA, PING, SET_WATCHES, STAT, WAIT, Asked, PartnerCase, Peer, data_reply, notice, reply, within
 
 from dirwolleu import (
     AuthFailedError,
@@ -161,7 +161,7 @@ class SpellingTest(LaneCase):
             client.create2("/a", bytes(1_048_576))
         with self.raises(TypeError, None):
             client.create2("/a", "text")  # type: ignore[arg-type]
-        self.assertEqual(asked, [])
+        self.assertEqual([one for one in asked if one.kind != PING], [])
 
     def test_nothing_that_moves_watches_or_ends_the_session_goes_through(self) -> None:
         self.assertEqual({int(one) for one in Operation}, {CREATE, GET_ACL, SET_ACL, SYNC, MULTI, CREATE2, AUTH})

@@ -3,6 +3,7 @@
 from __future__ import annotations
 
 import contextlib
+import functools
 import pickle
 import socket
 import unittest
@@ -123,28 +124,34 @@ class RefusalTest(MessageCase):
             client.get("/nope")
         self.assertEqual(raised.exception.path, "/nope")
 
+    def start_says(self, client: Client, begin: str, end: str, is_whole: bool = True) -> None:
+        """A start says this with its own seconds between the two, as soon as that is known: on a busy machine it is given longer."""
+        for seconds in (1.5, 6.0, WAIT):
+            message, wanted = self.said(functools.partial(client.start, seconds)), f"{begin}{seconds:g}{end}"
+            if message == wanted or (message.startswith(wanted) and not is_whole):
+                return
+        self.assertEqual(message, wanted)
+
     def test_where_no_server_is_there_the_last_attempt_is_told(self) -> None:
         with socket.create_server(("127.0.0.1", 0)) as taken:
             host = f"127.0.0.1:{taken.getsockname()[1]}"
         client = Client(host, timeout=0.5)
         self.addCleanup(client.close)
-        wanted = f"no server of {host} accepted the session in 1.5 s; last: {host}: connection refused"
-        self.assertEqual(self.said(lambda: client.start(1.5)), wanted)
+        self.start_says(client, f"no server of {host} accepted the session in ", f" s; last: {host}: connection refused")
 
     def test_a_server_that_says_nothing_is_told(self) -> None:
         with socket.create_server(("127.0.0.1", 0)) as silent:
             host = f"127.0.0.1:{silent.getsockname()[1]}"
             client = Client(host, timeout=10.0)
             self.addCleanup(client.close)
-            wanted = f"no server of {host} accepted the session in 1 s; last: {host}: connected, and it has not accepted the session"
-            self.assertEqual(self.said(lambda: client.start(1.0)), wanted)
+            last = "connected, and it has not accepted the session"
+            self.start_says(client, f"no server of {host} accepted the session in ", f" s; last: {host}: {last}")
 
     def test_a_name_without_an_address_is_told(self) -> None:
         client = Client("nowhere.invalid:2181", timeout=0.5)
         self.addCleanup(client.close)
-        begin = "no server of nowhere.invalid:2181 accepted the session in 1.5 s; last: nowhere.invalid: "
-        message = self.said(lambda: client.start(1.5))
-        self.assertTrue(message.startswith(begin), message)
+        begin = "no server of nowhere.invalid:2181 accepted the session in "
+        self.start_says(client, begin, " s; last: nowhere.invalid: ", is_whole=False)
 
     def test_a_call_that_finds_no_server_says_so_too(self) -> None:
         partner = self.partner()

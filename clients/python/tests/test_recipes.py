@@ -167,7 +167,7 @@ class LockTest(RecipeCase):
                         self.other.delete(held.path)
                     else:
                         self.server.do(end)
-                    within(lambda: not held.is_held)
+                    within(lambda: not held.is_held and len(seen) >= len(wanted))
                 self.assertEqual(seen[: len(wanted)], wanted)
                 within(lambda: self.one.connected)
                 held.release()
@@ -182,7 +182,7 @@ class LockTest(RecipeCase):
         began = time.monotonic()
         with self.assertRaises(LockTimeout):
             Lock(self.one, "/locks").acquire(0.1)
-        self.assertLess(time.monotonic() - began, 4.0)
+        self.assertLess(time.monotonic() - began, WAIT)
 
     def test_each_thread_gives_back_what_it_has_taken(self) -> None:
         lock, may_end, helds = ReadLock(self.one, "/locks"), threading.Event(), queue.Queue[Held]()

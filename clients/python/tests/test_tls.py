@@ -150,10 +150,10 @@ class TlsTest(PartnerCase):
     def test_a_server_that_is_not_trusted_is_not_believed(self) -> None:
         _, port = self.wrapped()
         client = self.client(port, tls_context(ca=self.stranger.certificate))
-        with self.assertLogs("dirwolleu", "WARNING"):
+        with self.assertLogs("dirwolleu", "WARNING") as logs:
             starts = threading.Thread(target=self.start, args=(client,), daemon=True)
             starts.start()
-            within(lambda: "CERTIFICATE_VERIFY_FAILED" in client._engine.trouble)
+            within(lambda: "CERTIFICATE_VERIFY_FAILED" in client._engine.trouble and logs.output)
         client.stop()
         starts.join(WAIT)
         self.assertEqual(client.stats().connections, 0)

@@ -13,10 +13,10 @@ use std::time::{Duration, Instant};
 const TIMEOUT: Duration = Duration::from_secs(10);
 
 /// How long what is awaited may take.
-const PATIENCE: Duration = Duration::from_secs(30);
+const PATIENCE: Duration = Duration::from_secs(120);
 
 /// How much later than it could a program on a busy machine may act.
-const SLACK: Duration = Duration::from_millis(1_400);
+const SLACK: Duration = Duration::from_secs(15);
 
 /// Types of requests, as `zookeeper.jute` has them.
 const CREATE: i32 = 1;
@@ -75,15 +75,17 @@ fn a_call_waits_to_a_limit_of_its_own() {
 
 #[test]
 fn a_limit_comes_while_a_server_is_dialled() {
-    let dial = |_: &dirwolleu::Server<'_>, within: Duration| {
-        sleep(within);
+    let (over, is_over) = mpsc::channel::<()>();
+    let dial = move |_: &dirwolleu::Server<'_>, within: Duration| {
+        let _ = is_over.recv_timeout(within);
         Err(std::io::ErrorKind::TimedOut.into())
     };
-    let options = SessionOptions::new(TIMEOUT).dial(dial);
+    let options = SessionOptions::new(10 * SLACK).dial(dial); // a third of it is more than the slack
     let session = options.open("127.0.0.1:1").unwrap();
     let begun = Instant::now();
     let late = session.call(Request::get("/a").within(millis(300)));
     let took = begun.elapsed();
+    drop(over);
     let reason = late.unwrap_err().no_reply();
     assert_eq!(reason, Some(NoReply::NotConnected));
     assert!(
@@ -209,17 +211,17 @@ fn a_refused_read_of_what_is_followed_is_told_once_and_made_again() {
         }
     });
     let session = Session::open(partner.address, TIMEOUT).unwrap();
+    let begun = Instant::now();
     let mut nodes = session.follow("/a");
     let refused = nodes.next().unwrap().unwrap_err();
     assert_eq!(
         (refused.code(), refused.path()),
         (Some(Code::NO_AUTH), Some("/a"))
     );
-    let begun = Instant::now();
     let node = nodes.next().unwrap().unwrap().unwrap();
     assert_eq!(node.data.as_deref(), Some(b"one".as_slice()));
     let took = begun.elapsed();
-    assert!(took + millis(50) >= millis(2_000), "{took:?}");
+    assert!(took >= millis(1_998), "{took:?}"); // two pauses of a second
 }
 
 #[test]

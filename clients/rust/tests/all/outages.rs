@@ -14,10 +14,10 @@ use std::thread::{self, sleep};
 use std::time::{Duration, Instant};
 
 /// How long what is awaited may take.
-const PATIENCE: Duration = Duration::from_secs(30);
+const PATIENCE: Duration = Duration::from_secs(120);
 
 /// How much later than it could a program on a busy machine may act.
-const SLACK: Duration = Duration::from_millis(1_400);
+const SLACK: Duration = Duration::from_secs(15);
 
 fn millis(count: u64) -> Duration {
     Duration::from_millis(count)
@@ -106,11 +106,13 @@ fn a_server_that_accepts_and_never_answers_is_left() {
         }
         assert!(silent.is_some(), "it is held open");
     });
+    let begun = Instant::now();
     let session = Session::open(partner.address, millis(6_000)).unwrap();
-    assert!(session.exists("/a").unwrap().is_some());
-    let first = partner.dial();
-    let took = partner.dial() - first;
-    let least = millis(4_000) - millis(250); // two thirds of the timeout; the partner may come late to the first
+    let answer = session.call(Call::exists("/a").within(PATIENCE));
+    assert!(answer.unwrap().is_some());
+    partner.dial();
+    let took = partner.dial() - begun;
+    let least = millis(3_999); // two thirds of the timeout
     assert!(took >= least && took < least + SLACK, "{took:?}");
 }
 
@@ -131,17 +133,23 @@ fn a_server_that_stays_away_is_dialled_until_it_comes() {
     let listener = TcpListener::bind("127.0.0.2:0").unwrap(); // others take no port of it
     let address = listener.local_addr().unwrap();
     drop(listener);
+    let begun = Instant::now();
     let (session, dials) = counting(address, millis(6_000));
+    let so_far = Arc::clone(&dials);
     let comes = thread::spawn(move || {
-        sleep(millis(3_000));
+        while begun.elapsed() < millis(3_000) || so_far.load(Ordering::SeqCst) < 3 {
+            sleep(millis(5));
+        }
         let listener = TcpListener::bind(address).unwrap();
         let mut line = Line::over(listener.accept().unwrap().0);
         line.admit(6_000);
         serve_at(&mut line, 5);
     });
-    assert!(session.exists("/a").unwrap().is_some());
-    let dials = dials.load(Ordering::SeqCst);
-    assert!((3..=12).contains(&dials), "{dials} attempts in 3 seconds");
+    let answer = session.call(Call::exists("/a").within(PATIENCE));
+    assert!(answer.unwrap().is_some());
+    let (dials, took) = (dials.load(Ordering::SeqCst), begun.elapsed());
+    let most = 4.0 * took.as_secs_f64();
+    assert!(dials as f64 <= most, "{dials} attempts in {took:?}");
     drop(session);
     comes.join().unwrap();
 }
@@ -159,8 +167,8 @@ fn serve_and_go(listener: TcpListener, timeout: i32) {
 fn what_was_read_stays_good_while_a_server_stays_away_and_ends_with_the_session() {
     let listener = TcpListener::bind("127.0.0.3:0").unwrap();
     let address = listener.local_addr().unwrap();
-    let goes = thread::spawn(move || serve_and_go(listener, 1_500));
-    let session = Session::open(address, millis(1_500)).unwrap();
+    let goes = thread::spawn(move || serve_and_go(listener, 3_000));
+    let session = Session::open(address, millis(3_000)).unwrap();
     session.call(Call::get("/a").watched()).unwrap();
     goes.join().unwrap();
     wait_for_state(&session, State::Idle);
@@ -184,21 +192,20 @@ fn the_first_ping_comes_a_third_of_the_timeout_after_the_last_frame() {
     let (sender, heard) = mpsc::channel();
     let partner = Partner::start(move |_, mut line| {
         line.frame();
+        sleep(millis(5_000));
         sender.send((Instant::now(), 0)).unwrap();
-        sleep(millis(1_500));
-        line.send(&Record::accepted(9_000, 0x1234));
+        line.send(&Record::accepted(18_000, 0x1234));
         while let Some(request) = line.request() {
             sender.send((Instant::now(), request.kind)).unwrap();
             serve_one_at(&mut line, &request, 5);
         }
     });
-    let session = Session::open(partner.address, millis(20_000)).unwrap();
-    let [(begun, _), (first, kind)] = [(); 2].map(|()| heard.recv_timeout(PATIENCE).unwrap());
-    let took = first - begun;
+    let begun = Instant::now();
+    let session = Session::open(partner.address, millis(30_000)).unwrap();
+    let [(accepted, _), (first, kind)] = [(); 2].map(|()| heard.recv_timeout(PATIENCE).unwrap());
+    let (took, later) = (first - begun, first - accepted);
     assert_eq!(kind, PING);
-    assert!(
-        took + SLACK >= millis(3_000) && took < millis(3_000) + SLACK,
-        "{took:?}"
-    );
+    assert!(took >= millis(5_999), "{took:?} after its own frame");
+    assert!(later < millis(6_000), "{later:?} after the server's");
     assert_eq!(session.state(), Some(State::Connected));
 }

@@ -11,11 +11,12 @@ use dirwolleu::{
 use std::fmt::Debug;
 use std::io::{BufRead, BufReader};
 use std::process::{Command, Stdio};
+use std::sync::mpsc::channel;
 use std::thread::{self, sleep};
 use std::time::{Duration, Instant};
 
 /// How much later than it could a program on a busy machine may act.
-const SLACK: Duration = Duration::from_millis(700);
+const SLACK: Duration = Duration::from_secs(15);
 
 /// Of what kind the error of a call is.
 fn kind_of<T: Debug>(ending: Result<T, Error>) -> ErrorKind {
@@ -28,6 +29,21 @@ fn millis(count: u64) -> Duration {
 
 fn session_at(partner: &Partner, timeout: Duration) -> LocalSession {
     LocalSession::open([partner.address], timeout).unwrap()
+}
+
+/// How long an attempt to connect may take to come.
+const PATIENCE: Duration = Duration::from_secs(120);
+
+/// Goes on until the partner is dialled, and says when.
+fn next_dial(session: &mut LocalSession, partner: &Partner) -> Instant {
+    let until = Instant::now() + PATIENCE;
+    loop {
+        if let Some(dial) = partner.dial_so_far() {
+            return dial;
+        }
+        assert!(Instant::now() < until, "it is not dialled");
+        go_on(session, millis(20));
+    }
 }
 
 /// Goes on for so long.
@@ -66,8 +82,7 @@ fn a_session_that_may_live_is_not_left_alone_for_long() {
     });
     let mut session = session_at(&partner, millis(6_000));
     session.exists("/").unwrap();
-    go_on(&mut session, millis(5_000));
-    let dials: Vec<Instant> = (0..7).map(|_| partner.dial()).collect();
+    let dials: Vec<Instant> = (0..7).map(|_| next_dial(&mut session, &partner)).collect();
     for pair in dials[1..].windows(2) {
         let pause = pair[1] - pair[0];
         assert!(pause < millis(600) + SLACK, "{pause:?}");
@@ -79,10 +94,11 @@ fn a_server_that_admits_and_closes_is_dialled_three_times_a_second_at_most() {
     let partner = Partner::start(|_, mut line| {
         line.admit(10_000);
     });
+    let begun = Instant::now();
     let mut session = session_at(&partner, millis(10_000));
-    go_on(&mut session, millis(4_000));
-    let dials = partner.dials();
-    assert!((2..=10).contains(&dials), "{dials} attempts in 4 seconds"); // a row of failures, with pauses up to a second
+    let last = [(); 7].map(|()| next_dial(&mut session, &partner))[6];
+    let took = last - begun;
+    assert!(took > millis(2_000), "7 attempts in {took:?}"); // a row of failures, with pauses up to a second
 }
 
 #[test]
@@ -94,12 +110,14 @@ fn an_answer_is_no_reason_to_dial_at_once() {
         }
     });
     let mut session = session_at(&partner, millis(10_000));
-    let until = Instant::now() + millis(3_000);
-    while Instant::now() < until {
+    let (begun, mut dials) = (Instant::now(), 0);
+    while dials < 7 {
+        assert!(begun.elapsed() < PATIENCE, "it dials no more");
         let _ = session.exists("/");
+        dials += partner.dials();
     }
-    let dials = partner.dials();
-    assert!((4..=10).contains(&dials), "{dials} attempts in 3 seconds");
+    let took = begun.elapsed();
+    assert!(took > millis(1_800), "{dials} attempts in {took:?}");
 }
 
 #[test]
@@ -115,7 +133,7 @@ fn a_timeout_of_a_millisecond_does_not_lock_the_client_out() {
         serve_well(line);
     });
     let mut session = session_at(&partner, millis(10_000));
-    let until = Instant::now() + millis(10_000);
+    let until = Instant::now() + PATIENCE;
     while session.exists("/").is_err() {
         assert!(Instant::now() < until, "the client is locked out");
     }
@@ -123,18 +141,24 @@ fn a_timeout_of_a_millisecond_does_not_lock_the_client_out() {
 
 #[test]
 fn a_program_that_was_stopped_keeps_a_server_that_has_sent_something() {
-    let partner = Partner::start(|_, mut line| {
+    let (stop, stopped) = channel();
+    let (note, told) = channel();
+    let partner = Partner::start(move |_, mut line| {
         line.admit(3_000);
         let request = line.request().unwrap();
         line.tell_data(request.xid);
-        sleep(millis(500));
+        stopped.recv_timeout(PATIENCE).unwrap();
         line.send(&jute::Record::notice(3, "/a"));
+        note.send(()).unwrap();
         serve_well(line);
     });
     let mut session = session_at(&partner, millis(3_000));
     session.watch("/a").unwrap();
+    stop.send(()).unwrap();
     sleep(millis(2_300));
-    assert!(session.exists("/").unwrap().is_some());
+    told.recv_timeout(PATIENCE).unwrap();
+    let answer = session.call(Request::exists("/").within(PATIENCE));
+    assert!(answer.unwrap().is_some());
     let mark = session.data_mark("/a");
     assert_eq!(mark, Ok(Some(Mark::Stale)));
     assert_eq!(partner.dials(), 1, "the connection goes on");
@@ -226,12 +250,12 @@ fn a_server_that_dribbles_is_left_while_it_connects() {
             dribble(line, vec![0]);
         }
     });
+    let begun = Instant::now();
     let mut session = session_at(&partner, millis(1_500));
-    go_on(&mut session, millis(1_500) + SLACK);
-    let first = partner.dial();
-    let took = partner.dial() - first;
-    let least = millis(1_000) - millis(250); // two thirds of the timeout; the partner may come late to the first
-    assert!(took >= least && took < millis(1_500) + SLACK, "{took:?}");
+    let second = [(); 2].map(|()| next_dial(&mut session, &partner))[1];
+    let took = second - begun;
+    let least = millis(999); // two thirds of the timeout
+    assert!(took >= least && took < least + SLACK, "{took:?}");
 }
 
 /// A server that sends these bytes again and again in place of the first answer, and is well on the next connection.
@@ -296,8 +320,8 @@ fn a_read_that_is_not_answered_is_asked_of_another_server() {
 #[test]
 fn a_ping_that_is_not_answered_ends_the_connection() {
     let partner = distracted(jute::Record::notice(3, "/a"));
-    let mut session = session_at(&partner, millis(1_500));
     let begun = Instant::now();
+    let mut session = session_at(&partner, millis(1_500));
     while session.next_event(None).unwrap() != Some(Event::State(State::Connected)) {}
     while session.next_event(None).unwrap() != Some(Event::State(State::Idle)) {}
     let took = begun.elapsed();
@@ -309,17 +333,27 @@ fn a_ping_that_is_not_answered_ends_the_connection() {
 
 #[test]
 fn a_program_that_was_stopped_keeps_a_server_that_has_answered() {
-    let partner = Partner::start(|_, mut line| {
+    let (note_ping, pinged) = channel();
+    let (stop, stopped) = channel();
+    let (note_answer, answered) = channel();
+    let partner = Partner::start(move |_, mut line| {
         line.admit(1_500);
         let ping = line.request().unwrap();
-        sleep(millis(300));
+        note_ping.send(()).unwrap();
+        stopped.recv_timeout(PATIENCE).unwrap();
         line.refuse(ping.xid, 0);
+        note_answer.send(()).unwrap();
         serve_well(line);
     });
     let mut session = session_at(&partner, millis(1_500));
-    go_on(&mut session, millis(600)); // the ping is sent after a third of the timeout
+    while pinged.try_recv().is_err() {
+        go_on(&mut session, millis(20));
+    }
+    stop.send(()).unwrap();
     sleep(millis(1_300));
+    answered.recv_timeout(PATIENCE).unwrap();
     assert_eq!(session.state(), None);
-    assert!(session.exists("/").unwrap().is_some());
+    let answer = session.call(Request::exists("/").within(PATIENCE));
+    assert!(answer.unwrap().is_some());
     assert_eq!(partner.dials(), 1, "the connection goes on");
 }

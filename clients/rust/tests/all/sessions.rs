@@ -14,7 +14,7 @@ use std::thread;
 use std::time::{Duration, Instant};
 
 /// How long an event may take.
-const PATIENCE: Duration = Duration::from_secs(30);
+const PATIENCE: Duration = Duration::from_secs(120);
 
 fn session_at(server: &Server, timeout_ms: u64) -> Session {
     Session::open([server.address], Duration::from_millis(timeout_ms)).unwrap()
@@ -204,13 +204,13 @@ fn a_silent_server_is_left_after_two_thirds_of_the_timeout() {
     };
     other.tell("create /ahead x");
     other.tell("set /ahead y");
-    let timeout = Duration::from_millis(1_500);
+    let timeout = Duration::from_millis(6_000);
     let session = SessionOptions::new(timeout)
         .shuffles(false)
         .open([silent.address, other.address])
         .unwrap();
+    let heard = Instant::now(); // or later
     session.exists("/").unwrap();
-    let heard = Instant::now();
     silent.tell("mute");
     wait_for(&session, |event| {
         matches!(
@@ -235,7 +235,7 @@ fn a_write_is_lost_with_its_connection() {
     let Some(mut server) = Server::start(&[]) else {
         return;
     };
-    let session = session_at(&server, 1_500);
+    let session = session_at(&server, 6_000);
     session.exists("/").unwrap();
     server.tell("mute");
     let read = session.ask(Request::exists("/"));

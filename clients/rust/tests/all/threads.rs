@@ -17,7 +17,7 @@ use std::thread::{self, sleep};
 use std::time::{Duration, Instant};
 
 /// How long what is awaited may take.
-const PATIENCE: Duration = Duration::from_secs(30);
+const PATIENCE: Duration = Duration::from_secs(120);
 
 /// Of what kind the error of a call is.
 fn kind_of<T: Debug>(ending: Result<T, Error>) -> ErrorKind {

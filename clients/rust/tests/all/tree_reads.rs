@@ -9,10 +9,10 @@ use std::sync::{mpsc, Arc};
 use std::thread;
 use std::time::{Duration, Instant};
 
-const TIMEOUT: Duration = Duration::from_secs(60);
+const TIMEOUT: Duration = Duration::from_secs(300);
 
 /// How long what is awaited may take.
-const PATIENCE: Duration = Duration::from_secs(30);
+const PATIENCE: Duration = Duration::from_secs(120);
 
 /// How many calls wait for their answers, at most, where a tree asks another one.
 const MOST_READS: usize = 500;
@@ -104,7 +104,7 @@ fn serve_child(line: &mut Line, mut child: impl FnMut(&mut Line, i32)) {
 }
 
 /// The time between the first two reads of a node whose first read is answered with this code, and what was told. Nothing else wakes the
-/// session meanwhile: its first ping is due after 20 seconds.
+/// session meanwhile: its first ping is due after 100 seconds.
 fn refuse_once(code: i32) -> (Duration, Vec<String>) {
     let (sender, reads) = mpsc::channel();
     let partner = Partner::start(move |_, mut line| {
@@ -141,7 +141,7 @@ fn refuse_once(code: i32) -> (Duration, Vec<String>) {
 
 #[test]
 fn a_read_that_was_refused_is_made_again_after_a_second() {
-    let bounds = Duration::from_millis(950)..Duration::from_secs(8);
+    let bounds = Duration::from_millis(999)..TIMEOUT / 4;
     let kinds = [Code::NO_AUTH, Code::THROTTLED, Code::NO_NODE];
     let told = thread::scope(|scope| {
         let tried = kinds.map(|code| scope.spawn(move || refuse_once(code.0)));
@@ -294,7 +294,7 @@ fn a_read_that_was_lost_is_made_again_at_once() {
     let (sender, times) = mpsc::channel();
     let partner = Partner::start(move |number, mut line| match number {
         0 => drop(end_at_the_child(&mut line)),
-        1..=3 => drop(sender.send(end_at_the_child(&mut line))),
+        1..=6 => drop(sender.send(end_at_the_child(&mut line))),
         _ => serve(&mut line, |_, _| false),
     });
     let session = Session::open(partner.address, TIMEOUT).unwrap();

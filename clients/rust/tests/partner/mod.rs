@@ -9,7 +9,7 @@ use std::thread;
 use std::time::{Duration, Instant};
 
 /// How long an attempt to connect may take to come.
-const PATIENCE: Duration = Duration::from_secs(30);
+const PATIENCE: Duration = Duration::from_secs(120);
 
 /// What a connection is over.
 trait Stream: Read + Write + Send {}
@@ -112,6 +112,11 @@ impl Partner {
     /// When the next attempt to connect comes.
     pub fn dial(&self) -> Instant {
         self.dials.recv_timeout(PATIENCE).expect("it is dialled")
+    }
+
+    /// The same, where one has come.
+    pub fn dial_so_far(&self) -> Option<Instant> {
+        self.dials.try_recv().ok()
     }
 
     /// How many attempts came that were not asked for yet.

@@ -1,21 +1,52 @@
-//! The server in memory, `clients/partner/partner.py`, as a child process.
+//! The server in memory, `clients/partner/partner.py`, in a process of its own.
 
 use std::io::{BufRead, BufReader, ErrorKind, Write};
-use std::net::SocketAddr;
-use std::process::{Child, ChildStdin, Command, Stdio};
+use std::net::{Shutdown, SocketAddr, TcpStream};
+use std::process::{Child, Command, Stdio};
 use std::sync::mpsc::{channel, Receiver};
+use std::sync::OnceLock;
 use std::thread;
 use std::time::Duration;
 
-const PARTNER: &str = concat!(env!("CARGO_MANIFEST_DIR"), "/../partner/partner.py");
+const MAKER: &str = concat!(env!("CARGO_MANIFEST_DIR"), "/../partner/maker.py");
 
 /// How long a line of the server may take.
-const PATIENCE: Duration = Duration::from_secs(30);
+const PATIENCE: Duration = Duration::from_secs(120);
+
+/// What makes the servers of this program, and ends with it.
+struct Maker {
+    _child: Child,
+    address: SocketAddr,
+}
+
+/// None where there is no python3.
+fn begin_making() -> Option<Maker> {
+    let mut command = Command::new("python3");
+    command.arg(MAKER);
+    command.stdin(Stdio::piped()).stdout(Stdio::piped());
+    let mut child = match command.spawn() {
+        Err(fault) if fault.kind() == ErrorKind::NotFound => return None,
+        child => child.expect("python3 starts"),
+    };
+    let mut line = String::new();
+    let mut output = BufReader::new(child.stdout.take().expect("it is piped"));
+    output.read_line(&mut line).expect("it says its port");
+    let address = address_in(line.trim_end(), "making ");
+    Some(Maker {
+        _child: child,
+        address,
+    })
+}
+
+/// The address of the port that a line names after this word.
+fn address_in(line: &str, word: &str) -> SocketAddr {
+    let port = line.strip_prefix(word).expect("it listens");
+    ([127, 0, 0, 1], port.parse().expect("a port")).into()
+}
 
 /// The server. It ends where it is dropped.
 pub struct Server {
-    child: Child,
-    input: ChildStdin,
+    stream: TcpStream,
     lines: Receiver<String>,
     /// Where it listens.
     pub address: SocketAddr,
@@ -24,50 +55,40 @@ pub struct Server {
 impl Server {
     /// A server with these words, and none where there is no python3, which is said.
     pub fn start(words: &[&str]) -> Option<Server> {
-        let mut command = Command::new("python3");
-        command.arg(PARTNER).args(words);
-        command.stdin(Stdio::piped()).stdout(Stdio::piped());
-        let mut child = match command.spawn() {
-            Err(fault) if fault.kind() == ErrorKind::NotFound => {
-                println!("skipped: there is no python3");
-                return None;
-            }
-            child => child.expect("python3 starts"),
+        static MAKER: OnceLock<Option<Maker>> = OnceLock::new();
+        let Some(maker) = MAKER.get_or_init(begin_making) else {
+            println!("skipped: there is no python3");
+            return None;
         };
-        let input = child.stdin.take().expect("it is piped");
-        let output = BufReader::new(child.stdout.take().expect("it is piped"));
+        let mut stream = TcpStream::connect(maker.address).expect("it makes servers");
+        writeln!(stream, "{words:?}").expect("it makes servers"); // plain words are so in JSON too
+        let input = BufReader::new(stream.try_clone().expect("it is open"));
         let (sender, lines) = channel();
         thread::spawn(move || {
-            for line in output.lines().map_while(Result::ok) {
+            for line in input.lines().map_while(Result::ok) {
                 let _ = sender.send(line);
             }
         });
-        let mut server = Server {
-            child,
-            input,
+        let line: String = lines.recv_timeout(PATIENCE).expect("a server is made");
+        let address = address_in(&line, "listening ");
+        Some(Server {
+            stream,
             lines,
-            address: ([127, 0, 0, 1], 0).into(),
-        };
-        let line = server.line();
-        let port = line.strip_prefix("listening ").expect("it listens");
-        server.address.set_port(port.parse().expect("a port"));
-        Some(server)
-    }
-
-    fn line(&self) -> String {
-        self.lines.recv_timeout(PATIENCE).expect("a line comes")
+            address,
+        })
     }
 
     /// Has it obey a command.
     pub fn tell(&mut self, command: &str) {
-        writeln!(self.input, "{command}").expect("it listens to commands");
-        assert_eq!(self.line(), "done", "{command}");
+        writeln!(self.stream, "{command}").expect("it listens to commands");
+        let line = self.lines.recv_timeout(PATIENCE).expect("a line comes");
+        assert_eq!(line, "done", "{command}");
     }
 }
 
 impl Drop for Server {
     fn drop(&mut self) {
-        let _ = self.child.kill();
-        let _ = self.child.wait();
+        let _ = self.stream.shutdown(Shutdown::Write);
+        while self.lines.recv_timeout(PATIENCE).is_ok() {}
     }
 }
