@@ -177,7 +177,7 @@ pub record IsMisnamedAt {A : Type 0} (bounds : Bounds) (last : Stage A) (name : 
   pub heard : IsHeard bounds last spot rest coming course
   pub done : end_of coming ≡ ends.Done
   pub listed : AreInOrder each (names_within bounds.deepest spot coming)
-  pub contains : Contains child each
+  pub contains : Contains each child
   pub pathless : HasNoPath spot child
   pub named : name ≡ spot.name
 
@@ -198,8 +198,8 @@ pub record WalksFrom {A : Type 0} (start : Course A) (until : ℕ) (scope : Scop
   pub ends : EndsAt bounds last ending
   pub prints : printed ≡ last.printed
 
--- So does a driver with a new session, which has no connection yet. All its calls wait to one moment: as long after the beginning as the whole
--- walk may wait.
+-- So does a driver with a new session, which has no connection yet. All its calls wait to one moment, which comes as long after another one, `from`,
+-- as the whole walk may wait.
 pub record Tours (A : Type 0) (scope : Scope) (ending : Ending) (printed : List Text) : Type 0 where
   pub timeout : ℕ
   pub start : Course A

@@ -19,7 +19,7 @@ pub enum Form {
 /// A call, and how its answer is printed.
 #[derive(Drop)]
 pub struct Plan<'a, A: Allocator + Copy> {
-    /// Four numbers joined by dots, a colon and a port, each.
+    /// What the dial takes: for `Tcp` a host and a port each.
     pub addresses: &'a [&'a str],
     pub call: Call<A>,
     /// What the node is named in what is told.
@@ -34,7 +34,7 @@ pub struct Plan<'a, A: Allocator + Copy> {
 /// A tree whose paths are printed, and how.
 #[derive(Drop)]
 pub struct TreePlan<'a, A: Allocator + Copy> {
-    /// Four numbers joined by dots, a colon and a port, each.
+    /// What the dial takes: for `Tcp` a host and a port each.
     pub addresses: &'a [&'a str],
     /// The root's path.
     pub path: Path<A>,

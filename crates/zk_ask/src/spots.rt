@@ -52,7 +52,7 @@ fn spots_of<A: Allocator + Copy>(
 ) -> Result<Vec<Spot<A>, A>, PathFault>
     requires { spot.now.depth < 2 ^ 64 - 1 }
     ensures ok { IfOk result (λ spots. map spot_view spots.items ≡ map (child_of (spot_view spot.now)) (map string_bytes names.now.keys)) }
-    ensures err { IfErr result (λ fault. fault_told fault ≢ None → (name : Text) × Contains name (map string_bytes names.now.keys) × HasNoPath (spot_view spot.now) name) }
+    ensures err { IfErr result (λ fault. fault_told fault ≢ None → (name : Text) × Contains (map string_bytes names.now.keys) name × HasNoPath (spot_view spot.now) name) }
     ensures ordered { OnOk result (IsOrdered string_cmp names.now) }
 {
     let mut spots = Vec::new(alloc);
@@ -75,7 +75,7 @@ pub(crate) fn spots_below<A: Allocator + Copy>(
     ensures ok { IfOk result (λ spots. (each : List Text) × AreInOrder each (map string_bytes names.now)
         × (map spot_view spots.items ≡ map (child_of (spot_view spot.now)) each)) }
     ensures err { IfErr result (λ fault. fault_told fault ≢ None → (each : List Text) × (child : Text) × AreInOrder each (map string_bytes names.now)
-        × Contains child each × HasNoPath (spot_view spot.now) child) }
+        × Contains each child × HasNoPath (spot_view spot.now) child) }
 {
     let set = set_of(alloc, names)?;
     spots_of(alloc, spot, &set)

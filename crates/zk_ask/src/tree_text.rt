@@ -1,9 +1,9 @@
 //! What is printed of a walk, and told of its end.
 
-ghost use Rattle.std.specs.Prelude.{◌≡◌, codes, IfOk, string_bytes};
+ghost use Rattle.std.specs.Prelude.{◌≡◌, ◌⊎◌, codes, IfOk, string_bytes};
 ghost use Rattle.std.specs.List.{flat_map};
-ghost use Rattle.zk_ask.specs.Printing.{fault_line, name_line, text_line};
-ghost use Rattle.zk_ask.specs.Trees.{ending_end, ending_told, ending_view, most_words, tree_text};
+ghost use Rattle.zk_ask.specs.Printing.{fault_line, name_line, text_line, IsToldEnd};
+ghost use Rattle.zk_ask.specs.Trees.{ending_end, ending_told, ending_view, most_words, tree_text, Full, IsUndone, Whole};
 
 use crate::end::End;
 use crate::json_lines::with_text;
@@ -83,7 +83,10 @@ pub(crate) fn ending_told<A: Allocator + Copy>(
 
 /// How a walk ends.
 pub(crate) fn ending_end<A: Allocator>(ending: &Ending<A>) -> End
-    ensures { result ≡ ending_end (ending_view ending.now) }
+    ensures end { result ≡ ending_end (ending_view ending.now) }
+    ensures told { (result ≡ End.Done) ⊎ IsToldEnd result }
+    ensures whole { result ≡ End.Done → IsUndone (ending_view ending.now) → ending_view ending.now ≡ Whole }
+    ensures full { result ≡ End.More → ending_view ending.now ≡ Full }
 {
     match ending {
         Ending::Whole => End::Done,

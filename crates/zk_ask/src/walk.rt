@@ -3,8 +3,10 @@
 ghost use Rattle.std.specs.Prelude.{◌≡◌, ◌≢◌, ◌++◌, ◌∷◌, [], ◌<◌, ◌-◌, ◌^◌, true, false, List, Contains, None, IfOk, IfSome, IfNone, length, map, string_bytes};
 ghost use Rattle.zk_nodes.specs.Path.{Text};
 ghost use Rattle.zk_driver.specs.Driving.{course_of};
-ghost use Rattle.zk_ask.specs.Asking.{came_view};
-ghost use Rattle.zk_ask.specs.Trees.{child_of, ending_view, names_within, spot_view, stage_of, waiting_view, with_next, AreInOrder, EndsAt, HasNoPath, IsListed, Misnamed, Reaches, Stage, Steps};
+ghost use Rattle.zk_ask.specs.Asking.{came_view, Heard};
+ghost use Rattle.zk_ask.specs.Printing.{end_of};
+ghost use Rattle.zk_ask.specs.declared.end.End.TheVariants as ends;
+ghost use Rattle.zk_ask.specs.Trees.{child_of, ending_view, listing_of, names_within, spot_view, stage_of, waiting_view, with_next, AreInOrder, EndsAt, HasNoPath, IsGone, IsListed, Misnamed, Reaches, Stage, Steps};
 
 use crate::answered::{CALL, answered};
 use crate::came::Came;
@@ -71,6 +73,47 @@ fn is_listed<A: Allocator>(deepest: u64, spot: &Spot<A>) -> bool
     spot.depth == 0 || spot.depth < deepest
 }
 
+/// Whether a call is done.
+fn is_done<A: Allocator>(came: &Came<A>) -> bool
+    ensures done { result ≡ true → end_of (came_view came.now) ≡ ends.Done }
+    ensures undone { result ≡ false → end_of (came_view came.now) ≢ ends.Done }
+{
+    match end_of(came) {
+        End::Done => true,
+        _ => false,
+    }
+}
+
+/// Whether there is such a node no more.
+fn is_gone<A: Allocator>(spot: &Spot<A>, came: &Came<A>) -> bool
+    ensures gone { result ≡ true → IsGone (spot_view spot.now) (came_view came.now) }
+    ensures stays { result ≡ false → IsGone (spot_view spot.now) (came_view came.now) → ⊥ }
+{
+    match end_of(came) {
+        End::NoNode => spot.depth != 0,
+        _ => false,
+    }
+}
+
+/// What comes of the call that lists a node.
+fn listed<A: Allocator + Copy, D: Dial + Drop, C: Clock + Drop>(
+    driver: &mut Driver<'_, A, D, C>,
+    alloc: A,
+    spot: &Spot<A>,
+    ticket: u64,
+    until: u64,
+) -> Result<Came<A>, Stop>
+    ensures { IfOk result (λ came. Heard (listing_of (spot_view spot.now)) until (course_of driver.old.engine None) (came_view came) (course_of driver.new.engine None)) }
+{
+    let path = copied(alloc, &spot.path)?;
+    answered(
+        driver,
+        ticket,
+        Call::GetChildren { path, watch: false },
+        until,
+    )
+}
+
 impl<A: Allocator + Copy> Walk<A> {
     /// Prints a node that is listed, and puts those below it before all that wait; or says that one of these has no path.
     fn open(
@@ -82,7 +125,7 @@ impl<A: Allocator + Copy> Walk<A> {
     ) -> Result<Option<Ending<A>>, AllocError>
         requires { spot.depth < 2 ^ 64 - 1 }
         ensures some { IfOk result (λ ending. IfSome ending (λ e. (each : List Text) × (child : Text)
-            × AreInOrder each (names_within bounds.deepest (spot_view spot) (came_view came.now)) × Contains child each × HasNoPath (spot_view spot) child
+            × AreInOrder each (names_within bounds.deepest (spot_view spot) (came_view came.now)) × Contains each child × HasNoPath (spot_view spot) child
             × (ending_view e ≡ Misnamed spot.name) × (self.new.printed.items ≡ self.old.printed.items))) }
         ensures none { IfOk result (λ ending. IfNone ending ((each : List Text) × AreInOrder each (names_within bounds.deepest (spot_view spot) (came_view came.now))
             × (waiting_view self.new.waiting.items ≡ map (child_of (spot_view spot)) each ++ waiting_view self.old.waiting.items)
@@ -117,17 +160,17 @@ impl<A: Allocator + Copy> Walk<A> {
             Steps bounds (with_next (spot_view spot) (stage_of (course_of driver.old.engine None) self.old))
             (stage_of (course_of driver.new.engine None) self.new))) }
     {
-        let path = copied(alloc, &spot.path)?;
-        let call = Call::GetChildren { path, watch: false };
-        let came = answered(driver, ticket, call, bounds.until)?;
-        match end_of(&came) {
-            End::Done => match self.open(alloc, bounds, spot, &came) {
+        let came = listed(driver, alloc, &spot, ticket, bounds.until)?;
+        if is_done(&came) {
+            return match self.open(alloc, bounds, spot, &came) {
                 Ok(ending) => Ok(ending),
                 Err(_) => Err(Stop::Memory),
-            },
-            End::NoNode if spot.depth > 0 => Ok(None),
-            _ => Ok(Some(Ending::Stopped(spot.name, came))),
+            };
         }
+        if is_gone(&spot, &came) {
+            return Ok(None);
+        }
+        Ok(Some(Ending::Stopped(spot.name, came)))
     }
 
     /// Goes on with the next node that waits, or says how the walk ends.
