@@ -1,17 +1,18 @@
 -- A walk through a tree: the nodes that wait, and how it ends.
-use Rattle.std.proofs.Common.{◌≡◌, ◌≢◌, ◌≤◌, ◌<◌, ◌⊎◌, ◌++◌, ◌∙◌, ℕ, List, [], ◌∷◌, map, reverse, inl, inr, Bool, true, false, append_assoc, refl, sym, ap, subst}
+use Rattle.std.proofs.Common.{◌≡◌, ◌≢◌, ◌<◌, ◌⊎◌, ◌++◌, ◌∙◌, List, [], ◌∷◌, map, reverse, inl, inr, Contains, IfNone, IfOk, IfSome, Option, None, Some, Result, length, true, false, append_assoc, refl, sym, ap, subst}
 use Rattle.std.proofs.lemmas.List.{map-append, reverse-append, reverse-reverse}
 use Rattle.zk_nodes.specs.Path.{Text}
 use Rattle.zk_driver.specs.Driving.{Course}
-use Rattle.zk_turns.specs.Turns.{Outcome, Replied, ConnectionLoss, SessionExpired, SessionClosed, NotConnected, TooManyWatches, TooLarge, TooManyPending}
-use Rattle.zk_conversation.specs.Results.{Result, NoNode, Refused, Found, Read, Listing, Made, Done}
+use Rattle.zk_turns.specs.Turns.{Replied, ConnectionLoss, SessionExpired, SessionClosed, NotConnected, TooManyWatches, TooLarge, TooManyPending}
+use Rattle.zk_conversation.specs.Results.{NoNode, Refused, Found, Read, Listing, Made, Done}
 use Rattle.zk_ask.specs.declared.end.End.{End}
 use Rattle.zk_ask.specs.declared.end.End.TheVariants as ends
 use Rattle.zk_ask.specs.declared.spots.Spot.{Spot as Place}
 use Rattle.zk_ask.specs.declared.walk.Bounds.{Bounds}
-use Rattle.zk_ask.specs.Asking.{Coming, Answered, Late}
+use Rattle.zk_ask.specs.declared.walk.Ending.{Ending as Reached}
+use Rattle.zk_ask.specs.Asking.{Coming, Answered, Heard, Late}
 use Rattle.zk_ask.specs.Printing.{end_of, IsToldEnd}
-use Rattle.zk_ask.specs.Trees.{child_of, ending_end, spot_view, waiting_view, EndsAt, Ending, Full, IsUndone, Misnamed, Reaches, Spot, Stage, Stopped, Whole}
+use Rattle.zk_ask.specs.Trees.{child_of, ending_end, ending_view, listing_of, names_within, spot_view, waiting_view, with_next, AreInOrder, EndsAt, Ending, Full, HasNoPath, IsGone, IsHeard, IsListed, IsUndone, Misnamed, Reaches, Spot, Stage, Steps, Stopped, Whole}
 
 -- ---- the nodes that wait
 
@@ -85,6 +86,63 @@ is_full Whole more = absurd cc
 is_full Full more = refl
 is_full (Stopped name coming) more = absurd (not_more (end_of coming) (call_told coming) more)
 is_full (Misnamed name) more = absurd cc
+
+-- ---- its steps
+
+abbrev pub stage : {A : Type 0} → Course A → (waiting : List Spot) (printed : List Text) → Stage A
+stage course waiting printed = record { course = course; waiting = waiting; printed = printed }
+
+pub heard_of : {A : Type 0} (bounds : Bounds) (old : Stage A) (spot : Spot) (coming : Coming) (last : Course A) → length old.printed < bounds.most → IsListed bounds.deepest spot
+    → Heard (listing_of spot) bounds.until old.course coming last → IsHeard bounds (with_next spot old) spot old.waiting coming last
+heard_of bounds old spot coming last room listed heard = record { next = record { next = refl; room = room }; listed = listed; heard = heard }
+
+pub misnamed : {A : Type 0} (bounds : Bounds) (old : Stage A) (spot : Spot) (coming : Coming) (last : Course A) (each : List Text) (child : Text) (ending : Ending)
+    → IsHeard bounds (with_next spot old) spot old.waiting coming last → end_of coming ≡ ends.Done → AreInOrder each (names_within bounds.deepest spot coming)
+    → Contains each child → HasNoPath spot child → ending ≡ Misnamed spot.name → EndsAt bounds (with_next spot old) ending
+misnamed bounds old spot coming last each child ending heard done order has pathless is =
+    subst (λ (e : Ending). EndsAt bounds (with_next spot old) e) (sym is) (record {
+      spot = spot;
+      rest = old.waiting;
+      coming = coming;
+      course = last;
+      each = each;
+      child = child;
+      heard = heard;
+      done = done;
+      listed = order;
+      contains = has;
+      pathless = pathless;
+      named = refl;
+    })
+
+pub stopped : {A : Type 0} (bounds : Bounds) (old : Stage A) (spot : Spot) (coming : Coming) (last : Course A) → IsHeard bounds (with_next spot old) spot old.waiting coming last
+    → end_of coming ≢ ends.Done → (IsGone spot coming → ⊥) → EndsAt bounds (with_next spot old) (Stopped spot.name coming)
+stopped bounds old spot coming last heard undone_so stays = record {
+  spot = spot;
+  rest = old.waiting;
+  course = last;
+  heard = heard;
+  undone = undone_so;
+  stays = stays;
+  named = refl;
+}
+
+pub if_none : {X : Type 0} {P Q : Type 0} (o : Option X) → IfNone o P → (P → Q) → IfNone o Q
+if_none None p f = f p
+if_none (Some x) p f = tt
+
+-- where the nodes that wait are the same
+pub ends_at : {A E : Type 0} (bounds : Bounds) (course : Course A) (waiting next : List Spot) (printed now : List Text) (r : Result (Option (Reached A)) E) → waiting ≡ next
+    → IfOk r (λ ending. IfSome ending (λ e. EndsAt bounds (stage course next printed) (ending_view e) × (now ≡ printed)))
+    → IfOk r (λ ending. IfSome ending (λ e. EndsAt bounds (stage course waiting printed) (ending_view e) × (now ≡ printed)))
+ends_at bounds course waiting next printed now r same =
+    subst (λ (w : List Spot). IfOk r (λ ending. IfSome ending (λ e. EndsAt bounds (stage course w printed) (ending_view e) × (now ≡ printed)))) (sym same)
+
+pub steps_from : {A E : Type 0} (bounds : Bounds) (course : Course A) (waiting next : List Spot) (printed : List Text) (new : Stage A) (r : Result (Option (Reached A)) E)
+    → waiting ≡ next → IfOk r (λ ending. IfNone ending (Steps bounds (stage course next printed) new))
+    → IfOk r (λ ending. IfNone ending (Steps bounds (stage course waiting printed) new))
+steps_from bounds course waiting next printed new r same =
+    subst (λ (w : List Spot). IfOk r (λ ending. IfNone ending (Steps bounds (stage course w printed) new))) (sym same)
 
 -- ---- from the beginning on
 

@@ -1,8 +1,9 @@
 -- What is printed of a tree: which answers, in which order, make which lines.
-use Rattle.std.specs.Prelude.{◌≡◌, ◌≢◌, ◌≤◌, ◌<◌, ◌⊎◌, ◌+◌, ◌-◌, ◌^◌, ⊤, ℕ, false, if◌then◌else◌, nat_lt, List, [], ◌∷◌, ◌++◌, length, map, min, reverse, Contains, None, codes}
+use Rattle.std.specs.Prelude.{◌≡◌, ◌≢◌, ◌≤◌, ◌<◌, ◌⊎◌, ◌+◌, ◌-◌, ◌^◌, ⊤, ℕ, suc, false, if◌then◌else◌, nat_lt, List, [], ◌∷◌, ◌++◌, length, map, min, reverse, Contains, None, codes}
 use Rattle.std.specs.Fmt.{decimal}
 use Rattle.std.specs.FinSet as set
 use Rattle.std.specs.List.{flat_map}
+use Rattle.zk_nodes.specs.Names.{Names as NameSet}
 use Rattle.zk_nodes.specs.Path.{Text, child_text}
 use Rattle.zk_nodes.specs.PathFault.{child_fault}
 use Rattle.zk_conversation.specs.Calls.{Call, GetChildren}
@@ -91,9 +92,12 @@ names_in _ = []
 abbrev pub names_within : (deepest : ℕ) → Spot → Coming → List Text
 names_within deepest spot coming = if nat_lt spot.depth deepest then names_in coming else []
 
+abbrev pub name_set : List Text → NameSet
+name_set names = set.from_list names
+
 -- These are names of nodes, each once, in the order of their bytes.
 abbrev pub AreInOrder : (each names : List Text) → Type 0
-AreInOrder each names = AreNames each (set.contains (set.from_list names))
+AreInOrder each names = AreNames each (set.contains (name_set names))
 
 -- there is such a node no more
 abbrev pub IsGone : Spot → Coming → Type 0

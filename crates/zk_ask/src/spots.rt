@@ -1,6 +1,6 @@
 //! Nodes of a tree, which wait to be printed.
 
-ghost use Rattle.std.specs.Prelude.{◌≡◌, ◌≢◌, ◌++◌, ◌<◌, ◌-◌, ◌^◌, List, Contains, None, IfOk, IfErr, OnOk, map, string_bytes};
+ghost use Rattle.std.specs.Prelude.{◌≡◌, ◌≢◌, ◌++◌, ◌<◌, ◌-◌, ◌^◌, true, false, List, Contains, None, IfOk, IfErr, OnOk, map, string_bytes};
 ghost use Rattle.std.specs.BTreeSet.{IsOrdered};
 ghost use Rattle.std.specs.String.{string_cmp};
 ghost use Rattle.zk_nodes.specs.Path.{Text};
@@ -31,6 +31,17 @@ pub(crate) fn copied<A: Allocator + Copy>(alloc: A, path: &Path<A>) -> Result<Pa
     }
 }
 
+/// Whether a text has a fault: else memory ran out.
+pub(crate) fn is_of_text(fault: &PathFault) -> bool
+    ensures text { result ≡ true → fault_told fault.now ≢ None }
+    ensures memory { result ≡ false → fault_told fault.now ≡ None }
+{
+    match fault {
+        PathFault::Memory => false,
+        _ => true,
+    }
+}
+
 /// The node with this name below a node, or why it has no path.
 fn child_of<A: Allocator + Copy>(alloc: A, spot: &Spot<A>, name: &str) -> Result<Spot<A>, PathFault>
     requires { spot.now.depth < 2 ^ 64 - 1 }
@@ -53,7 +64,7 @@ fn spots_of<A: Allocator + Copy>(
     requires { spot.now.depth < 2 ^ 64 - 1 }
     ensures ok { IfOk result (λ spots. map spot_view spots.items ≡ map (child_of (spot_view spot.now)) (map string_bytes names.now.keys)) }
     ensures err { IfErr result (λ fault. fault_told fault ≢ None → (name : Text) × Contains (map string_bytes names.now.keys) name × HasNoPath (spot_view spot.now) name) }
-    ensures ordered { OnOk result (IsOrdered string_cmp names.now) }
+    ensures ordered { IsOrdered string_cmp names.now }
 {
     let mut spots = Vec::new(alloc);
     for name in names {

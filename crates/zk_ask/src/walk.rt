@@ -11,10 +11,10 @@ ghost use Rattle.zk_ask.specs.Trees.{child_of, ending_view, listing_of, names_wi
 use crate::answered::{CALL, answered};
 use crate::came::Came;
 use crate::end::End;
-use crate::spots::{Spot, copied, put_first, spots_below};
+use crate::spots::{Spot, copied, is_of_text, put_first, spots_below};
 use crate::told::end_of;
-use std::alloc::{AllocError, Allocator};
-use zk_client::{Call, CallResult, Outcome, Path, PathFault};
+use std::alloc::Allocator;
+use zk_client::{Call, CallResult, Outcome, Path};
 use zk_driver::{Driver, Stop};
 use zk_link::{Clock, Dial};
 
@@ -122,7 +122,7 @@ impl<A: Allocator + Copy> Walk<A> {
         bounds: Bounds,
         spot: Spot<A>,
         came: &Came<A>,
-    ) -> Result<Option<Ending<A>>, AllocError>
+    ) -> Result<Option<Ending<A>>, Stop>
         requires { spot.depth < 2 ^ 64 - 1 }
         ensures some { IfOk result (λ ending. IfSome ending (λ e. (each : List Text) × (child : Text)
             × AreInOrder each (names_within bounds.deepest (spot_view spot) (came_view came.now)) × Contains each child × HasNoPath (spot_view spot) child
@@ -133,12 +133,20 @@ impl<A: Allocator + Copy> Walk<A> {
     {
         match spots_below(alloc, &spot, names_within(bounds.deepest, &spot, came)) {
             Ok(spots) => {
-                self.printed.push(spot.name)?;
-                put_first(&mut self.waiting, spots)?;
+                let Ok(()) = self.printed.push(spot.name) else {
+                    return Err(Stop::Memory);
+                };
+                let Ok(()) = put_first(&mut self.waiting, spots) else {
+                    return Err(Stop::Memory);
+                };
                 Ok(None)
             }
-            Err(PathFault::Memory) => Err(AllocError),
-            Err(_) => Ok(Some(Ending::Misnamed(spot.name))),
+            Err(fault) => {
+                if is_of_text(&fault) {
+                    return Ok(Some(Ending::Misnamed(spot.name)));
+                }
+                Err(Stop::Memory)
+            }
         }
     }
 
@@ -162,10 +170,7 @@ impl<A: Allocator + Copy> Walk<A> {
     {
         let came = listed(driver, alloc, &spot, ticket, bounds.until)?;
         if is_done(&came) {
-            return match self.open(alloc, bounds, spot, &came) {
-                Ok(ending) => Ok(ending),
-                Err(_) => Err(Stop::Memory),
-            };
+            return self.open(alloc, bounds, spot, &came);
         }
         if is_gone(&spot, &came) {
             return Ok(None);

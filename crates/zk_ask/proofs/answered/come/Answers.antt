@@ -1,4 +1,4 @@
-use Rattle.std.proofs.Common.{ap, subst, None, ◌++◌, [], refl}
+use Rattle.std.proofs.Common.{ap, subst, None}
 use Rattle.zk_conversation.specs.Views.{call_view}
 use Rattle.zk_agent.specs.Telling.{told_by}
 use Rattle.zk_driver.specs.Driving.{course_of}
